@@ -1,0 +1,5 @@
+pub mod Errors
+pub mod Frame
+pub mod Key
+pub mod Link
+pub mod Writing

@@ -1,0 +1,48 @@
+-- The chain of signed messages of AWS Signature Version 4: each is signed over the signature before it.
+use Rattle.std.specs.Prelude.{ℕ, List, [], ◌∷◌, ◌++◌, codes}
+use Rattle.sha2.specs.Sha256.{sha256}
+use Rattle.hex.specs.Hex.{encode_lower}
+use Rattle.mac_core.specs.Mac.{mac}
+use Rattle.smithy_core.specs.Civil.{stamp}
+use Rattle.smithy_core.specs.Instant.{Instant, floor_secs}
+use Rattle.smithy_core.specs.Parts.{Parts}
+use Rattle.smithy_core.specs.Text.{line}
+use Rattle.smithy_core.specs.declared.header.Header.{Header}
+use Rattle.smithy_core.specs.declared.header.HeaderValue.TheVariants.{ByteArray, Timestamp}
+use Rattle.eventstream.specs.Frame.{frame, spelling}
+use Rattle.eventstream.specs.Key.{Signer, scope, signing_key}
+
+-- the header `:date` with a moment
+abbrev pub date_header : Instant → Header
+date_header t = record { name = codes ":date"; value = Timestamp t }
+
+-- the string to sign of bytes at a whole second, over the signature before
+unfoldable pub string_to_sign : Signer → List ℕ → List ℕ → Instant → List ℕ
+string_to_sign signer signature bytes t =
+    line (codes "AWS4-HMAC-SHA256-PAYLOAD") ++ line (stamp t) ++ line (scope t signer.region signer.name) ++ line signature
+    ++ line (encode_lower (sha256 (spelling (date_header t)))) ++ encode_lower (sha256 bytes)
+
+-- the code of a link
+unfoldable pub link_code : Signer → List ℕ → List ℕ → Instant → List ℕ
+link_code signer signature bytes t = mac (signing_key signer (floor_secs t)) (string_to_sign signer signature bytes (floor_secs t))
+
+-- the new signature
+unfoldable pub link_signature : Signer → List ℕ → List ℕ → Instant → List ℕ
+link_signature signer signature bytes t = encode_lower (link_code signer signature bytes t)
+
+-- the signed message: the code, the moment without its nanoseconds, and the bytes
+unfoldable pub link_message : Signer → List ℕ → List ℕ → Instant → Parts
+link_message signer signature bytes t =
+    record { headers = record { name = codes ":chunk-signature"; value = ByteArray (link_code signer signature bytes t) } ∷ date_header (floor_secs t) ∷ []; payload = bytes }
+
+-- the frames for the moments taken so far: one for each event in order and an empty one last, each signed over the signature
+-- before it, its own moment and its bytes
+abbrev pub begun : Signer → List Parts → List Instant → List ℕ → List (List ℕ)
+begun signer events [] signature = []
+begun signer [] (t ∷ ts) signature = frame (link_message signer signature [] t) ∷ []
+begun signer (event ∷ events) (t ∷ ts) signature =
+    frame (link_message signer signature (frame event) t) ∷ begun signer events ts (link_signature signer signature (frame event) t)
+
+-- the chain of the events, with one moment more than events
+abbrev pub chain : Signer → List Parts → List Instant → List ℕ → List (List ℕ)
+chain signer events moments signature = begun signer events moments signature

@@ -1,0 +1,119 @@
+ghost use Rattle.std.specs.Prelude.{◌≡◌, ◌↔◌, IsTrue};
+ghost use Rattle.eventstream.specs.Errors.{is_invalid_message};
+ghost use Rattle.eventstream.specs.declared.error.ErrorKind.TheVariants.{Marshalling, NoMemory, Unmarshalling};
+
+use smithy_core::DateTime;
+use std::alloc::AllocError;
+use std::fmt;
+
+/// Why a message isn't written, or an event is no message.
+#[derive(Debug, Drop)]
+pub enum ErrorKind {
+    HeadersTooLong,
+    HeaderValueTooLong,
+    InvalidHeaderNameLength,
+    MessageTooLong,
+    PayloadTooLong,
+    TimestampValueTooLarge(DateTime),
+    Marshalling(String),
+    Unmarshalling(String),
+    NoMemory,
+}
+
+/// The error of this crate: an [`ErrorKind`].
+#[derive(Debug, Drop)]
+pub struct Error {
+    kind: ErrorKind,
+}
+
+impl Error {
+    /// An event that is no message.
+    pub fn marshalling(message: String) -> Error
+        ensures { result.kind ≡ Marshalling message }
+    {
+        Error {
+            kind: ErrorKind::Marshalling(message),
+        }
+    }
+
+    /// A message that is no event.
+    pub fn unmarshalling(message: String) -> Error
+        ensures { result.kind ≡ Unmarshalling message }
+    {
+        Error {
+            kind: ErrorKind::Unmarshalling(message),
+        }
+    }
+
+    /// What happened.
+    pub fn kind(&self) -> &ErrorKind
+        ensures { result.now ≡ self.now.kind }
+    {
+        &self.kind
+    }
+
+    /// Whether the message itself is at fault, which no writer can send.
+    pub fn is_invalid_message(&self) -> bool
+        ensures { result ≡ is_invalid_message self.now.kind }
+    {
+        matches!(
+            &self.kind,
+            ErrorKind::HeadersTooLong
+                | ErrorKind::HeaderValueTooLong
+                | ErrorKind::PayloadTooLong
+                | ErrorKind::MessageTooLong
+                | ErrorKind::InvalidHeaderNameLength
+                | ErrorKind::TimestampValueTooLarge(_)
+                | ErrorKind::Marshalling(_)
+        )
+    }
+}
+
+impl fmt::Display for Error {
+    fn fmt<W: fmt::Write>(&self, f: &mut fmt::Formatter<W>) -> fmt::Result {
+        match &self.kind {
+            ErrorKind::HeadersTooLong => {
+                f.write_str("headers too long to fit in event stream frame")
+            }
+            ErrorKind::HeaderValueTooLong => {
+                f.write_str("header value too long to fit in event stream frame")
+            }
+            ErrorKind::InvalidHeaderNameLength => f.write_str("invalid header name length"),
+            ErrorKind::MessageTooLong => {
+                f.write_str("message too long to fit in event stream frame")
+            }
+            ErrorKind::PayloadTooLong => {
+                f.write_str("message payload too long to fit in event stream frame")
+            }
+            ErrorKind::TimestampValueTooLarge(moment) => {
+                let secs = moment.secs();
+                write!(f, "timestamp value {secs} is too large to fit into an i64")
+            }
+            ErrorKind::Marshalling(message) => write!(f, "failed to marshall message: {message}"),
+            ErrorKind::Unmarshalling(message) => {
+                write!(f, "failed to unmarshall message: {message}")
+            }
+            ErrorKind::NoMemory => f.write_str("no memory"),
+        }
+    }
+}
+
+impl std::error::Error for Error {}
+
+impl From<ErrorKind> for Error {
+    ghost from_gives = { λ kind error. error.kind ≡ kind };
+
+    fn from(kind: ErrorKind) -> Error {
+        Error { kind }
+    }
+}
+
+impl From<AllocError> for Error {
+    ghost from_gives = { λ _ error. error.kind ≡ NoMemory };
+
+    fn from(_e: AllocError) -> Error {
+        Error {
+            kind: ErrorKind::NoMemory,
+        }
+    }
+}

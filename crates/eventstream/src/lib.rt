@@ -1,0 +1,15 @@
+//! The event stream encoding: messages as frames.
+//!
+//! The layer above is promised that [`write_message_to`] appends the frame of the message, or nothing
+//! and the first reason why it has none (`specs/Frame.antt`, `specs/Writing.antt`). The definitions of
+//! the signing key and of the chain of signed frames stand here too (`specs/Key.antt`,
+//! `specs/Link.antt`), below all crates that cite them.
+#![tactic(auto)]
+
+mod error;
+#[cfg(test)]
+mod tests;
+mod write;
+
+pub use crate::error::{Error, ErrorKind};
+pub use crate::write::{frame_of, write_headers_to, write_message_to};

@@ -1,0 +1,246 @@
+ghost use Rattle.std.specs.Prelude.{◌≡◌, ℕ, ◌+◌, ◌≤◌, ◌<◌, ◌^◌, ◌++◌, ◌∷◌, length, drop, None, Some, OnOk, IfOk, MatchResult};
+ghost use Rattle.std.specs.Int.{w16, to_be_bytes};
+ghost use Rattle.mac_core.specs.Crc.{remainder};
+ghost use Rattle.eventstream.specs.Frame.{be32, block, first_unspelled, frame, prelude_of, spelling, summed, unfit, unframed, unspelled, unspelled_value, value_spelling};
+ghost use Rattle.eventstream.specs.Writing.{Writes};
+
+use crate::error::{Error, ErrorKind};
+use mac_core::crc32;
+use smithy_core::{Header, HeaderValue, Mem, Message};
+use std::alloc::Global;
+
+/// The most bytes of a header's name.
+const MOST_NAME: usize = 255;
+
+/// The most bytes of a header's byte array or text.
+const MOST_VALUE: usize = 32_767;
+
+/// The most bytes of a header block, of a payload and of a frame.
+const MOST_FRAME: usize = 4_294_967_295;
+
+/// The bytes of a frame beside its header block and its payload.
+const OVERHEAD: usize = 16;
+
+/// Appends the spellings of the headers.
+///
+/// # Errors
+///
+/// The first header that has no spelling decides, its name before its value:
+/// [`ErrorKind::InvalidHeaderNameLength`], [`ErrorKind::HeaderValueTooLong`] or
+/// [`ErrorKind::TimestampValueTooLarge`]. A refused call appends nothing.
+pub fn write_headers_to(
+    alloc: Global,
+    headers: &[Header],
+    buffer: &mut Vec<u8>,
+) -> Result<(), Error>
+    ensures { Writes (first_unspelled headers.now) (block headers.now) buffer.old.items buffer.new.items result }
+{
+    if let Err(kind) = test_headers(headers) {
+        return Err(Error::from(kind));
+    }
+    let mut spelled = Vec::new(alloc);
+    push_headers(&mut spelled, headers)?;
+    buffer.extend_from_slice(spelled.as_slice())?;
+    Ok(())
+}
+
+/// Appends the frame of the message.
+///
+/// # Errors
+///
+/// As [`write_headers_to`], and then [`ErrorKind::HeadersTooLong`], [`ErrorKind::PayloadTooLong`] and
+/// [`ErrorKind::MessageTooLong`], in this order. A refused call appends nothing.
+#[tactic(auto, unfolding(crate::specs::Frame::frame, crate::specs::Frame::unframed))]
+pub fn write_message_to(alloc: Global, message: &Message, buffer: &mut Vec<u8>) -> Result<(), Error>
+    ensures { Writes (unframed message.now) (frame message.now) buffer.old.items buffer.new.items result }
+{
+    if let Err(kind) = test_headers(message.headers()) {
+        return Err(Error::from(kind));
+    }
+    let mut headers = Vec::new(alloc);
+    push_headers(&mut headers, message.headers())?;
+    if let Err(kind) = test_lengths(headers.len(), message.payload().len()) {
+        return Err(Error::from(kind));
+    }
+    let mut frame = Vec::new(alloc);
+    push_frame(&mut frame, headers.as_slice(), message.payload().as_slice())?;
+    buffer.extend_from_slice(frame.as_slice())?;
+    Ok(())
+}
+
+/// The frame of a message that has one.
+#[tactic(auto, unfolding(crate::specs::Frame::frame, crate::specs::Frame::unframed))]
+pub fn frame_of(alloc: Global, message: &Message) -> Mem<Vec<u8>>
+    requires { unframed message.now ≡ None }
+    ensures { IfOk result (λ bytes. bytes.items ≡ frame message.now) }
+{
+    let mut headers = Vec::new(alloc);
+    push_headers(&mut headers, message.headers())?;
+    let mut frame = Vec::new(alloc);
+    push_frame(&mut frame, headers.as_slice(), message.payload().as_slice())?;
+    Ok(frame)
+}
+
+fn test_headers(headers: &[Header]) -> Result<(), ErrorKind>
+    ensures { MatchResult result (λ _. first_unspelled headers.now ≡ None) (λ kind. first_unspelled headers.now ≡ Some kind) }
+{
+    for header in headers {
+        if let Err(kind) = test_header(header) {
+            return Err(kind);
+        }
+    }
+    Ok(())
+}
+
+fn test_header(header: &Header) -> Result<(), ErrorKind>
+    ensures { MatchResult result (λ _. unspelled header.now ≡ None) (λ kind. unspelled header.now ≡ Some kind) }
+{
+    if header.name().as_bytes().len() > MOST_NAME {
+        return Err(ErrorKind::InvalidHeaderNameLength);
+    }
+    test_value(header.value())
+}
+
+#[tactic(auto, unfolding(crate::specs::Frame::unspelled_value))]
+fn test_value(value: &HeaderValue) -> Result<(), ErrorKind>
+    ensures { MatchResult result (λ _. unspelled_value value.now ≡ None) (λ kind. unspelled_value value.now ≡ Some kind) }
+{
+    match value {
+        HeaderValue::ByteArray(bytes) => test_len(bytes.len()),
+        HeaderValue::String(text) => test_len(text.as_bytes().len()),
+        HeaderValue::Timestamp(moment) => match moment.to_millis() {
+            Ok(_) => Ok(()),
+            Err(_) => Err(ErrorKind::TimestampValueTooLarge(*moment)),
+        },
+        HeaderValue::Bool(_)
+        | HeaderValue::Byte(_)
+        | HeaderValue::Int16(_)
+        | HeaderValue::Int32(_)
+        | HeaderValue::Int64(_)
+        | HeaderValue::Uuid(_) => Ok(()),
+    }
+}
+
+fn test_len(len: usize) -> Result<(), ErrorKind>
+    ensures { MatchResult result (λ _. len ≤ 32767) (λ kind. (32767 < len) × (kind ≡ ErrorKind.HeaderValueTooLong)) }
+{
+    if len > MOST_VALUE {
+        return Err(ErrorKind::HeaderValueTooLong);
+    }
+    Ok(())
+}
+
+fn test_lengths(headers: usize, payload: usize) -> Result<(), ErrorKind>
+    ensures { MatchResult result
+        (λ _. (16 + headers + payload ≤ 4294967295) × (unfit headers payload ≡ None))
+        (λ kind. unfit headers payload ≡ Some kind) }
+{
+    if headers > MOST_FRAME {
+        return Err(ErrorKind::HeadersTooLong);
+    }
+    if payload > MOST_FRAME {
+        return Err(ErrorKind::PayloadTooLong);
+    }
+    if OVERHEAD + headers + payload > MOST_FRAME {
+        return Err(ErrorKind::MessageTooLong);
+    }
+    Ok(())
+}
+
+fn push_headers(buffer: &mut Vec<u8>, headers: &[Header]) -> Mem<()>
+    requires { first_unspelled headers.now ≡ None }
+    ensures { OnOk result (buffer.new.items ≡ buffer.old.items ++ block headers.now) }
+{
+    for header in headers {
+        push_header(buffer, header)?;
+    }
+    Ok(())
+}
+
+fn push_header(buffer: &mut Vec<u8>, header: &Header) -> Mem<()>
+    requires { unspelled header.now ≡ None }
+    ensures { OnOk result (buffer.new.items ≡ buffer.old.items ++ spelling header.now) }
+{
+    let name = header.name().as_bytes();
+    push_tagged(buffer, name.len() as u8, name.as_slice())?;
+    push_value(buffer, header.value())
+}
+
+#[tactic(auto, unfolding(crate::specs::Frame::value_spelling, crate::specs::Frame::unspelled_value))]
+fn push_value(buffer: &mut Vec<u8>, value: &HeaderValue) -> Mem<()>
+    requires { unspelled_value value.now ≡ None }
+    ensures { OnOk result (buffer.new.items ≡ buffer.old.items ++ value_spelling value.now) }
+{
+    match value {
+        HeaderValue::Bool(true) => Ok(buffer.push(0)?),
+        HeaderValue::Bool(false) => Ok(buffer.push(1)?),
+        HeaderValue::Byte(n) => push_tagged(buffer, 2, n.to_be_bytes().as_slice()),
+        HeaderValue::Int16(n) => push_tagged(buffer, 3, n.to_be_bytes().as_slice()),
+        HeaderValue::Int32(n) => push_tagged(buffer, 4, n.to_be_bytes().as_slice()),
+        HeaderValue::Int64(n) => push_tagged(buffer, 5, n.to_be_bytes().as_slice()),
+        HeaderValue::ByteArray(bytes) => push_counted(buffer, 6, bytes.as_slice()),
+        HeaderValue::String(text) => push_counted(buffer, 7, text.as_bytes().as_slice()),
+        HeaderValue::Timestamp(moment) => {
+            let millis = moment.to_millis().unwrap();
+            push_tagged(buffer, 8, millis.to_be_bytes().as_slice())
+        }
+        HeaderValue::Uuid(n) => push_tagged(buffer, 9, n.to_be_bytes().as_slice()),
+    }
+}
+
+// A byte, and then these bytes.
+fn push_tagged(buffer: &mut Vec<u8>, tag: u8, bytes: &[u8]) -> Mem<()>
+    ensures { OnOk result (buffer.new.items ≡ buffer.old.items ++ tag ∷ bytes.now) }
+{
+    buffer.push(tag)?;
+    buffer.extend_from_slice(bytes)
+}
+
+// A byte, the number of these bytes, and then the bytes.
+fn push_counted(buffer: &mut Vec<u8>, tag: u8, bytes: &[u8]) -> Mem<()>
+    requires { length bytes.now < 65536 }
+    ensures { OnOk result (buffer.new.items ≡ buffer.old.items ++ tag ∷ to_be_bytes w16 (length bytes.now) ++ bytes.now) }
+{
+    buffer.push(tag)?;
+    buffer.extend_from_slice((bytes.len() as u16).to_be_bytes().as_slice())?;
+    buffer.extend_from_slice(bytes)
+}
+
+// The frame of these bytes of headers and this payload.
+fn push_frame(buffer: &mut Vec<u8>, headers: &[u8], payload: &[u8]) -> Mem<()>
+    requires { 16 + length headers.now + length payload.now < 2 ^ 32 }
+    ensures { OnOk result (buffer.new.items ≡ buffer.old.items ++ summed (summed (prelude_of
+        (16 + length headers.now + length payload.now) (length headers.now)) ++ headers.now ++ payload.now)) }
+{
+    let start = buffer.len();
+    let total = OVERHEAD + headers.len() + payload.len();
+    push_prelude(buffer, total as u32, headers.len() as u32)?;
+    buffer.extend_from_slice(headers)?;
+    buffer.extend_from_slice(payload)?;
+    push_checksum(buffer, start)
+}
+
+fn push_prelude(buffer: &mut Vec<u8>, total: u32, headers: u32) -> Mem<()>
+    ensures { OnOk result (buffer.new.items ≡ buffer.old.items ++ summed (prelude_of total headers)) }
+{
+    let start = buffer.len();
+    push_u32(buffer, total)?;
+    push_u32(buffer, headers)?;
+    push_checksum(buffer, start)
+}
+
+// The checksum of the bytes from `start` on.
+fn push_checksum(buffer: &mut Vec<u8>, start: usize) -> Mem<()>
+    requires { start ≤ length buffer.old.items }
+    ensures { OnOk result (buffer.new.items ≡ buffer.old.items ++ be32 (remainder (drop start buffer.old.items))) }
+{
+    let checksum = crc32(&buffer[start..]);
+    push_u32(buffer, checksum)
+}
+
+#[tactic(auto, unfolding(crate::specs::Frame::be32))]
+fn push_u32(buffer: &mut Vec<u8>, n: u32) -> Mem<()>
+    ensures { OnOk result (buffer.new.items ≡ buffer.old.items ++ be32 n) }
+{
+    buffer.extend_from_slice(n.to_be_bytes().as_slice())
+}

@@ -1,0 +1,23 @@
+use Rattle.std.proofs.Common.{◌≡◌, ℕ, ◌+◌, ◌<◌, ◌≤◌, List, [], ◌++◌, length, drop, replicate, true, false, nat_lt, arith, length-append, append-nil}
+use Rattle.std.proofs.lemmas.List.{drop-replicate}
+use Rattle.std.proofs.lemmas.Bool.Decides.{nat_tests}
+use Rattle.sha2.specs.Sha256.{sha256}
+use Rattle.mac_core.specs.Mac.{key_block, short_key}
+
+-- a key of at most 64 bytes stands for itself
+pub block_of_short : (front back : List ℕ) → length front + length back ≤ 64
+    → (front ++ back) ++ drop (length (front ++ back)) (replicate 64 0) ≡ key_block (front ++ back)
+unfolding key_block short_key
+block_of_short front back short =
+    let test : nat_lt 64 (length (front ++ back)) ≡ false = grind (arith, nat_tests, length-append {A = ℕ}) in
+    simp (test, drop-replicate)
+
+-- a longer key has its digest in its place
+pub block_of_long : (front back digest : List ℕ) → 64 < length front + length back → digest ≡ sha256 (front ++ back)
+    → (digest ++ []) ++ drop (length (digest ++ [])) (replicate 64 0) ≡ key_block (front ++ back)
+unfolding key_block short_key
+block_of_long front back digest long is =
+    let test : nat_lt 64 (length (front ++ back)) ≡ true = grind (arith, nat_tests, length-append {A = ℕ}) in
+    simp (test, append-nil, is, drop-replicate)
+
+pub ruleset blocks = (block_of_short, block_of_long)

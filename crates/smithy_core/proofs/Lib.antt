@@ -1,0 +1,4 @@
+pub mod CutLemmas
+pub mod GainLemmas
+pub mod PairLemmas
+pub mod DayLemmas

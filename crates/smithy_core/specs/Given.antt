@@ -1,0 +1,19 @@
+-- What contracts say of a clock. The list of what it gave is optional: it need not tell.
+use Rattle.std.specs.Prelude.{◌≡◌, ℕ, zero, suc, ◌-◌, ◌^◌, List, [], ◌∷◌, ◌++◌, Option, Some, None, nat_lt, if◌then◌else◌}
+use Rattle.std.specs.List.{slice_index_or}
+use Rattle.smithy_core.specs.Instant.{Instant}
+
+-- the answer was appended, where the list is told afterwards
+abbrev pub GainsOne : Option (List Instant) → Option (List Instant) → Instant → Type 0
+GainsOne before None moment = Unit {0}
+GainsOne None (Some now) moment = ⊥
+GainsOne (Some before) (Some now) moment = now ≡ before ++ moment ∷ []
+
+-- the first n answers of a clock over these moments: in order, and then the last again and again
+abbrev pub answers : Instant → List Instant → ℕ → List Instant
+answers last moments zero = []
+answers last moments (suc n) = answers last moments n ++ slice_index_or moments n last ∷ []
+
+-- told while the count of calls is below its greatest value
+abbrev pub given_of : Instant → List Instant → ℕ → Option (List Instant)
+given_of last moments count = if nat_lt count (2 ^ 64 - 1) then Some (answers last moments count) else None

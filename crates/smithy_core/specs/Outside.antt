@@ -1,0 +1,65 @@
+-- What contracts say of the objects of the outside. What an object holds or has left is optional: it need not tell.
+use Rattle.std.specs.Prelude.{◌≡◌, ℕ, ◌<◌, ◌≤◌, ◌⊎◌, ◌-◌, ◌^◌, List, [], ◌++◌, length, take, drop, Option, Some, None}
+use Rattle.smithy_core.specs.Pairs.{last_value}
+
+-- the count rose, or stands at its last value
+abbrev pub Rose : ℕ → ℕ → Type 0
+Rose before now = (before < now) ⊎ (now ≡ 2 ^ 64 - 1)
+
+-- the first n bytes of what was left are the first n of the buffer, and are gone
+abbrev pub TakesFront : ℕ → List ℕ → Option (List ℕ) → Option (List ℕ) → Type 0
+TakesFront n into None now = now ≡ None
+TakesFront n into (Some before) now = (take n before ≡ take n into) × (n ≤ length before) × (now ≡ Some (drop n before))
+
+-- nothing is left
+abbrev pub IsAtEnd : Option (List ℕ) → Type 0
+IsAtEnd None = Unit {0}
+IsAtEnd (Some bytes) = bytes ≡ []
+
+-- these bytes are all that was left
+abbrev pub IsAllOf : Option (List ℕ) → List ℕ → Type 0
+IsAllOf None read = Unit {0}
+IsAllOf (Some bytes) read = read ≡ bytes
+
+-- more bytes were left than the limit
+abbrev pub IsLongerThan : Option (List ℕ) → ℕ → Type 0
+IsLongerThan None limit = Unit {0}
+IsLongerThan (Some bytes) limit = limit < length bytes
+
+-- the bytes read and those left are all there were
+abbrev pub IsCutOf : Option (List ℕ) → List ℕ → Option (List ℕ) → Type 0
+IsCutOf None read now = now ≡ None
+IsCutOf (Some all) read now = (rest : List ℕ) × (now ≡ Some rest) × (all ≡ read ++ rest)
+
+-- the first n bytes of the piece came to what was held
+abbrev pub GainsFront : ℕ → List ℕ → Option (List ℕ) → Option (List ℕ) → Type 0
+GainsFront n piece None now = now ≡ None
+GainsFront n piece (Some before) now = now ≡ Some (before ++ take n piece)
+
+-- with this rest, what is held now is what was held before and the whole text
+abbrev pub GainsRest : Option (List ℕ) → Option (List ℕ) → List ℕ → List ℕ → Type 0
+GainsRest None now rest text = now ≡ None
+GainsRest (Some before) None rest text = ⊥
+GainsRest (Some before) (Some now) rest text = now ++ rest ≡ before ++ text
+
+-- what is held has gained the text
+abbrev pub Gains : Option (List ℕ) → Option (List ℕ) → List ℕ → Type 0
+Gains before now text = GainsRest before now [] text
+
+-- what is held has gained a front of the text
+abbrev pub GainsPrefix : Option (List ℕ) → Option (List ℕ) → List ℕ → Type 0
+GainsPrefix before now text = (rest : List ℕ) × GainsRest before now rest text
+
+-- what is held has gained a front of the text, and not all of it
+abbrev pub GainsProperPrefix : Option (List ℕ) → Option (List ℕ) → List ℕ → Type 0
+GainsProperPrefix before now text = (rest : List ℕ) × (0 < length rest) × GainsRest before now rest text
+
+-- the file at the path has these bytes
+abbrev pub HasFile : Option (List (List ℕ × List ℕ)) → List ℕ → List ℕ → Type 0
+HasFile None path bytes = Unit {0}
+HasFile (Some files) path bytes = last_value files path ≡ Some bytes
+
+-- there is no file at the path
+abbrev pub LacksFile : Option (List (List ℕ × List ℕ)) → List ℕ → Type 0
+LacksFile None path = Unit {0}
+LacksFile (Some files) path = last_value files path ≡ None

@@ -1,0 +1,32 @@
+-- Lists of pairs: headers, variables, files.
+use Rattle.std.specs.Prelude.{ℕ, List, [], ◌∷◌, map, filter, not, Option, Some, None, bytes_eq, if◌then◌else◌}
+use Rattle.std.specs.Option.{option_or}
+use Rattle.std.specs.Char.{to_ascii_lowercase}
+
+-- a text with its ASCII letters in lower case
+abbrev pub lower : List ℕ → List ℕ
+lower text = map to_ascii_lowercase text
+
+-- the value, where the pair has this name
+abbrev pub value_if : List ℕ × List ℕ → List ℕ → Option (List ℕ)
+value_if pair name = if bytes_eq pair.0 name then Some pair.1 else None
+
+-- the value of the first pair that has the name
+abbrev pub first_value : List (List ℕ × List ℕ) → List ℕ → Option (List ℕ)
+first_value [] name = None
+first_value (pair ∷ pairs) name = option_or (value_if pair name) (first_value pairs name)
+
+-- the value of the last pair that has the name
+abbrev pub last_value : List (List ℕ × List ℕ) → List ℕ → Option (List ℕ)
+last_value [] name = None
+last_value (pair ∷ pairs) name = option_or (last_value pairs name) (value_if pair name)
+
+-- the pairs that don't have the name
+abbrev pub without : List (List ℕ × List ℕ) → List ℕ → List (List ℕ × List ℕ)
+without pairs name = filter (λ pair. not (bytes_eq pair.0 name)) pairs
+
+-- the pair at the first place of its name, with no other of that name, or else at the end
+abbrev pub inserted : List (List ℕ × List ℕ) → List ℕ → List ℕ → List (List ℕ × List ℕ)
+inserted [] name value = (name, value) ∷ []
+inserted (pair ∷ pairs) name value =
+    if bytes_eq pair.0 name then (name, value) ∷ without pairs name else pair ∷ inserted pairs name value

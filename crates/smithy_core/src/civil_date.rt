@@ -1,0 +1,45 @@
+ghost use Rattle.std.specs.Prelude.{◌≡◌, ◌+◌, ◌*◌, ◌/◌, ◌%◌, ◌<◌, ◌≤◌, MatchOption};
+ghost use Rattle.smithy_core.specs.Civil.{IsInYears, civil_after, civil_of};
+
+use crate::civil_text::Civil;
+use crate::moment::Moment;
+use jiff_core::civil::Date;
+
+/// The second of 1 January of the year 0 at 00:00:00Z.
+const FIRST_SECOND: i64 = -62_167_219_200;
+
+/// The second of 31 December of the year 9999 at 23:59:59Z.
+const LAST_SECOND: i64 = 253_402_300_799;
+
+/// The days from 1 January of the year -9999, the first that `jiff_core` counts, to 1 January of the year 0.
+const DAYS_BEFORE: u32 = 3_652_059;
+
+#[tactic(auto, unfolding(crate::specs::Civil::civil_of))]
+/// The date and the time of day of a moment, and `None` outside the years 0 to 9999.
+pub fn civil(moment: Moment) -> Option<Civil>
+    ensures { MatchOption result (IsInYears moment → ⊥) (λ civil. IsInYears moment × (civil ≡ civil_of moment)) }
+{
+    let secs = moment.secs();
+    if secs < FIRST_SECOND || secs > LAST_SECOND {
+        return None;
+    }
+    let since = (secs - FIRST_SECOND) as u64;
+    Some(civil_at(since))
+}
+
+// The date and the time of day so many seconds after the begin of the year 0.
+fn civil_at(since: u64) -> Civil
+    requires { since < 315_569_520_000 }
+    ensures { result ≡ civil_after since }
+{
+    let date = Date::from_days_since_min((since / 86400) as u32 + DAYS_BEFORE);
+    let second = since % 86400;
+    Civil {
+        year: date.year.unsigned_abs(),
+        month: date.month,
+        day: date.day,
+        hour: (second / 3600) as u8,
+        minute: (second / 60 % 60) as u8,
+        second: (second % 60) as u8,
+    }
+}

@@ -1,0 +1,79 @@
+ghost use Rattle.std.specs.Prelude.{◌≡◌, IfOk};
+
+use crate::memory::Mem;
+use crate::moment::DateTime;
+use crate::str_bytes::StrBytes;
+use bytes::Bytes;
+
+/// The value of a [`Header`]: one of the nine kinds of the event stream encoding.
+#[derive(Debug, Drop)]
+pub enum HeaderValue {
+    Bool(bool),
+    Byte(i8),
+    Int16(i16),
+    Int32(i32),
+    Int64(i64),
+    ByteArray(Bytes),
+    String(StrBytes),
+    Timestamp(DateTime),
+    Uuid(u128),
+}
+
+impl HeaderValue {
+    /// An equal value.
+    pub fn try_clone(&self) -> Mem<HeaderValue>
+        ensures { IfOk result (λ copy. copy ≡ self.now) }
+    {
+        Ok(match self {
+            HeaderValue::Bool(value) => HeaderValue::Bool(*value),
+            HeaderValue::Byte(value) => HeaderValue::Byte(*value),
+            HeaderValue::Int16(value) => HeaderValue::Int16(*value),
+            HeaderValue::Int32(value) => HeaderValue::Int32(*value),
+            HeaderValue::Int64(value) => HeaderValue::Int64(*value),
+            HeaderValue::ByteArray(value) => HeaderValue::ByteArray(value.clone()?),
+            HeaderValue::String(value) => HeaderValue::String(value.try_clone()?),
+            HeaderValue::Timestamp(value) => HeaderValue::Timestamp(*value),
+            HeaderValue::Uuid(value) => HeaderValue::Uuid(*value),
+        })
+    }
+}
+
+/// A header of a [`Message`](crate::Message): a name and a value.
+#[derive(Debug, Drop)]
+pub struct Header {
+    name: StrBytes,
+    value: HeaderValue,
+}
+
+impl Header {
+    /// The header of this name and value.
+    pub fn new(name: StrBytes, value: HeaderValue) -> Header
+        ensures { result ≡ record { name = name; value = value } }
+    {
+        Header { name, value }
+    }
+
+    /// Its name.
+    pub fn name(&self) -> &StrBytes
+        ensures { result.now ≡ self.now.name }
+    {
+        &self.name
+    }
+
+    /// Its value.
+    pub fn value(&self) -> &HeaderValue
+        ensures { result.now ≡ self.now.value }
+    {
+        &self.value
+    }
+
+    /// An equal header.
+    pub fn try_clone(&self) -> Mem<Header>
+        ensures { IfOk result (λ copy. copy ≡ self.now) }
+    {
+        Ok(Header {
+            name: self.name.try_clone()?,
+            value: self.value.try_clone()?,
+        })
+    }
+}

@@ -1,0 +1,70 @@
+ghost use Rattle.std.specs.Prelude.{◌≡◌, option_copied, option_map};
+ghost use Rattle.std.specs.String.{string_bytes};
+
+use crate::moment::Moment;
+
+/// Credentials of an account. [`Debug`](std::fmt::Debug) isn't there, so that no secret is printed.
+#[derive(Drop)]
+pub struct Credentials {
+    key_id: String,
+    secret: String,
+    token: Option<String>,
+    expiry: Option<Moment>,
+}
+
+impl Credentials {
+    /// Credentials of these parts.
+    pub fn new(
+        key_id: String,
+        secret: String,
+        token: Option<String>,
+        expiry: Option<Moment>,
+    ) -> Credentials
+        ensures { result ≡ record { key_id = key_id; secret = secret; token = token; expiry = expiry } }
+    {
+        Credentials {
+            key_id,
+            secret,
+            token,
+            expiry,
+        }
+    }
+
+    /// The access key id.
+    pub fn access_key_id(&self) -> &str
+        ensures { result.now ≡ string_bytes self.now.key_id }
+    {
+        self.key_id.as_str()
+    }
+
+    /// The secret access key.
+    pub fn secret_access_key(&self) -> &str
+        ensures { result.now ≡ string_bytes self.now.secret }
+    {
+        self.secret.as_str()
+    }
+
+    /// The session token, where there is one.
+    pub fn session_token(&self) -> Option<&str>
+        ensures { option_copied result ≡ option_map string_bytes self.now.token }
+    {
+        match &self.token {
+            Some(token) => Some(token.as_str()),
+            None => None,
+        }
+    }
+
+    /// When the credentials end, where that is known.
+    pub fn expiry(&self) -> Option<Moment>
+        ensures { result ≡ self.now.expiry }
+    {
+        self.expiry
+    }
+}
+
+/// Who signs.
+#[derive(Drop)]
+pub enum Identity {
+    Credentials(Credentials),
+    Token(String),
+}

@@ -1,0 +1,44 @@
+//! The base of the stack: moments and civil dates, messages and their headers, requests,
+//! credentials, the environment, and the traits of the outside with their versions in memory.
+//!
+//! The layer above is promised that a [`Message`] is a list of headers and a payload, that
+//! [`Headers`] is a list of pairs under `insert` and `append`, that [`civil`] counts the days of the
+//! Gregorian calendar, and that each object of the outside counts its faults
+//! (`specs/Outside.antt`, `specs/Given.antt`).
+#![tactic(auto)]
+
+mod civil_date;
+mod civil_text;
+mod env;
+mod header;
+mod headers;
+mod identity;
+mod memory;
+mod message;
+mod moment;
+mod outside;
+mod request;
+mod str_bytes;
+#[cfg(test)]
+mod tests;
+mod text;
+
+pub use crate::civil_date::civil;
+pub use crate::civil_text::Civil;
+pub use crate::env::Env;
+pub use crate::header::{Header, HeaderValue};
+pub use crate::headers::Headers;
+pub use crate::identity::{Credentials, Identity};
+pub use crate::memory::{Mem, NoMemory};
+pub use crate::message::Message;
+pub use crate::moment::{DateTime, Moment, TimeOutOfRange};
+pub use crate::outside::clock::{Clock, FixedClock, ListClock};
+pub use crate::outside::disk::{CalmDisk, Disk, DiskError};
+pub use crate::outside::host::{StdSink, StdSource, SystemClock};
+pub use crate::outside::read_all::{ReadFault, read_all};
+pub use crate::outside::sink::{ByteSink, CalmSink, FaultySink, SinkError};
+pub use crate::outside::source::{ByteSource, CalmSource, Failed, FaultySource};
+pub use crate::outside::write_all::write_all;
+pub use crate::request::HttpRequest;
+pub use crate::str_bytes::StrBytes;
+pub use crate::text::push_line;

@@ -1,0 +1,69 @@
+ghost use Rattle.std.specs.Prelude.{◌≡◌, List, [], ◌∷◌, ◌++◌, IfOk};
+
+use crate::header::Header;
+use crate::memory::Mem;
+use bytes::Bytes;
+use std::alloc::Global;
+use std::marker::Model;
+
+/// A message of an event stream: headers in order, and a payload.
+///
+/// Contracts see it as its `Parts`.
+#[derive(Debug, Drop)]
+pub struct Message {
+    headers: Vec<Header>,
+    payload: Bytes,
+}
+
+impl Model for Message {
+    ghost use Rattle.smithy_core.specs.Parts.{Parts};
+
+    ghost Value = { Parts };
+
+    ghost view = { λ message. record { headers = message.headers.items; payload = message.payload } };
+}
+
+impl Message {
+    /// A message without headers.
+    pub fn new(alloc: Global, payload: Bytes) -> Message
+        ensures { result ≡ record { headers = []; payload = payload } }
+    {
+        Message {
+            headers: Vec::new(alloc),
+            payload,
+        }
+    }
+
+    /// The message of these headers and this payload.
+    pub fn new_from_parts(headers: Vec<Header>, payload: Bytes) -> Message
+        ensures { result ≡ record { headers = headers.items; payload = payload } }
+    {
+        Message { headers, payload }
+    }
+
+    /// The message with one header more, at the end.
+    pub fn add_header(self, header: Header) -> Mem<Message>
+        ensures { IfOk result (λ message. message ≡ record self { headers = self.headers ++ header ∷ [] }) }
+    {
+        let Message {
+            mut headers,
+            payload,
+        } = self;
+        headers.push(header)?;
+        Ok(Message { headers, payload })
+    }
+
+    /// Its headers.
+    pub fn headers(&self) -> &[Header]
+        ensures { result.now ≡ self.now.headers }
+    {
+        self.headers.as_slice()
+    }
+
+    /// Its payload.
+    pub fn payload(&self) -> &Bytes
+        ensures { result.now ≡ self.now.payload }
+    {
+        &self.payload
+    }
+}

@@ -1,0 +1,74 @@
+ghost use Rattle.std.specs.Prelude.{◌≡◌, ℕ, ◌<◌, ◌/◌, FitsSigned, MatchResult};
+ghost use Rattle.std.specs.Int.{w64};
+ghost use Rattle.smithy_core.specs.Instant.{floor_ms};
+
+use std::marker::Model;
+
+/// A moment: whole seconds since 1970-01-01T00:00:00Z, and the nanoseconds after them.
+///
+/// Contracts see it as an `Instant`.
+#[derive(Clone, Copy, Debug, PartialEq, Eq)]
+pub struct DateTime {
+    secs: i64,
+    nanos: u32,
+}
+
+/// The name of a [`DateTime`] that a clock gives.
+pub type Moment = DateTime;
+
+/// The whole milliseconds of a moment leave `i64`.
+#[derive(Clone, Copy, Debug, PartialEq, Eq)]
+pub struct TimeOutOfRange;
+
+impl Model for DateTime {
+    ghost use Rattle.std.specs.Prelude.{◌<◌};
+    ghost use Rattle.smithy_core.specs.Instant.{Instant};
+
+    ghost Value = { Instant };
+
+    ghost view = { λ moment. record { secs = moment.secs; nanos = moment.nanos } };
+
+    ghost invariant = { λ moment. moment.nanos < 1_000_000_000 };
+
+    ghost inverse = { λ instant. record { secs = instant.secs; nanos = instant.nanos } };
+}
+
+impl DateTime {
+    /// The moment of these seconds and nanoseconds.
+    pub fn new(secs: i64, nanos: u32) -> DateTime
+        requires { nanos < 1_000_000_000 }
+        ensures { result ≡ record { secs = secs; nanos = nanos } }
+    {
+        DateTime { secs, nanos }
+    }
+
+    /// Whole seconds since 1970-01-01T00:00:00Z, rounded down.
+    pub fn secs(self) -> i64
+        ensures { result ≡ self.secs }
+    {
+        self.secs
+    }
+
+    /// The nanoseconds after the whole seconds.
+    pub fn subsec_nanos(self) -> u32
+        ensures value { result ≡ self.nanos }
+        ensures below { result < 1_000_000_000 }
+    {
+        self.nanos
+    }
+
+    /// Whole milliseconds, rounded down.
+    ///
+    /// # Errors
+    ///
+    /// [`TimeOutOfRange`] where they leave `i64`.
+    pub fn to_millis(self) -> Result<i64, TimeOutOfRange>
+        ensures { MatchResult result (λ ms. FitsSigned w64 (floor_ms self) × (ms ≡ floor_ms self)) (λ _. FitsSigned w64 (floor_ms self) → ⊥) }
+    {
+        let wide = i128::from(self.secs) * 1000 + i128::from(self.nanos / 1_000_000);
+        match i64::try_from(wide) {
+            Ok(millis) => Ok(millis),
+            Err(_) => Err(TimeOutOfRange),
+        }
+    }
+}

@@ -1,0 +1,27 @@
+ghost use Rattle.std.specs.Prelude.{◌≡◌, ◌≤◌, OnOk, OnErr, IsErrOf};
+ghost use Rattle.smithy_core.specs.Outside.{Gains, GainsProperPrefix, Rose};
+
+use crate::outside::sink::{ByteSink, SinkError};
+
+/// Writes a whole piece.
+///
+/// # Errors
+///
+/// [`SinkError::Failed`] where the sink's count of faults rose, [`SinkError::NoMemory`] for want of memory.
+/// After both the sink has gained a front of the piece, and not all of it.
+#[tactic(auto, using(crate::proofs::GainLemmas::writes))]
+pub fn write_all<K: ByteSink>(sink: &mut K, piece: &[u8]) -> Result<(), SinkError>
+    ensures count { K.faults sink.old ≤ K.faults sink.new }
+    ensures ok { OnOk result (Gains (K.held sink.old) (K.held sink.new) piece.now) }
+    ensures failed { IsErrOf result SinkError.Failed → Rose (K.faults sink.old) (K.faults sink.new) }
+    ensures err { OnErr result (GainsProperPrefix (K.held sink.old) (K.held sink.new) piece.now) }
+{
+    let mut rest = piece;
+    'writes: while !rest.is_empty() {
+        match sink.write(rest) {
+            Ok(n) => rest = &rest[n..],
+            Err(e) => return Err(e),
+        }
+    }
+    Ok(())
+}

@@ -1,0 +1,75 @@
+ghost use Rattle.std.specs.Prelude.{◌≡◌, ℕ, List, IsUtf8, IfOk, MatchResult};
+
+use crate::memory::Mem;
+use bytes::Bytes;
+use std::alloc::Global;
+use std::marker::Model;
+
+/// UTF-8 text over shared bytes.
+///
+/// Contracts see it as its bytes.
+#[derive(Debug, Drop)]
+pub struct StrBytes {
+    bytes: Bytes,
+}
+
+impl Model for StrBytes {
+    ghost use Rattle.std.specs.Prelude.{ℕ, List, IsUtf8};
+
+    ghost Value = { List ℕ };
+
+    ghost view = { λ text. text.bytes };
+
+    ghost invariant = { λ text. IsUtf8 text.bytes };
+}
+
+impl StrBytes {
+    /// The text of a literal.
+    pub fn from_static(text: &'static str) -> StrBytes
+        ensures { result ≡ text.now }
+    {
+        StrBytes {
+            bytes: Bytes::from_static(text.as_bytes()),
+        }
+    }
+
+    /// A copy of the text.
+    pub fn copy_from_str(alloc: Global, text: &str) -> Mem<StrBytes>
+        ensures { IfOk result (λ copy. copy ≡ text.now) }
+    {
+        Ok(StrBytes {
+            bytes: Bytes::copy_from_slice(alloc, text.as_bytes())?,
+        })
+    }
+
+    /// The text that the bytes spell.
+    ///
+    /// # Errors
+    ///
+    /// The bytes themselves, where they aren't UTF-8.
+    pub fn try_from_bytes(bytes: Bytes) -> Result<StrBytes, Bytes>
+        ensures { MatchResult result (λ text. (text ≡ bytes) × IsUtf8 bytes) (λ refused. (refused ≡ bytes) × (IsUtf8 bytes → ⊥)) }
+    {
+        match std::str::from_utf8(bytes.as_slice()) {
+            Ok(_) => Ok(StrBytes { bytes }),
+            Err(_) => Err(bytes),
+        }
+    }
+
+    /// The bytes of the text.
+    pub fn as_bytes(&self) -> &Bytes
+        ensures value { result.now ≡ self.now }
+        ensures utf8 { IsUtf8 self.now }
+    {
+        &self.bytes
+    }
+
+    /// Another handle of the same text.
+    pub fn try_clone(&self) -> Mem<StrBytes>
+        ensures { IfOk result (λ copy. copy ≡ self.now) }
+    {
+        Ok(StrBytes {
+            bytes: self.bytes.clone()?,
+        })
+    }
+}
