@@ -1,0 +1,2 @@
+pub use crate::key::{credential_scope, generate_signing_key};
+pub use crate::signature::{calculate_signature, request_signature};
