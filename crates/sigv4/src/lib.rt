@@ -6,6 +6,7 @@
 #![tactic(auto)]
 
 mod key;
+mod params;
 mod signature;
 #[cfg(test)]
 mod tests;
