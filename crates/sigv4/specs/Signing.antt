@@ -5,8 +5,7 @@ use Rattle.smithy_core.specs.Instant.{Instant}
 use Rattle.smithy_core.specs.Parts.{Parts}
 use Rattle.smithy_core.specs.declared.identity.Identity.{Identity}
 use Rattle.smithy_core.specs.declared.identity.Identity.TheVariants.{Credentials, Token}
-use Rattle.eventstream.specs.Frame.{frame, unframed}
-use Rattle.eventstream.specs.Key.{Signer}
+use Rattle.eventstream.specs.Frame.{unframed}
 use Rattle.eventstream.specs.Link.{link_message, link_signature}
 use Rattle.eventstream.specs.declared.error.ErrorKind.{ErrorKind}
 use Rattle.sigv4.specs.Params.{signer_of}

@@ -14,7 +14,7 @@ use crate::error::SigningError;
 use crate::key::{generate_signing_key, scope_bytes};
 use crate::output::SigningOutput;
 use bytes::Bytes;
-use eventstream::{write_headers_to, write_message_to};
+use eventstream::{ErrorKind, write_headers_to, write_message_to};
 use mac_core::{hmac_sha256, sha256_hex};
 use smithy_core::{
     Header, HeaderValue, Identity, Mem, Message, Moment, StrBytes, civil, push_line,
@@ -119,32 +119,32 @@ fn link(
         (output.output ≡ link_message (signer_of params.now) last_signature.now bytes.items params.now.time)
         × (string_bytes output.signature ≡ link_signature (signer_of params.now) last_signature.now bytes.items params.now.time)) }
 {
-    let date = whole_second(params.time());
-    let text = text_to_sign(alloc, bytes.as_slice(), last_signature, params, date)?;
+    let text = text_to_sign(alloc, bytes.as_slice(), last_signature, params)?;
     let code = hmac_sha256(key, text.as_slice());
     let signature = hex::encode(alloc, code.as_slice())?;
     let mut headers = Vec::new(alloc);
     headers.push(code_header(alloc, code.as_slice())?)?;
-    headers.push(date_header(date))?;
+    headers.push(date_header(params.time()))?;
     let message = Message::new_from_parts(headers, Bytes::from_vec(bytes)?);
     Ok(SigningOutput::new(message, signature))
 }
 
-// The string to sign of bytes at a whole second, over the signature before them.
+// The string to sign of bytes over the signature before them.
 #[tactic(auto, unfolding(smithy_core::specs::Civil::stamp, eventstream::specs::Link::string_to_sign))]
 fn text_to_sign(
     alloc: Global,
     bytes: &[u8],
     last_signature: &str,
     params: &SigningParams<'_>,
-    date: Moment,
 ) -> Mem<Vec<u8>>
-    requires { IsInYears date }
-    ensures { IfOk result (λ text. text.items ≡ string_to_sign (signer_of params.now) last_signature.now bytes.now date) }
+    requires { IsInYears params.now.time }
+    ensures { IfOk result (λ text. text.items
+        ≡ string_to_sign (signer_of params.now) last_signature.now bytes.now (floor_secs params.now.time)) }
 {
+    let date = whole_second(params.time());
     let stamp = civil(date).unwrap().stamp();
     let scope = scope_bytes(alloc, date, params.region(), params.name())?;
-    let date_digest = date_digest(alloc, date)?;
+    let date_digest = date_digest(alloc, params.time())?;
     let digest = sha256_hex(alloc, bytes)?;
     let mut text = Vec::new(alloc);
     push_line(&mut text, b"AWS4-HMAC-SHA256-PAYLOAD")?;
@@ -157,22 +157,30 @@ fn text_to_sign(
 }
 
 // The digest of the spelling of the header with a moment.
-fn date_digest(alloc: Global, date: Moment) -> Mem<String>
-    requires { IsInYears date }
-    ensures { IfOk result (λ text. string_bytes text ≡ encode_lower (sha256 (spelling (date_header date)))) }
+#[tactic(auto, using(crate::proofs::DateLemmas::date_spelled))]
+fn date_digest(alloc: Global, time: Moment) -> Mem<String>
+    requires { IsInYears time }
+    ensures { IfOk result (λ text. string_bytes text ≡ encode_lower (sha256 (spelling (date_header (floor_secs time))))) }
 {
-    let headers = [date_header(date)];
+    let headers = [date_header(time)];
     let mut spelled = Vec::new(alloc);
     match write_headers_to(alloc, headers.as_slice(), &mut spelled) {
         Ok(()) => sha256_hex(alloc, spelled.as_slice()),
-        Err(_) => Err(AllocError),
+        Err(error) => match error.kind() {
+            ErrorKind::NoMemory => Err(AllocError),
+            _ => unreachable!(),
+        },
     }
 }
 
-fn date_header(date: Moment) -> Header
-    ensures { result ≡ date_header date }
+// The header with a moment, without its nanoseconds.
+fn date_header(time: Moment) -> Header
+    ensures { result ≡ date_header (floor_secs time) }
 {
-    Header::new(StrBytes::from_static(":date"), HeaderValue::Timestamp(date))
+    Header::new(
+        StrBytes::from_static(":date"),
+        HeaderValue::Timestamp(whole_second(time)),
+    )
 }
 
 fn code_header(alloc: Global, code: &[u8]) -> Mem<Header>
