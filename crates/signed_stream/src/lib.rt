@@ -1,0 +1,6 @@
+//! Signs a request and streams its events as a chain of signed frames.
+#![tactic(auto)]
+
+mod status;
+
+pub use crate::status::{Status, StreamFault};
