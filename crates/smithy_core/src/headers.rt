@@ -2,6 +2,7 @@ ghost use Rattle.std.specs.Prelude.{◌≡◌, ℕ, List, [], ◌∷◌, ◌++�
 ghost use Rattle.std.specs.String.{string_bytes};
 ghost use Rattle.smithy_core.specs.Pairs.{first_value, inserted, lower};
 
+use crate::header_iter::HeaderIter;
 use crate::memory::Mem;
 use std::alloc::Global;
 use std::marker::Model;
@@ -41,6 +42,13 @@ impl Headers {
         let pair = lower_pair(*self.pairs.allocator(), name, value)?;
         self.pairs.push(pair)?;
         Ok(())
+    }
+
+    /// The pairs in order, as texts.
+    pub fn iter(&self) -> HeaderIter<'_>
+        ensures { result ≡ self.now }
+    {
+        HeaderIter::over(self.pairs.as_slice())
     }
 
     /// How many pairs there are.
