@@ -25,6 +25,11 @@ abbrev pub first_value : List (List ℕ × List ℕ) → List ℕ → Option (Li
 first_value [] name = None
 first_value (pair ∷ pairs) name = option_or (value_if pair name) (first_value pairs name)
 
+-- the values of the pairs that have the name
+abbrev pub named_values : List (List ℕ × List ℕ) → List ℕ → List (List ℕ)
+named_values [] name = []
+named_values (pair ∷ pairs) name = if bytes_eq pair.0 name then pair.1 ∷ named_values pairs name else named_values pairs name
+
 -- the value of the last pair that has the name
 abbrev pub last_value : List (List ℕ × List ℕ) → List ℕ → Option (List ℕ)
 last_value [] name = None

@@ -1,8 +1,9 @@
 ghost use Rattle.std.specs.Prelude.{◌≡◌, ◌<◌, [], ◌∷◌, ◌++◌, length, IfOk, OnOk, OnErr, option_copied, bytes_eq, filter, not, ◌≤◌, vec_len, vec_capacity};
 ghost use Rattle.std.specs.String.{string_bytes};
-ghost use Rattle.smithy_core.specs.Pairs.{first_value, inserted, lower, place_of, text_pairs};
+ghost use Rattle.smithy_core.specs.Pairs.{first_value, inserted, lower, named_values, place_of, text_pairs};
 
 use crate::header_iter::HeaderIter;
+use crate::header_values::{HeaderValues, after_named};
 use crate::memory::Mem;
 use std::alloc::Global;
 use std::marker::Model;
@@ -60,6 +61,23 @@ impl Headers {
         ensures { result ≡ self.now }
     {
         HeaderIter::over(self.pairs.as_slice())
+    }
+
+    /// The value of the first pair with this name, in whatever case the name is given.
+    pub fn get(&self, name: &str) -> Option<&str>
+        ensures { option_copied result ≡ first_value self.now (lower name.now) }
+    {
+        match after_named(self.pairs.as_slice(), name) {
+            Some((value, _)) => Some(value),
+            None => None,
+        }
+    }
+
+    /// The values of this name in order, in whatever case the name is given.
+    pub fn get_all<'a>(&'a self, name: &'a str) -> HeaderValues<'a>
+        ensures { result ≡ named_values self.now (lower name.now) }
+    {
+        HeaderValues::over(self.pairs.as_slice(), name)
     }
 
     /// How many pairs there are.
