@@ -1,6 +1,6 @@
-ghost use Rattle.std.specs.Prelude.{◌≡◌, ℕ, List, map};
+ghost use Rattle.std.specs.Prelude.{◌≡◌};
 ghost use Rattle.std.specs.Iterator.{YieldsFirstBy, item_count};
-ghost use Rattle.std.specs.String.{string_bytes};
+ghost use Rattle.smithy_core.specs.Pairs.{text_pairs};
 
 use std::marker::Model;
 
@@ -13,18 +13,18 @@ pub struct HeaderIter<'a> {
 }
 
 impl<'a> Model for HeaderIter<'a> {
-    ghost use Rattle.std.specs.Prelude.{ℕ, List, map};
-    ghost use Rattle.std.specs.String.{string_bytes};
+    ghost use Rattle.std.specs.Prelude.{ℕ, List};
+    ghost use Rattle.smithy_core.specs.Pairs.{text_pairs};
 
     ghost Value = { List (List ℕ × List ℕ) };
 
-    ghost view = { λ iter. map (λ pair. (string_bytes pair.0, string_bytes pair.1)) iter.left.now };
+    ghost view = { λ iter. text_pairs iter.left.now };
 }
 
 impl<'a> HeaderIter<'a> {
     // Gives these pairs.
     pub(crate) fn over(pairs: &'a [(String, String)]) -> HeaderIter<'a>
-        ensures { result ≡ map (λ pair. (string_bytes pair.0, string_bytes pair.1)) pairs.now }
+        ensures { result ≡ text_pairs pairs.now }
     {
         HeaderIter { left: pairs }
     }
