@@ -1,6 +1,6 @@
 -- The canonical text of a plain request (AWS Signature Version 4): its path is normal and needs no escapes, it has neither query nor body, and
 -- its headers have distinct names, none of which the signing sets or leaves out.
-use Rattle.std.specs.Prelude.{ℕ, List, [], ◌∷◌, ◌++◌, map, codes}
+use Rattle.std.specs.Prelude.{ℕ, Bool, true, false, List, [], ◌∷◌, ◌++◌, map, codes}
 use Rattle.std.specs.List.{flat_map, join_with_byte}
 use Rattle.std.specs.Ordering.{nat_cmp}
 use Rattle.std.specs.Cmp.Lexicographic.{slice_cmp}
@@ -34,6 +34,11 @@ signed_heads c = by_name [] ((codes "host", host_of c.target) ∷ (codes "x-amz-
 -- `name:value`, as a line
 abbrev pub head_line : List ℕ × List ℕ → List ℕ
 head_line head = line (head.0 ++ codes ":" ++ head.1)
+
+-- what stands before a name
+abbrev pub separator_before : Bool → List ℕ
+separator_before true = []
+separator_before false = codes ";"
 
 -- the names of headers, joined by `;`
 abbrev pub names_of : List (List ℕ × List ℕ) → List ℕ

@@ -1,5 +1,6 @@
 pub mod Canonical
 pub mod Command
+pub mod Heads
 pub mod Job
 pub mod Plan
 pub mod Run

@@ -24,9 +24,13 @@ most_input = 67108864
 -- the case of a job, under these credentials
 abbrev pub case_of : PlainJob → List ℕ → List ℕ → List ℕ → List ℕ → Instant → Case
 case_of j key_id secret region name at = record {
-    method = j.method; target = j.target; headers = j.headers; key_id = key_id;
-    signer = record { secret = secret; region = region; name = name }; at = at
-  }
+  method = j.method;
+  target = j.target;
+  headers = j.headers;
+  key_id = key_id;
+  signer = record { secret = secret; region = region; name = name };
+  at = at;
+}
 
 -- with these settings: the key id and the secret are needed, and then the region
 abbrev pub settings_plan : PlainJob → List ℕ → Instant → Option (List ℕ) → Option (List ℕ) → Option (List ℕ) → Plan
