@@ -5,5 +5,6 @@ pub mod Job
 pub mod Plan
 pub mod Run
 pub mod Signed
+pub mod Signing
 pub mod Status
 pub mod Written

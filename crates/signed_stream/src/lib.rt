@@ -2,6 +2,8 @@
 #![tactic(auto)]
 
 mod canonical;
+mod sign;
+mod signing;
 mod status;
 
 pub use crate::status::{Status, StreamFault};
