@@ -1,3 +1,4 @@
 pub mod Command
 pub mod Job
 pub mod Status
+pub mod Words
