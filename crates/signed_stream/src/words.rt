@@ -6,8 +6,13 @@ ghost use Rattle.signed_stream.specs.Words.{command_told};
 
 use smithy_core::Moment;
 
+#[cfg(test)]
+mod tests;
+
+// The first second of the year 0.
 const FIRST_SECOND: i64 = -62_167_219_200;
 
+// The last second of the year 9999.
 const LAST_SECOND: i64 = 253_402_300_799;
 
 /// Why words spell no command that is built.
