@@ -1,2 +1,4 @@
 pub mod HeadLemmas
+pub mod NumberLemmas
+pub mod OptionLemmas
 pub mod TargetLemmas

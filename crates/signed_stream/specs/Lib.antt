@@ -7,4 +7,5 @@ pub mod Run
 pub mod Signed
 pub mod Signing
 pub mod Status
+pub mod Words
 pub mod Written

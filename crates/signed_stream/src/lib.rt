@@ -5,5 +5,6 @@ mod canonical;
 mod sign;
 mod signing;
 mod status;
+mod words;
 
 pub use crate::status::{Status, StreamFault};
