@@ -1,3 +1,4 @@
 pub mod Command
 pub mod Job
+pub mod Reading
 pub mod Status

@@ -1,6 +1,7 @@
 //! Signs a request and streams its events as a chain of signed frames.
 #![tactic(auto)]
 
+mod job;
 mod status;
 
 pub use crate::status::{Status, StreamFault};

@@ -1,0 +1,4 @@
+mod draft;
+mod fault;
+mod lines;
+mod target;
