@@ -123,10 +123,13 @@ is_key_byte b = is_lower b || is_digit b || b == 95
 unfoldable pub is_plain_key : List ℕ → Bool
 is_plain_key key = nat_lt 0 (length key) && list_all is_key_byte key && not (bytes_eq key (codes "aws_session_token"))
 
+abbrev pub is_property_byte : ℕ → Bool
+is_property_byte b = nat_le 33 b && nat_le b 126
+
 -- visible bytes that don't begin a comment
 unfoldable pub is_plain_property : List ℕ → Bool
 is_plain_property value =
-    nat_lt 0 (length value) && list_all (λ b. nat_le 33 b && nat_le b 126) value
+    nat_lt 0 (length value) && list_all is_property_byte value
     && not (slice_index value 0 == 35) && not (slice_index value 0 == 59)
 
 -- the settings after `[default]`, which comes first and once, or after `KEY = VALUE`

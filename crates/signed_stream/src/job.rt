@@ -1,4 +1,6 @@
+mod credentials;
 mod draft;
+mod event;
 mod fault;
 mod lines;
 mod target;

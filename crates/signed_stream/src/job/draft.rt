@@ -1,27 +1,10 @@
 ghost use Rattle.std.specs.Prelude.{◌≡◌};
 
+use crate::job::credentials::PlainSettings;
+use crate::job::event::OpenEvent;
 use crate::job::fault::LineFault;
-use bytes::Bytes;
-use smithy_core::{Header, Headers, Message};
+use smithy_core::{Headers, Message};
 use std::alloc::Global;
-
-/// What the properties of the profile give. [`Debug`](std::fmt::Debug) isn't there, so that no secret is printed.
-#[derive(Drop)]
-pub struct PlainSettings {
-    /// `aws_access_key_id`.
-    pub key_id: Option<String>,
-    /// `aws_secret_access_key`.
-    pub secret: Option<String>,
-    /// `region`.
-    pub region: Option<String>,
-}
-
-// An event that is read: its headers, and its payload where the line stood.
-#[derive(Drop)]
-pub struct OpenEvent {
-    pub headers: Vec<Header>,
-    pub payload: Option<Bytes>,
-}
 
 // What the lines so far gave.
 #[derive(Drop)]
