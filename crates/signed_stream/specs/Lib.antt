@@ -1,4 +1,10 @@
+pub mod Canonical
 pub mod Command
+pub mod Heads
 pub mod Job
+pub mod Plan
 pub mod Reading
+pub mod Run
+pub mod Signed
 pub mod Status
+pub mod Written

@@ -1,6 +1,7 @@
 //! Signs a request and streams its events as a chain of signed frames.
 #![tactic(auto)]
 
+mod canonical;
 mod job;
 mod status;
 
