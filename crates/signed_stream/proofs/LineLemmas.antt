@@ -1,6 +1,7 @@
 -- Lines and words, as `split_once` cuts them.
-use Rattle.std.proofs.Common.{◌≡◌, ℕ, ◌+◌, ◌<◌, ◌≤◌, Bool, true, false, cond, eqb, not, List, [], ◌∷◌, length, take, drop, suc, refl, sym, ap, ◌∙◌, subst, arith, add-one}
-use Rattle.std.specs.Prelude.{Option, MatchOption}
+use Rattle.std.proofs.Common.{◌≡◌, ◌≢◌, get_or, ℕ, ◌+◌, ◌<◌, ◌≤◌, Bool, true, false, cond, eqb, not, List, [], ◌∷◌, length, take, drop, suc, refl, sym, ap, ◌∙◌, subst, arith, add-one}
+use Rattle.std.specs.Prelude.{Option, Some, None, MatchOption}
+use Rattle.std.specs.Borrow.{Bor}
 use Rattle.std.specs.List.{position_or_len, prefix_len, before_first, after_first}
 use Rattle.std.proofs.lemmas.Str.Pattern.{IsSplitOnceResult, split_once_first}
 use Rattle.signed_stream.specs.Job.{lines_of, onto_first, word_of, rest_of}
@@ -42,3 +43,10 @@ lines_last (b ∷ c ∷ bytes) some none = by_lf (lines_last (c ∷ bytes) (omeg
     by_lf again false h = ap (onto_first b) (again (omega arith))
 
 pub ruleset lines = (lines_first, lines_last)
+
+-- what stands after a space, as `strip_prefix` gives it
+pub after_space : (text : List ℕ) (r : Option (Bor (List ℕ))) → MatchOption r ((rest : List ℕ) → text ≢ 32 ∷ rest) (λ rest. text ≡ 32 ∷ rest.now)
+    → MatchOption r (get_or text 0 0 ≢ 32) (λ rest. (get_or text 0 0 ≡ 32) × (rest.now ≡ drop 1 text))
+after_space [] None other = λ e. omega arith
+after_space (b ∷ text) None other = λ e. other text (ap (λ (x : ℕ). x ∷ text) e)
+after_space text (Some rest) is = rw is (refl, refl)

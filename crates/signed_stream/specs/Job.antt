@@ -83,10 +83,13 @@ is_plain_name headers name =
     nat_lt 0 (length name) && nat_le (length name) 255 && list_all is_name_byte name && not (is_reserved_name name)
     && not (list_any (λ header. bytes_eq header.0 name) headers)
 
+abbrev pub is_value_byte : ℕ → Bool
+is_value_byte b = nat_le 32 b && nat_le b 126
+
 -- visible bytes with single spaces between them
 unfoldable pub is_plain_value : List ℕ → Bool
 is_plain_value value =
-    nat_lt 0 (length value) && list_all (λ b. nat_le 32 b && nat_le b 126) value && is_single 32 true value
+    nat_lt 0 (length value) && list_all is_value_byte value && is_single 32 true value
     && not (slice_index value (length value - 1) == 32)
 
 -- the name and the value of `NAME: VALUE`, after the headers before

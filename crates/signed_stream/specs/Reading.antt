@@ -1,5 +1,6 @@
 -- What the reader of a job promises.
 use Rattle.std.specs.Prelude.{◌≡◌, ℕ, List, [], Result, Ok, Err, IsErr, Option, Some, None, option_map, string_bytes}
+use Rattle.std.specs.Borrow.{Bor}
 use Rattle.hex.specs.declared.error.FromHexError.{FromHexError}
 use Rattle.smithy_core.specs.declared.header.Header.{Header}
 use Rattle.signed_stream.specs.Job.{Settings, Event, Draft, LineStep, moves_to, bad, unbuilt}
@@ -57,3 +58,10 @@ GivesPayload payload (Ok given) = payload ≡ Ok given
 GivesPayload payload (Err Bad) = IsErr payload
 GivesPayload payload (Err NotBuilt) = ⊥
 GivesPayload payload (Err NoMemory) = Unit {0}
+
+-- the pair is the one that the text spells
+abbrev pub GivesPair : Option (List ℕ × List ℕ) → Result (Bor (List ℕ) × Bor (List ℕ)) LineFault → Type 0
+GivesPair pair (Ok given) = pair ≡ Some (given.0.now, given.1.now)
+GivesPair pair (Err Bad) = ⊥
+GivesPair pair (Err NotBuilt) = pair ≡ None
+GivesPair pair (Err NoMemory) = ⊥

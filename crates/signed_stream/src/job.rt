@@ -2,5 +2,6 @@ mod credentials;
 mod draft;
 mod event;
 mod fault;
+mod header;
 mod lines;
 mod target;
