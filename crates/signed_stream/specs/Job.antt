@@ -232,26 +232,23 @@ payload_of draft event (Err e) = bad
 unfoldable pub payload_step : Draft → Event → List ℕ → LineStep
 payload_step draft event rest = if is_some event.payload then bad else payload_of draft event (decode_of rest)
 
--- a line that stands before the first `event`
-abbrev pub head_step : Draft → LineStep → LineStep
-head_step draft step = if is_some draft.event then bad else step
-
 -- a line that stands after an `event`
 abbrev pub body_step : Option Event → (Event → LineStep) → LineStep
 body_step None step = bad
 body_step (Some event) step = step event
 
--- what a line with this word and this rest does
+-- what a line of this word and this rest does; lines of the request stand before the first `event`
 unfoldable pub word_step : Draft → List ℕ → List ℕ → LineStep
 word_step draft word rest =
-    if bytes_eq word (codes "method") then head_step draft (method_step draft rest)
-    else if bytes_eq word (codes "target") then head_step draft (target_step draft rest)
-    else if bytes_eq word (codes "header") then head_step draft (header_step draft rest)
-    else if bytes_eq word (codes "body") || bytes_eq word (codes "config") then head_step draft unbuilt
-    else if bytes_eq word (codes "credentials") then head_step draft (credentials_step draft rest)
-    else if bytes_eq word (codes "event") then event_step draft rest
+    if bytes_eq word (codes "event") then event_step draft rest
     else if bytes_eq word (codes "h") then body_step draft.event (λ event. event_header_step draft event rest)
     else if bytes_eq word (codes "payload") then body_step draft.event (λ event. payload_step draft event rest)
+    else if is_some draft.event then bad
+    else if bytes_eq word (codes "method") then method_step draft rest
+    else if bytes_eq word (codes "target") then target_step draft rest
+    else if bytes_eq word (codes "header") then header_step draft rest
+    else if bytes_eq word (codes "body") || bytes_eq word (codes "config") then unbuilt
+    else if bytes_eq word (codes "credentials") then credentials_step draft rest
     else bad
 
 -- what a line does; an empty one does nothing
