@@ -83,10 +83,13 @@ is_plain_name headers name =
     nat_lt 0 (length name) && nat_le (length name) 255 && list_all is_name_byte name && not (is_reserved_name name)
     && not (list_any (λ header. bytes_eq header.0 name) headers)
 
+abbrev pub is_value_byte : ℕ → Bool
+is_value_byte b = nat_le 32 b && nat_le b 126
+
 -- visible bytes with single spaces between them
 unfoldable pub is_plain_value : List ℕ → Bool
 is_plain_value value =
-    nat_lt 0 (length value) && list_all (λ b. nat_le 32 b && nat_le b 126) value && is_single 32 true value
+    nat_lt 0 (length value) && list_all is_value_byte value && is_single 32 true value
     && not (slice_index value (length value - 1) == 32)
 
 -- the name and the value of `NAME: VALUE`, after the headers before
@@ -123,10 +126,13 @@ is_key_byte b = is_lower b || is_digit b || b == 95
 unfoldable pub is_plain_key : List ℕ → Bool
 is_plain_key key = nat_lt 0 (length key) && list_all is_key_byte key && not (bytes_eq key (codes "aws_session_token"))
 
+abbrev pub is_property_byte : ℕ → Bool
+is_property_byte b = nat_le 33 b && nat_le b 126
+
 -- visible bytes that don't begin a comment
 unfoldable pub is_plain_property : List ℕ → Bool
 is_plain_property value =
-    nat_lt 0 (length value) && list_all (λ b. nat_le 33 b && nat_le b 126) value
+    nat_lt 0 (length value) && list_all is_property_byte value
     && not (slice_index value 0 == 35) && not (slice_index value 0 == 59)
 
 -- the settings after `[default]`, which comes first and once, or after `KEY = VALUE`
@@ -226,26 +232,23 @@ payload_of draft event (Err e) = bad
 unfoldable pub payload_step : Draft → Event → List ℕ → LineStep
 payload_step draft event rest = if is_some event.payload then bad else payload_of draft event (decode_of rest)
 
--- a line that stands before the first `event`
-abbrev pub head_step : Draft → LineStep → LineStep
-head_step draft step = if is_some draft.event then bad else step
-
 -- a line that stands after an `event`
 abbrev pub body_step : Option Event → (Event → LineStep) → LineStep
 body_step None step = bad
 body_step (Some event) step = step event
 
--- what a line with this word and this rest does
+-- what a line of this word and this rest does; lines of the request stand before the first `event`
 unfoldable pub word_step : Draft → List ℕ → List ℕ → LineStep
 word_step draft word rest =
-    if bytes_eq word (codes "method") then head_step draft (method_step draft rest)
-    else if bytes_eq word (codes "target") then head_step draft (target_step draft rest)
-    else if bytes_eq word (codes "header") then head_step draft (header_step draft rest)
-    else if bytes_eq word (codes "body") || bytes_eq word (codes "config") then head_step draft unbuilt
-    else if bytes_eq word (codes "credentials") then head_step draft (credentials_step draft rest)
-    else if bytes_eq word (codes "event") then event_step draft rest
+    if bytes_eq word (codes "event") then event_step draft rest
     else if bytes_eq word (codes "h") then body_step draft.event (λ event. event_header_step draft event rest)
     else if bytes_eq word (codes "payload") then body_step draft.event (λ event. payload_step draft event rest)
+    else if is_some draft.event then bad
+    else if bytes_eq word (codes "method") then method_step draft rest
+    else if bytes_eq word (codes "target") then target_step draft rest
+    else if bytes_eq word (codes "header") then header_step draft rest
+    else if bytes_eq word (codes "body") || bytes_eq word (codes "config") then unbuilt
+    else if bytes_eq word (codes "credentials") then credentials_step draft rest
     else bad
 
 -- what a line does; an empty one does nothing

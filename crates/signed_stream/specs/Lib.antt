@@ -3,6 +3,7 @@ pub mod Command
 pub mod Heads
 pub mod Job
 pub mod Plan
+pub mod Reading
 pub mod Run
 pub mod Signed
 pub mod Signing

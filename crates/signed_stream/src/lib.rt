@@ -2,6 +2,7 @@
 #![tactic(auto)]
 
 mod canonical;
+mod job;
 mod sign;
 mod signing;
 mod status;
