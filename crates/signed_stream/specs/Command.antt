@@ -1,5 +1,5 @@
 -- The words of the command line.
-use Rattle.std.specs.Prelude.{ℕ, ◌+◌, ◌*◌, ◌-◌, ◌==◌, Bool, true, false, ◌&&◌, ◌||◌, not, nat_le, if◌then◌else◌, List, [], ◌∷◌, length, drop, codes, bytes_eq, slice_index, Option, Some, None, is_some, is_none, ℤ, pos, negsuc, neg_ℤ, int_lt}
+use Rattle.std.specs.Prelude.{ℕ, ◌+◌, ◌*◌, ◌-◌, ◌==◌, Bool, false, ◌&&◌, ◌||◌, not, nat_le, if◌then◌else◌, List, [], ◌∷◌, length, drop, codes, bytes_eq, slice_index, Option, Some, None, is_some, ℤ, pos, negsuc, neg_ℤ, int_lt}
 use Rattle.std.specs.List.{list_all, list_any}
 use Rattle.std.specs.Int.{w64, saturate_signed}
 use Rattle.std.specs.Ordering.{int_eq}

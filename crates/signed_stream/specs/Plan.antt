@@ -4,7 +4,7 @@ use Rattle.smithy_core.specs.Instant.{Instant}
 use Rattle.smithy_core.specs.Pairs.{last_value}
 use Rattle.signed_stream.specs.Canonical.{Case}
 use Rattle.signed_stream.specs.Command.{Command, bad_word, unbuilt_word, stream, command}
-use Rattle.signed_stream.specs.Job.{PlainJob, Reading, plain_job, bad_line, unbuilt_line, Settings, job}
+use Rattle.signed_stream.specs.Job.{PlainJob, Reading, plain_job, bad_line, unbuilt_line, job}
 use Rattle.signed_stream.specs.Written.{written}
 use Rattle.signed_stream.specs.declared.status.Status.{Status}
 use Rattle.signed_stream.specs.declared.status.Status.TheVariants.{BadWords, JobTooLarge, BadJob, Refused, NotBuilt}

@@ -1,10 +1,10 @@
 -- What a run promises.
-use Rattle.std.specs.Prelude.{◌≡◌, ℕ, ◌⊎◌, List, Option, Some, None}
+use Rattle.std.specs.Prelude.{◌≡◌, ℕ, ◌⊎◌, List, Option}
 use Rattle.smithy_core.specs.Outside.{Gains, GainsPrefix, GainsProperPrefix, Rose}
 use Rattle.signed_stream.specs.Plan.{Ask, ends, streams, Plan, stops, writes}
 use Rattle.signed_stream.specs.Status.{status_line}
 use Rattle.signed_stream.specs.declared.status.Status.{Status}
-use Rattle.signed_stream.specs.declared.status.Status.TheVariants.{Done, BadWords, JobTooLarge, BadJob, ReadFault, Refused, OutputFault, NoMemory, NotBuilt}
+use Rattle.signed_stream.specs.declared.status.Status.TheVariants.{Done, BadWords, ReadFault, OutputFault, NoMemory}
 
 -- where the words or the variables end the run, it ends so, or for want of memory
 abbrev pub EndsAsAsked : Ask → Status → Type 0

@@ -29,8 +29,8 @@ fn cut_header(rest: &str) -> Option<(&str, &str)>
     ensures { MatchOption result
         (slice_index (after_first (λ b. b == 58) rest.now) 0 ≢ 32)
         (λ pair. (slice_index (after_first (λ b. b == 58) rest.now) 0 ≡ 32)
-            × (pair.0.now ≡ before_first (λ b. b == 58) rest.now)
-            × (pair.1.now ≡ drop 1 (after_first (λ b. b == 58) rest.now))) }
+        × (pair.0.now ≡ before_first (λ b. b == 58) rest.now)
+        × (pair.1.now ≡ drop 1 (after_first (λ b. b == 58) rest.now))) }
 {
     let (name, tail) = rest.split_once(':')?;
     match after_space(tail) {
