@@ -49,7 +49,10 @@ unfoldable pub signed_names : Case → List ℕ
 signed_names c = names_of (signed_heads c)
 
 -- the lines method, path, empty query, one for each header, an empty one, the names, and the digest of the empty body
+abbrev pub text_of : List ℕ → List ℕ → List (List ℕ × List ℕ) → List ℕ → List ℕ
+text_of method path heads names =
+    line method ++ line path ++ line [] ++ flat_map head_line heads ++ line [] ++ line names ++ encode_lower (sha256 [])
+
+-- the canonical text of a case
 unfoldable pub canonical_text : Case → List ℕ
-canonical_text c =
-    line c.method ++ line (path_of c.target) ++ line [] ++ flat_map head_line (signed_heads c) ++ line [] ++ line (signed_names c)
-    ++ encode_lower (sha256 [])
+canonical_text c = text_of c.method (path_of c.target) (signed_heads c) (signed_names c)

@@ -23,11 +23,15 @@ number_on n (digit ∷ digits) = number_on (10 * n + (digit - 48)) digits
 abbrev pub if_fits : ℤ → Option ℤ
 if_fits z = if int_eq (saturate_signed w64 z) z then Some z else None
 
+-- `-`, and then decimal digits without a leading zero, whose first isn't zero
+abbrev pub is_negative : List ℕ → Bool
+is_negative text = slice_index text 0 == 45 && is_natural (drop 1 text) && not (slice_index text 1 == 48)
+
 -- the number that a text spells: decimal digits without a leading zero, with `-` before them where it is below 0
 unfoldable pub number : List ℕ → Option ℤ
 number text =
     if is_natural text then if_fits (pos (number_on 0 text))
-    else if slice_index text 0 == 45 && is_natural (drop 1 text) && not (slice_index text 1 == 48) then if_fits (neg_ℤ (pos (number_on 0 (drop 1 text))))
+    else if is_negative text then if_fits (neg_ℤ (pos (number_on 0 (drop 1 text))))
     else None
 
 -- a letter, a digit or `-`

@@ -7,5 +7,7 @@ pub mod Plan
 pub mod Reading
 pub mod Run
 pub mod Signed
+pub mod Signing
 pub mod Status
+pub mod Words
 pub mod Written

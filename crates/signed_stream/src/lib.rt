@@ -3,6 +3,9 @@
 
 mod canonical;
 mod job;
+mod sign;
+mod signing;
 mod status;
+mod words;
 
 pub use crate::status::{Status, StreamFault};

@@ -5,9 +5,15 @@
 //! text (`specs/Signature.antt`).
 #![tactic(auto)]
 
+mod error;
+pub mod event_stream;
 mod key;
+mod output;
 mod params;
 mod signature;
 #[cfg(test)]
 mod tests;
 pub mod v4;
+
+pub use crate::error::SigningError;
+pub use crate::output::SigningOutput;

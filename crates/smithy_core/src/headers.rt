@@ -5,6 +5,7 @@ ghost use Rattle.smithy_core.specs.Pairs.{first_value, inserted, lower, named_va
 use crate::header_iter::HeaderIter;
 use crate::header_values::{HeaderValues, after_named};
 use crate::memory::Mem;
+use crate::text_pairs::copied_pairs;
 use std::alloc::Global;
 use std::marker::Model;
 
@@ -78,6 +79,15 @@ impl Headers {
         ensures { result ≡ named_values self.now (lower name.now) }
     {
         HeaderValues::over(self.pairs.as_slice(), name)
+    }
+
+    /// Equal headers.
+    pub fn try_clone(&self) -> Mem<Headers>
+        ensures { IfOk result (λ copy. copy ≡ self.now) }
+    {
+        Ok(Headers {
+            pairs: copied_pairs(*self.pairs.allocator(), self.pairs.as_slice())?,
+        })
     }
 
     /// How many pairs there are.

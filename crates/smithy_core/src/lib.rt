@@ -24,6 +24,7 @@ mod str_bytes;
 #[cfg(test)]
 mod tests;
 mod text;
+mod text_pairs;
 
 pub use crate::civil_date::civil;
 pub use crate::civil_text::Civil;
