@@ -1,6 +1,6 @@
 -- Names of headers are in lower case.
-use Rattle.std.proofs.Common.{◌≡◌, ℕ, Bool, true, cond, ◌&&◌, List, [], ◌∷◌, map, drop, slice_index, ◌==◌, refl, ap, arith}
-use Rattle.std.specs.Prelude.{Option, Some}
+use Rattle.std.proofs.Common.{◌≡◌, ℕ, true, ◌&&◌, List, [], ◌∷◌, drop, slice_index, ◌==◌, refl, ap, arith}
+use Rattle.std.specs.Prelude.{Some}
 use Rattle.std.specs.Char.{to_ascii_lowercase}
 use Rattle.std.specs.List.{list_all, before_first, after_first}
 use Rattle.std.proofs.lemmas.Bool.{and_parts}

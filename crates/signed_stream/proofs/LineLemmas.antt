@@ -1,10 +1,13 @@
 -- Lines and words, as `split_once` cuts them.
-use Rattle.std.proofs.Common.{◌≡◌, ◌≢◌, get_or, ℕ, ◌+◌, ◌<◌, ◌≤◌, Bool, true, false, cond, eqb, not, List, [], ◌∷◌, length, take, drop, suc, refl, sym, ap, ◌∙◌, subst, arith, add-one}
+use Rattle.std.proofs.Common.{◌≡◌, ◌≢◌, get_or, ℕ, ◌+◌, ◌<◌, Bool, true, false, cond, eqb, not, List, [], ◌∷◌, length, take, drop, suc, refl, ap, ◌∙◌, arith, add-one}
 use Rattle.std.specs.Prelude.{Option, Some, None, MatchOption}
 use Rattle.std.specs.Borrow.{Bor}
-use Rattle.std.specs.List.{position_or_len, prefix_len, before_first, after_first}
-use Rattle.std.proofs.lemmas.Str.Pattern.{IsSplitOnceResult, split_once_first}
-use Rattle.signed_stream.specs.Job.{lines_of, onto_first, word_of, rest_of}
+use Rattle.std.specs.List.{position_or_len, before_first, after_first}
+use Rattle.std.specs.Str.{IsUtf8}
+use Rattle.std.specs.Str.Lossy.{utf8_valid_len}
+use Rattle.std.proofs.lemmas.Bool.{eq-eqb}
+use Rattle.std.proofs.lemmas.Str.{utf8_valid_len-IsUtf8}
+use Rattle.signed_stream.specs.Job.{Draft, job, lines_from, lines_of, no_draft, onto_first}
 
 abbrev is_lf : ℕ → Bool
 is_lf b = eqb b 10
@@ -42,7 +45,24 @@ lines_last (b ∷ c ∷ bytes) some none = by_lf (lines_last (c ∷ bytes) (omeg
     by_lf again true h = absurd (omega arith)
     by_lf again false h = ap (onto_first b) (again (omega arith))
 
+-- no bytes are no lines
+lines_end : (bytes : List ℕ) → length bytes ≡ 0 → lines_of bytes ≡ []
+unfolding lines_of
+lines_end [] none = refl
+lines_end (b ∷ bytes) none = absurd (omega arith)
+
 pub ruleset lines = (lines_first, lines_last)
+
+-- where no bytes are left, the lines are over
+pub lines_over : (place : ℕ) (draft : Draft) (rest : List ℕ) → length rest ≡ 0 → lines_from place draft [] ≡ lines_from place draft (lines_of rest)
+lines_over place draft rest none = rw (lines_end rest none) refl
+
+-- a text is read line by line
+pub job_text : (bytes : List ℕ) → IsUtf8 bytes → job bytes ≡ lines_from 1 no_draft (lines_of bytes)
+unfolding job
+job_text bytes is =
+    let all : eqb (utf8_valid_len bytes) (length bytes) ≡ true = eq-eqb (utf8_valid_len bytes) (length bytes) (utf8_valid_len-IsUtf8 bytes is) in
+    rw all refl
 
 -- what stands after a space, as `strip_prefix` gives it
 pub after_space : (text : List ℕ) (r : Option (Bor (List ℕ))) → MatchOption r ((rest : List ℕ) → text ≢ 32 ∷ rest) (λ rest. text ≡ 32 ∷ rest.now)

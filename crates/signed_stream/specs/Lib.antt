@@ -1,5 +1,6 @@
 pub mod Canonical
 pub mod Command
+pub mod Fault
 pub mod Heads
 pub mod Job
 pub mod Plan

@@ -3,10 +3,13 @@ use Rattle.std.specs.Prelude.{◌≡◌, ℕ, List, [], Result, Ok, Err, IsErr, 
 use Rattle.std.specs.Borrow.{Bor}
 use Rattle.hex.specs.declared.error.FromHexError.{FromHexError}
 use Rattle.smithy_core.specs.declared.header.Header.{Header}
-use Rattle.signed_stream.specs.Job.{Settings, Event, Draft, LineStep, moves_to, bad, unbuilt}
+use Rattle.signed_stream.specs.Job.{Settings, Event, Draft, LineStep, moves_to, bad, unbuilt, PlainJob, Reading, plain_job, bad_line, unbuilt_line}
 use Rattle.signed_stream.specs.declared.job.credentials.PlainSettings.{PlainSettings}
 use Rattle.signed_stream.specs.declared.job.event.OpenEvent.{OpenEvent}
 use Rattle.signed_stream.specs.declared.job.draft.Draft.{Draft as JobDraft}
+use Rattle.signed_stream.specs.declared.job.Job.{Job}
+use Rattle.signed_stream.specs.declared.job.fault.JobFault.{JobFault}
+use Rattle.signed_stream.specs.declared.job.fault.JobFault.TheVariants.{BadLine, NotBuilt as JobNotBuilt, NoMemory as JobNoMemory}
 use Rattle.signed_stream.specs.declared.job.fault.LineFault.{LineFault}
 use Rattle.signed_stream.specs.declared.job.fault.LineFault.TheVariants.{Bad, NotBuilt, NoMemory}
 
@@ -65,3 +68,20 @@ GivesPair pair (Ok given) = pair ≡ Some (given.0.now, given.1.now)
 GivesPair pair (Err Bad) = ⊥
 GivesPair pair (Err NotBuilt) = pair ≡ None
 GivesPair pair (Err NoMemory) = ⊥
+
+-- the texts and lists of a job
+abbrev pub plain_of : Job → PlainJob
+plain_of job = record {
+  method = string_bytes job.request.method;
+  target = string_bytes job.request.target;
+  headers = job.request.headers;
+  settings = settings_of job.settings;
+  events = job.events.items;
+}
+
+-- the job is the one that is read, and its request has no body; or a line at this place is bad or not built; or memory ran out
+abbrev pub ReadsJob : Reading → Result Job JobFault → Type 0
+ReadsJob reading (Ok job) = (reading ≡ plain_job (plain_of job)) × (job.request.body ≡ [])
+ReadsJob reading (Err (BadLine place)) = reading ≡ bad_line place
+ReadsJob reading (Err (JobNotBuilt place)) = reading ≡ unbuilt_line place
+ReadsJob reading (Err JobNoMemory) = Unit {0}
