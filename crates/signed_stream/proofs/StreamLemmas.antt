@@ -29,7 +29,7 @@ chain_lines-nil signer at signature = append-nil _
 pub event_framed : (signer : Signer) (signature : List ℕ) (event : Parts) (t : Instant) → IsInYears t → IsStreamable event
     → unframed (link_message signer signature (frame event) t) ≡ None
 event_framed signer signature event t within can =
-    let short = can.short in
+    let short = can.1 in
     link_framed signer signature (frame event) t within (omega (arith, length-frame event))
 
 pub closing_framed : (signer : Signer) (signature : List ℕ) (t : Instant) → IsInYears t → unframed (link_message signer signature [] t) ≡ None

@@ -1,7 +1,11 @@
 -- What a run promises.
-use Rattle.std.specs.Prelude.{◌≡◌, ℕ, ◌⊎◌, List, Option}
+use Rattle.std.specs.Prelude.{◌≡◌, ℕ, ◌⊎◌, List, Option, Some}
 use Rattle.smithy_core.specs.Outside.{Gains, GainsPrefix, GainsProperPrefix, Rose}
-use Rattle.signed_stream.specs.Plan.{Ask, ends, streams, Plan, stops, writes}
+use Rattle.smithy_core.specs.Instant.{Instant}
+use Rattle.signed_stream.specs.Command.{command, stream}
+use Rattle.signed_stream.specs.Job.{PlainJob, job, plain_job}
+use Rattle.signed_stream.specs.Plan.{Ask, ends, streams, Plan, stops, writes, case_of}
+use Rattle.signed_stream.specs.Written.{written}
 use Rattle.signed_stream.specs.Status.{status_line}
 use Rattle.signed_stream.specs.declared.status.Status.{Status}
 use Rattle.signed_stream.specs.declared.status.Status.TheVariants.{Done, BadWords, ReadFault, OutputFault, NoMemory}
@@ -32,3 +36,32 @@ Says Done before now faults_before faults_now = now ≡ before
 Says NoMemory before now faults_before faults_now = (status : Status) × GainsPrefix before now (status_line status)
 Says answer before now faults_before faults_now =
     Gains before now (status_line answer) ⊎ (GainsProperPrefix before now (status_line answer) × Rose faults_before faults_now)
+
+-- the answers that leave the output as it was, whether or not the input tells its bytes
+abbrev pub Keeps : Status → Option (List ℕ) → Option (List ℕ) → Type 0
+Keeps Done before now = Unit {0}
+Keeps OutputFault before now = Unit {0}
+Keeps NoMemory before now = Unit {0}
+Keeps answer before now = now ≡ before
+
+-- The headline: the words ask to stream for a name at a moment; the bytes are a plain job, whose profile gives a key id, a secret and a
+-- region; and the output gained exactly the head of the signed request and then the chain of the events.
+pub record Streams (words : List (List ℕ)) (bytes : List ℕ) (before now : Option (List ℕ)) : Type 0 where
+  pub name : List ℕ
+  pub at : Instant
+  pub read : PlainJob
+  pub key_id : List ℕ
+  pub secret : List ℕ
+  pub region : List ℕ
+  pub asked : command words ≡ stream name at
+  pub spelled : job bytes ≡ plain_job read
+  pub selected : read.settings ≡ record { key_id = Some key_id; secret = Some secret; region = Some region }
+  pub gained : Gains before now (written (case_of read key_id secret region name at) read.events)
+
+-- an answer once the input is read, and what the output gained: as planned, unless the output's faults or want of memory come in between
+abbrev pub Fits : Plan → Status → Option (List ℕ) → Option (List ℕ) → Type 0
+Fits (stops status) answer before now = ((answer ≡ status) ⊎ (answer ≡ NoMemory)) × (now ≡ before)
+Fits (writes text) Done before now = Gains before now text
+Fits (writes text) OutputFault before now = GainsPrefix before now text
+Fits (writes text) NoMemory before now = GainsPrefix before now text
+Fits (writes text) answer before now = ⊥

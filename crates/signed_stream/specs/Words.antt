@@ -3,8 +3,8 @@ use Rattle.std.specs.Prelude.{Result, Ok, Err, option_copied}
 use Rattle.signed_stream.specs.Command.{Command, bad_word, unbuilt_word, stream, Options, OptionStep, options, ends}
 use Rattle.signed_stream.specs.declared.words.WordsFault.{WordsFault}
 use Rattle.signed_stream.specs.declared.words.WordsFault.TheVariants.{BadWord, NotBuilt}
-use Rattle.signed_stream.specs.declared.words.StreamWords.{StreamWords}
-use Rattle.signed_stream.specs.declared.words.StreamOptions.{StreamOptions}
+use Rattle.signed_stream.specs.declared.words.options.StreamWords.{StreamWords}
+use Rattle.signed_stream.specs.declared.words.options.StreamOptions.{StreamOptions}
 
 -- the command that a fault tells
 abbrev pub fault_told : WordsFault → Command

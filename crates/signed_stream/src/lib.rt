@@ -4,10 +4,13 @@
 mod canonical;
 mod halt;
 mod job;
+mod run;
+mod say;
 mod sign;
 mod signing;
 mod status;
 mod stream;
 mod words;
+mod written;
 
 pub use crate::status::{Status, StreamFault};
