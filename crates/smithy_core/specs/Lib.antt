@@ -5,4 +5,6 @@ pub mod Instant
 pub mod Outside
 pub mod Pairs
 pub mod Parts
+pub mod Signers
 pub mod Text
+pub mod Values

@@ -1,7 +1,16 @@
 -- Lists of pairs: headers, variables, files.
-use Rattle.std.specs.Prelude.{ℕ, List, [], ◌∷◌, map, filter, not, Option, Some, None, bytes_eq, if◌then◌else◌}
+use Rattle.std.specs.Prelude.{ℕ, zero, suc, List, [], ◌∷◌, map, filter, not, Option, Some, None, String, string_bytes, bytes_eq, if◌then◌else◌}
 use Rattle.std.specs.Option.{option_or}
 use Rattle.std.specs.Char.{to_ascii_lowercase}
+use Rattle.std.specs.declared.alloc.Global.{Global}
+
+-- the texts of a pair
+abbrev pub text_pair : String Global × String Global → List ℕ × List ℕ
+text_pair pair = (string_bytes pair.0, string_bytes pair.1)
+
+-- the texts of pairs
+abbrev pub text_pairs : List (String Global × String Global) → List (List ℕ × List ℕ)
+text_pairs pairs = map text_pair pairs
 
 -- a text with its ASCII letters in lower case
 abbrev pub lower : List ℕ → List ℕ
@@ -15,6 +24,11 @@ value_if pair name = if bytes_eq pair.0 name then Some pair.1 else None
 abbrev pub first_value : List (List ℕ × List ℕ) → List ℕ → Option (List ℕ)
 first_value [] name = None
 first_value (pair ∷ pairs) name = option_or (value_if pair name) (first_value pairs name)
+
+-- the values of the pairs that have the name
+abbrev pub named_values : List (List ℕ × List ℕ) → List ℕ → List (List ℕ)
+named_values [] name = []
+named_values (pair ∷ pairs) name = if bytes_eq pair.0 name then pair.1 ∷ named_values pairs name else named_values pairs name
 
 -- the value of the last pair that has the name
 abbrev pub last_value : List (List ℕ × List ℕ) → List ℕ → Option (List ℕ)
@@ -30,3 +44,8 @@ abbrev pub inserted : List (List ℕ × List ℕ) → List ℕ → List ℕ → 
 inserted [] name value = (name, value) ∷ []
 inserted (pair ∷ pairs) name value =
     if bytes_eq pair.0 name then (name, value) ∷ without pairs name else pair ∷ inserted pairs name value
+
+-- the first place of the name, or the number of pairs
+abbrev pub place_of : List (List ℕ × List ℕ) → List ℕ → ℕ
+place_of [] name = zero
+place_of (pair ∷ pairs) name = if bytes_eq pair.0 name then zero else suc (place_of pairs name)

@@ -1,9 +1,10 @@
-ghost use Rattle.std.specs.Prelude.{◌≡◌, ℕ, List, [], ◌∷◌, ◌++◌, map, OnOk, OnErr, option_copied};
+ghost use Rattle.std.specs.Prelude.{◌≡◌, ℕ, List, [], ◌∷◌, ◌++◌, map, IfOk, OnOk, OnErr, option_copied};
 ghost use Rattle.std.specs.Option.{option_or};
 ghost use Rattle.std.specs.String.{string_bytes};
 ghost use Rattle.smithy_core.specs.Pairs.{last_value, value_if};
 
 use crate::memory::Mem;
+use crate::text_pairs::copied_pairs;
 use std::alloc::Global;
 use std::marker::Model;
 
@@ -46,6 +47,15 @@ impl Env {
         );
         self.pairs.push(pair)?;
         Ok(())
+    }
+
+    /// Equal variables.
+    pub fn try_clone(&self) -> Mem<Env>
+        ensures { IfOk result (λ copy. copy ≡ self.now) }
+    {
+        Ok(Env {
+            pairs: copied_pairs(*self.pairs.allocator(), self.pairs.as_slice())?,
+        })
     }
 
     /// The value of the last pair with this name.

@@ -1,4 +1,5 @@
-ghost use Rattle.std.specs.Prelude.{◌≡◌, IfOk};
+ghost use Rattle.std.specs.Prelude.{◌≡◌, IfOk, MatchResult, Some, None};
+ghost use Rattle.smithy_core.specs.Values.{string_of};
 
 use crate::memory::Mem;
 use crate::moment::DateTime;
@@ -20,6 +21,20 @@ pub enum HeaderValue {
 }
 
 impl HeaderValue {
+    /// The text of a [`HeaderValue::String`].
+    ///
+    /// # Errors
+    ///
+    /// The value itself, where it is of another kind.
+    pub fn as_string(&self) -> Result<&StrBytes, &HeaderValue>
+        ensures { MatchResult result (λ text. string_of self.now ≡ Some text.now) (λ value. (string_of self.now ≡ None) × (value.now ≡ self.now)) }
+    {
+        match self {
+            HeaderValue::String(text) => Ok(text),
+            _ => Err(self),
+        }
+    }
+
     /// An equal value.
     pub fn try_clone(&self) -> Mem<HeaderValue>
         ensures { IfOk result (λ copy. copy ≡ self.now) }

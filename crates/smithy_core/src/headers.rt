@@ -1,8 +1,11 @@
-ghost use Rattle.std.specs.Prelude.{◌≡◌, ℕ, List, [], ◌∷◌, ◌++◌, length, IfOk, OnOk, OnErr, option_copied};
+ghost use Rattle.std.specs.Prelude.{◌≡◌, ◌<◌, [], ◌∷◌, ◌++◌, length, IfOk, OnOk, OnErr, option_copied, bytes_eq, filter, not, ◌≤◌, vec_len, vec_capacity};
 ghost use Rattle.std.specs.String.{string_bytes};
-ghost use Rattle.smithy_core.specs.Pairs.{first_value, inserted, lower};
+ghost use Rattle.smithy_core.specs.Pairs.{first_value, inserted, lower, named_values, place_of, text_pairs};
 
+use crate::header_iter::HeaderIter;
+use crate::header_values::{HeaderValues, after_named};
 use crate::memory::Mem;
+use crate::text_pairs::copied_pairs;
 use std::alloc::Global;
 use std::marker::Model;
 
@@ -15,12 +18,12 @@ pub struct Headers {
 }
 
 impl Model for Headers {
-    ghost use Rattle.std.specs.Prelude.{ℕ, List, map};
-    ghost use Rattle.std.specs.String.{string_bytes};
+    ghost use Rattle.std.specs.Prelude.{ℕ, List};
+    ghost use Rattle.smithy_core.specs.Pairs.{text_pairs};
 
     ghost Value = { List (List ℕ × List ℕ) };
 
-    ghost view = { λ headers. map (λ pair. (string_bytes pair.0, string_bytes pair.1)) headers.pairs.items };
+    ghost view = { λ headers. text_pairs headers.pairs.items };
 }
 
 impl Headers {
@@ -43,6 +46,50 @@ impl Headers {
         Ok(())
     }
 
+    /// Puts the pair at the first place of its name and drops the others of that name, or else adds it at the end.
+    pub fn insert(&mut self, name: &str, value: &str) -> Mem<()>
+        ensures ok { OnOk result (self.new ≡ inserted self.old (lower name.now) value.now) }
+        ensures err { OnErr result (self.new ≡ self.old) }
+    {
+        let pair = lower_pair(*self.pairs.allocator(), name, value)?;
+        self.pairs.reserve(1)?;
+        put(&mut self.pairs, pair);
+        Ok(())
+    }
+
+    /// The pairs in order, as texts.
+    pub fn iter(&self) -> HeaderIter<'_>
+        ensures { result ≡ self.now }
+    {
+        HeaderIter::over(self.pairs.as_slice())
+    }
+
+    /// The value of the first pair with this name, in whatever case the name is given.
+    pub fn get(&self, name: &str) -> Option<&str>
+        ensures { option_copied result ≡ first_value self.now (lower name.now) }
+    {
+        match after_named(self.pairs.as_slice(), name) {
+            Some((value, _)) => Some(value),
+            None => None,
+        }
+    }
+
+    /// The values of this name in order, in whatever case the name is given.
+    pub fn get_all<'a>(&'a self, name: &'a str) -> HeaderValues<'a>
+        ensures { result ≡ named_values self.now (lower name.now) }
+    {
+        HeaderValues::over(self.pairs.as_slice(), name)
+    }
+
+    /// Equal headers.
+    pub fn try_clone(&self) -> Mem<Headers>
+        ensures { IfOk result (λ copy. copy ≡ self.now) }
+    {
+        Ok(Headers {
+            pairs: copied_pairs(*self.pairs.allocator(), self.pairs.as_slice())?,
+        })
+    }
+
     /// How many pairs there are.
     pub fn len(&self) -> usize
         ensures { result ≡ length self.now }
@@ -57,4 +104,35 @@ fn lower_pair(alloc: Global, name: &str, value: &str) -> Mem<(String, String)>
     let mut name = String::from_str(alloc, name)?;
     name.make_ascii_lowercase();
     Ok((name, String::from_str(alloc, value)?))
+}
+
+// Puts the pair at the first place of its name and drops the others of that name, or else adds it at the end.
+fn put(pairs: &mut Vec<(String, String)>, pair: (String, String))
+    requires { vec_len pairs.old < vec_capacity pairs.old }
+    ensures { text_pairs pairs.new.items ≡ inserted (text_pairs pairs.old.items) (string_bytes pair.0) (string_bytes pair.1) }
+{
+    let at = first_place(pairs.as_slice(), pair.0.as_str());
+    drop_named(pairs, pair.0.as_str());
+    pairs.insert(at, pair).unwrap();
+}
+
+// Drops the pairs of the name.
+fn drop_named(pairs: &mut Vec<(String, String)>, name: &str)
+    ensures items { pairs.new.items ≡ filter (λ pair. not (bytes_eq (string_bytes pair.0) name.now)) pairs.old.items }
+    ensures len { vec_len pairs.new ≤ vec_len pairs.old }
+    ensures capacity { vec_capacity pairs.new ≡ vec_capacity pairs.old }
+{
+    pairs.retain(|pair| pair.0.as_str() != name);
+}
+
+// The first place of the name, or the number of pairs.
+fn first_place(pairs: &[(String, String)], name: &str) -> usize
+    ensures { result ≡ place_of (text_pairs pairs.now) name.now }
+{
+    for (at, pair) in pairs.iter().enumerate() {
+        if pair.0.as_str() == name {
+            return at;
+        }
+    }
+    pairs.len()
 }

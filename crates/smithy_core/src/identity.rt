@@ -1,6 +1,8 @@
-ghost use Rattle.std.specs.Prelude.{◌≡◌, option_copied, option_map};
+ghost use Rattle.std.specs.Prelude.{◌≡◌, IfOk, option_copied, option_map};
 ghost use Rattle.std.specs.String.{string_bytes};
+ghost use Rattle.smithy_core.specs.Signers.{IsSameCredentials, IsSameIdentity};
 
+use crate::memory::Mem;
 use crate::moment::Moment;
 
 /// Credentials of an account. [`Debug`](std::fmt::Debug) isn't there, so that no secret is printed.
@@ -60,6 +62,22 @@ impl Credentials {
     {
         self.expiry
     }
+
+    /// Credentials of the same parts.
+    pub fn try_clone(&self) -> Mem<Credentials>
+        ensures { IfOk result (IsSameCredentials self.now) }
+    {
+        let token = match &self.token {
+            Some(token) => Some(token.clone()?),
+            None => None,
+        };
+        Ok(Credentials {
+            key_id: self.key_id.clone()?,
+            secret: self.secret.clone()?,
+            token,
+            expiry: self.expiry,
+        })
+    }
 }
 
 /// Who signs.
@@ -67,4 +85,16 @@ impl Credentials {
 pub enum Identity {
     Credentials(Credentials),
     Token(String),
+}
+
+impl Identity {
+    /// The same identity.
+    pub fn try_clone(&self) -> Mem<Identity>
+        ensures { IfOk result (IsSameIdentity self.now) }
+    {
+        Ok(match self {
+            Identity::Credentials(credentials) => Identity::Credentials(credentials.try_clone()?),
+            Identity::Token(token) => Identity::Token(token.clone()?),
+        })
+    }
 }

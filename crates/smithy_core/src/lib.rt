@@ -11,6 +11,8 @@ mod civil_date;
 mod civil_text;
 mod env;
 mod header;
+mod header_iter;
+mod header_values;
 mod headers;
 mod identity;
 mod memory;
@@ -22,11 +24,14 @@ mod str_bytes;
 #[cfg(test)]
 mod tests;
 mod text;
+mod text_pairs;
 
 pub use crate::civil_date::civil;
 pub use crate::civil_text::Civil;
 pub use crate::env::Env;
 pub use crate::header::{Header, HeaderValue};
+pub use crate::header_iter::HeaderIter;
+pub use crate::header_values::HeaderValues;
 pub use crate::headers::Headers;
 pub use crate::identity::{Credentials, Identity};
 pub use crate::memory::{Mem, NoMemory};

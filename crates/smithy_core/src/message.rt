@@ -53,6 +53,20 @@ impl Message {
         Ok(Message { headers, payload })
     }
 
+    /// An equal message.
+    pub fn try_clone(&self) -> Mem<Message>
+        ensures { IfOk result (λ copy. copy ≡ self.now) }
+    {
+        let mut headers = Vec::new(*self.headers.allocator());
+        for header in &self.headers {
+            headers.push(header.try_clone()?)?;
+        }
+        Ok(Message {
+            headers,
+            payload: self.payload.clone()?,
+        })
+    }
+
     /// Its headers.
     pub fn headers(&self) -> &[Header]
         ensures { result.now ≡ self.now.headers }

@@ -64,6 +64,14 @@ impl StrBytes {
         &self.bytes
     }
 
+    /// The text.
+    pub fn as_str(&self) -> &str
+        ensures { result.now ≡ self.now }
+    {
+        // Proved: the bytes are UTF-8.
+        unsafe { std::str::from_utf8_unchecked(self.bytes.as_slice()) }
+    }
+
     /// Another handle of the same text.
     pub fn try_clone(&self) -> Mem<StrBytes>
         ensures { IfOk result (λ copy. copy ≡ self.now) }

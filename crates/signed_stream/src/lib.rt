@@ -1,0 +1,16 @@
+//! Signs a request and streams its events as a chain of signed frames.
+#![tactic(auto)]
+
+mod canonical;
+mod halt;
+mod job;
+mod run;
+mod say;
+mod sign;
+mod signing;
+mod status;
+mod stream;
+mod words;
+mod written;
+
+pub use crate::status::{Status, StreamFault};
