@@ -1,9 +1,11 @@
--- What the errors of the layer below become.
+-- What the errors of the layer below become, and what is printed.
+use Rattle.std.specs.Prelude.{ℕ, List, ◌++◌, codes, Option, Some, None}
+use Rattle.std.specs.Fmt.{signed_decimal}
 use Rattle.eventstream.specs.declared.error.Error.{Error}
 use Rattle.eventstream.specs.declared.error.ErrorKind.{ErrorKind}
 use Rattle.eventstream.specs.declared.error.ErrorKind.TheVariants.{HeadersTooLong, HeaderValueTooLong, InvalidHeaderNameLength, MessageTooLong, PayloadTooLong, TimestampValueTooLarge, Marshalling, Unmarshalling, NoMemory as NoRoom}
 use Rattle.sigv4.specs.declared.error.SigningError.{SigningError}
-use Rattle.sigv4.specs.declared.error.SigningError.TheVariants.{FailedToEncodeMessage, NoMemory}
+use Rattle.sigv4.specs.declared.error.SigningError.TheVariants.{FailedToEncodeMessage, MomentOutOfRange, NoMemory, UnsupportedIdentityType}
 
 -- the error of an encoding that failed for a reason
 abbrev pub error_for : ErrorKind → Error → SigningError
@@ -20,3 +22,10 @@ error_for NoRoom error = NoMemory
 -- want of memory stays what it is
 abbrev pub error_of : Error → SigningError
 error_of error = error_for error.kind error
+
+-- what is printed, where it is told
+abbrev pub printed : SigningError → Option (List ℕ)
+printed UnsupportedIdentityType = Some (codes "only AWS credentials are supported for signing")
+printed (FailedToEncodeMessage error) = None
+printed (MomentOutOfRange t) = Some (codes "moment " ++ (signed_decimal t.secs ++ codes " is outside the years 0 to 9999"))
+printed NoMemory = Some (codes "no memory")

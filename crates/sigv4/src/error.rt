@@ -16,6 +16,10 @@ pub enum SigningError {
 }
 
 impl fmt::Display for SigningError {
+    ghost use Rattle.sigv4.specs.Errors.{printed};
+
+    ghost output = { λ error. printed error };
+
     fn fmt<W: fmt::Write>(&self, f: &mut fmt::Formatter<W>) -> fmt::Result {
         match self {
             SigningError::UnsupportedIdentityType => {

@@ -1,8 +1,11 @@
-//! AWS Signature Version 4.
+//! AWS Signature Version 4: signing keys, the signature of a request, and signed messages.
 //!
-//! The layer above is promised that [`v4::generate_signing_key`] is the signing key of the secret, the
-//! date, the region and the name, and that [`v4::request_signature`] is the signature of a canonical
-//! text (`specs/Signature.antt`).
+//! The layer above is promised that [`v4::generate_signing_key`] is the signing key of a secret, a date, a
+//! region and a name, and takes no memory, and that [`v4::request_signature`] is the signature of a
+//! canonical text (`specs/Signature.antt`). It is promised that [`event_stream::sign_message`] and
+//! [`event_stream::sign_empty_message`] answer the next link of a chain, or exactly the first reason why
+//! there is none (`specs/Signing.antt`), and that a builder gives back its parts or names the first that
+//! is missing (`specs/Params.antt`).
 #![tactic(auto)]
 
 mod error;
