@@ -4,7 +4,7 @@
 mod canonical;
 mod halt;
 mod job;
-mod run;
+mod running;
 mod say;
 mod sign;
 mod signing;
@@ -13,4 +13,5 @@ mod stream;
 mod words;
 mod written;
 
+pub use crate::running::run;
 pub use crate::status::{Status, StreamFault};
