@@ -29,7 +29,8 @@ fn frame_of_every_kind(rt: HostRuntime) -> Result<(), Fail> {
     Ok(())
 }
 
-const EVERY_KIND: &str = "0000008b00000074f47cebcf0474727565000566616c736501046279746502fe05696e74313603fed405696e74333204fffeee9005696e74363405fffffffed5fa0e000562797465730600030102ff047465787407000568c3a9c3a90474696d6508ffffffffffffffff047575696409101112131415161718191a1b1c1d1e1f7061796c6f616480033f57";
+const EVERY_KIND: &str =
+    "0000008b00000074f47cebcf0474727565000566616c736501046279746502fe05696e74313603fed405696e74333204fffeee9005696e74363405fffffffed5fa0e000562797465730600030102ff047465787407000568c3a9c3a90474696d6508ffffffffffffffff047575696409101112131415161718191a1b1c1d1e1f7061796c6f616480033f57";
 
 fn message_of_every_kind(alloc: Global) -> Mem<Message> {
     let text = StrBytes::from_static("h\u{e9}\u{e9}");
@@ -40,10 +41,19 @@ fn message_of_every_kind(alloc: Global) -> Mem<Message> {
     headers.push(named("int16", HeaderValue::Int16(-300)))?;
     headers.push(named("int32", HeaderValue::Int32(-70_000)))?;
     headers.push(named("int64", HeaderValue::Int64(-5_000_000_000)))?;
-    headers.push(named("bytes", HeaderValue::ByteArray(Bytes::from_static(&[1, 2, 255]))))?;
+    headers.push(named(
+        "bytes",
+        HeaderValue::ByteArray(Bytes::from_static(&[1, 2, 255])),
+    ))?;
     headers.push(named("text", HeaderValue::String(text)))?;
-    headers.push(named("time", HeaderValue::Timestamp(DateTime::new(-1, 999_999_999))))?;
-    headers.push(named("uuid", HeaderValue::Uuid(0x1011_1213_1415_1617_1819_1a1b_1c1d_1e1f)))?;
+    headers.push(named(
+        "time",
+        HeaderValue::Timestamp(DateTime::new(-1, 999_999_999)),
+    ))?;
+    headers.push(named(
+        "uuid",
+        HeaderValue::Uuid(0x1011_1213_1415_1617_1819_1a1b_1c1d_1e1f),
+    ))?;
     Ok(Message::new_from_parts(headers, Bytes::from_static(b"payload")))
 }
 
@@ -55,7 +65,10 @@ fn named(name: &'static str, value: HeaderValue) -> Header {
 fn date_header(rt: HostRuntime) -> Result<(), Fail> {
     let alloc = rt.alloc();
     let mut headers = Vec::new(alloc);
-    headers.push(named(":date", HeaderValue::Timestamp(DateTime::new(123_456_789, 0))))?;
+    headers.push(named(
+        ":date",
+        HeaderValue::Timestamp(DateTime::new(123_456_789, 0)),
+    ))?;
     let mut buffer = Vec::new(alloc);
     write_headers_to(alloc, headers.as_slice(), &mut buffer)?;
     assert_eq!(rt;
@@ -66,7 +79,9 @@ fn date_header(rt: HostRuntime) -> Result<(), Fail> {
 }
 
 const BAD_NAME: &str = "invalid header name length";
+
 const BAD_VALUE: &str = "header value too long to fit in event stream frame";
+
 const BAD_TIME: &str = "timestamp value 9223372036854776 is too large to fit into an i64";
 
 #[test]
