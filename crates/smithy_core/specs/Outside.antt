@@ -31,6 +31,10 @@ abbrev pub IsCutOf : Option (List ℕ) → List ℕ → Option (List ℕ) → Ty
 IsCutOf None read now = now ≡ None
 IsCutOf (Some all) read now = (rest : List ℕ) × (now ≡ Some rest) × (all ≡ read ++ rest)
 
+-- what is left now is a rest of what was left
+abbrev pub IsRestOf : Option (List ℕ) → Option (List ℕ) → Type 0
+IsRestOf all now = (read : List ℕ) × IsCutOf all read now
+
 -- the first n bytes of the piece came to what was held
 abbrev pub GainsFront : ℕ → List ℕ → Option (List ℕ) → Option (List ℕ) → Type 0
 GainsFront n piece None now = now ≡ None

@@ -30,7 +30,8 @@ impl ListClock {
     /// A clock that has given nothing.
     pub fn new(moments: Vec<Moment>) -> ListClock
         requires { 0 < vec_len moments }
-        ensures { ⟦<ListClock as Clock>⟧.given result ≡ Some [] }
+        ensures given { ⟦<ListClock as Clock>⟧.given result ≡ Some [] }
+        ensures moments { result.moments ≡ moments }
     {
         let last = moments[moments.len() - 1];
         ListClock {
@@ -67,7 +68,8 @@ pub struct FixedClock {
 impl FixedClock {
     /// A clock that has given nothing.
     pub fn new(at: Moment) -> FixedClock
-        ensures { ⟦<FixedClock as Clock>⟧.given result ≡ Some [] }
+        ensures given { ⟦<FixedClock as Clock>⟧.given result ≡ Some [] }
+        ensures at { result.at ≡ at }
     {
         FixedClock { at, count: 0 }
     }

@@ -47,6 +47,7 @@ impl FaultySink {
     pub fn new(alloc: Global, fails: Vec<u64>) -> FaultySink
         ensures held { ⟦<FaultySink as ByteSink>⟧.held result ≡ Some [] }
         ensures faults { ⟦<FaultySink as ByteSink>⟧.faults result ≡ 0 }
+        ensures fails { result.fails ≡ fails }
     {
         FaultySink {
             held: Vec::new(alloc),

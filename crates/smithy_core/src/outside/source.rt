@@ -45,6 +45,7 @@ impl FaultySource {
     pub fn new(content: Vec<u8>, fails: Vec<u64>) -> FaultySource
         ensures left { ⟦<FaultySource as ByteSource>⟧.left result ≡ Some content.items }
         ensures faults { ⟦<FaultySource as ByteSource>⟧.faults result ≡ 0 }
+        ensures fails { result.fails ≡ fails }
     {
         FaultySource {
             content,
