@@ -131,7 +131,7 @@ fn link(
 
 // The string to sign of bytes over the signature before them.
 #[tactic(auto, unfolding(smithy_core::specs::Civil::stamp, eventstream::specs::Link::string_to_sign))]
-fn text_to_sign(
+pub(crate) fn text_to_sign(
     alloc: Global,
     bytes: &[u8],
     last_signature: &str,

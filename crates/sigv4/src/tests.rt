@@ -1,5 +1,14 @@
-use crate::v4::{calculate_signature, credential_scope, generate_signing_key, request_signature};
-use smithy_core::{Moment, civil};
+ghost use Rattle.std.specs.Prelude.{◌≡◌};
+
+mod canonical_texts;
+mod messages;
+mod parameters;
+
+use crate::event_stream::{SigningParams as MessageParams, sign_empty_message, sign_message};
+use crate::v4::{SigningParams, calculate_signature, credential_scope, request_signature};
+use bytes::Bytes;
+use smithy_core::{Credentials, Header, HeaderValue, Identity, Mem, Message, Moment, StrBytes};
+use std::alloc::Global;
 use std::test::Fail;
 
 /// The secret of AWS's examples.
@@ -8,373 +17,38 @@ const SECRET: &str = "wJalrXUtnFEMI/K7MDENG+bPxRfiCYEXAMPLEKEY";
 /// 2015-08-30T12:36:00Z.
 const EXAMPLE_SECOND: i64 = 1_440_938_160;
 
-// The example of AWS's documentation on deriving a signing key and signing a request.
-#[test]
-fn documented_example(rt: HostRuntime) -> Result<(), Fail> {
-    let time = Moment::new(EXAMPLE_SECOND, 0);
-    let key = generate_signing_key(SECRET, time, "us-east-1", "iam");
-    assert_eq!(rt;
-        hex::encode(rt.alloc(), key.as_slice())?.as_str(),
-        "c4afb1cc5771d871763a393e44b703571b55cc28424d1a5e86da6ed3c154a4b9"
-    );
-    let signature = calculate_signature(
-        rt.alloc(),
-        key.as_slice(),
-        b"AWS4-HMAC-SHA256\n20150830T123600Z\n20150830/us-east-1/iam/aws4_request\nf536975d06c0309214f805bb90ccff089219ecd68b2577efef23edd43b7e1a59",
-    )?;
-    assert_eq!(rt;
-        signature.as_str(),
-        "5d672d79c15b13162d9279b0855cfba6789a8edb4c82c400e06b5924a6f2b5d7"
-    );
-    let whole = request_signature(
-        rt.alloc(),
-        b"GET\n/\nAction=ListUsers&Version=2010-05-08\ncontent-type:application/x-www-form-urlencoded; charset=utf-8\nhost:iam.amazonaws.com\nx-amz-date:20150830T123600Z\n\ncontent-type;host;x-amz-date\ne3b0c44298fc1c149afbf4c8996fb92427ae41e4649b934ca495991b7852b855",
-        SECRET,
-        time,
-        "us-east-1",
-        "iam",
-    )?;
-    assert_eq!(rt; whole.as_str(), signature.as_str());
-    Ok(())
+// Credentials of AWS's examples.
+fn example_identity(alloc: Global) -> Mem<Identity> {
+    Ok(Identity::Credentials(Credentials::new(
+        String::from_str(alloc, "AKIDEXAMPLE")?,
+        String::from_str(alloc, SECRET)?,
+        None,
+        None,
+    )))
 }
 
-// Canonical texts of the AWS signing test suite and others, with their signatures.
-#[test]
-fn signatures_of_canonical_texts(rt: HostRuntime) -> Result<(), Fail> {
-    let cases = [
-        (
-            "test-region",
-            "testservicename",
-            1620747645,
-            "GET\n\
-             /\n\
-             Param1=value1&Param2=value2\n\
-             host:example.amazonaws.com\n\
-             x-amz-content-sha256:e3b0c44298fc1c149afbf4c8996fb92427ae41e4649b934ca495991b7852b855\n\
-             x-amz-date:20210511T154045Z\n\
-             x-amz-object-attributes:Checksum,ObjectSize\n\
-             \n\
-             host;x-amz-content-sha256;x-amz-date;x-amz-object-attributes\n\
-             e3b0c44298fc1c149afbf4c8996fb92427ae41e4649b934ca495991b7852b855",
-            "ef084de3c4a2cc4ac97d9571ce323ddef45f33df8f39418f4a1ef237ac8a2f0f",
-        ),
-        (
-            "test-region",
-            "testservicename",
-            1620747645,
-            "GET\n\
-             /\n\
-             \n\
-             host:localhost\n\
-             x-amz-content-sha256:e3b0c44298fc1c149afbf4c8996fb92427ae41e4649b934ca495991b7852b855\n\
-             x-amz-date:20210511T154045Z\n\
-             \n\
-             host;x-amz-content-sha256;x-amz-date\n\
-             e3b0c44298fc1c149afbf4c8996fb92427ae41e4649b934ca495991b7852b855",
-            "11dfe490d80958159164d4a30d7c5d7dc7ca121aec5a3d40b11f81f72b0ba58e",
-        ),
-        (
-            "test-region",
-            "testservicename",
-            1620747645,
-            "GET\n\
-             /\n\
-             \n\
-             host:localhost:1234\n\
-             x-amz-content-sha256:e3b0c44298fc1c149afbf4c8996fb92427ae41e4649b934ca495991b7852b855\n\
-             x-amz-date:20210511T154045Z\n\
-             \n\
-             host;x-amz-content-sha256;x-amz-date\n\
-             e3b0c44298fc1c149afbf4c8996fb92427ae41e4649b934ca495991b7852b855",
-            "d9e2aee4058de274231b866b968f9f5c4b892b8059a07f38df52cf438e19ef1b",
-        ),
-        (
-            "us-east-1",
-            "exampleservice",
-            1440938160,
-            "GET\n\
-             /\n\
-             \n\
-             host:some-endpoint.some-region.amazonaws.com\n\
-             x-amz-date:20150830T123600Z\n\
-             \n\
-             host;x-amz-date\n\
-             e3b0c44298fc1c149afbf4c8996fb92427ae41e4649b934ca495991b7852b855",
-            "4d69bc633c55a3969679c432ea97e07fb4532db026d71984b2fa553b4f25a2ff",
-        ),
-        (
-            "us-east-1",
-            "service",
-            1440938160,
-            "GET\n\
-             /\n\
-             \n\
-             host:example.amazonaws.com\n\
-             x-amz-date:20150830T123600Z\n\
-             \n\
-             host;x-amz-date\n\
-             e3b0c44298fc1c149afbf4c8996fb92427ae41e4649b934ca495991b7852b855",
-            "5fa00fa31553b73ebf1942676e86291e8372ff2a2260956d9b8aae1d763fbf31",
-        ),
-        (
-            "us-east-1",
-            "service",
-            1440938160,
-            "GET\n\
-             /\n\
-             Param1=value1&Param2=value2\n\
-             host:example.amazonaws.com\n\
-             x-amz-date:20150830T123600Z\n\
-             \n\
-             host;x-amz-date\n\
-             e3b0c44298fc1c149afbf4c8996fb92427ae41e4649b934ca495991b7852b855",
-            "b97d918cfa904a5beff61c982a1b6f458b799221646efd99d3219ec94cdf2500",
-        ),
-        (
-            "us-east-1",
-            "service",
-            1440938160,
-            "GET\n\
-             /\n\
-             Param1=value1&Param1=value2\n\
-             host:example.amazonaws.com\n\
-             x-amz-date:20150830T123600Z\n\
-             \n\
-             host;x-amz-date\n\
-             e3b0c44298fc1c149afbf4c8996fb92427ae41e4649b934ca495991b7852b855",
-            "5772eed61e12b33fae39ee5e7012498b51d56abc0abb7c60486157bd471c4694",
-        ),
-        (
-            "us-east-1",
-            "service",
-            1440938160,
-            "GET\n\
-             /\n\
-             Param1=value1\n\
-             host:example.amazonaws.com\n\
-             x-amz-date:20150830T123600Z\n\
-             \n\
-             host;x-amz-date\n\
-             e3b0c44298fc1c149afbf4c8996fb92427ae41e4649b934ca495991b7852b855",
-            "a67d582fa61cc504c4bae71f336f98b97f1ea3c7a6bfe1b6e45aec72011b9aeb",
-        ),
-        (
-            "us-east-1",
-            "service",
-            1440938160,
-            "GET\n\
-             /\n\
-             -._~0123456789ABCDEFGHIJKLMNOPQRSTUVWXYZabcdefghijklmnopqrstuvwxyz=-._~0123456789ABCDEFGHIJKLMNOPQRSTUVWXYZabcdefghijklmnopqrstuvwxyz\n\
-             host:example.amazonaws.com\n\
-             x-amz-date:20150830T123600Z\n\
-             \n\
-             host;x-amz-date\n\
-             e3b0c44298fc1c149afbf4c8996fb92427ae41e4649b934ca495991b7852b855",
-            "9c3e54bfcdf0b19771a7f523ee5669cdf59bc7cc0884027167c21bb143a40197",
-        ),
-        (
-            "us-east-1",
-            "service",
-            1440938160,
-            "GET\n\
-             /-._~0123456789ABCDEFGHIJKLMNOPQRSTUVWXYZabcdefghijklmnopqrstuvwxyz\n\
-             \n\
-             host:example.amazonaws.com\n\
-             x-amz-date:20150830T123600Z\n\
-             \n\
-             host;x-amz-date\n\
-             e3b0c44298fc1c149afbf4c8996fb92427ae41e4649b934ca495991b7852b855",
-            "07ef7494c76fa4850883e2b006601f940f8a34d404d0cfa977f52a65bbf5f24f",
-        ),
-        (
-            "us-east-1",
-            "service",
-            1440938160,
-            "GET\n\
-             /example%20space/\n\
-             \n\
-             host:example.amazonaws.com\n\
-             x-amz-date:20150830T123600Z\n\
-             \n\
-             host;x-amz-date\n\
-             e3b0c44298fc1c149afbf4c8996fb92427ae41e4649b934ca495991b7852b855",
-            "652487583200325589f1fba4c7e578f72c47cb61beeca81406b39ddec1366741",
-        ),
-        (
-            "us-east-1",
-            "service",
-            1440938160,
-            "GET\n\
-             /example\n\
-             \n\
-             host:example.amazonaws.com\n\
-             x-amz-date:20150830T123600Z\n\
-             \n\
-             host;x-amz-date\n\
-             e3b0c44298fc1c149afbf4c8996fb92427ae41e4649b934ca495991b7852b855",
-            "ef75d96142cf21edca26f06005da7988e4f8dc83a165a80865db7089db637ec5",
-        ),
-        (
-            "us-east-1",
-            "service",
-            1440938160,
-            "GET\n\
-             /\n\
-             \n\
-             host:example.amazonaws.com\n\
-             my-header1:value2,value2,value1\n\
-             x-amz-date:20150830T123600Z\n\
-             \n\
-             host;my-header1;x-amz-date\n\
-             e3b0c44298fc1c149afbf4c8996fb92427ae41e4649b934ca495991b7852b855",
-            "c9d5ea9f3f72853aea855b47ea873832890dbdd183b4468f858259531a5138ea",
-        ),
-        (
-            "us-east-1",
-            "service",
-            1440938160,
-            "GET\n\
-             /\n\
-             \n\
-             host:example.amazonaws.com\n\
-             my-header1:value4,value1,value3,value2\n\
-             x-amz-date:20150830T123600Z\n\
-             \n\
-             host;my-header1;x-amz-date\n\
-             e3b0c44298fc1c149afbf4c8996fb92427ae41e4649b934ca495991b7852b855",
-            "08c7e5a9acfcfeb3ab6b2185e75ce8b1deb5e634ec47601a50643f830c755c01",
-        ),
-        (
-            "us-east-1",
-            "service",
-            1440938160,
-            "GET\n\
-             /\n\
-             \n\
-             host:example.amazonaws.com\n\
-             my-header1:value1\n\
-             my-header2:\"a b c\"\n\
-             x-amz-date:20150830T123600Z\n\
-             \n\
-             host;my-header1;my-header2;x-amz-date\n\
-             e3b0c44298fc1c149afbf4c8996fb92427ae41e4649b934ca495991b7852b855",
-            "acc3ed3afb60bb290fc8d2dd0098b9911fcaa05412b367055dee359757a9c736",
-        ),
-        (
-            "us-east-1",
-            "service",
-            1440938160,
-            "POST\n\
-             /\n\
-             \n\
-             host:example.amazonaws.com\n\
-             x-amz-date:20150830T123600Z\n\
-             \n\
-             host;x-amz-date\n\
-             e3b0c44298fc1c149afbf4c8996fb92427ae41e4649b934ca495991b7852b855",
-            "5da7c1a2acd57cee7505fc6676e4e544621c30862966e37dddb68e92efbe5d6b",
-        ),
-        (
-            "us-east-1",
-            "service",
-            1440938160,
-            "POST\n\
-             /\n\
-             \n\
-             host:example.amazonaws.com\n\
-             my-header1:value1\n\
-             x-amz-date:20150830T123600Z\n\
-             \n\
-             host;my-header1;x-amz-date\n\
-             e3b0c44298fc1c149afbf4c8996fb92427ae41e4649b934ca495991b7852b855",
-            "c5410059b04c1ee005303aed430f6e6645f61f4dc9e1461ec8f8916fdf18852c",
-        ),
-        (
-            "us-east-1",
-            "service",
-            1440938160,
-            "POST\n\
-             /\n\
-             \n\
-             host:example.amazonaws.com\n\
-             my-header1:VALUE1\n\
-             x-amz-date:20150830T123600Z\n\
-             \n\
-             host;my-header1;x-amz-date\n\
-             e3b0c44298fc1c149afbf4c8996fb92427ae41e4649b934ca495991b7852b855",
-            "cdbc9802e29d2942e5e10b5bccfdd67c5f22c7c4e8ae67b53629efa58b974b7d",
-        ),
-        (
-            "us-east-1",
-            "service",
-            1440938160,
-            "POST\n\
-             /\n\
-             \n\
-             content-type:application/x-www-form-urlencoded\n\
-             host:example.amazonaws.com\n\
-             x-amz-date:20150830T123600Z\n\
-             \n\
-             content-type;host;x-amz-date\n\
-             9095672bbd1f56dfc5b65f3e153adc8731a4a654192329106275f4c7b24d0b6e",
-            "ff11897932ad3f4e8b18135d722051e5ac45fc38421b1da7b9d196a0fe09473a",
-        ),
-        (
-            "us-east-1",
-            "service",
-            1440938160,
-            "POST\n\
-             /\n\
-             \n\
-             host:example.amazonaws.com\n\
-             x-amz-date:20150830T123600Z\n\
-             x-amz-security-token:AQoDYXdzEPT//////////wEXAMPLEtc764bNrC9SAPBSM22wDOk4x4HIZ8j4FZTwdQWLWsKWHGBuFqwAeMicRXmxfpSPfIeoIYRqTflfKD8YUuwthAx7mSEI/qkPpKPi/kMcGdQrmGdeehM4IC1NtBmUpp2wUE8phUZampKsburEDy0KPkyQDYwT7WZ0wq5VSXDvp75YU9HFvlRd8Tx6q6fE8YQcHNVXAkiY9q6d+xo0rKwT38xVqr7ZD0u0iPPkUL64lIZbqBAz+scqKmlzm8FDrypNC9Yjc8fPOLn9FX9KSYvKTr4rvx3iSIlTJabIQwj2ICCR/oLxBA==\n\
-             \n\
-             host;x-amz-date;x-amz-security-token\n\
-             e3b0c44298fc1c149afbf4c8996fb92427ae41e4649b934ca495991b7852b855",
-            "85d96828115b5dc0cfc3bd16ad9e210dd772bbebba041836c64533a82be05ead",
-        ),
-        (
-            "us-east-1",
-            "service",
-            1440938160,
-            "GET\n\
-             /\n\
-             X-Amz-Algorithm=AWS4-HMAC-SHA256&X-Amz-Credential=AKIDEXAMPLE%2F20150830%2Fus-east-1%2Fservice%2Faws4_request&X-Amz-Date=20150830T123600Z&X-Amz-Expires=900&X-Amz-SignedHeaders=host\n\
-             host:example.amazonaws.com\n\
-             \n\
-             host\n\
-             UNSIGNED-PAYLOAD",
-            "5ce6003df0f164dc2c05f4bf7d0a6da298a27a07459e43ea86ec5348e98930a8",
-        ),
-        (
-            "us-east-1",
-            "service",
-            1440938160,
-            "GET\n\
-             /\n\
-             X-Amz-Algorithm=AWS4-HMAC-SHA256&X-Amz-Credential=AKIDEXAMPLE%2F20150830%2Fus-east-1%2Fservice%2Faws4_request&X-Amz-Date=20150830T123600Z&X-Amz-Expires=900&X-Amz-Security-Token=TOKEN%2F%2B%3D&X-Amz-SignedHeaders=host\n\
-             host:example.amazonaws.com\n\
-             \n\
-             host\n\
-             UNSIGNED-PAYLOAD",
-            "db627be624d2a8d3db0272a4a0607798b5b6473ced736f87ad6f1b2a11e7d123",
-        ),
-    ];
-    for (region, name, second, canonical_text, signature) in cases {
-        let time = Moment::new(second, 0);
-        assert!(rt; civil(time).is_some());
-        let answer = request_signature(
-            rt.alloc(),
-            canonical_text.as_bytes(),
-            SECRET,
-            time,
-            region,
-            name,
-        )?;
-        assert_eq!(rt; answer.as_str(), signature, "over {canonical_text}");
+fn example_params<'a>(identity: &'a Identity, name: &'a str, time: Moment) -> MessageParams<'a>
+    ensures { result.time ≡ time }
+{
+    let builder = SigningParams::builder()
+        .identity(identity)
+        .region("us-east-1")
+        .name(name)
+        .time(time)
+        .settings(());
+    match builder.build() {
+        Ok(params) => params,
+        Err(_) => unreachable!(),
     }
-    Ok(())
+}
+
+// A message with one header of text.
+fn message(alloc: Global, name: &str, value: &str, payload: &[u8]) -> Mem<Message> {
+    let name = StrBytes::copy_from_str(alloc, name)?;
+    let value = HeaderValue::String(StrBytes::copy_from_str(alloc, value)?);
+    Message::new(alloc, Bytes::copy_from_slice(alloc, payload)?).add_header(Header::new(
+        name, value,
+    ))
 }
 
 // Each call that can answer want of memory, and what it answers where there is memory.
@@ -383,6 +57,11 @@ fn surface(rt: HostRuntime) -> Result<(), Fail> {
     let time = Moment::new(EXAMPLE_SECOND, 0);
     let scope = credential_scope(rt.alloc(), time, "us-east-1", "service")?;
     let signed = calculate_signature(rt.alloc(), b"", b"")?;
+    let identity = example_identity(rt.alloc())?;
+    let params = example_params(&identity, "service", time);
+    let message = message(rt.alloc(), "some-header", "value", b"test payload")?;
+    let link = sign_message(rt.alloc(), &message, "", &params)?;
+    let closing = sign_empty_message(rt.alloc(), "", &params)?;
     let request = request_signature(rt.alloc(), b"", SECRET, time, "us-east-1", "service")?;
     let cases = [
         (
@@ -399,6 +78,16 @@ fn surface(rt: HostRuntime) -> Result<(), Fail> {
             "request_signature",
             request.as_str(),
             "667a10311590d6c810b4cc5dfa9516776ab53c81e6e3e30a02c94fb5aff4baef",
+        ),
+        (
+            "sign_message",
+            link.signature(),
+            "8bce8a94e4c0b08f574fbc3279f68ba56931274b1caa0497d4ce55c8aec96bf9",
+        ),
+        (
+            "sign_empty_message",
+            closing.signature(),
+            "630d41055723f55004e78430b58c37f63e8952e46d271e1b67783dbab128bd03",
         ),
     ];
     for (call, answer, expected) in cases {
