@@ -10,6 +10,8 @@ mod fault;
 mod header;
 mod lines;
 mod target;
+#[cfg(test)]
+mod tests;
 
 pub use crate::job::credentials::PlainSettings;
 use crate::job::draft::Draft;
