@@ -9,5 +9,6 @@ pub mod Run
 pub mod Signed
 pub mod Signing
 pub mod Status
+pub mod Stream
 pub mod Words
 pub mod Written

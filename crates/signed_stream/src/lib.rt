@@ -2,10 +2,12 @@
 #![tactic(auto)]
 
 mod canonical;
+mod halt;
 mod job;
 mod sign;
 mod signing;
 mod status;
+mod stream;
 mod words;
 
 pub use crate::status::{Status, StreamFault};

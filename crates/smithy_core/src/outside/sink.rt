@@ -1,4 +1,4 @@
-ghost use Rattle.std.specs.Prelude.{◌≡◌, ℕ, ◌<◌, ◌≤◌, List, [], Option, Some, length, IfOk, OnErr, IsErrOf};
+ghost use Rattle.std.specs.Prelude.{◌≡◌, ℕ, ◌<◌, ◌≤◌, List, [], Option, Some, length, IfOk, IfErr, OnErr, IsErrOf, ◌++◌};
 ghost use Rattle.smithy_core.specs.Outside.{GainsFront, Rose};
 
 use std::alloc::Global;
@@ -75,10 +75,7 @@ impl ByteSink for FaultySink {
             self.faults = self.faults.saturating_add(1);
             return Err(SinkError::Failed);
         }
-        match self.held.extend_from_slice(piece) {
-            Ok(()) => Ok(piece.len()),
-            Err(_) => Err(SinkError::NoMemory),
-        }
+        hold(&mut self.held, piece)
     }
 }
 
@@ -113,9 +110,17 @@ impl ByteSink for CalmSink {
     ghost faults = { λ _. 0 };
 
     fn write(&mut self, piece: &[u8]) -> Result<usize, SinkError> {
-        match self.held.extend_from_slice(piece) {
-            Ok(()) => Ok(piece.len()),
-            Err(_) => Err(SinkError::NoMemory),
-        }
+        hold(&mut self.held, piece)
+    }
+}
+
+// Takes the piece whole.
+fn hold(held: &mut Vec<u8>, piece: &[u8]) -> Result<usize, SinkError>
+    ensures ok { IfOk result (λ n. (n ≡ length piece.now) × (held.new.items ≡ held.old.items ++ piece.now)) }
+    ensures err { IfErr result (λ e. (e ≡ SinkError.NoMemory) × (held.new.items ≡ held.old.items)) }
+{
+    match held.extend_from_slice(piece) {
+        Ok(()) => Ok(piece.len()),
+        Err(_) => Err(SinkError::NoMemory),
     }
 }
