@@ -10,6 +10,8 @@ mod sign;
 mod signing;
 mod status;
 mod stream;
+#[cfg(test)]
+mod tests;
 mod words;
 mod written;
 
