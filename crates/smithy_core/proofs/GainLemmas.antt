@@ -1,5 +1,5 @@
 -- A sink that is written piece by piece.
-use Rattle.std.proofs.Common.{◌≡◌, ℕ, ◌<◌, List, [], ◌++◌, length, take, drop, Option, Some, None, refl, ◌∙◌, ap, append_assoc, append-nil}
+use Rattle.std.proofs.Common.{◌≡◌, ℕ, ◌<◌, List, [], ◌++◌, length, take, drop, Option, Some, None, refl, sym, ◌∙◌, ap, append_assoc, append-nil}
 use Rattle.std.proofs.lemmas.List.{take-append-drop}
 use Rattle.smithy_core.specs.Outside.{GainsFront, GainsRest, Gains, GainsPrefix, GainsProperPrefix}
 
@@ -51,3 +51,16 @@ pub gains_front : (b c : Option (List ℕ)) (front back : List ℕ) → Gains b 
 gains_front None c front back whole = whole
 gains_front (Some before) None front back whole = absurd whole
 gains_front (Some before) (Some now) front back whole = let e : now ≡ before ++ front = simp append-nil at whole in rw e (append_assoc before front back)
+
+-- a front of the front is a front of the whole
+pub prefix_within : (b c : Option (List ℕ)) (front back : List ℕ) → GainsPrefix b c front → GainsPrefix b c (front ++ back)
+prefix_within b c front back part = (part.0 ++ back, within b c part.0 part.1)
+  where
+    within : (b c : Option (List ℕ)) (rest : List ℕ) → GainsRest b c rest front → GainsRest b c (rest ++ back) (front ++ back)
+    within None c rest gained = gained
+    within (Some before) None rest gained = absurd gained
+    within (Some before) (Some now) rest gained = sym (append_assoc now rest back) ∙ ap (λ x. x ++ back) gained ∙ append_assoc before front back
+
+-- a front of the rest after a write is a front of the whole
+pub prefix_join : (a b c : Option (List ℕ)) (rest text : List ℕ) → GainsRest a b rest text → GainsPrefix b c rest → GainsPrefix a c text
+prefix_join a b c rest text first second = (second.0, gains_join a b c second.0 rest text first second.1)

@@ -1,3 +1,4 @@
+pub mod CivilTextLemmas
 pub mod CutLemmas
 pub mod GainLemmas
 pub mod PairLemmas

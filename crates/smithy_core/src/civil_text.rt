@@ -1,5 +1,9 @@
-ghost use Rattle.std.specs.Prelude.{◌≡◌};
+ghost use Rattle.std.specs.Prelude.{◌≡◌, IfOk};
+ghost use Rattle.std.specs.String.{string_bytes};
 ghost use Rattle.smithy_core.specs.CivilText.{date_of, stamp_of, two_digits};
+
+use crate::memory::Mem;
+use std::alloc::Global;
 
 /// A date of the years 0 to 9999, and a time of day, in UTC.
 #[derive(Clone, Copy, Debug, PartialEq, Eq)]
@@ -40,6 +44,14 @@ impl Civil {
             c0, c1, y0, y1, m0, m1, d0, d1, b'T', hour[0], hour[1], minute[0], minute[1],
             second[0], second[1], b'Z',
         ]
+    }
+
+    /// `YYYYMMDDTHHMMSSZ`, as a string.
+    pub fn stamp_text(self, alloc: Global) -> Mem<String>
+        ensures { IfOk result (λ text. string_bytes text ≡ stamp_of self) }
+    {
+        let stamp = Vec::from_slice(alloc, self.stamp().as_slice())?;
+        Ok(String::from_utf8(stamp).unwrap())
     }
 }
 

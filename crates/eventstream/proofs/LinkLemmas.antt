@@ -1,0 +1,86 @@
+-- A signed message has a frame.
+use Rattle.std.proofs.Common.{◌≡◌, ℕ, ◌+◌, ◌<◌, ◌≤◌, List, [], ◌∷◌, ◌++◌, length, None, Option, nat_lt, false, refl, ap, sym, ◌∙◌, arith, pos, negsuc, ℤ, ◌*ℤ◌, ◌+ℤ◌, ◌≤ℤ◌, length-append, append-nil, codes}
+use Rattle.std.specs.Option.{option_or}
+use Rattle.std.specs.Int.{w16, w64, saturate_signed, to_be_bytes, cast_unsigned}
+use Rattle.std.proofs.lemmas.Bool.Decides.{nat_tests}
+use Rattle.sha2.proofs.Facts256.{length-sha256}
+use Rattle.mac_core.specs.Mac.{mac, mac_of_block}
+use Rattle.smithy_core.specs.Civil.{IsInYears}
+use Rattle.smithy_core.specs.Instant.{Instant, floor_secs}
+use Rattle.smithy_core.specs.Parts.{Parts}
+use Rattle.smithy_core.specs.declared.header.Header.{Header}
+use Rattle.smithy_core.specs.declared.header.HeaderValue.TheVariants.{ByteArray}
+use Rattle.eventstream.specs.declared.error.ErrorKind.{ErrorKind}
+use Rattle.eventstream.specs.Frame.{be32, block, first_unspelled, frame, frame_len, spelling, unfit, unframed, unspelled, unspelled_value, value_spelling}
+use Rattle.eventstream.specs.Key.{Signer}
+use Rattle.eventstream.specs.Link.{date_header, link_code, link_message}
+
+length-be32 : (n : ℕ) → length (be32 n) ≡ 4
+unfolding be32
+length-be32 n = refl
+
+-- a frame is as long as its first number says
+pub length-frame : (m : Parts) → length (frame m) ≡ frame_len m
+unfolding frame
+length-frame m = simp (length-append, length-be32) (omega arith)
+
+-- a code has 32 bytes
+pub length-mac : (key text : List ℕ) → length (mac key text) ≡ 32
+unfolding mac mac_of_block
+length-mac key text = length-sha256 _
+
+pub length-link_code : (signer : Signer) (signature bytes : List ℕ) (t : Instant) → length (link_code signer signature bytes t) ≡ 32
+unfolding link_code
+length-link_code signer signature bytes t = length-mac _ _
+
+fits : (z : ℤ) → negsuc 62167219199 ≤ℤ z → z ≤ℤ pos 253402300799 → saturate_signed w64 (z *ℤ pos 1000 +ℤ pos 0) ≡ z *ℤ pos 1000 +ℤ pos 0
+fits z low high = grind arith
+
+-- the header `:date` with a moment in the years has a spelling
+pub date_spelled : (t : Instant) → IsInYears t → unspelled (date_header (floor_secs t)) ≡ None
+unfolding unspelled_value
+date_spelled t within = rw (fits t.secs within.0 within.1) (grind arith)
+
+-- the header with a code
+abbrev code_header : List ℕ → Header
+code_header code = record { name = codes ":chunk-signature"; value = ByteArray code }
+
+code_spelled : (code : List ℕ) → length code ≡ 32 → unspelled (code_header code) ≡ None
+unfolding unspelled_value
+code_spelled code long = let test : nat_lt 32767 (length code) ≡ false = grind (arith, nat_tests) in rw test refl
+
+length-code_header : (code : List ℕ) → length code ≡ 32 → length (spelling (code_header code)) ≡ 52
+unfolding value_spelling
+length-code_header code long = omega (arith, long)
+
+length-date_header : (t : Instant) → length (spelling (date_header t)) ≡ 15
+unfolding value_spelling
+length-date_header t = refl
+
+unfit-none : (headers payload : ℕ) → 16 + headers + payload ≤ 4294967295 → unfit headers payload ≡ None
+unfit-none headers payload short =
+    let h : nat_lt 4294967295 headers ≡ false = grind (arith, nat_tests) in
+    let p : nat_lt 4294967295 payload ≡ false = grind (arith, nat_tests) in
+    let all : nat_lt 4294967295 (16 + headers + payload) ≡ false = grind (arith, nat_tests) in
+    rw (h, p, all) refl
+
+-- two headers with spellings and a payload have a frame, where they aren't too long
+two_framed : (first second : Header) (payload : List ℕ) → unspelled first ≡ None → unspelled second ≡ None
+    → 16 + (length (spelling first) + length (spelling second)) + length payload ≤ 4294967295
+    → unframed (record { headers = first ∷ second ∷ []; payload = payload }) ≡ None
+unfolding unframed
+two_framed first second payload one two short =
+    let whole : length (block (first ∷ second ∷ [])) ≡ length (spelling first) + length (spelling second) =
+    length-append (spelling first) (spelling second ++ []) ∙ ap (λ (bytes : List ℕ). length (spelling first) + length bytes) (append-nil (spelling second)) in
+    let fit : unfit (length (block (first ∷ second ∷ []))) (length payload) ≡ None =
+    unfit-none (length (block (first ∷ second ∷ []))) (length payload) (omega arith) in
+    ap (λ (o : Option ErrorKind). option_or (option_or o (option_or (unspelled second) None)) (unfit (length (block (first ∷ second ∷ []))) (length payload))) one
+    ∙ ap (λ (o : Option ErrorKind). option_or (option_or o None) (unfit (length (block (first ∷ second ∷ []))) (length payload))) two ∙ fit
+
+-- a signed message of bytes that aren't too long has a frame
+pub link_framed : (signer : Signer) (signature bytes : List ℕ) (t : Instant) → IsInYears t → length bytes ≤ 67108880 → unframed (link_message signer signature bytes t) ≡ None
+unfolding link_message
+link_framed signer signature bytes t within short =
+    let code = length-link_code signer signature bytes t in
+    two_framed (code_header (link_code signer signature bytes t)) (date_header (floor_secs t)) bytes (code_spelled _ code) (date_spelled t within)
+    (omega (arith, length-code_header _ code, length-date_header (floor_secs t)))

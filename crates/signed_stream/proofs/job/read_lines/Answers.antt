@@ -1,0 +1,11 @@
+use Rattle.std.proofs.Common.{◌≡◌, ◌∙◌, sym, length}
+use Rattle.std.proofs.lemmas.Bool.{eqb-true}
+use Rattle.signed_stream.specs.Reading.{draft_of}
+use Rattle.signed_stream.proofs.LineLemmas.{lines_over}
+use Rattle.signed_stream.proofs.job.read_lines.Goals as goal
+
+pub returns : goal.returns
+returns c =
+    let rest = c.loop-rest.rest.now in
+    let none : length rest ≡ 0 = eqb-true (length rest) 0 (sym c.is_empty.ensures ∙ c.loop-rest-test.false) in
+    rw (← (lines_over c.loop-rest.place (draft_of c.loop-rest.draft) rest none ∙ c.loop-rest.invariant.to_come)) c.into_job.ensures

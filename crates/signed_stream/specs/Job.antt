@@ -1,0 +1,299 @@
+-- The job: lines, each a word, or a word, one space and a rest. Each line moves the draft of the job on, or is bad, or is of a form that isn't built.
+use Rattle.std.specs.Prelude.{ℕ, ◌+◌, ◌-◌, ◌==◌, nat_eq, Bool, true, false, ◌&&◌, ◌||◌, not, nat_le, nat_lt, if◌then◌else◌, List, [], ◌∷◌, ◌++◌, length, take, drop, codes, bytes_eq, slice_index, count_by, Result, Ok, Err, Option, Some, None, is_some, is_none, option_map, unwrap_or}
+use Rattle.std.specs.Option.{option_to_list}
+use Rattle.std.specs.List.{list_all, list_any, starts_with, before_first, after_first}
+use Rattle.std.specs.Str.Lossy.{utf8_valid_len}
+use Rattle.hex.specs.Hex.{decode_of}
+use Rattle.hex.specs.declared.error.FromHexError.{FromHexError}
+use Rattle.smithy_core.specs.Parts.{Parts}
+use Rattle.smithy_core.specs.declared.header.Header.{Header}
+use Rattle.smithy_core.specs.declared.header.HeaderValue.TheVariants.{String as Text}
+use Rattle.signed_stream.specs.Command.{is_digit}
+
+-- the byte joins the first line
+abbrev pub onto_first : ℕ → List (List ℕ) → List (List ℕ)
+onto_first b [] = (b ∷ []) ∷ []
+onto_first b (line ∷ lines) = (b ∷ line) ∷ lines
+
+-- a line ends at LF, and the last one may lack it
+unfoldable pub lines_of : List ℕ → List (List ℕ)
+lines_of [] = []
+lines_of (b ∷ bytes) = if b == 10 then [] ∷ lines_of bytes else onto_first b (lines_of bytes)
+
+-- what stands before the first space, or all
+abbrev pub word_of : List ℕ → List ℕ
+word_of line = before_first (λ b. b == 32) line
+
+-- what stands after the first space, or nothing
+abbrev pub rest_of : List ℕ → List ℕ
+rest_of line = after_first (λ b. b == 32) line
+
+abbrev pub is_lower : ℕ → Bool
+is_lower b = nat_le 97 b && nat_le b 122
+
+abbrev pub is_upper : ℕ → Bool
+is_upper b = nat_le 65 b && nat_le b 90
+
+-- the separator doesn't stand twice in a row, nor first where it stood before
+abbrev pub is_single : ℕ → Bool → List ℕ → Bool
+is_single separator after [] = true
+is_single separator after (b ∷ bytes) =
+    if b == separator then not after && is_single separator true bytes else is_single separator false bytes
+
+-- ## Targets
+
+abbrev pub is_host_byte : ℕ → Bool
+is_host_byte b = is_lower b || is_digit b || b == 45 || b == 46
+
+abbrev pub is_path_byte : ℕ → Bool
+is_path_byte b = is_lower b || is_upper b || is_digit b || b == 45 || b == 95 || b == 126 || b == 47
+
+-- what stands after `https://`
+abbrev pub after_scheme : List ℕ → List ℕ
+after_scheme target = drop 8 target
+
+-- the host of a plain target
+unfoldable pub host_of : List ℕ → List ℕ
+host_of target = before_first (λ b. b == 47) (after_scheme target)
+
+-- the path of a plain target, with its slash
+unfoldable pub path_of : List ℕ → List ℕ
+path_of target = drop (length (host_of target)) (after_scheme target)
+
+-- `https://HOST/PATH`, with single slashes, in at most 65534 bytes
+unfoldable pub is_plain_target : List ℕ → Bool
+is_plain_target target =
+    starts_with nat_eq target (codes "https://") && nat_lt 0 (length (host_of target)) && list_all is_host_byte (host_of target)
+    && nat_lt 0 (length (path_of target)) && list_all is_path_byte (path_of target) && is_single 47 false (path_of target) && nat_le (length target) 65534
+
+-- ## Headers of the request
+
+abbrev pub is_name_byte : ℕ → Bool
+is_name_byte b = is_lower b || is_digit b || b == 45
+
+-- a name that the signing sets or leaves out
+abbrev pub is_reserved_name : List ℕ → Bool
+is_reserved_name name = list_any (bytes_eq name)
+    (codes "host" ∷ codes "x-amz-date" ∷ codes "authorization" ∷ codes "user-agent" ∷ codes "x-amzn-trace-id" ∷ codes "transfer-encoding"
+    ∷ codes "x-amz-security-token" ∷ codes "x-amz-content-sha256" ∷ [])
+
+-- a name that is neither reserved nor there before
+unfoldable pub is_plain_name : List (List ℕ × List ℕ) → List ℕ → Bool
+is_plain_name headers name =
+    nat_lt 0 (length name) && nat_le (length name) 255 && list_all is_name_byte name && not (is_reserved_name name)
+    && not (list_any (λ header. bytes_eq header.0 name) headers)
+
+abbrev pub is_value_byte : ℕ → Bool
+is_value_byte b = nat_le 32 b && nat_le b 126
+
+-- visible bytes with single spaces between them
+unfoldable pub is_plain_value : List ℕ → Bool
+is_plain_value value =
+    nat_lt 0 (length value) && list_all is_value_byte value && is_single 32 true value
+    && not (slice_index value (length value - 1) == 32)
+
+-- the name and the value of `NAME: VALUE`, after the headers before
+unfoldable pub plain_header : List (List ℕ × List ℕ) → List ℕ → Option (List ℕ × List ℕ)
+plain_header headers rest =
+    let name = before_first (λ b. b == 58) rest in
+    let tail = after_first (λ b. b == 58) rest in
+    let value = drop 1 tail in
+    if is_plain_name headers name && slice_index tail 0 == 32 && is_plain_value value then Some (name, value) else None
+
+-- ## Credentials
+
+-- what the properties of the profile give so far
+pub record Settings : Type 0 where
+  pub key_id : Option (List ℕ)
+  pub secret : Option (List ℕ)
+  pub region : Option (List ℕ)
+
+abbrev pub no_settings : Settings
+no_settings = record { key_id = None; secret = None; region = None }
+
+-- a property more: the later value of a key wins, and other keys give nothing
+unfoldable pub with_property : Settings → List ℕ → List ℕ → Settings
+with_property settings key value =
+    if bytes_eq key (codes "aws_access_key_id") then record settings { key_id = Some value }
+    else if bytes_eq key (codes "aws_secret_access_key") then record settings { secret = Some value }
+    else if bytes_eq key (codes "region") then record settings { region = Some value }
+    else settings
+
+abbrev pub is_key_byte : ℕ → Bool
+is_key_byte b = is_lower b || is_digit b || b == 95
+
+-- a key other than the token's
+unfoldable pub is_plain_key : List ℕ → Bool
+is_plain_key key = nat_lt 0 (length key) && list_all is_key_byte key && not (bytes_eq key (codes "aws_session_token"))
+
+abbrev pub is_property_byte : ℕ → Bool
+is_property_byte b = nat_le 33 b && nat_le b 126
+
+-- visible bytes that don't begin a comment
+unfoldable pub is_plain_property : List ℕ → Bool
+is_plain_property value =
+    nat_lt 0 (length value) && list_all is_property_byte value
+    && not (slice_index value 0 == 35) && not (slice_index value 0 == 59)
+
+-- the settings after `[default]`, which comes first and once, or after `KEY = VALUE`
+unfoldable pub after_credentials : Option Settings → List ℕ → Option Settings
+after_credentials None rest = if bytes_eq rest (codes "[default]") then Some no_settings else None
+after_credentials (Some settings) rest =
+    if is_plain_key (word_of rest) && bytes_eq (word_of (rest_of rest)) (codes "=") && is_plain_property (rest_of (rest_of rest))
+    then Some (with_property settings (word_of rest) (rest_of (rest_of rest))) else None
+
+-- ## Events
+
+-- an event that is read: its headers, and its payload where the line stood
+pub record Event : Type 0 where
+  pub headers : List Header
+  pub payload : Option (List ℕ)
+
+-- the message of an event; without its line the payload is empty
+abbrev pub message_of : Event → Parts
+message_of event = record { headers = event.headers; payload = unwrap_or event.payload [] }
+
+-- the header of `NAME text REST`
+unfoldable pub plain_event_header : List ℕ → Option Header
+plain_event_header rest =
+    let name = word_of rest in
+    let value = rest_of (rest_of rest) in
+    if nat_lt 0 (length name) && nat_le (length name) 255 && bytes_eq (word_of (rest_of rest)) (codes "text") && nat_le (length value) 32767
+    then Some (record { name = name; value = Text value }) else None
+
+-- ## The draft
+
+-- what the lines so far gave; settings from the line `credentials [default]` on, the events that are whole, and the one that is open
+pub record Draft : Type 0 where
+  pub method : Option (List ℕ)
+  pub target : Option (List ℕ)
+  pub headers : List (List ℕ × List ℕ)
+  pub settings : Option Settings
+  pub events : List Parts
+  pub event : Option Event
+
+abbrev pub no_draft : Draft
+no_draft = record { method = None; target = None; headers = []; settings = None; events = []; event = None }
+
+-- the events, with the one that is open
+abbrev pub events_of : Draft → List Parts
+events_of draft = draft.events ++ option_to_list (option_map message_of draft.event)
+
+-- what a line does
+pub data LineStep : Type 0 where
+  moves_to : Draft → LineStep
+  bad : LineStep
+  unbuilt : LineStep
+
+-- the draft, where the line is plain
+abbrev pub plain_or_unbuilt : Option Draft → LineStep
+plain_or_unbuilt None = unbuilt
+plain_or_unbuilt (Some draft) = moves_to draft
+
+-- `method M`: once; M isn't empty and has no space
+unfoldable pub method_step : Draft → List ℕ → LineStep
+method_step draft rest =
+    if is_some draft.method || length rest == 0 || list_any (λ b. b == 32) rest then bad else moves_to (record draft { method = Some rest })
+
+-- `target T`: once
+unfoldable pub target_step : Draft → List ℕ → LineStep
+target_step draft rest =
+    if is_some draft.target then bad
+    else if is_plain_target rest then moves_to (record draft { target = Some rest })
+    else unbuilt
+
+-- `header NAME: VALUE`
+unfoldable pub header_step : Draft → List ℕ → LineStep
+header_step draft rest =
+    plain_or_unbuilt (option_map (λ header. record draft { headers = draft.headers ++ header ∷ [] }) (plain_header draft.headers rest))
+
+-- `credentials TEXT`
+unfoldable pub credentials_step : Draft → List ℕ → LineStep
+credentials_step draft rest =
+    plain_or_unbuilt (option_map (λ settings. record draft { settings = Some settings }) (after_credentials draft.settings rest))
+
+-- `event`: its rest is empty, and the method and the target stood before
+unfoldable pub event_step : Draft → List ℕ → LineStep
+event_step draft rest =
+    if nat_lt 0 (length rest) || is_none draft.method || is_none draft.target then bad
+    else moves_to (record draft { events = events_of draft; event = Some (record { headers = []; payload = None }) })
+
+-- `h NAME KIND VALUE`, of the event that is open
+unfoldable pub event_header_step : Draft → Event → List ℕ → LineStep
+event_header_step draft event rest =
+    plain_or_unbuilt (option_map (λ header. record draft { event = Some (record event { headers = event.headers ++ header ∷ [] }) }) (plain_event_header rest))
+
+-- the payload that hexadecimal gives
+abbrev pub payload_of : Draft → Event → Result (List ℕ) FromHexError → LineStep
+payload_of draft event (Ok payload) = moves_to (record draft { event = Some (record event { payload = Some payload }) })
+payload_of draft event (Err e) = bad
+
+-- `payload HEX`, of the event that is open: once, an even number of digits in either case
+unfoldable pub payload_step : Draft → Event → List ℕ → LineStep
+payload_step draft event rest = if is_some event.payload then bad else payload_of draft event (decode_of rest)
+
+-- a line that stands after an `event`
+abbrev pub body_step : Option Event → (Event → LineStep) → LineStep
+body_step None step = bad
+body_step (Some event) step = step event
+
+-- what a line of this word and this rest does; lines of the request stand before the first `event`
+unfoldable pub word_step : Draft → List ℕ → List ℕ → LineStep
+word_step draft word rest =
+    if bytes_eq word (codes "event") then event_step draft rest
+    else if bytes_eq word (codes "h") then body_step draft.event (λ event. event_header_step draft event rest)
+    else if bytes_eq word (codes "payload") then body_step draft.event (λ event. payload_step draft event rest)
+    else if is_some draft.event then bad
+    else if bytes_eq word (codes "method") then method_step draft rest
+    else if bytes_eq word (codes "target") then target_step draft rest
+    else if bytes_eq word (codes "header") then header_step draft rest
+    else if bytes_eq word (codes "body") || bytes_eq word (codes "config") then unbuilt
+    else if bytes_eq word (codes "credentials") then credentials_step draft rest
+    else bad
+
+-- what a line does; an empty one does nothing
+unfoldable pub line_step : Draft → List ℕ → LineStep
+line_step draft line = if length line == 0 then moves_to draft else word_step draft (word_of line) (rest_of line)
+
+-- ## The job
+
+-- a plain job
+pub record PlainJob : Type 0 where
+  pub method : List ℕ
+  pub target : List ℕ
+  pub headers : List (List ℕ × List ℕ)
+  pub settings : Settings
+  pub events : List Parts
+
+-- what the lines spell
+pub data Reading : Type 0 where
+  plain_job : PlainJob → Reading
+  -- the line at this place is bad
+  bad_line : ℕ → Reading
+  -- the line at this place is of a form that isn't built
+  unbuilt_line : ℕ → Reading
+
+-- the lines are over: the job, or the place after the last line
+abbrev pub job_of : ℕ → Draft → Option (List ℕ) → Option (List ℕ) → Option Settings → Reading
+job_of place draft (Some method) (Some target) (Some settings) =
+    plain_job (record { method = method; target = target; headers = draft.headers; settings = settings; events = events_of draft })
+job_of place draft (Some method) (Some target) None = unbuilt_line place
+job_of place draft (Some method) None settings = bad_line place
+job_of place draft None target settings = bad_line place
+
+-- goes on, where the line at a place moved the draft
+abbrev pub after_step : ℕ → (Draft → Reading) → LineStep → Reading
+after_step place others (moves_to draft) = others draft
+after_step place others bad = bad_line place
+after_step place others unbuilt = unbuilt_line place
+
+-- what the lines from a place on spell, after those that gave the draft
+abbrev pub lines_from : ℕ → Draft → List (List ℕ) → Reading
+lines_from place draft [] = job_of place draft draft.method draft.target draft.settings
+lines_from place draft (line ∷ lines) = after_step place (λ next. lines_from (place + 1) next lines) (line_step draft line)
+
+-- the job that the bytes spell, or the first line that is bad or not built; bytes that aren't UTF-8 are bad at the line of the first bad byte
+unfoldable pub job : List ℕ → Reading
+job bytes =
+    if utf8_valid_len bytes == length bytes then lines_from 1 no_draft (lines_of bytes)
+    else bad_line (count_by (λ b. b == 10) (take (utf8_valid_len bytes) bytes) + 1)

@@ -1,0 +1,14 @@
+pub mod Canonical
+pub mod Command
+pub mod Fault
+pub mod Heads
+pub mod Job
+pub mod Plan
+pub mod Reading
+pub mod Run
+pub mod Signed
+pub mod Signing
+pub mod Status
+pub mod Stream
+pub mod Words
+pub mod Written

@@ -1,0 +1,26 @@
+-- What the readers of the words answer.
+use Rattle.std.specs.Prelude.{Result, Ok, Err, option_copied}
+use Rattle.signed_stream.specs.Command.{Command, bad_word, unbuilt_word, stream, Options, OptionStep, options, ends}
+use Rattle.signed_stream.specs.declared.words.WordsFault.{WordsFault}
+use Rattle.signed_stream.specs.declared.words.WordsFault.TheVariants.{BadWord, NotBuilt}
+use Rattle.signed_stream.specs.declared.words.options.StreamWords.{StreamWords}
+use Rattle.signed_stream.specs.declared.words.options.StreamOptions.{StreamOptions}
+
+-- the command that a fault tells
+abbrev pub fault_told : WordsFault → Command
+fault_told (BadWord place) = bad_word place
+fault_told (NotBuilt place) = unbuilt_word place
+
+-- the command that an answer tells
+abbrev pub command_told : Result StreamWords WordsFault → Command
+command_told (Ok words) = stream words.name.now words.at
+command_told (Err fault) = fault_told fault
+
+-- what the options so far gave
+abbrev pub options_of : StreamOptions → Options
+options_of given = record { name = option_copied given.name; at = given.at }
+
+-- the step that an answer tells, with the options after it
+abbrev pub step_told : Result (Unit {0}) WordsFault → Options → OptionStep
+step_told (Ok _) given = options given
+step_told (Err fault) given = ends (fault_told fault)

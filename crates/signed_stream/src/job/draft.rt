@@ -1,0 +1,179 @@
+use crate::job::credentials::PlainSettings;
+use crate::job::event::{OpenEvent, header_of, payload_of};
+use crate::job::fault::LineFault;
+use crate::job::header::pair_of;
+use crate::job::lines::cut_word;
+use crate::job::target::is_plain_target;
+use smithy_core::{Headers, Mem, Message};
+use std::alloc::Global;
+
+/// What the lines so far gave: settings from the line `credentials [default]` on, the events that are whole, and the one that is open.
+#[derive(Drop)]
+pub struct Draft {
+    pub method: Option<String>,
+    pub target: Option<String>,
+    pub headers: Headers,
+    pub settings: Option<PlainSettings>,
+    pub events: Vec<Message>,
+    pub event: Option<OpenEvent>,
+}
+
+impl Draft {
+    ghost use Rattle.std.specs.Prelude.{◌≡◌, None, OnOk};
+    ghost use Rattle.signed_stream.specs.Job.{body_step, credentials_step, event_header_step, event_step, events_of, header_step, line_step, method_step, no_draft, payload_step, target_step, word_step};
+    ghost use Rattle.signed_stream.specs.Reading.{Steps, draft_of};
+
+    /// Nothing yet.
+    #[tactic(auto, unfolding(crate::specs::Reading::draft_of))]
+    pub fn new(alloc: Global) -> Draft
+        ensures { draft_of result ≡ no_draft }
+    {
+        Draft {
+            method: None,
+            target: None,
+            headers: Headers::new(alloc),
+            settings: None,
+            events: Vec::new(alloc),
+            event: None,
+        }
+    }
+
+    /// A line; an empty one does nothing.
+    #[tactic(auto, unfolding(crate::specs::Job::line_step))]
+    pub fn take_line(&mut self, alloc: Global, line: &str) -> Result<(), LineFault>
+        ensures { Steps (line_step (draft_of self.old) line.now) self.new result }
+    {
+        if line.is_empty() {
+            return Ok(());
+        }
+        let (word, rest) = cut_word(line);
+        self.take_word(alloc, word, rest)
+    }
+
+    // A line of this word and this rest.
+    #[tactic(auto, unfolding(crate::specs::Reading::draft_of, crate::specs::Job::word_step))]
+    fn take_word(&mut self, alloc: Global, word: &str, rest: &str) -> Result<(), LineFault>
+        ensures { Steps (word_step (draft_of self.old) word.now rest.now) self.new result }
+    {
+        match word {
+            "event" => self.begin_event(alloc, rest),
+            "h" => self.take_event_header(alloc, rest),
+            "payload" => self.take_payload(alloc, rest),
+            _ if self.event.is_some() => Err(LineFault::Bad),
+            "method" => self.take_method(alloc, rest),
+            "target" => self.take_target(alloc, rest),
+            "header" => self.take_header(rest),
+            "body" | "config" => Err(LineFault::NotBuilt),
+            "credentials" => self.take_credentials(alloc, rest),
+            _ => Err(LineFault::Bad),
+        }
+    }
+
+    // `method M`.
+    #[tactic(auto, unfolding(crate::specs::Reading::draft_of, crate::specs::Job::method_step))]
+    fn take_method(&mut self, alloc: Global, rest: &str) -> Result<(), LineFault>
+        ensures { Steps (method_step (draft_of self.old) rest.now) self.new result }
+    {
+        if self.method.is_some() || rest.is_empty() || rest.as_bytes().contains(&b' ') {
+            return Err(LineFault::Bad);
+        }
+        self.method = Some(String::from_str(alloc, rest)?);
+        Ok(())
+    }
+
+    // `target T`.
+    #[tactic(auto, unfolding(crate::specs::Reading::draft_of, crate::specs::Job::target_step))]
+    fn take_target(&mut self, alloc: Global, rest: &str) -> Result<(), LineFault>
+        ensures { Steps (target_step (draft_of self.old) rest.now) self.new result }
+    {
+        if self.target.is_some() {
+            return Err(LineFault::Bad);
+        }
+        if !is_plain_target(rest) {
+            return Err(LineFault::NotBuilt);
+        }
+        self.target = Some(String::from_str(alloc, rest)?);
+        Ok(())
+    }
+
+    // `header NAME: VALUE`.
+    #[tactic(auto, using(crate::proofs::JobLemmas::lower_plain), unfolding(crate::specs::Reading::draft_of, crate::specs::Job::header_step))]
+    fn take_header(&mut self, rest: &str) -> Result<(), LineFault>
+        ensures { Steps (header_step (draft_of self.old) rest.now) self.new result }
+    {
+        let (name, value) = pair_of(&self.headers, rest)?;
+        self.headers.append(name, value)?;
+        Ok(())
+    }
+
+    // `credentials TEXT`.
+    #[tactic(auto, unfolding(crate::specs::Reading::draft_of, crate::specs::Job::credentials_step, crate::specs::Job::after_credentials))]
+    fn take_credentials(&mut self, alloc: Global, rest: &str) -> Result<(), LineFault>
+        ensures { Steps (credentials_step (draft_of self.old) rest.now) self.new result }
+    {
+        match &mut self.settings {
+            Some(settings) => settings.take_property(alloc, rest),
+            None if rest == "[default]" => {
+                self.settings = Some(PlainSettings::new());
+                Ok(())
+            }
+            None => Err(LineFault::NotBuilt),
+        }
+    }
+
+    // `event`.
+    #[tactic(auto, unfolding(crate::specs::Reading::draft_of, crate::specs::Job::event_step))]
+    fn begin_event(&mut self, alloc: Global, rest: &str) -> Result<(), LineFault>
+        ensures { Steps (event_step (draft_of self.old) rest.now) self.new result }
+    {
+        if !rest.is_empty() || self.method.is_none() || self.target.is_none() {
+            return Err(LineFault::Bad);
+        }
+        self.close_event()?;
+        self.event = Some(OpenEvent {
+            headers: Vec::new(alloc),
+            payload: None,
+        });
+        Ok(())
+    }
+
+    /// Puts the open event to the whole ones.
+    #[tactic(auto, unfolding(crate::specs::Reading::draft_of))]
+    pub fn close_event(&mut self) -> Mem<()>
+        ensures { OnOk result (draft_of self.new ≡ record (draft_of self.old) { events = events_of (draft_of self.old); event = None }) }
+    {
+        if let Some(event) = self.event.take() {
+            self.events.push(event.into_message())?;
+        }
+        Ok(())
+    }
+
+    // `h NAME KIND VALUE`.
+    #[tactic(auto, unfolding(crate::specs::Reading::draft_of, crate::specs::Job::event_header_step))]
+    fn take_event_header(&mut self, alloc: Global, rest: &str) -> Result<(), LineFault>
+        ensures { Steps (body_step (draft_of self.old).event (λ event. event_header_step (draft_of self.old) event rest.now)) self.new result }
+    {
+        match &mut self.event {
+            Some(event) => {
+                let header = header_of(alloc, rest)?;
+                event.headers.push(header)?;
+                Ok(())
+            }
+            None => Err(LineFault::Bad),
+        }
+    }
+
+    // `payload HEX`.
+    #[tactic(auto, unfolding(crate::specs::Reading::draft_of, crate::specs::Job::payload_step))]
+    fn take_payload(&mut self, alloc: Global, rest: &str) -> Result<(), LineFault>
+        ensures { Steps (body_step (draft_of self.old).event (λ event. payload_step (draft_of self.old) event rest.now)) self.new result }
+    {
+        match &mut self.event {
+            Some(event) if event.payload.is_none() => {
+                event.payload = Some(payload_of(alloc, rest)?);
+                Ok(())
+            }
+            _ => Err(LineFault::Bad),
+        }
+    }
+}

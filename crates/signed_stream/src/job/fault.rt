@@ -1,0 +1,68 @@
+ghost use Rattle.std.specs.Prelude.{◌≡◌};
+ghost use Rattle.signed_stream.specs.Fault.{placed};
+
+use std::alloc::{AllocError, AllocFailed};
+
+/// Why bytes aren't a plain job; places count from 1.
+#[derive(Clone, Copy, Debug, PartialEq, Eq)]
+pub enum JobFault {
+    /// The line at this place is bad.
+    BadLine(usize),
+    /// The line at this place is of a form that isn't built.
+    NotBuilt(usize),
+    NoMemory,
+}
+
+impl From<AllocError> for JobFault {
+    ghost use Rattle.std.specs.Prelude.{◌≡◌};
+    ghost use Rattle.signed_stream.specs.declared.job.fault.JobFault.TheVariants.{NoMemory};
+
+    ghost from_gives = { λ _ fault. fault ≡ NoMemory };
+
+    fn from(_e: AllocError) -> JobFault {
+        JobFault::NoMemory
+    }
+}
+
+/// Why a line doesn't move the draft.
+#[derive(Clone, Copy, Debug, PartialEq, Eq)]
+pub enum LineFault {
+    Bad,
+    NotBuilt,
+    NoMemory,
+}
+
+impl LineFault {
+    /// The fault of the line at this place.
+    pub fn at(self, place: usize) -> JobFault
+        ensures { result ≡ placed place self }
+    {
+        match self {
+            LineFault::Bad => JobFault::BadLine(place),
+            LineFault::NotBuilt => JobFault::NotBuilt(place),
+            LineFault::NoMemory => JobFault::NoMemory,
+        }
+    }
+}
+
+impl From<AllocError> for LineFault {
+    ghost use Rattle.std.specs.Prelude.{◌≡◌};
+    ghost use Rattle.signed_stream.specs.declared.job.fault.LineFault.TheVariants.{NoMemory};
+
+    ghost from_gives = { λ _ fault. fault ≡ NoMemory };
+
+    fn from(_e: AllocError) -> LineFault {
+        LineFault::NoMemory
+    }
+}
+
+impl<T: Drop> From<AllocFailed<T>> for LineFault {
+    ghost use Rattle.std.specs.Prelude.{◌≡◌};
+    ghost use Rattle.signed_stream.specs.declared.job.fault.LineFault.TheVariants.{NoMemory};
+
+    ghost from_gives = { λ _ fault. fault ≡ NoMemory };
+
+    fn from(_e: AllocFailed<T>) -> LineFault {
+        LineFault::NoMemory
+    }
+}

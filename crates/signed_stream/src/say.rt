@@ -1,0 +1,65 @@
+ghost use Rattle.std.specs.Prelude.{◌≡◌, ◌≤◌, ◌⊎◌, IfOk};
+ghost use Rattle.std.specs.String.{string_bytes};
+ghost use Rattle.signed_stream.specs.Run.{Says};
+ghost use Rattle.signed_stream.specs.Status.{status_line};
+
+use crate::status::{Status, StreamFault};
+use smithy_core::{ByteSink, Mem, SinkError, write_all};
+use std::alloc::Global;
+
+/// Says the line of a status on `err`, and answers how the run ended: as the status says, or for want of memory.
+pub fn say<E: ByteSink>(alloc: Global, status: Status, err: &mut E) -> Status
+    ensures answer { (result ≡ status) ⊎ (result ≡ Status.NoMemory) }
+    ensures said { Says result (E.held err.old) (E.held err.new) (E.faults err.old) (E.faults err.new) }
+    ensures count { E.faults err.old ≤ E.faults err.new }
+{
+    if status == Status::Done {
+        return status;
+    }
+    match line_of(alloc, status) {
+        Ok(line) => say_line(status, line.as_str(), err),
+        Err(_) => say_line(Status::NoMemory, "no memory\n", err),
+    }
+}
+
+fn say_line<E: ByteSink>(status: Status, line: &str, err: &mut E) -> Status
+    requires told { status ≡ Status.Done → ⊥ }
+    requires line { line.now ≡ status_line status }
+    ensures answer { (result ≡ status) ⊎ (result ≡ Status.NoMemory) }
+    ensures said { Says result (E.held err.old) (E.held err.new) (E.faults err.old) (E.faults err.new) }
+    ensures count { E.faults err.old ≤ E.faults err.new }
+{
+    match write_all(err, line.as_bytes()) {
+        Err(SinkError::NoMemory) => Status::NoMemory,
+        Ok(()) | Err(SinkError::Failed) => status,
+    }
+}
+
+fn line_of(alloc: Global, status: Status) -> Mem<String>
+    ensures { IfOk result (λ line. string_bytes line ≡ status_line status) }
+{
+    match status {
+        Status::Done => Ok(String::new(alloc)),
+        Status::BadWords(place) => format!(in alloc; "bad word {place}\n"),
+        Status::JobTooLarge => String::from_str(alloc, "input over 67108864 bytes\n"),
+        Status::BadJob(place) => format!(in alloc; "bad line {place}\n"),
+        Status::ReadFault => String::from_str(alloc, "read fault\n"),
+        Status::Refused(fault) => refusal_line(alloc, fault),
+        Status::OutputFault => String::from_str(alloc, "output fault\n"),
+        Status::NoMemory => String::from_str(alloc, "no memory\n"),
+        Status::NotBuilt(place) => format!(in alloc; "not built {place}\n"),
+    }
+}
+
+fn refusal_line(alloc: Global, fault: StreamFault) -> Mem<String>
+    ensures { IfOk result (λ line. string_bytes line ≡ status_line (Status.Refused fault)) }
+{
+    match fault {
+        StreamFault::MissingCredentials => {
+            String::from_str(alloc, "refused 2 MissingCredentials\n")
+        }
+        StreamFault::MissingSigningRegion => {
+            String::from_str(alloc, "refused 3 MissingSigningRegion\n")
+        }
+    }
+}

@@ -1,0 +1,50 @@
+ghost use Rattle.std.specs.Prelude.{◌≡◌, IfOk};
+ghost use Rattle.std.specs.String.{string_bytes};
+
+/// Why a stream was refused.
+#[derive(Clone, Copy, Debug, PartialEq, Eq)]
+pub enum StreamFault {
+    /// The selected profile lacks `aws_access_key_id` or `aws_secret_access_key`.
+    MissingCredentials,
+    /// No place gives a region.
+    MissingSigningRegion,
+}
+
+/// How a run ended.
+#[derive(Clone, Copy, Debug, PartialEq, Eq)]
+pub enum Status {
+    Done,
+    /// The word at this place is bad; places count from 1.
+    BadWords(usize),
+    /// The input has over 67,108,864 bytes.
+    JobTooLarge,
+    /// The line at this place is bad; places count from 1.
+    BadJob(usize),
+    ReadFault,
+    Refused(StreamFault),
+    OutputFault,
+    NoMemory,
+    /// The word or line at this place is of a form that isn't built; 0 for a variable.
+    NotBuilt(usize),
+}
+
+impl Status {
+    ghost use Rattle.signed_stream.specs.Status.{exit_code};
+
+    /// The number that the process ends with.
+    pub fn code(self) -> u8
+        ensures { result ≡ exit_code self }
+    {
+        match self {
+            Status::Done => 0,
+            Status::BadWords(_) => 2,
+            Status::JobTooLarge => 3,
+            Status::BadJob(_) => 4,
+            Status::ReadFault => 5,
+            Status::Refused(_) => 7,
+            Status::OutputFault => 9,
+            Status::NoMemory => 10,
+            Status::NotBuilt(_) => 11,
+        }
+    }
+}

@@ -1,0 +1,4 @@
+pub mod Errors
+pub mod Params
+pub mod Signature
+pub mod Signing

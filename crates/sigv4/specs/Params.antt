@@ -1,0 +1,45 @@
+-- The parameters of a signature.
+use Rattle.std.specs.Prelude.{◌≡◌, ℕ, List, [], codes, Option, Some, None, Result, Ok, Err, string_bytes}
+use Rattle.std.specs.Option.{option_or}
+use Rattle.smithy_core.specs.declared.identity.Identity.{Identity}
+use Rattle.smithy_core.specs.declared.identity.Identity.TheVariants.{Credentials, Token}
+use Rattle.eventstream.specs.Key.{Signer}
+use Rattle.sigv4.specs.declared.params.BuildError.{BuildError}
+use Rattle.sigv4.specs.declared.params.BuildError.TheVariants.{Identity as NoIdentity, Region, Name, Time, Settings}
+use Rattle.sigv4.specs.declared.params.Builder.{Builder}
+use Rattle.sigv4.specs.declared.params.SigningParams.{SigningParams}
+
+-- the secret of credentials, and nothing of a token
+abbrev pub secret_of : Identity → List ℕ
+secret_of (Credentials credentials) = string_bytes credentials.secret
+secret_of (Token token) = []
+
+-- who signs by the parameters
+abbrev pub signer_of : {S : Type 0} → SigningParams S → Signer
+signer_of params = record { secret = secret_of params.identity.now; region = params.region.now; name = params.name.now }
+
+-- the error, where the part is missing
+abbrev pub unless_given : {A : Type 0} → Option A → BuildError → Option BuildError
+unless_given None error = Some error
+unless_given (Some part) error = None
+
+-- the first part that is missing: the identity, the region, the name, the time, the settings
+abbrev pub first_missing : {S : Type 0} → Builder S → Option BuildError
+first_missing builder =
+    option_or (unless_given builder.identity NoIdentity) (option_or (unless_given builder.region Region)
+    (option_or (unless_given builder.name Name) (option_or (unless_given builder.time Time) (unless_given builder.settings Settings))))
+
+-- the parts, or the first one that is missing
+abbrev pub Builds : {S : Type 0} → Builder S → Result (SigningParams S) BuildError → Type 0
+Builds builder (Ok params) =
+    (builder.identity ≡ Some params.identity) × (builder.region ≡ Some params.region) × (builder.name ≡ Some params.name)
+    × (builder.time ≡ Some params.time) × (builder.settings ≡ Some params.settings)
+Builds builder (Err error) = first_missing builder ≡ Some error
+
+-- what is printed
+abbrev pub text_of : BuildError → List ℕ
+text_of NoIdentity = codes "identity is required"
+text_of Region = codes "region is required"
+text_of Name = codes "name is required"
+text_of Time = codes "time is required"
+text_of Settings = codes "settings are required"

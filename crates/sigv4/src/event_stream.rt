@@ -1,0 +1,193 @@
+ghost use Rattle.std.specs.Prelude.{◌≡◌, [], None, Some, codes, IfOk, MatchResult};
+ghost use Rattle.std.specs.String.{string_bytes};
+ghost use Rattle.sha2.specs.Sha256.{sha256};
+ghost use Rattle.hex.specs.Hex.{encode_lower};
+ghost use Rattle.smithy_core.specs.Civil.{IsInYears};
+ghost use Rattle.smithy_core.specs.Instant.{floor_secs};
+ghost use Rattle.eventstream.specs.Frame.{frame, spelling};
+ghost use Rattle.eventstream.specs.Key.{signing_key};
+ghost use Rattle.eventstream.specs.Link.{date_header, link_message, link_signature, string_to_sign};
+ghost use Rattle.sigv4.specs.Params.{secret_of, signer_of};
+ghost use Rattle.sigv4.specs.Signing.{Links, refusal, unsignable};
+
+use crate::error::SigningError;
+use crate::key::{generate_signing_key, scope_bytes};
+use crate::output::SigningOutput;
+use bytes::Bytes;
+use eventstream::{ErrorKind, write_headers_to, write_message_to};
+use mac_core::{hmac_sha256, sha256_hex};
+use smithy_core::{
+    Header, HeaderValue, Identity, Mem, Message, Moment, StrBytes, civil, push_line,
+};
+use std::alloc::{AllocError, Global};
+
+/// The parameters of a signed message, which have no settings.
+pub type SigningParams<'a> = crate::v4::SigningParams<'a, ()>;
+
+/// Signs a message over the signature before it: a message with the frame of the given one as its
+/// payload, and the new signature.
+///
+/// # Errors
+///
+/// [`SigningError::FailedToEncodeMessage`] where the message has no frame,
+/// [`SigningError::UnsupportedIdentityType`] where the identity has no secret and
+/// [`SigningError::MomentOutOfRange`] where the moment lies outside the years 0 to 9999, in this order.
+pub fn sign_message(
+    alloc: Global,
+    message: &Message,
+    last_signature: &str,
+    params: &SigningParams<'_>,
+) -> Result<SigningOutput<Message>, SigningError>
+    ensures { Links (refusal message.now params.now.identity.now params.now.time)
+        params.now last_signature.now (frame message.now) result }
+{
+    let mut bytes = Vec::new(alloc);
+    write_message_to(alloc, message, &mut bytes)?;
+    sign_bytes(alloc, bytes, last_signature, params)
+}
+
+/// Signs no bytes over the signature before them: the message that ends a stream, and the new signature.
+///
+/// # Errors
+///
+/// [`SigningError::UnsupportedIdentityType`] where the identity has no secret and
+/// [`SigningError::MomentOutOfRange`] where the moment lies outside the years 0 to 9999, in this order.
+pub fn sign_empty_message(
+    alloc: Global,
+    last_signature: &str,
+    params: &SigningParams<'_>,
+) -> Result<SigningOutput<Message>, SigningError>
+    ensures { Links (unsignable params.now.identity.now params.now.time)
+        params.now last_signature.now [] result }
+{
+    sign_bytes(alloc, Vec::new(alloc), last_signature, params)
+}
+
+fn sign_bytes(
+    alloc: Global,
+    bytes: Vec<u8>,
+    last_signature: &str,
+    params: &SigningParams<'_>,
+) -> Result<SigningOutput<Message>, SigningError>
+    ensures { Links (unsignable params.now.identity.now params.now.time)
+        params.now last_signature.now bytes.items result }
+{
+    match secret_for(params.identity(), params.time()) {
+        Ok(secret) => {
+            let date = whole_second(params.time());
+            let key = generate_signing_key(secret, date, params.region(), params.name());
+            Ok(link(alloc, bytes, last_signature, params, key.as_slice())?)
+        }
+        Err(error) => Err(error),
+    }
+}
+
+// The secret of an identity that signs at a moment.
+fn secret_for<'a>(identity: &'a Identity, time: Moment) -> Result<&'a str, SigningError>
+    ensures { MatchResult result
+        (λ secret. (unsignable identity.now time ≡ None) × IsInYears time × (secret.now ≡ secret_of identity.now))
+        (λ error. unsignable identity.now time ≡ Some error) }
+{
+    match identity {
+        Identity::Token(_) => Err(SigningError::UnsupportedIdentityType),
+        Identity::Credentials(credentials) => match civil(time) {
+            Some(_) => Ok(credentials.secret_access_key()),
+            None => Err(SigningError::MomentOutOfRange(time)),
+        },
+    }
+}
+
+// The moment without its nanoseconds.
+fn whole_second(time: Moment) -> Moment
+    ensures { result ≡ floor_secs time }
+{
+    Moment::new(time.secs(), 0)
+}
+
+// The link of bytes over the signature before them, under the signing key of the parameters.
+#[tactic(auto, unfolding(eventstream::specs::Link::link_message, eventstream::specs::Link::link_signature, eventstream::specs::Link::link_code))]
+fn link(
+    alloc: Global,
+    bytes: Vec<u8>,
+    last_signature: &str,
+    params: &SigningParams<'_>,
+    key: &[u8],
+) -> Mem<SigningOutput<Message>>
+    requires in_years { IsInYears params.now.time }
+    requires key { key.now ≡ signing_key (signer_of params.now) (floor_secs params.now.time) }
+    ensures { IfOk result (λ output.
+        (output.output ≡ link_message (signer_of params.now) last_signature.now bytes.items params.now.time)
+        × (string_bytes output.signature ≡ link_signature (signer_of params.now) last_signature.now bytes.items params.now.time)) }
+{
+    let text = text_to_sign(alloc, bytes.as_slice(), last_signature, params)?;
+    let code = hmac_sha256(key, text.as_slice());
+    let signature = hex::encode(alloc, code.as_slice())?;
+    let mut headers = Vec::new(alloc);
+    headers.push(code_header(alloc, code.as_slice())?)?;
+    headers.push(date_header(params.time()))?;
+    let message = Message::new_from_parts(headers, Bytes::from_vec(bytes)?);
+    Ok(SigningOutput::new(message, signature))
+}
+
+// The string to sign of bytes over the signature before them.
+#[tactic(auto, unfolding(smithy_core::specs::Civil::stamp, eventstream::specs::Link::string_to_sign))]
+pub(crate) fn text_to_sign(
+    alloc: Global,
+    bytes: &[u8],
+    last_signature: &str,
+    params: &SigningParams<'_>,
+) -> Mem<Vec<u8>>
+    requires { IsInYears params.now.time }
+    ensures { IfOk result (λ text. text.items
+        ≡ string_to_sign (signer_of params.now) last_signature.now bytes.now (floor_secs params.now.time)) }
+{
+    let date = whole_second(params.time());
+    let stamp = civil(date).unwrap().stamp();
+    let scope = scope_bytes(alloc, date, params.region(), params.name())?;
+    let date_digest = date_digest(alloc, params.time())?;
+    let digest = sha256_hex(alloc, bytes)?;
+    let mut text = Vec::new(alloc);
+    push_line(&mut text, b"AWS4-HMAC-SHA256-PAYLOAD")?;
+    push_line(&mut text, stamp.as_slice())?;
+    push_line(&mut text, scope.as_slice())?;
+    push_line(&mut text, last_signature.as_bytes())?;
+    push_line(&mut text, date_digest.as_bytes())?;
+    text.extend_from_slice(digest.as_bytes())?;
+    Ok(text)
+}
+
+// The digest of the spelling of the header with a moment.
+#[tactic(auto, using(crate::proofs::DateLemmas::date_spelled))]
+fn date_digest(alloc: Global, time: Moment) -> Mem<String>
+    requires { IsInYears time }
+    ensures { IfOk result (λ text. string_bytes text ≡ encode_lower (sha256 (spelling (date_header (floor_secs time))))) }
+{
+    let headers = [date_header(time)];
+    let mut spelled = Vec::new(alloc);
+    match write_headers_to(alloc, headers.as_slice(), &mut spelled) {
+        Ok(()) => sha256_hex(alloc, spelled.as_slice()),
+        Err(error) => match error.kind() {
+            ErrorKind::NoMemory => Err(AllocError),
+            _ => unreachable!(),
+        },
+    }
+}
+
+// The header with a moment, without its nanoseconds.
+fn date_header(time: Moment) -> Header
+    ensures { result ≡ date_header (floor_secs time) }
+{
+    Header::new(
+        StrBytes::from_static(":date"),
+        HeaderValue::Timestamp(whole_second(time)),
+    )
+}
+
+fn code_header(alloc: Global, code: &[u8]) -> Mem<Header>
+    ensures { IfOk result (λ header. header ≡ record { name = codes ":chunk-signature"; value = HeaderValue.ByteArray code.now }) }
+{
+    Ok(Header::new(
+        StrBytes::from_static(":chunk-signature"),
+        HeaderValue::ByteArray(Bytes::copy_from_slice(alloc, code)?),
+    ))
+}

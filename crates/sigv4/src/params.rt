@@ -1,0 +1,230 @@
+ghost use Rattle.std.specs.Prelude.{◌≡◌, Some, None, codes};
+ghost use Rattle.sigv4.specs.Params.{Builds, text_of};
+
+use smithy_core::{Identity, Moment};
+use std::fmt;
+
+/// What a signature is made with: who signs, for which region and name, at which moment and under which settings.
+#[derive(Drop)]
+pub struct SigningParams<'a, S> {
+    identity: &'a Identity,
+    region: &'a str,
+    name: &'a str,
+    time: Moment,
+    settings: S,
+}
+
+impl<'a, S> SigningParams<'a, S> {
+    /// A builder without any part.
+    pub fn builder() -> Builder<'a, S>
+        ensures { result ≡ record { identity = None; region = None; name = None; time = None; settings = None } }
+    {
+        Builder {
+            identity: None,
+            region: None,
+            name: None,
+            time: None,
+            settings: None,
+        }
+    }
+
+    /// Who signs.
+    pub fn identity(&self) -> &'a Identity
+        ensures { result.now ≡ self.now.identity.now }
+    {
+        self.identity
+    }
+
+    /// The region that the signature is for.
+    pub fn region(&self) -> &str
+        ensures { result.now ≡ self.now.region.now }
+    {
+        self.region
+    }
+
+    /// The name of the service that the signature is for.
+    pub fn name(&self) -> &str
+        ensures { result.now ≡ self.now.name.now }
+    {
+        self.name
+    }
+
+    /// The moment of the signature.
+    pub fn time(&self) -> Moment
+        ensures { result ≡ self.now.time }
+    {
+        self.time
+    }
+
+    /// The settings.
+    pub fn settings(&self) -> &S
+        ensures { result.now ≡ self.now.settings }
+    {
+        &self.settings
+    }
+
+    /// The name of the algorithm.
+    pub fn algorithm(&self) -> &'static str
+        ensures { result.now ≡ codes "AWS4-HMAC-SHA256" }
+    {
+        "AWS4-HMAC-SHA256"
+    }
+}
+
+/// The parts of [`SigningParams`], as far as they were given.
+#[derive(Drop)]
+pub struct Builder<'a, S> {
+    identity: Option<&'a Identity>,
+    region: Option<&'a str>,
+    name: Option<&'a str>,
+    time: Option<Moment>,
+    settings: Option<S>,
+}
+
+impl<'a, S: Drop> Builder<'a, S> {
+    /// With this identity.
+    pub fn identity(self, identity: &'a Identity) -> Self
+        ensures { result ≡ record self.entry { identity = Some identity.entry } }
+    {
+        Builder {
+            identity: Some(identity),
+            ..self
+        }
+    }
+
+    /// With this region.
+    pub fn region(self, region: &'a str) -> Self
+        ensures { result ≡ record self.entry { region = Some region.entry } }
+    {
+        Builder {
+            region: Some(region),
+            ..self
+        }
+    }
+
+    /// With this name of the service.
+    pub fn name(self, name: &'a str) -> Self
+        ensures { result ≡ record self.entry { name = Some name.entry } }
+    {
+        Builder {
+            name: Some(name),
+            ..self
+        }
+    }
+
+    /// With this moment.
+    pub fn time(self, time: Moment) -> Self
+        ensures { result ≡ record self.entry { time = Some time } }
+    {
+        Builder {
+            time: Some(time),
+            ..self
+        }
+    }
+
+    /// With these settings.
+    pub fn settings(self, settings: S) -> Self
+        ensures { result ≡ record self.entry { settings = Some settings } }
+    {
+        Builder {
+            settings: Some(settings),
+            ..self
+        }
+    }
+
+    /// Gives or takes back the identity.
+    pub fn set_identity(&mut self, identity: Option<&'a Identity>) -> &mut Self
+        ensures same_builder { result.ghost_name ≡ self.entry.ghost_name }
+        ensures given { result.now ≡ record self.old { identity = identity.entry } }
+    {
+        self.identity = identity;
+        self
+    }
+
+    /// Gives or takes back the region.
+    pub fn set_region(&mut self, region: Option<&'a str>) -> &mut Self
+        ensures same_builder { result.ghost_name ≡ self.entry.ghost_name }
+        ensures given { result.now ≡ record self.old { region = region.entry } }
+    {
+        self.region = region;
+        self
+    }
+
+    /// Gives or takes back the name of the service.
+    pub fn set_name(&mut self, name: Option<&'a str>) -> &mut Self
+        ensures same_builder { result.ghost_name ≡ self.entry.ghost_name }
+        ensures given { result.now ≡ record self.old { name = name.entry } }
+    {
+        self.name = name;
+        self
+    }
+
+    /// Gives or takes back the moment.
+    pub fn set_time(&mut self, time: Option<Moment>) -> &mut Self
+        ensures same_builder { result.ghost_name ≡ self.entry.ghost_name }
+        ensures given { result.now ≡ record self.old { time = time } }
+    {
+        self.time = time;
+        self
+    }
+
+    /// Gives or takes back the settings.
+    pub fn set_settings(&mut self, settings: Option<S>) -> &mut Self
+        ensures same_builder { result.ghost_name ≡ self.entry.ghost_name }
+        ensures given { result.now ≡ record self.old { settings = settings } }
+    {
+        self.settings = settings;
+        self
+    }
+
+    /// The parameters of the parts.
+    ///
+    /// # Errors
+    ///
+    /// The first part that is missing: [`BuildError::Identity`], [`BuildError::Region`],
+    /// [`BuildError::Name`], [`BuildError::Time`] or [`BuildError::Settings`], in this order.
+    pub fn build(self) -> Result<SigningParams<'a, S>, BuildError>
+        ensures { Builds self.entry result }
+    {
+        let Builder {
+            identity,
+            region,
+            name,
+            time,
+            settings,
+        } = self;
+        Ok(SigningParams {
+            identity: identity.ok_or(BuildError::Identity)?,
+            region: region.ok_or(BuildError::Region)?,
+            name: name.ok_or(BuildError::Name)?,
+            time: time.ok_or(BuildError::Time)?,
+            settings: settings.ok_or(BuildError::Settings)?,
+        })
+    }
+}
+
+/// The part that [`SigningParams`] lack.
+#[derive(Clone, Copy, Debug, PartialEq, Eq)]
+pub enum BuildError {
+    Identity,
+    Region,
+    Name,
+    Time,
+    Settings,
+}
+
+impl fmt::Display for BuildError {
+    ghost output = { λ error. Some (text_of error) };
+
+    fn fmt<W: fmt::Write>(&self, f: &mut fmt::Formatter<W>) -> fmt::Result {
+        f.write_str(match self {
+            BuildError::Identity => "identity is required",
+            BuildError::Region => "region is required",
+            BuildError::Name => "name is required",
+            BuildError::Time => "time is required",
+            BuildError::Settings => "settings are required",
+        })
+    }
+}
+
+impl std::error::Error for BuildError {}

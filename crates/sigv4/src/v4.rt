@@ -1,0 +1,3 @@
+pub use crate::key::{credential_scope, generate_signing_key};
+pub use crate::params::{BuildError, Builder, SigningParams};
+pub use crate::signature::{calculate_signature, request_signature};
