@@ -5,7 +5,7 @@ mod canonical;
 mod halt;
 mod job;
 mod running;
-mod say;
+mod saying;
 mod sign;
 mod signing;
 mod status;
@@ -16,4 +16,5 @@ mod words;
 mod written;
 
 pub use crate::running::run;
+pub use crate::saying::say;
 pub use crate::status::{Status, StreamFault};

@@ -15,7 +15,7 @@ ghost use Rattle.signed_stream.specs.Written.{written};
 
 use crate::halt::Halt;
 use crate::job::{Job, JobFault, read_job};
-use crate::say::say;
+use crate::saying::say;
 use crate::sign::sign_request;
 use crate::signing::Signing;
 use crate::status::{Status, StreamFault};
