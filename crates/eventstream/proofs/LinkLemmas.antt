@@ -1,7 +1,7 @@
 -- A signed message has a frame.
-use Rattle.std.proofs.Common.{◌≡◌, ℕ, ◌+◌, ◌<◌, ◌≤◌, List, [], ◌∷◌, ◌++◌, length, None, Option, nat_lt, false, refl, ap, sym, ◌∙◌, arith, pos, negsuc, ℤ, ◌*ℤ◌, ◌+ℤ◌, ◌≤ℤ◌, length-append, append-nil, codes}
+use Rattle.std.proofs.Common.{◌≡◌, ℕ, ◌+◌, ◌≤◌, List, [], ◌∷◌, ◌++◌, length, None, Option, nat_lt, false, refl, ap, ◌∙◌, arith, pos, negsuc, ℤ, ◌*ℤ◌, ◌+ℤ◌, ◌≤ℤ◌, length-append, append-nil, codes}
 use Rattle.std.specs.Option.{option_or}
-use Rattle.std.specs.Int.{w16, w64, saturate_signed, to_be_bytes, cast_unsigned}
+use Rattle.std.specs.Int.{w64, saturate_signed}
 use Rattle.std.proofs.lemmas.Bool.Decides.{nat_tests}
 use Rattle.sha2.proofs.Facts256.{length-sha256}
 use Rattle.mac_core.specs.Mac.{mac, mac_of_block}
@@ -11,7 +11,7 @@ use Rattle.smithy_core.specs.Parts.{Parts}
 use Rattle.smithy_core.specs.declared.header.Header.{Header}
 use Rattle.smithy_core.specs.declared.header.HeaderValue.TheVariants.{ByteArray}
 use Rattle.eventstream.specs.declared.error.ErrorKind.{ErrorKind}
-use Rattle.eventstream.specs.Frame.{be32, block, first_unspelled, frame, frame_len, spelling, unfit, unframed, unspelled, unspelled_value, value_spelling}
+use Rattle.eventstream.specs.Frame.{be32, block, frame, frame_len, spelling, unfit, unframed, unspelled, unspelled_value, value_spelling}
 use Rattle.eventstream.specs.Key.{Signer}
 use Rattle.eventstream.specs.Link.{date_header, link_code, link_message}
 

@@ -1,5 +1,6 @@
 -- The kinds of errors.
-use Rattle.std.specs.Prelude.{Bool, true, false}
+use Rattle.std.specs.Prelude.{ℕ, Bool, true, false, List, ◌++◌, codes, string_bytes}
+use Rattle.std.specs.Fmt.{signed_decimal}
 use Rattle.eventstream.specs.declared.error.ErrorKind.{ErrorKind}
 use Rattle.eventstream.specs.declared.error.ErrorKind.TheVariants.{HeadersTooLong, HeaderValueTooLong, InvalidHeaderNameLength, MessageTooLong, PayloadTooLong, TimestampValueTooLarge, Marshalling, Unmarshalling, NoMemory}
 
@@ -14,3 +15,15 @@ is_invalid_message (TimestampValueTooLarge moment) = true
 is_invalid_message (Marshalling message) = true
 is_invalid_message (Unmarshalling message) = false
 is_invalid_message NoMemory = false
+
+-- what is printed
+abbrev pub text_of : ErrorKind → List ℕ
+text_of HeadersTooLong = codes "headers too long to fit in event stream frame"
+text_of HeaderValueTooLong = codes "header value too long to fit in event stream frame"
+text_of InvalidHeaderNameLength = codes "invalid header name length"
+text_of MessageTooLong = codes "message too long to fit in event stream frame"
+text_of PayloadTooLong = codes "message payload too long to fit in event stream frame"
+text_of (TimestampValueTooLarge moment) = codes "timestamp value " ++ (signed_decimal moment.secs ++ codes " is too large to fit into an i64")
+text_of (Marshalling message) = codes "failed to marshall message: " ++ string_bytes message
+text_of (Unmarshalling message) = codes "failed to unmarshall message: " ++ string_bytes message
+text_of NoMemory = codes "no memory"

@@ -70,6 +70,11 @@ impl Error {
 }
 
 impl fmt::Display for Error {
+    ghost use Rattle.std.specs.Prelude.{Some};
+    ghost use Rattle.eventstream.specs.Errors.{text_of};
+
+    ghost output = { λ error. Some (text_of error.kind) };
+
     fn fmt<W: fmt::Write>(&self, f: &mut fmt::Formatter<W>) -> fmt::Result {
         match &self.kind {
             ErrorKind::HeadersTooLong => {

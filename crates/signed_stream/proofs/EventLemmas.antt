@@ -1,12 +1,13 @@
--- The events of a plain job have frames, and its target is plain.
-use Rattle.std.proofs.Common.{◌≡◌, ◌==◌, ℕ, ◌+◌, ◌≤◌, Bool, true, false, cond, List, [], ◌∷◌, ◌++◌, length, refl, ap, arith, length-append, length-take, append-nil}
+-- The events of a plain job have frames, its target is plain, and its headers have distinct names.
+use Rattle.std.proofs.Common.{◌≡◌, ◌==◌, ℕ, ◌+◌, ◌≤◌, Bool, true, false, cond, List, [], ◌∷◌, ◌++◌, length, drop, slice_index, refl, sym, ap, ◌∙◌, arith, length-append, length-take, append-nil}
 use Rattle.std.specs.Prelude.{Option, Some, None, Result, Ok, Err, bytes_eq, codes, nat_lt, nat_le, ◌||◌, ◌&&◌, option_map, is_some}
-use Rattle.std.specs.List.{AllByRecursion}
+use Rattle.std.specs.List.{AllByRecursion, after_first, before_first, list_any}
 use Rattle.std.specs.Option.{option_or, option_to_list}
 use Rattle.std.specs.Str.Lossy.{utf8_valid_len}
 use Rattle.std.proofs.lemmas.Option.{cond_some}
-use Rattle.std.proofs.lemmas.Bool.{cond_both, and_parts, le-ltb, leb-true}
+use Rattle.std.proofs.lemmas.Bool.{cond_both, and_parts, or_parts, not-true, false_from_ne_true, false≢true, le-ltb, leb-true}
 use Rattle.std.proofs.lemmas.List.{length-drop}
+use Rattle.std.proofs.lemmas.List.Folds.{list_any-append}
 use Rattle.std.proofs.lemmas.List.Concat.{flat_map-append}
 use Rattle.std.proofs.lemmas.Slice.Eq.{bytes_eq-Decides}
 use Rattle.hex.specs.Hex.{decode_of}
@@ -16,7 +17,7 @@ use Rattle.smithy_core.specs.Parts.{Parts}
 use Rattle.smithy_core.specs.declared.header.Header.{Header}
 use Rattle.smithy_core.specs.declared.header.HeaderValue.TheVariants.{String as Text}
 use Rattle.eventstream.specs.Frame.{block, first_unspelled, frame_len, spelling, unframed, unspelled, unspelled_value, value_spelling}
-use Rattle.signed_stream.specs.Job.{Draft, Event, LineStep, PlainJob, Settings, moves_to, bad, unbuilt, plain_job, bad_line, after_credentials, after_step, body_step, credentials_step, event_header_step, event_step, events_of, header_step, is_plain_target, job, job_of, line_step, lines_from, lines_of, message_of, method_step, no_draft, onto_first, payload_of, payload_step, plain_event_header, plain_header, plain_or_unbuilt, rest_of, target_step, word_of, word_step}
+use Rattle.signed_stream.specs.Job.{Draft, Event, LineStep, PlainJob, Settings, moves_to, bad, unbuilt, plain_job, bad_line, after_credentials, after_step, body_step, credentials_step, event_header_step, event_step, events_of, header_step, is_plain_name, is_plain_target, is_plain_value, job, job_of, line_step, lines_from, lines_of, message_of, method_step, no_draft, onto_first, payload_of, payload_step, plain_event_header, plain_header, plain_or_unbuilt, rest_of, target_step, word_of, word_step}
 
 -- the headers have spellings, and with the payload at most n bytes
 record IsWithin (n : ℕ) (e : Parts) : Type 0 where
@@ -33,9 +34,15 @@ abbrev IsPlainTarget : Option (List ℕ) → Type 0
 IsPlainTarget None = Unit {0}
 IsPlainTarget (Some target) = is_plain_target target ≡ true
 
+-- no header has the name of another
+abbrev pub AreDistinct : List (List ℕ × List ℕ) → Type 0
+AreDistinct [] = Unit {0}
+AreDistinct (header ∷ headers) = (list_any (λ other. bytes_eq other.0 header.0) headers ≡ false) × AreDistinct headers
+
 -- what lines of n bytes lead to
 record IsGood (n : ℕ) (draft : Draft) : Type 0 where
   target : IsPlainTarget draft.target
+  headers : AreDistinct draft.headers
   events : AllByRecursion (IsWithin n) draft.events
   event : IsOpenWithin n draft.event
 
@@ -58,7 +65,7 @@ open_more n m (Some event) more is = within_more n m (message_of event) more is
 
 good_more : (n m : ℕ) (draft : Draft) → n ≤ m → IsGood n draft → IsGood m draft
 good_more n m draft more good =
-    record { target = good.target; events = all_more n m draft.events more good.events; event = open_more n m draft.event more good.event }
+    record { target = good.target; headers = good.headers; events = all_more n m draft.events more good.events; event = open_more n m draft.event more good.event }
 
 -- the events, with the one that is open
 all_events : (n : ℕ) (es : List Parts) (event : Option Event) → AllByRecursion (IsWithin n) es → IsOpenWithin n event
@@ -72,22 +79,51 @@ all_events n (e ∷ es) event all is = (all.0, all_events n es event all.1 is)
 leads_method : (n : ℕ) (draft : Draft) (rest : List ℕ) → IsGood n draft → Leads n (method_step draft rest)
 unfolding method_step
 leads_method n draft rest good =
-    cond_both _ bad (moves_to (record draft { method = Some rest })) (Leads n) (λ e. tt) (λ e. record { target = good.target; events = good.events; event = good.event })
+    cond_both _ bad (moves_to (record draft { method = Some rest })) (Leads n) (λ e. tt) (λ e. record { target = good.target; headers = good.headers; events = good.events; event = good.event })
 
 leads_target : (n : ℕ) (draft : Draft) (rest : List ℕ) → IsGood n draft → Leads n (target_step draft rest)
 unfolding target_step
 leads_target n draft rest good =
     cond_both (is_some draft.target) bad _ (Leads n) (λ e. tt) (λ e.
     cond_both (is_plain_target rest) (moves_to (record draft { target = Some rest })) unbuilt (Leads n)
-    (λ is. record { target = is; events = good.events; event = good.event }) (λ e. tt))
+    (λ is. record { target = is; headers = good.headers; events = good.events; event = good.event }) (λ e. tt))
+
+-- a plain name is none of those before
+unused_name : (headers : List (List ℕ × List ℕ)) (name : List ℕ) → is_plain_name headers name ≡ true → list_any (λ header. bytes_eq header.0 name) headers ≡ false
+unfolding is_plain_name
+unused_name headers name is = not-true _ (and_parts _ _ is).1
+
+unused_header : (headers : List (List ℕ × List ℕ)) (rest : List ℕ) (header : List ℕ × List ℕ) → plain_header headers rest ≡ Some header → list_any (λ other. bytes_eq other.0 header.0) headers ≡ false
+unfolding plain_header
+unused_header headers rest header is =
+    let name = before_first (λ b. b == 58) rest in
+    let tail = after_first (λ b. b == 58) rest in
+    let some = cond_some (is_plain_name headers name && (slice_index tail 0 == 32) && is_plain_value (drop 1 tail)) (name, drop 1 tail) header is in
+    let named = is_plain_name headers name && (slice_index tail 0 == 32) in
+    let parts = and_parts (is_plain_name headers name) (slice_index tail 0 == 32) (and_parts named (is_plain_value (drop 1 tail)) some.0).0 in
+    rw (← some.1) (unused_name headers name parts.0)
+
+other_way : (a b : List ℕ) → bytes_eq a b ≡ false → bytes_eq b a ≡ false
+other_way a b apart =
+    false_from_ne_true (bytes_eq b a) (λ e. let same : b ≡ a = (bytes_eq-Decides b a).0 e in false≢true (sym apart ∙ (bytes_eq-Decides a b).1 (sym same)))
+
+-- a header of another name
+distinct_more : (headers : List (List ℕ × List ℕ)) (new : List ℕ × List ℕ) → AreDistinct headers → list_any (λ header. bytes_eq header.0 new.0) headers ≡ false → AreDistinct (headers ++ new ∷ [])
+distinct_more [] new all unused = (refl, tt)
+distinct_more (header ∷ headers) new all unused =
+    let parts = or_parts (bytes_eq header.0 new.0) (list_any (λ other. bytes_eq other.0 new.0) headers) unused in
+    let first : list_any (λ other. bytes_eq other.0 header.0) (headers ++ new ∷ []) ≡ false =
+    list_any-append (λ (other : List ℕ × List ℕ). bytes_eq other.0 header.0) headers (new ∷ []) ∙ rw (all.0, other_way header.0 new.0 parts.0) refl in
+    (first, distinct_more headers new all.1 parts.1)
 
 leads_header : (n : ℕ) (draft : Draft) (rest : List ℕ) → IsGood n draft → Leads n (header_step draft rest)
 unfolding header_step
-leads_header n draft rest good = by_header (plain_header draft.headers rest)
+leads_header n draft rest good = by_header (plain_header draft.headers rest) refl
   where
-    by_header : (o : Option (List ℕ × List ℕ)) → Leads n (plain_or_unbuilt (option_map (λ header. record draft { headers = draft.headers ++ header ∷ [] }) o))
-    by_header None = tt
-    by_header (Some header) = record { target = good.target; events = good.events; event = good.event }
+    by_header : (o : Option (List ℕ × List ℕ)) → plain_header draft.headers rest ≡ o → Leads n (plain_or_unbuilt (option_map (λ header. record draft { headers = draft.headers ++ header ∷ [] }) o))
+    by_header None e = tt
+    by_header (Some header) e =
+        record { target = good.target; headers = distinct_more draft.headers header good.headers (unused_header draft.headers rest header e); events = good.events; event = good.event }
 
 leads_credentials : (n : ℕ) (draft : Draft) (rest : List ℕ) → IsGood n draft → Leads n (credentials_step draft rest)
 unfolding credentials_step
@@ -95,7 +131,7 @@ leads_credentials n draft rest good = by_settings (after_credentials draft.setti
   where
     by_settings : (o : Option Settings) → Leads n (plain_or_unbuilt (option_map (λ settings. record draft { settings = Some settings }) o))
     by_settings None = tt
-    by_settings (Some settings) = record { target = good.target; events = good.events; event = good.event }
+    by_settings (Some settings) = record { target = good.target; headers = good.headers; events = good.events; event = good.event }
 
 -- ## Lines of events
 
@@ -103,7 +139,7 @@ leads_event : (n : ℕ) (draft : Draft) (rest : List ℕ) → IsGood n draft →
 unfolding event_step
 leads_event n draft rest good =
     cond_both _ bad (moves_to (record draft { events = events_of draft; event = Some (record { headers = []; payload = None }) })) (Leads n) (λ e. tt)
-    (λ e. record { target = good.target; events = all_events n draft.events draft.event good.events good.event; event = record { spelled = refl; short = omega arith } })
+    (λ e. record { target = good.target; headers = good.headers; events = all_events n draft.events draft.event good.events good.event; event = record { spelled = refl; short = omega arith } })
 
 option_or_none : {A : Type 0} (a b : Option A) → option_or a b ≡ None → (a ≡ None) × (b ≡ None)
 option_or_none None b e = (refl, e)
@@ -159,6 +195,7 @@ leads_event_header n m draft event rest good is long = by_header (plain_event_he
         let longer : length (block (event.headers ++ header ∷ [])) ≡ length (block event.headers) + length (spelling header) = simp (flat_map-append, length-append, append-nil) refl in
         record {
           target = good.target;
+          headers = good.headers;
           events = all_more n m draft.events (omega arith) good.events;
           event = record { spelled = unspelled_more event.headers header is.spelled spelled.0; short = omega (arith, longer, spelled.1, is.short) };
         }
@@ -174,6 +211,7 @@ leads_payload n m draft event rest good is long =
         let digits = decode_of-ok rest payload e in
         record {
           target = good.target;
+          headers = good.headers;
           events = all_more n m draft.events (omega arith) good.events;
           event = record { spelled = is.spelled; short = omega (arith, digits.2, is.short) };
         }
@@ -213,25 +251,27 @@ total (line ∷ lines) = length line + total lines
 -- what is said of the job
 record IsFramed (n : ℕ) (j : PlainJob) : Type 0 where
   target : is_plain_target j.target ≡ true
+  headers : AreDistinct j.headers
   events : AllByRecursion (IsWithin n) j.events
 
 framed_more : (n m : ℕ) (j : PlainJob) → n ≤ m → IsFramed n j → IsFramed m j
-framed_more n m j more is = record { target = is.target; events = all_more n m j.events more is.events }
+framed_more n m j more is = record { target = is.target; headers = is.headers; events = all_more n m j.events more is.events }
 
 -- the lines are over
 framed_end : (n place : ℕ) (draft : Draft) (method target : Option (List ℕ)) (settings : Option Settings) (j : PlainJob)
-    → IsPlainTarget target → AllByRecursion (IsWithin n) (events_of draft) → job_of place draft method target settings ≡ plain_job j → IsFramed n j
-framed_end n place draft None target settings j plain all is = cc
-framed_end n place draft (Some method) None settings j plain all is = cc
-framed_end n place draft (Some method) (Some target) None j plain all is = cc
-framed_end n place draft (Some method) (Some target) (Some settings) j plain all is =
+    → IsPlainTarget target → AreDistinct draft.headers → AllByRecursion (IsWithin n) (events_of draft) → job_of place draft method target settings ≡ plain_job j → IsFramed n j
+framed_end n place draft None target settings j plain apart all is = cc
+framed_end n place draft (Some method) None settings j plain apart all is = cc
+framed_end n place draft (Some method) (Some target) None j plain apart all is = cc
+framed_end n place draft (Some method) (Some target) (Some settings) j plain apart all is =
     let target_is : target ≡ j.target = cc in
+    let headers_are : draft.headers ≡ j.headers = cc in
     let events_are : events_of draft ≡ j.events = cc in
-    record { target = rw (← target_is) plain; events = rw (← events_are) all }
+    record { target = rw (← target_is) plain; headers = rw (← headers_are) apart; events = rw (← events_are) all }
 
 framed_from : (n place : ℕ) (draft : Draft) (lines : List (List ℕ)) (j : PlainJob) → IsGood n draft → lines_from place draft lines ≡ plain_job j → IsFramed (n + total lines) j
 framed_from n place draft [] j good is =
-    framed_more n (n + 0) j (omega arith) (framed_end n place draft draft.method draft.target draft.settings j good.target (all_events n draft.events draft.event good.events good.event) is)
+    framed_more n (n + 0) j (omega arith) (framed_end n place draft draft.method draft.target draft.settings j good.target good.headers (all_events n draft.events draft.event good.events good.event) is)
 framed_from n place draft (line ∷ lines) j good is =
     by_step (line_step draft line) (leads_line n draft line good) (λ next good is. framed_from (n + length line) (place + 1) next lines j good is) is
   where
@@ -265,7 +305,7 @@ job_lines bytes j is = by_text _ (utf8_valid_len bytes == length bytes) is
 
 job_framed : (bytes : List ℕ) (j : PlainJob) → job bytes ≡ plain_job j → IsFramed (length bytes) j
 job_framed bytes j is =
-    let good : IsGood 0 no_draft = record { target = tt; events = tt; event = tt } in
+    let good : IsGood 0 no_draft = record { target = tt; headers = tt; events = tt; event = tt } in
     framed_more (total (lines_of bytes)) (length bytes) j (total_lines bytes)
     (framed_more (0 + total (lines_of bytes)) (total (lines_of bytes)) j (omega arith) (framed_from 0 1 no_draft (lines_of bytes) j good (job_lines bytes j is)))
 
@@ -291,3 +331,7 @@ events_framed bytes j small is = all_framed (length bytes) j.events small (job_f
 -- the target of a plain job is plain
 pub target_plain : (bytes : List ℕ) (j : PlainJob) → job bytes ≡ plain_job j → is_plain_target j.target ≡ true
 target_plain bytes j is = (job_framed bytes j is).target
+
+-- the headers of a plain job have distinct names
+pub headers_distinct : (bytes : List ℕ) (j : PlainJob) → job bytes ≡ plain_job j → AreDistinct j.headers
+headers_distinct bytes j is = (job_framed bytes j is).headers

@@ -4,9 +4,9 @@ use Rattle.std.proofs.lemmas.Bool.Decides.{nat_tests}
 use Rattle.smithy_core.specs.Instant.{Instant}
 use Rattle.smithy_core.specs.Outside.{Gains, GainsPrefix, IsAllOf, IsLongerThan}
 use Rattle.smithy_core.proofs.GainLemmas.{gains_front, gains_join, prefix_at_start, prefix_from_whole, prefix_join, prefix_within}
-use Rattle.signed_stream.specs.Plan.{Plan, stops, writes, input_plan, job_plan, most_input}
+use Rattle.signed_stream.specs.Plan.{Ask, ask_plan, ends, streams, Plan, stops, writes, input_plan, job_plan, most_input}
 use Rattle.signed_stream.specs.Job.{job}
-use Rattle.signed_stream.specs.Run.{EndsAsPlanned, Fits, GainsAsPlanned, Keeps}
+use Rattle.signed_stream.specs.Run.{EndsAsAsked, EndsAsPlanned, Fits, GainsAsPlanned, Keeps}
 use Rattle.signed_stream.specs.declared.status.Status.{Status}
 use Rattle.signed_stream.specs.declared.status.Status.TheVariants.{Done, BadWords, JobTooLarge, BadJob, ReadFault, Refused, OutputFault, NoMemory, NotBuilt}
 
@@ -113,3 +113,38 @@ gains_read_fault (writes text) held = refl
 pub gains_no_memory : (plan : Plan) (held : Option (List ℕ)) → GainsAsPlanned plan NoMemory held held
 gains_no_memory (stops status) held = refl
 gains_no_memory (writes text) held = prefix_at_start held text
+
+-- an early end
+pub early_asked : (asked : Ask) (status : Status) → ends status ≡ asked → EndsAsAsked asked status
+early_asked asked status is = rw (← is) (inl refl)
+
+pub early_planned : (asked : Ask) (status : Status) (bytes : List ℕ) → ends status ≡ asked → EndsAsPlanned (ask_plan asked bytes) status
+early_planned asked status bytes is = rw (← is) (inl refl)
+
+pub early_gains : (asked : Ask) (status : Status) (bytes : List ℕ) (held : Option (List ℕ)) → ends status ≡ asked → GainsAsPlanned (ask_plan asked bytes) status held held
+early_gains asked status bytes held is = rw (← is) refl
+
+-- an end once the input is asked
+pub later_asked : (asked : Ask) (name : List ℕ) (at : Instant) (status : Status) → streams name at ≡ asked → ((place : ℕ) → status ≡ BadWords place → ⊥) → EndsAsAsked asked status
+later_asked asked name at status is never = rw (← is) (by_status status never)
+  where
+    by_status : (status : Status) → ((place : ℕ) → status ≡ BadWords place → ⊥) → EndsAsAsked (streams name at) status
+    by_status (BadWords place) never = absurd (never place refl)
+    by_status Done never = tt
+    by_status JobTooLarge never = tt
+    by_status (BadJob place) never = tt
+    by_status ReadFault never = tt
+    by_status (Refused fault) never = tt
+    by_status OutputFault never = tt
+    by_status NoMemory never = tt
+    by_status (NotBuilt place) never = tt
+
+pub later_planned : (asked : Ask) (name : List ℕ) (at : Instant) (status : Status) (bytes : List ℕ) → streams name at ≡ asked
+    → EndsAsPlanned (input_plan name at bytes) status → EndsAsPlanned (ask_plan asked bytes) status
+later_planned asked name at status bytes is fits = rw (← is) fits
+
+pub later_gains : (asked : Ask) (name : List ℕ) (at : Instant) (status : Status) (bytes : List ℕ) (before now : Option (List ℕ)) → streams name at ≡ asked
+    → GainsAsPlanned (input_plan name at bytes) status before now → GainsAsPlanned (ask_plan asked bytes) status before now
+later_gains asked name at status bytes before now is gains = rw (← is) gains
+
+pub ruleset ends_of_runs = (keeps_same, early_asked, early_planned, early_gains, later_asked, later_planned, later_gains)

@@ -1,5 +1,5 @@
 -- What a run promises.
-use Rattle.std.specs.Prelude.{◌≡◌, ℕ, ◌⊎◌, List, Option, Some}
+use Rattle.std.specs.Prelude.{◌≡◌, ℕ, ◌⊎◌, List, Option, Some, Result, Ok, Err}
 use Rattle.smithy_core.specs.Outside.{Gains, GainsPrefix, GainsProperPrefix, Rose}
 use Rattle.smithy_core.specs.Instant.{Instant}
 use Rattle.signed_stream.specs.Command.{command, stream}
@@ -7,8 +7,9 @@ use Rattle.signed_stream.specs.Job.{PlainJob, job, plain_job}
 use Rattle.signed_stream.specs.Plan.{Ask, ends, streams, Plan, stops, writes, case_of}
 use Rattle.signed_stream.specs.Written.{written}
 use Rattle.signed_stream.specs.Status.{status_line}
+use Rattle.signed_stream.specs.declared.words.options.StreamWords.{StreamWords}
 use Rattle.signed_stream.specs.declared.status.Status.{Status}
-use Rattle.signed_stream.specs.declared.status.Status.TheVariants.{Done, BadWords, ReadFault, OutputFault, NoMemory}
+use Rattle.signed_stream.specs.declared.status.Status.TheVariants.{Done, BadWords, ReadFault, OutputFault, NoMemory, NotBuilt}
 
 -- where the words or the variables end the run, it ends so, or for want of memory
 abbrev pub EndsAsAsked : Ask → Status → Type 0
@@ -65,3 +66,14 @@ Fits (writes text) Done before now = Gains before now text
 Fits (writes text) OutputFault before now = GainsPrefix before now text
 Fits (writes text) NoMemory before now = GainsPrefix before now text
 Fits (writes text) answer before now = ⊥
+
+-- what a reader of words and variables answers
+abbrev pub ask_told : Result StreamWords Status → Ask
+ask_told (Ok words) = streams words.name.now words.at
+ask_told (Err status) = ends status
+
+-- the ends that words and variables alone can bring
+abbrev pub IsEarly : Status → Type 0
+IsEarly (BadWords place) = Unit {0}
+IsEarly (NotBuilt place) = Unit {0}
+IsEarly status = ⊥

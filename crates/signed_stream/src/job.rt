@@ -1,4 +1,3 @@
-//! The reader of a job: lines, each of which moves a draft of the job on, or is bad, or is of a form that isn't built.
 ghost use Rattle.std.specs.Prelude.{◌≡◌, ◌==◌, ◌+◌, [], count_by};
 ghost use Rattle.signed_stream.specs.Job.{job, lines_from, lines_of, no_draft};
 ghost use Rattle.signed_stream.specs.Reading.{ReadsJob, draft_of};
@@ -10,6 +9,8 @@ mod fault;
 mod header;
 mod lines;
 mod target;
+#[cfg(test)]
+mod tests;
 
 pub use crate::job::credentials::PlainSettings;
 use crate::job::draft::Draft;

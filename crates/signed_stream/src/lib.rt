@@ -4,13 +4,17 @@
 mod canonical;
 mod halt;
 mod job;
-mod run;
-mod say;
+mod running;
+mod saying;
 mod sign;
 mod signing;
 mod status;
 mod stream;
+#[cfg(test)]
+mod tests;
 mod words;
 mod written;
 
+pub use crate::running::run;
+pub use crate::saying::say;
 pub use crate::status::{Status, StreamFault};

@@ -1,2 +1,1 @@
-pub mod DateLemmas
 pub mod ScopeLemmas

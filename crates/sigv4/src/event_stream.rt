@@ -157,7 +157,7 @@ pub(crate) fn text_to_sign(
 }
 
 // The digest of the spelling of the header with a moment.
-#[tactic(auto, using(crate::proofs::DateLemmas::date_spelled))]
+#[tactic(auto, using(eventstream::proofs::LinkLemmas::date_spelled))]
 fn date_digest(alloc: Global, time: Moment) -> Mem<String>
     requires { IsInYears time }
     ensures { IfOk result (λ text. string_bytes text ≡ encode_lower (sha256 (spelling (date_header (floor_secs time))))) }

@@ -1,7 +1,7 @@
 -- A source that is read piece by piece.
 use Rattle.std.proofs.Common.{◌≡◌, ℕ, ◌<◌, List, [], ◌++◌, length, take, drop, Option, Some, None, refl, sym, ◌∙◌, ap, append_assoc, append-nil, length-append, arith}
 use Rattle.std.proofs.lemmas.List.{take-append-drop}
-use Rattle.smithy_core.specs.Outside.{TakesFront, IsAtEnd, IsAllOf, IsCutOf, IsLongerThan}
+use Rattle.smithy_core.specs.Outside.{TakesFront, IsAtEnd, IsAllOf, IsCutOf, IsLongerThan, IsRestOf}
 
 -- before any read
 pub cut_at_start : (left : Option (List ℕ)) → IsCutOf left [] left
@@ -32,4 +32,13 @@ pub cut_too_long : (all : Option (List ℕ)) (read : List ℕ) (now : Option (Li
 cut_too_long None read now limit cut long = tt
 cut_too_long (Some all) read now limit cut long = omega (arith, ap length cut.2, length-append read cut.0)
 
-pub ruleset cuts = (cut_at_start, cut_more, cut_at_end, cut_too_long)
+-- after any reads a rest is left
+pub rest_of_cut : (all : Option (List ℕ)) (read : List ℕ) (now : Option (List ℕ)) → IsCutOf all read now → IsRestOf all now
+rest_of_cut all read now cut = (read, cut)
+
+-- after one read more a rest is left
+pub rest_of_more : (all : Option (List ℕ)) (read : List ℕ) (before now : Option (List ℕ)) (n : ℕ) (into : List ℕ)
+    → IsCutOf all read before → TakesFront n into before now → IsRestOf all now
+rest_of_more all read before now n into cut taken = (read ++ take n into, cut_more all read before now n into cut taken)
+
+pub ruleset cuts = (cut_at_start, cut_more, cut_at_end, cut_too_long, rest_of_cut, rest_of_more)

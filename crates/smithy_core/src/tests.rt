@@ -168,6 +168,7 @@ fn surface(rt: HostRuntime) -> Result<(), Fail> {
         ("Credentials", credentials_hold(alloc)?),
         ("Identity", identity_holds(alloc)?),
         ("Env", env_holds(alloc)?),
+        ("Civil", civil_holds(alloc)?),
         ("push_line", line_holds(alloc)?),
         ("CalmDisk", disk_holds(alloc)?),
         ("CalmSink", sink_holds(alloc)?),
@@ -252,6 +253,13 @@ fn env_holds(alloc: Global) -> Mem<bool> {
     env.set("A", "3")?;
     let copy = env.try_clone()?;
     Ok(copy.get("A") == Some("3") && copy.get("B") == Some("2") && copy.get("a").is_none())
+}
+
+fn civil_holds(alloc: Global) -> Mem<bool> {
+    match civil(DateTime::new(1_440_938_160, 0)) {
+        Some(civil) => Ok(civil.stamp_text(alloc)?.as_str() == "20150830T123600Z"),
+        None => Ok(false),
+    }
 }
 
 fn line_holds(alloc: Global) -> Mem<bool> {

@@ -20,7 +20,7 @@ pub struct PlainSettings {
 }
 
 impl PlainSettings {
-    // No properties yet.
+    /// No properties yet.
     pub fn new() -> PlainSettings
         ensures { settings_of result ≡ no_settings }
     {
@@ -31,7 +31,7 @@ impl PlainSettings {
         }
     }
 
-    // `KEY = VALUE`.
+    /// `KEY = VALUE`.
     #[tactic(auto, unfolding(crate::specs::Job::after_credentials))]
     pub fn take_property(&mut self, alloc: Global, rest: &str) -> Result<(), LineFault>
         ensures { GivesSettings (after_credentials (Some (settings_of self.old)) rest.now) self.new result }

@@ -7,7 +7,7 @@ use crate::job::target::is_plain_target;
 use smithy_core::{Headers, Mem, Message};
 use std::alloc::Global;
 
-// What the lines so far gave: settings from the line `credentials [default]` on, the events that are whole, and the one that is open.
+/// What the lines so far gave: settings from the line `credentials [default]` on, the events that are whole, and the one that is open.
 #[derive(Drop)]
 pub struct Draft {
     pub method: Option<String>,
@@ -23,7 +23,7 @@ impl Draft {
     ghost use Rattle.signed_stream.specs.Job.{body_step, credentials_step, event_header_step, event_step, events_of, header_step, line_step, method_step, no_draft, payload_step, target_step, word_step};
     ghost use Rattle.signed_stream.specs.Reading.{Steps, draft_of};
 
-    // Nothing yet.
+    /// Nothing yet.
     #[tactic(auto, unfolding(crate::specs::Reading::draft_of))]
     pub fn new(alloc: Global) -> Draft
         ensures { draft_of result ≡ no_draft }
@@ -38,7 +38,7 @@ impl Draft {
         }
     }
 
-    // A line; an empty one does nothing.
+    /// A line; an empty one does nothing.
     #[tactic(auto, unfolding(crate::specs::Job::line_step))]
     pub fn take_line(&mut self, alloc: Global, line: &str) -> Result<(), LineFault>
         ensures { Steps (line_step (draft_of self.old) line.now) self.new result }
@@ -137,7 +137,7 @@ impl Draft {
         Ok(())
     }
 
-    // Puts the open event to the whole ones.
+    /// Puts the open event to the whole ones.
     #[tactic(auto, unfolding(crate::specs::Reading::draft_of))]
     pub fn close_event(&mut self) -> Mem<()>
         ensures { OnOk result (draft_of self.new ≡ record (draft_of self.old) { events = events_of (draft_of self.old); event = None }) }

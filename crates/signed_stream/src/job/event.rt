@@ -1,4 +1,4 @@
-ghost use Rattle.std.specs.Prelude.{◌≡◌, Some};
+ghost use Rattle.std.specs.Prelude.{◌≡◌};
 ghost use Rattle.hex.specs.Hex.{decode_of};
 ghost use Rattle.signed_stream.specs.Job.{message_of, plain_event_header};
 ghost use Rattle.signed_stream.specs.Reading.{GivesHeader, GivesPayload, event_of};
@@ -10,13 +10,13 @@ use hex::FromHexError;
 use smithy_core::{Header, HeaderValue, Message, StrBytes};
 use std::alloc::Global;
 
-// The most bytes of a header's name.
+/// The most bytes of a header's name.
 const MOST_NAME: usize = 255;
 
-// The most bytes of a header's text.
+/// The most bytes of a header's text.
 const MOST_TEXT: usize = 32_767;
 
-// An event that is read: its headers, and its payload where the line stood.
+/// An event that is read: its headers, and its payload where the line stood.
 #[derive(Drop)]
 pub struct OpenEvent {
     pub headers: Vec<Header>,
@@ -24,7 +24,7 @@ pub struct OpenEvent {
 }
 
 impl OpenEvent {
-    // The message of the event.
+    /// The message of the event.
     pub fn into_message(self) -> Message
         ensures { result ≡ message_of (event_of self) }
     {
@@ -32,7 +32,7 @@ impl OpenEvent {
     }
 }
 
-// The header of `NAME text REST`.
+/// The header of `NAME text REST`.
 #[tactic(auto, unfolding(crate::specs::Job::plain_event_header))]
 pub fn header_of(alloc: Global, rest: &str) -> Result<Header, LineFault>
     ensures { GivesHeader (plain_event_header rest.now) result }
@@ -47,7 +47,7 @@ pub fn header_of(alloc: Global, rest: &str) -> Result<Header, LineFault>
     Ok(Header::new(name, HeaderValue::String(text)))
 }
 
-// The bytes that hexadecimal digits of either case spell.
+/// The bytes that hexadecimal digits of either case spell.
 pub fn payload_of(alloc: Global, digits: &str) -> Result<Bytes, LineFault>
     ensures { GivesPayload (decode_of digits.now) result }
 {

@@ -24,7 +24,7 @@ impl From<AllocError> for JobFault {
     }
 }
 
-// Why a line doesn't move the draft.
+/// Why a line doesn't move the draft.
 #[derive(Clone, Copy, Debug, PartialEq, Eq)]
 pub enum LineFault {
     Bad,
@@ -33,7 +33,7 @@ pub enum LineFault {
 }
 
 impl LineFault {
-    // The fault of the line at this place.
+    /// The fault of the line at this place.
     pub fn at(self, place: usize) -> JobFault
         ensures { result ≡ placed place self }
     {

@@ -1,6 +1,5 @@
 ghost use Rattle.std.specs.Prelude.{◌≡◌, ◌≢◌, ◌==◌, bytes_eq, drop, MatchOption, slice_index};
 ghost use Rattle.std.specs.List.{after_first, before_first, list_all, list_any};
-ghost use Rattle.smithy_core.specs.Pairs.{lower};
 ghost use Rattle.signed_stream.specs.Job.{is_name_byte, is_plain_name, is_plain_value, is_reserved_name, is_value_byte, plain_header};
 ghost use Rattle.signed_stream.specs.Reading.{GivesPair};
 
@@ -8,10 +7,10 @@ use crate::job::fault::LineFault;
 use crate::job::target::is_single;
 use smithy_core::Headers;
 
-// The most bytes of a header's name.
+/// The most bytes of a header's name.
 const MOST_NAME: usize = 255;
 
-// The name and the value of `NAME: VALUE`, after the headers before.
+/// The name and the value of `NAME: VALUE`, after the headers before.
 #[tactic(auto, unfolding(crate::specs::Job::plain_header))]
 pub fn pair_of<'a>(headers: &Headers, rest: &'a str) -> Result<(&'a str, &'a str), LineFault>
     ensures { GivesPair (plain_header headers.now rest.now) result }

@@ -1,7 +1,7 @@
 ghost use Rattle.std.specs.Prelude.{◌≡◌, ◌<◌, ◌∷◌, length};
 ghost use Rattle.signed_stream.specs.Job.{lines_of, rest_of, word_of};
 
-// The first line, and what stands after it.
+/// The first line, and what stands after it.
 #[tactic(auto, using(crate::proofs::LineLemmas::lines))]
 pub fn cut_line(text: &str) -> (&str, &str)
     requires { 0 < length text.now }
@@ -14,7 +14,7 @@ pub fn cut_line(text: &str) -> (&str, &str)
     }
 }
 
-// What stands before the first space, or all, and what stands after it, or nothing.
+/// What stands before the first space, or all, and what stands after it, or nothing.
 pub fn cut_word(line: &str) -> (&str, &str)
     ensures word { result.0.now ≡ word_of line.now }
     ensures rest { result.1.now ≡ rest_of line.now }

@@ -2,10 +2,10 @@ ghost use Rattle.std.specs.Prelude.{◌≡◌, ◌==◌, ◌&&◌, false, nat_lt
 ghost use Rattle.std.specs.List.{before_first, list_all, position};
 ghost use Rattle.signed_stream.specs.Job.{is_host_byte, is_path_byte, is_plain_target, is_single};
 
-// The most bytes of a target.
+/// The most bytes of a target.
 const MOST_TARGET: usize = 65_534;
 
-// Whether the text is `https://HOST/PATH` with single slashes.
+/// Whether the text is `https://HOST/PATH` with single slashes.
 #[tactic(auto, unfolding(crate::specs::Job::is_plain_target, crate::specs::Job::host_of, crate::specs::Job::path_of))]
 pub fn is_plain_target(target: &str) -> bool
     ensures { result ≡ is_plain_target target.now }
@@ -77,7 +77,7 @@ fn is_path_byte(b: u8) -> bool
         || b == b'/'
 }
 
-// Whether the separator never stands twice in a row, nor first where it stood before.
+/// Whether the separator never stands twice in a row, nor first where it stood before.
 pub fn is_single(separator: u8, before: bool, bytes: &[u8]) -> bool
     ensures { result ≡ is_single separator before bytes.now }
 {

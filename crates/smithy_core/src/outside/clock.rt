@@ -1,4 +1,5 @@
-ghost use Rattle.std.specs.Prelude.{◌≡◌, ℕ, ◌<◌, List, [], Option, Some};
+ghost use Rattle.std.specs.Prelude.{◌≡◌, ℕ, ◌+◌, ◌-◌, ◌^◌, ◌<◌, min, List, [], Option, Some};
+ghost use Rattle.std.specs.List.{slice_index_or};
 
 use crate::moment::Moment;
 
@@ -30,7 +31,9 @@ impl ListClock {
     /// A clock that has given nothing.
     pub fn new(moments: Vec<Moment>) -> ListClock
         requires { 0 < vec_len moments }
-        ensures { ⟦<ListClock as Clock>⟧.given result ≡ Some [] }
+        ensures given { ⟦<ListClock as Clock>⟧.given result ≡ Some [] }
+        ensures moments { result.moments ≡ moments }
+        ensures last { result.last ≡ slice_index_or moments.items (vec_len moments - 1) result.last }
     {
         let last = moments[moments.len() - 1];
         ListClock {
@@ -42,11 +45,16 @@ impl ListClock {
 }
 
 impl Clock for ListClock {
-    ghost use Rattle.smithy_core.specs.Given.{given_of};
+    ghost use Rattle.smithy_core.specs.Given.{GainsOne, given_of};
 
     ghost given = { λ clock. given_of clock.last clock.moments.items clock.count };
 
-    fn now(&mut self) -> Moment {
+    fn now(&mut self) -> Moment
+        ensures gains { GainsOne (given_of self.old.last self.old.moments.items self.old.count) (given_of self.new.last self.new.moments.items self.new.count) result }
+        ensures next { result ≡ slice_index_or self.old.moments.items self.old.count self.old.last }
+        ensures count { self.new.count ≡ min (self.old.count + 1) (2 ^ 64 - 1) }
+        ensures same { (self.new.moments ≡ self.old.moments) × (self.new.last ≡ self.old.last) }
+    {
         let count = self.count;
         self.count = count.saturating_add(1);
         if count < self.moments.len() as u64 {
@@ -67,7 +75,8 @@ pub struct FixedClock {
 impl FixedClock {
     /// A clock that has given nothing.
     pub fn new(at: Moment) -> FixedClock
-        ensures { ⟦<FixedClock as Clock>⟧.given result ≡ Some [] }
+        ensures given { ⟦<FixedClock as Clock>⟧.given result ≡ Some [] }
+        ensures at { result.at ≡ at }
     {
         FixedClock { at, count: 0 }
     }
@@ -75,11 +84,15 @@ impl FixedClock {
 
 impl Clock for FixedClock {
     ghost use Rattle.std.specs.Prelude.{[]};
-    ghost use Rattle.smithy_core.specs.Given.{given_of};
+    ghost use Rattle.smithy_core.specs.Given.{GainsOne, given_of};
 
     ghost given = { λ clock. given_of clock.at [] clock.count };
 
-    fn now(&mut self) -> Moment {
+    fn now(&mut self) -> Moment
+        ensures gains { GainsOne (given_of self.old.at [] self.old.count) (given_of self.new.at [] self.new.count) result }
+        ensures at { result ≡ self.old.at }
+        ensures same { self.new.at ≡ self.old.at }
+    {
         self.count = self.count.saturating_add(1);
         self.at
     }

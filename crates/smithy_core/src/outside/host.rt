@@ -15,9 +15,12 @@ pub struct StdSource<R> {
     faults: u64,
 }
 
-impl<R> StdSource<R> {
+impl<R: Read> StdSource<R> {
     /// A source over a reader.
-    pub fn new(reader: R) -> StdSource<R> {
+    pub fn new(reader: R) -> StdSource<R>
+        ensures left { ⟦<StdSource<R> as ByteSource>⟧.left result ≡ None }
+        ensures faults { ⟦<StdSource<R> as ByteSource>⟧.faults result ≡ 0 }
+    {
         StdSource { reader, faults: 0 }
     }
 }
@@ -45,9 +48,12 @@ pub struct StdSink<W> {
     faults: u64,
 }
 
-impl<W> StdSink<W> {
+impl<W: Write> StdSink<W> {
     /// A sink over a writer.
-    pub fn new(writer: W) -> StdSink<W> {
+    pub fn new(writer: W) -> StdSink<W>
+        ensures held { ⟦<StdSink<W> as ByteSink>⟧.held result ≡ None }
+        ensures faults { ⟦<StdSink<W> as ByteSink>⟧.faults result ≡ 0 }
+    {
         StdSink { writer, faults: 0 }
     }
 }
@@ -76,9 +82,11 @@ pub struct SystemClock<R> {
     runtime: R,
 }
 
-impl<R> SystemClock<R> {
+impl<R: rt::Clock> SystemClock<R> {
     /// The clock of a runtime.
-    pub fn new(runtime: R) -> SystemClock<R> {
+    pub fn new(runtime: R) -> SystemClock<R>
+        ensures { ⟦<SystemClock<R> as Clock>⟧.given result ≡ None }
+    {
         SystemClock { runtime }
     }
 }

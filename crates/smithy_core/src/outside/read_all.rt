@@ -1,6 +1,6 @@
 ghost use Rattle.std.specs.Prelude.{◌≡◌, ◌≤◌, IfOk, IsErrOf};
 ghost use Rattle.std.specs.Vec.{vec_len};
-ghost use Rattle.smithy_core.specs.Outside.{IsAllOf, IsAtEnd, IsLongerThan, Rose};
+ghost use Rattle.smithy_core.specs.Outside.{IsAllOf, IsAtEnd, IsLongerThan, IsRestOf, Rose};
 ghost use Rattle.smithy_core.specs.declared.outside.read_all.ReadFault.TheVariants.{NoMemory};
 
 use crate::outside::source::ByteSource;
@@ -27,7 +27,8 @@ impl From<AllocError> for ReadFault {
 /// # Errors
 ///
 /// [`ReadFault::Failed`] where the source's count of faults rose, [`ReadFault::TooLarge`] where the
-/// source has more bytes than the limit, [`ReadFault::NoMemory`] for want of memory.
+/// source has more bytes than the limit, [`ReadFault::NoMemory`] for want of memory. After each the source
+/// has a rest of its bytes left.
 #[tactic(auto, using(crate::proofs::CutLemmas::cuts))]
 pub fn read_all<S: ByteSource>(
     alloc: Global,
@@ -37,6 +38,7 @@ pub fn read_all<S: ByteSource>(
     ensures bytes { IfOk result (λ bytes. IsAllOf (S.left source.old) bytes.items) }
     ensures at_end { IfOk result (λ _. IsAtEnd (S.left source.new)) }
     ensures short { IfOk result (λ bytes. vec_len bytes ≤ limit) }
+    ensures rest { IsRestOf (S.left source.old) (S.left source.new) }
     ensures count { S.faults source.old ≤ S.faults source.new }
     ensures failed { IsErrOf result ReadFault.Failed → Rose (S.faults source.old) (S.faults source.new) }
     ensures too_large { IsErrOf result ReadFault.TooLarge → IsLongerThan (S.left source.old) limit }

@@ -1,5 +1,5 @@
 ghost use Rattle.std.specs.Prelude.{◌≡◌, ℕ, ◌<◌, ◌≤◌, List, [], Option, Some, length, IfOk, IfErr, OnErr, IsErrOf, ◌++◌};
-ghost use Rattle.smithy_core.specs.Outside.{GainsFront, Rose};
+ghost use Rattle.smithy_core.specs.Outside.{FailsAsListed, GainsFront, Rose};
 
 use std::alloc::Global;
 
@@ -47,6 +47,7 @@ impl FaultySink {
     pub fn new(alloc: Global, fails: Vec<u64>) -> FaultySink
         ensures held { ⟦<FaultySink as ByteSink>⟧.held result ≡ Some [] }
         ensures faults { ⟦<FaultySink as ByteSink>⟧.faults result ≡ 0 }
+        ensures fails { result.fails ≡ fails }
     {
         FaultySink {
             held: Vec::new(alloc),
@@ -69,7 +70,15 @@ impl ByteSink for FaultySink {
 
     ghost faults = { λ sink. sink.faults };
 
-    fn write(&mut self, piece: &[u8]) -> Result<usize, SinkError> {
+    fn write(&mut self, piece: &[u8]) -> Result<usize, SinkError>
+        ensures count { self.old.faults ≤ self.new.faults }
+        ensures cause { IsErrOf result SinkError.Failed → Rose self.old.faults self.new.faults }
+        ensures within { IfOk result (λ n. n ≤ length piece.now) }
+        ensures progress { IfOk result (λ n. 0 < length piece.now → 0 < n) }
+        ensures gains { IfOk result (λ n. GainsFront n piece.now (Some self.old.held.items) (Some self.new.held.items)) }
+        ensures kept { OnErr result (Some self.new.held.items ≡ Some self.old.held.items) }
+        ensures listed { FailsAsListed (IsErrOf result SinkError.Failed) self.old.fails.items self.old.calls self.new.fails.items self.new.calls }
+    {
         self.calls = self.calls.saturating_add(1);
         if self.fails.contains(&self.calls) {
             self.faults = self.faults.saturating_add(1);

@@ -1,5 +1,5 @@
-ghost use Rattle.std.specs.Prelude.{◌≡◌, ℕ, ◌<◌, ◌≤◌, List, [], Option, Some, drop, length, Ok, IfOk, OnErr};
-ghost use Rattle.smithy_core.specs.Outside.{IsAtEnd, Rose, TakesFront};
+ghost use Rattle.std.specs.Prelude.{◌≡◌, ℕ, ◌<◌, ◌≤◌, List, [], Option, Some, drop, length, Ok, IfOk, OnErr, IsErr};
+ghost use Rattle.smithy_core.specs.Outside.{FailsAsListed, IsAtEnd, Rose, TakesFront};
 
 /// A call of the outside failed.
 #[derive(Clone, Copy, Debug, PartialEq, Eq)]
@@ -45,6 +45,7 @@ impl FaultySource {
     pub fn new(content: Vec<u8>, fails: Vec<u64>) -> FaultySource
         ensures left { ⟦<FaultySource as ByteSource>⟧.left result ≡ Some content.items }
         ensures faults { ⟦<FaultySource as ByteSource>⟧.faults result ≡ 0 }
+        ensures fails { result.fails ≡ fails }
     {
         FaultySource {
             content,
@@ -68,7 +69,15 @@ impl ByteSource for FaultySource {
 
     ghost faults = { λ source. source.faults };
 
-    fn read(&mut self, into: &mut [u8]) -> Result<usize, Failed> {
+    fn read(&mut self, into: &mut [u8]) -> Result<usize, Failed>
+        ensures count { self.old.faults ≤ self.new.faults }
+        ensures cause { OnErr result (Rose self.old.faults self.new.faults) }
+        ensures within { IfOk result (λ n. n ≤ length into.old) }
+        ensures taken { IfOk result (λ n. TakesFront n into.new (Some (drop self.old.at self.old.content.items)) (Some (drop self.new.at self.new.content.items))) }
+        ensures at_end { result ≡ Ok 0 → 0 < length into.old → drop self.new.at self.new.content.items ≡ [] }
+        ensures kept { OnErr result (Some (drop self.new.at self.new.content.items) ≡ Some (drop self.old.at self.old.content.items)) }
+        ensures listed { FailsAsListed (IsErr result) self.old.fails.items self.old.calls self.new.fails.items self.new.calls }
+    {
         self.calls = self.calls.saturating_add(1);
         if self.fails.contains(&self.calls) {
             self.faults = self.faults.saturating_add(1);

@@ -1,4 +1,4 @@
-ghost use Rattle.std.specs.Prelude.{◌≡◌, ◌≤◌, ◌++◌, ℕ, List, Some, None, Ok, true, map, length, OnOk, OnErr, IsErrOf};
+ghost use Rattle.std.specs.Prelude.{◌≡◌, ◌≤◌, ◌++◌, ℕ, List, Some, None, Ok, true, map, length, IfErr, OnOk, OnErr, IsErrOf};
 ghost use Rattle.std.specs.List.{AllByRecursion};
 ghost use Rattle.std.specs.String.{string_bytes};
 ghost use Rattle.smithy_core.specs.Civil.{IsInYears};
@@ -7,7 +7,7 @@ ghost use Rattle.eventstream.specs.Key.{Signer};
 ghost use Rattle.signed_stream.specs.Job.{is_plain_target, job, plain_job};
 ghost use Rattle.signed_stream.specs.Plan.{Plan, ask, ask_plan, case_of, has_later_variable, input_plan, job_plan, most_input, settings_plan};
 ghost use Rattle.signed_stream.specs.Reading.{plain_of, settings_of};
-ghost use Rattle.signed_stream.specs.Run.{EndsAsAsked, EndsAsPlanned, Fits, GainsAsPlanned, Keeps, Says, Streams};
+ghost use Rattle.signed_stream.specs.Run.{IsEarly, ask_told, EndsAsAsked, EndsAsPlanned, Fits, GainsAsPlanned, Keeps, Says, Streams};
 ghost use Rattle.signed_stream.specs.Signing.{case_with, signer_under};
 ghost use Rattle.sigv4.specs.Signing.{unsignable};
 ghost use Rattle.signed_stream.specs.Stream.{IsStreamable, chain_lines};
@@ -15,12 +15,12 @@ ghost use Rattle.signed_stream.specs.Written.{written};
 
 use crate::halt::Halt;
 use crate::job::{Job, JobFault, read_job};
-use crate::say::say;
+use crate::saying::say;
 use crate::sign::sign_request;
 use crate::signing::Signing;
 use crate::status::{Status, StreamFault};
 use crate::stream::{stream_events, write_text};
-use crate::words::{WordsFault, read_words};
+use crate::words::{StreamWords, WordsFault, read_words};
 use crate::written::head_of;
 use sigv4::event_stream::SigningParams;
 use smithy_core::{
@@ -73,6 +73,7 @@ pub fn run<S: ByteSource, D: Disk, C: Clock, K: ByteSink, E: ByteSink>(
 }
 
 // Does what the words ask for, and answers how it ended.
+#[tactic(auto, using(crate::proofs::RunLemmas::ends_of_runs))]
 fn answer<S: ByteSource, K: ByteSink>(
     alloc: Global,
     words: &[String],
@@ -90,11 +91,23 @@ fn answer<S: ByteSource, K: ByteSink>(
     ensures outside { (result ≡ Status.Done → IsAtEnd (S.left input.new))
         × (S.faults input.old ≤ S.faults input.new) × (K.faults out.old ≤ K.faults out.new) }
 {
-    match read_words(words) {
-        Err(WordsFault::BadWord(place)) => Status::BadWords(place),
-        Err(WordsFault::NotBuilt(place)) => Status::NotBuilt(place),
-        Ok(_) if has_later_variable(env) => Status::NotBuilt(0),
+    match read_ask(words, env) {
         Ok(words) => stream_input(alloc, words.name, words.at, input, out),
+        Err(status) => status,
+    }
+}
+
+// What the words and the variables ask for, or how they end the run.
+#[tactic(auto, unfolding(crate::specs::Plan::ask))]
+fn read_ask<'a>(words: &'a [String], env: &Env) -> Result<StreamWords<'a>, Status>
+    ensures told { ask_told result ≡ ask (map string_bytes words.now) env.now }
+    ensures early { IfErr result IsEarly }
+{
+    match read_words(words) {
+        Err(WordsFault::BadWord(place)) => Err(Status::BadWords(place)),
+        Err(WordsFault::NotBuilt(place)) => Err(Status::NotBuilt(place)),
+        Ok(_) if has_later_variable(env) => Err(Status::NotBuilt(0)),
+        Ok(words) => Ok(words),
     }
 }
 

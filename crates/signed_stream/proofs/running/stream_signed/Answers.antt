@@ -3,7 +3,7 @@ use Rattle.std.specs.Prelude.{string_bytes}
 use Rattle.signed_stream.specs.Written.{written}
 use Rattle.signed_stream.proofs.RunLemmas.{back_cut}
 use Rattle.signed_stream.proofs.StreamLemmas.{on_err_any}
-use Rattle.signed_stream.proofs.run.stream_signed.Goals as goal
+use Rattle.signed_stream.proofs.running.stream_signed.Goals as goal
 
 pub returns-in_err-stream_under-clause-err : goal.returns-in_err-stream_under-clause-err
 unfolding written

@@ -1,7 +1,7 @@
 use Rattle.std.proofs.Common.{◌≤◌, length, refl, inl, arith}
 use Rattle.signed_stream.specs.Plan.{input_plan, most_input}
 use Rattle.signed_stream.proofs.RunLemmas.{fits_ends, fits_gains, gains_no_memory, plan_of_read, plan_too_large}
-use Rattle.signed_stream.proofs.run.stream_input.Goals as goal
+use Rattle.signed_stream.proofs.running.stream_input.Goals as goal
 
 pub returns-in-Ok-clause-planned : goal.returns-in-Ok-clause-planned
 returns-in-Ok-clause-planned g c = λ bytes told.

@@ -1,0 +1,68 @@
+ghost use Rattle.std.specs.Prelude.{◌≡◌, map, is_some};
+ghost use Rattle.std.specs.String.{string_bytes};
+ghost use Rattle.firuvaik.specs.Asked.{asks_text, is_asking};
+
+const HELP: &str = "\
+firuvaik signs a request and streams its events as a chain of signed frames.
+
+usage: firuvaik stream --name NAME --at N    (the options in either order)
+       firuvaik --help | --version
+
+NAME is the signing name of the service: letters, digits and `-`. N is the
+moment: seconds since 1970-01-01T00:00:00Z, in the years 0 to 9999.
+Standard input is the job, in these lines, and standard output gets the signed
+head and a line of hexadecimal for each frame.
+
+  method METHOD              once
+  target https://HOST/PATH   once
+  header NAME: VALUE         any number
+  credentials [default]      once, and then these; the last one of a key counts:
+  credentials KEY = VALUE    aws_access_key_id, aws_secret_access_key, region
+  event                      begins an event; the lines above stand before all
+  h NAME text TEXT           a header of the event
+  payload HEX                at most once an event
+
+Exit status, and its line on standard error; N counts words or lines from 1:
+  0 (no line)       2 bad word N    3 input over 67108864 bytes
+  4 bad line N      5 read fault    7 refused CODE NAME
+  9 output fault   10 no memory    11 not built N
+";
+
+const VERSION: &str = "firuvaik 0.1.0\n";
+
+/// The text that a single word asks for.
+pub fn text_asked(words: &[String]) -> Option<&'static str>
+    ensures { is_some result ≡ asks_text (map string_bytes words.now) }
+{
+    match words {
+        [word] => text_of(word.as_str()),
+        _ => None,
+    }
+}
+
+// The text that a word asks for.
+fn text_of(word: &str) -> Option<&'static str>
+    ensures { is_some result ≡ is_asking word.now }
+{
+    match word {
+        "--help" => Some(HELP),
+        "--version" => Some(VERSION),
+        _ => None,
+    }
+}
+
+#[cfg(test)]
+mod tests {
+    use super::{HELP, text_of};
+    use std::test::Fail;
+
+    #[test]
+    fn help_fits_a_screen(rt: HostRuntime) -> Result<(), Fail> {
+        assert!(rt; HELP.lines().count() <= 24);
+        assert!(rt; HELP.lines().all(|line| line.len() <= 80));
+        assert_eq!(rt; text_of("--help"), Some(HELP));
+        assert_eq!(rt; text_of("--version"), Some("firuvaik 0.1.0\n"));
+        assert_eq!(rt; text_of("stream"), None);
+        Ok(())
+    }
+}

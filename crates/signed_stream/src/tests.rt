@@ -1,0 +1,209 @@
+//! Runs on the objects in memory: the answers, and what the output and `err` hold after each.
+use crate::{Status, StreamFault, run};
+use smithy_core::{
+    ByteSink, CalmDisk, CalmSink, CalmSource, Env, FaultySink, FaultySource, FixedClock, Moment,
+};
+use std::alloc::{AllocError, Global};
+use std::test::Fail;
+
+/// A job with one event.
+const JOB: &str =
+    "method POST\ntarget https://transcribe.us-east-1.amazonaws.com/stream\nheader content-type: application/vnd.amazon.eventstream\ncredentials [default]\ncredentials aws_access_key_id = AKIDEXAMPLE\ncredentials aws_secret_access_key = wJalrXUtnFEMI/K7MDENG+bPxRfiCYEXAMPLEKEY\ncredentials region = us-east-1\nevent\nh :message-type text event\npayload 68656c6c6f\n";
+
+/// The head of its signed request, at 20150830T123600Z for the service `transcribe`.
+const HEAD: &str =
+    "POST https://transcribe.us-east-1.amazonaws.com/stream\ncontent-type: application/vnd.amazon.eventstream\nx-amz-date: 20150830T123600Z\nauthorization: AWS4-HMAC-SHA256 Credential=AKIDEXAMPLE/20150830/us-east-1/transcribe/aws4_request, SignedHeaders=content-type;host;x-amz-date, Signature=b7db4a80bf8b321aa7c8af3c621b0cf7eb74b977fd5567af56334e248464d66c\n\n";
+
+/// The frame of its event, and the closing frame.
+const EVENT: &str =
+    "0000007e00000043cc1591ed103a6368756e6b2d7369676e61747572650600201f21cef2f6ef80602e68b53cf8eef518cad870abf5992bb709a9975bcc5b2736053a64617465080000014f7e9b6f800000002b0000001627e7742d0d3a6d6573736167652d747970650700056576656e7468656c6c6fcc8019328c848f53\n";
+
+const CLOSING: &str =
+    "0000005300000043f5447a58103a6368756e6b2d7369676e6174757265060020624d8899799296b936e200257d28d8bc1e2316e008dfdfb05f5e49ccff660a6f053a64617465080000014f7e9b6f80a703f498\n";
+
+const WORDS: &[&str] = &["stream", "--name", "transcribe", "--at", "1440938160"];
+
+fn texts(alloc: Global, words: &[&str]) -> Result<Vec<String>, AllocError> {
+    let mut out = Vec::new(alloc);
+    for word in words {
+        out.push(String::from_str(alloc, word)?)?;
+    }
+    Ok(out)
+}
+
+// A run on these words, an input, an output and an `err`.
+fn run_on<K: ByteSink, E: ByteSink>(
+    alloc: Global,
+    words: &[&str],
+    input: &mut FaultySource,
+    out: &mut K,
+    err: &mut E,
+) -> Result<Status, AllocError> {
+    let words = texts(alloc, words)?;
+    let mut disk = CalmDisk::new(Vec::new(alloc));
+    let mut clock = FixedClock::new(Moment::new(0, 0));
+    let env = Env::new(alloc);
+    Ok(run(
+        alloc,
+        words.as_slice(),
+        &env,
+        input,
+        &mut disk,
+        &mut clock,
+        out,
+        err,
+    ))
+}
+
+fn input_of(alloc: Global, bytes: &[u8], fails: &[u64]) -> Result<FaultySource, AllocError> {
+    Ok(FaultySource::new(
+        Vec::from_slice(alloc, bytes)?,
+        Vec::from_slice(alloc, fails)?,
+    ))
+}
+
+#[test]
+fn answers(rt: HostRuntime) -> Result<(), Fail> {
+    let alloc = rt.alloc();
+    let lacks_region = JOB.replace(alloc, "credentials region = us-east-1\n", "")?;
+    let lacks_secret = JOB.replace(alloc, "aws_secret_access_key", "aws_other_key")?;
+    let number_header = JOB.replace(alloc, "h :message-type text event", "h n i32 1")?;
+    let short: &[&str] = &["stream", "--name", "a", "--at", "1440938160"];
+    let cases = [
+        (WORDS, JOB, Status::Done, ""),
+        (
+            WORDS,
+            lacks_region.as_str(),
+            Status::Refused(StreamFault::MissingSigningRegion),
+            "refused 3 MissingSigningRegion\n",
+        ),
+        (
+            WORDS,
+            lacks_secret.as_str(),
+            Status::Refused(StreamFault::MissingCredentials),
+            "refused 2 MissingCredentials\n",
+        ),
+        (
+            WORDS,
+            number_header.as_str(),
+            Status::NotBuilt(9),
+            "not built 9\n",
+        ),
+        (short, "", Status::BadJob(1), "bad line 1\n"),
+        (
+            short,
+            "method GET\nfoo bar\n",
+            Status::BadJob(2),
+            "bad line 2\n",
+        ),
+        (&["stream"], JOB, Status::BadWords(2), "bad word 2\n"),
+        (&["check"], JOB, Status::NotBuilt(1), "not built 1\n"),
+    ];
+    for (words, job, status, line) in cases {
+        let mut input = input_of(alloc, job.as_bytes(), &[])?;
+        let mut out = FaultySink::new(alloc, Vec::new(alloc));
+        let mut err = FaultySink::new(alloc, Vec::new(alloc));
+        let answer = run_on(alloc, words, &mut input, &mut out, &mut err)?;
+        assert_eq!(rt; answer, status, "of {line:?}");
+        assert_eq!(rt; err.held(), line.as_bytes());
+        assert_eq!(rt; out.held().is_empty(), status != Status::Done);
+    }
+    Ok(())
+}
+
+// What the output holds where it fails at each of its writes, and where it doesn't.
+#[test]
+fn output_faults(rt: HostRuntime) -> Result<(), Fail> {
+    let alloc = rt.alloc();
+    let held = [
+        String::new(alloc),
+        String::from_str(alloc, HEAD)?,
+        format!(in alloc; "{HEAD}{EVENT}")?,
+        format!(in alloc; "{HEAD}{EVENT}{CLOSING}")?,
+    ];
+    for (writes, held) in held.iter().enumerate() {
+        let mut input = input_of(alloc, JOB.as_bytes(), &[])?;
+        let mut out = FaultySink::new(alloc, vec![in alloc; writes as u64 + 1]?);
+        let mut err = FaultySink::new(alloc, Vec::new(alloc));
+        let answer = run_on(alloc, WORDS, &mut input, &mut out, &mut err)?;
+        let done = writes == 3;
+        assert_eq!(rt;
+            answer,
+            if done {
+                Status::Done
+            } else {
+                Status::OutputFault
+            }
+        );
+        assert_eq!(rt; out.held(), held.as_bytes());
+        let line = if done { "" } else { "output fault\n" };
+        assert_eq!(rt; err.held(), line.as_bytes());
+    }
+    Ok(())
+}
+
+#[test]
+fn other_faults(rt: HostRuntime) -> Result<(), Fail> {
+    let alloc = rt.alloc();
+    for fail in [1u64, 2] {
+        let mut input = input_of(alloc, JOB.as_bytes(), &[fail])?;
+        let mut out = CalmSink::new(alloc);
+        let mut err = FaultySink::new(alloc, Vec::new(alloc));
+        let answer = run_on(alloc, WORDS, &mut input, &mut out, &mut err)?;
+        assert_eq!(rt; answer, Status::ReadFault);
+        assert!(rt; out.held().is_empty());
+        assert_eq!(rt; err.held(), b"read fault\n".as_slice());
+    }
+    let mut input = input_of(alloc, b"foo", &[])?;
+    let mut out = CalmSink::new(alloc);
+    let mut err = FaultySink::new(alloc, vec![in alloc; 1u64]?);
+    let answer = run_on(alloc, WORDS, &mut input, &mut out, &mut err)?;
+    assert_eq!(rt; answer, Status::BadJob(1));
+    assert!(rt; err.held().is_empty());
+    Ok(())
+}
+
+// Variables that aren't built are refused after the words and before the input.
+#[test]
+fn variables(rt: HostRuntime) -> Result<(), Fail> {
+    let alloc = rt.alloc();
+    for name in ["AWS_PROFILE", "AWS_REGION"] {
+        let mut env = Env::new(alloc);
+        env.set(name, "a")?;
+        let words = texts(alloc, WORDS)?;
+        let mut input = CalmSource::new(Vec::new(alloc));
+        let mut disk = CalmDisk::new(Vec::new(alloc));
+        let mut clock = FixedClock::new(Moment::new(0, 0));
+        let mut out = CalmSink::new(alloc);
+        let mut err = CalmSink::new(alloc);
+        let answer = run(
+            alloc,
+            words.as_slice(),
+            &env,
+            &mut input,
+            &mut disk,
+            &mut clock,
+            &mut out,
+            &mut err,
+        );
+        assert_eq!(rt; answer, Status::NotBuilt(0));
+        assert_eq!(rt; err.held(), b"not built 0\n".as_slice());
+    }
+    Ok(())
+}
+
+fn too_many() -> usize {
+    67_108_865
+}
+
+#[test]
+fn large_input(rt: HostRuntime) -> Result<(), Fail> {
+    let alloc = rt.alloc();
+    let mut input = FaultySource::new(vec![in alloc; b'a'; too_many()]?, Vec::new(alloc));
+    let mut out = CalmSink::new(alloc);
+    let mut err = CalmSink::new(alloc);
+    let answer = run_on(alloc, WORDS, &mut input, &mut out, &mut err)?;
+    assert_eq!(rt; answer, Status::JobTooLarge);
+    assert_eq!(rt; err.held(), b"input over 67108864 bytes\n".as_slice());
+    Ok(())
+}
