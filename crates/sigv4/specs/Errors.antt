@@ -1,6 +1,7 @@
 -- What the errors of the layer below become, and what is printed.
-use Rattle.std.specs.Prelude.{ℕ, List, ◌++◌, codes, Option, Some, None}
+use Rattle.std.specs.Prelude.{ℕ, List, ◌++◌, codes}
 use Rattle.std.specs.Fmt.{signed_decimal}
+use Rattle.eventstream.specs.Errors.{text_of as encoding_text}
 use Rattle.eventstream.specs.declared.error.Error.{Error}
 use Rattle.eventstream.specs.declared.error.ErrorKind.{ErrorKind}
 use Rattle.eventstream.specs.declared.error.ErrorKind.TheVariants.{HeadersTooLong, HeaderValueTooLong, InvalidHeaderNameLength, MessageTooLong, PayloadTooLong, TimestampValueTooLarge, Marshalling, Unmarshalling, NoMemory as NoRoom}
@@ -23,9 +24,9 @@ error_for NoRoom error = NoMemory
 abbrev pub error_of : Error → SigningError
 error_of error = error_for error.kind error
 
--- what is printed, where it is told
-abbrev pub printed : SigningError → Option (List ℕ)
-printed UnsupportedIdentityType = Some (codes "only AWS credentials are supported for signing")
-printed (FailedToEncodeMessage error) = None
-printed (MomentOutOfRange t) = Some (codes "moment " ++ (signed_decimal t.secs ++ codes " is outside the years 0 to 9999"))
-printed NoMemory = Some (codes "no memory")
+-- what is printed
+abbrev pub text_of : SigningError → List ℕ
+text_of UnsupportedIdentityType = codes "only AWS credentials are supported for signing"
+text_of (FailedToEncodeMessage error) = codes "failed to encode message: " ++ encoding_text error.kind
+text_of (MomentOutOfRange t) = codes "moment " ++ (signed_decimal t.secs ++ codes " is outside the years 0 to 9999")
+text_of NoMemory = codes "no memory"

@@ -16,9 +16,10 @@ pub enum SigningError {
 }
 
 impl fmt::Display for SigningError {
-    ghost use Rattle.sigv4.specs.Errors.{printed};
+    ghost use Rattle.std.specs.Prelude.{Some};
+    ghost use Rattle.sigv4.specs.Errors.{text_of};
 
-    ghost output = { λ error. printed error };
+    ghost output = { λ error. Some (text_of error) };
 
     fn fmt<W: fmt::Write>(&self, f: &mut fmt::Formatter<W>) -> fmt::Result {
         match self {
