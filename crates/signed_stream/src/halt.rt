@@ -3,7 +3,9 @@ use std::alloc::AllocError;
 /// Why an output isn't whole.
 #[derive(Clone, Copy, Debug, PartialEq, Eq)]
 pub enum Halt {
+    /// The output failed.
     OutputFault,
+    /// Memory ran out.
     NoMemory,
 }
 

@@ -1,4 +1,9 @@
 //! Signs a request and streams its events as a chain of signed frames.
+//!
+//! The program is promised that where [`run`] answers [`Status::Done`], the output gained exactly the head of
+//! the signed request and then the chain of the events; that each other answer comes exactly where words,
+//! variables and input ask for it, or for a fault of the outside or want of memory; and what output and `err`
+//! gained after each (`specs/Run.antt`, `specs/Plan.antt`).
 #![tactic(auto)]
 
 mod canonical;

@@ -13,6 +13,7 @@ pub enum StreamFault {
 /// How a run ended.
 #[derive(Clone, Copy, Debug, PartialEq, Eq)]
 pub enum Status {
+    /// All was written.
     Done,
     /// The word at this place is bad; places count from 1.
     BadWords(usize),
@@ -20,9 +21,13 @@ pub enum Status {
     JobTooLarge,
     /// The line at this place is bad; places count from 1.
     BadJob(usize),
+    /// The input failed.
     ReadFault,
+    /// The job can't be streamed.
     Refused(StreamFault),
+    /// The output failed; it holds a front of the text.
     OutputFault,
+    /// Memory ran out; the output holds a front of the text.
     NoMemory,
     /// The word or line at this place is of a form that isn't built; 0 for a variable.
     NotBuilt(usize),
