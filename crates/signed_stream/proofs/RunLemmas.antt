@@ -1,9 +1,9 @@
 -- How a run ends, and what it writes.
-use Rattle.std.proofs.Common.{◌≡◌, ℕ, ◌<◌, ◌≤◌, ◌⊎◌, inl, inr, true, false, nat_lt, List, [], ◌++◌, length, Option, Some, None, refl, sym, ◌∙◌, arith}
+use Rattle.std.proofs.Common.{◌≡◌, ℕ, ◌<◌, ◌≤◌, ◌⊎◌, inl, inr, true, false, nat_lt, List, [], ◌++◌, length, Option, Some, None, refl, ◌∙◌, arith}
 use Rattle.std.proofs.lemmas.Bool.Decides.{nat_tests}
 use Rattle.smithy_core.specs.Instant.{Instant}
 use Rattle.smithy_core.specs.Outside.{Gains, GainsPrefix, IsAllOf, IsLongerThan}
-use Rattle.smithy_core.proofs.GainLemmas.{gains_front, gains_join, prefix_at_start, prefix_from_whole, prefix_join, prefix_within}
+use Rattle.smithy_core.proofs.GainLemmas.{gains_front, gains_join, prefix_at_start, prefix_join, prefix_within}
 use Rattle.signed_stream.specs.Plan.{Ask, ask_plan, ends, streams, Plan, stops, writes, input_plan, job_plan, most_input}
 use Rattle.signed_stream.specs.Job.{job}
 use Rattle.signed_stream.specs.Run.{EndsAsAsked, EndsAsPlanned, Fits, GainsAsPlanned, Keeps}

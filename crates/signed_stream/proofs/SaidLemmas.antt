@@ -1,11 +1,10 @@
 -- A run that says how it ended: the end stays, or want of memory takes its place.
-use Rattle.std.proofs.Common.{◌≡◌, ℕ, ◌⊎◌, inl, inr, Bool, true, false, List, Option, Some, None, nat_lt, length, refl, sym, ◌∙◌, ap}
+use Rattle.std.proofs.Common.{◌≡◌, ℕ, ◌⊎◌, inl, inr, Bool, true, false, List, Option, Some, None, nat_lt, length, refl, sym, ◌∙◌}
 use Rattle.std.specs.Prelude.{if◌then◌else◌}
 use Rattle.smithy_core.specs.Instant.{Instant}
-use Rattle.smithy_core.specs.Outside.{Gains, GainsPrefix}
 use Rattle.smithy_core.proofs.GainLemmas.{prefix_at_start, prefix_from_whole}
 use Rattle.signed_stream.specs.Command.{Command, bad_word, unbuilt_word, stream, command}
-use Rattle.signed_stream.specs.Job.{PlainJob, Reading, Settings, plain_job, bad_line, unbuilt_line, job}
+use Rattle.signed_stream.specs.Job.{PlainJob, Reading, plain_job, bad_line, unbuilt_line, job}
 use Rattle.signed_stream.specs.Plan.{Ask, ends, streams, Plan, stops, writes, ask, ask_plan, command_ask, has_later_variable, input_plan, job_plan, most_input, settings_plan}
 use Rattle.signed_stream.specs.Run.{EndsAsAsked, EndsAsPlanned, GainsAsPlanned, Keeps, Streams}
 use Rattle.signed_stream.proofs.RunLemmas.{ends_no_memory}

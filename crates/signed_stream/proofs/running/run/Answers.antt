@@ -1,8 +1,7 @@
 use Rattle.std.proofs.Common.{◌≡◌, map, refl}
 use Rattle.std.specs.Prelude.{string_bytes}
-use Rattle.signed_stream.specs.Plan.{ask, ask_plan}
 use Rattle.signed_stream.proofs.SaidLemmas.{said_asked, said_gains, said_is, said_keeps, said_planned, streams_when_done}
-use Rattle.signed_stream.specs.declared.status.Status.TheVariants.{Done, ReadFault, OutputFault, NoMemory}
+use Rattle.signed_stream.specs.declared.status.Status.TheVariants.{Done, ReadFault, OutputFault}
 use Rattle.signed_stream.proofs.running.run.Goals as goal
 
 pub returns-clause-headline : goal.returns-clause-headline

@@ -1,4 +1,3 @@
-use Rattle.std.proofs.Common.{arith}
 use Rattle.signed_stream.specs.Job.{job}
 use Rattle.signed_stream.specs.Plan.{job_plan}
 use Rattle.signed_stream.specs.Reading.{plain_of}

@@ -1,5 +1,3 @@
-use Rattle.std.proofs.Common.{◌≡◌, List, ℕ}
-use Rattle.std.specs.Prelude.{string_bytes}
 use Rattle.signed_stream.specs.Written.{written}
 use Rattle.signed_stream.proofs.RunLemmas.{back_cut}
 use Rattle.signed_stream.proofs.StreamLemmas.{on_err_any}

@@ -1,8 +1,7 @@
-use Rattle.std.proofs.Common.{◌≡◌, [], ◌+◌, List, drop, arith}
+use Rattle.std.proofs.Common.{◌≡◌, [], ◌+◌, drop, arith}
 use Rattle.std.proofs.Math.ListN.{drop_of_length-le}
 use Rattle.std.specs.Prelude.{string_bytes}
 use Rattle.sigv4.specs.Params.{signer_of}
-use Rattle.smithy_core.specs.Parts.{Parts}
 use Rattle.signed_stream.proofs.StreamLemmas.{event_front, last_cut, last_whole, on_err_any, on_err_map, on_ok_map, rest_cut, rest_more}
 use Rattle.signed_stream.proofs.stream.stream_events.Goals as goal
 
