@@ -1,28 +1,42 @@
 -- The kinds of errors.
 use Rattle.std.specs.Prelude.{ℕ, Bool, true, false, List, ◌++◌, codes, string_bytes}
-use Rattle.std.specs.Fmt.{signed_decimal}
+use Rattle.std.specs.Fmt.{decimal, digits, signed_decimal}
 use Rattle.eventstream.specs.declared.error.ErrorKind.{ErrorKind}
-use Rattle.eventstream.specs.declared.error.ErrorKind.TheVariants.{HeadersTooLong, HeaderValueTooLong, InvalidHeaderNameLength, MessageTooLong, PayloadTooLong, TimestampValueTooLarge, Marshalling, Unmarshalling, NoMemory}
+use Rattle.eventstream.specs.declared.error.ErrorKind.TheVariants.{HeadersTooLong, HeaderValueTooLong, InvalidHeaderNameLength, InvalidHeaderValue, InvalidHeaderValueType, InvalidHeadersLength, InvalidMessageLength, InvalidUtf8String, MessageChecksumMismatch, MessageTooLong, PayloadTooLong, PreludeChecksumMismatch, TimestampValueTooLarge, Marshalling, Unmarshalling, NoMemory}
 
 -- the message itself is at fault
 abbrev pub is_invalid_message : ErrorKind → Bool
 is_invalid_message HeadersTooLong = true
 is_invalid_message HeaderValueTooLong = true
-is_invalid_message InvalidHeaderNameLength = true
-is_invalid_message MessageTooLong = true
 is_invalid_message PayloadTooLong = true
+is_invalid_message MessageTooLong = true
+is_invalid_message InvalidHeaderNameLength = true
 is_invalid_message (TimestampValueTooLarge moment) = true
 is_invalid_message (Marshalling message) = true
-is_invalid_message (Unmarshalling message) = false
-is_invalid_message NoMemory = false
+is_invalid_message _ = false
+
+-- a number in upper-case hexadecimal digits
+abbrev pub upper_hex : ℕ → List ℕ
+upper_hex n = digits 16 true n
+
+-- the text of two checksums that differ
+abbrev pub mismatch : ℕ → ℕ → List ℕ
+mismatch computed carried = codes " checksum 0x" ++ (upper_hex carried ++ (codes " didn't match expected checksum 0x" ++ upper_hex computed))
 
 -- what is printed
 abbrev pub text_of : ErrorKind → List ℕ
 text_of HeadersTooLong = codes "headers too long to fit in event stream frame"
 text_of HeaderValueTooLong = codes "header value too long to fit in event stream frame"
 text_of InvalidHeaderNameLength = codes "invalid header name length"
+text_of InvalidHeaderValue = codes "invalid header value"
+text_of (InvalidHeaderValueType kind) = codes "invalid header value type: " ++ decimal kind
+text_of InvalidHeadersLength = codes "invalid headers length"
+text_of InvalidMessageLength = codes "invalid message length"
+text_of InvalidUtf8String = codes "encountered invalid UTF-8 string"
+text_of (MessageChecksumMismatch computed carried) = codes "message" ++ mismatch computed carried
 text_of MessageTooLong = codes "message too long to fit in event stream frame"
 text_of PayloadTooLong = codes "message payload too long to fit in event stream frame"
+text_of (PreludeChecksumMismatch computed carried) = codes "prelude" ++ mismatch computed carried
 text_of (TimestampValueTooLarge moment) = codes "timestamp value " ++ (signed_decimal moment.secs ++ codes " is too large to fit into an i64")
 text_of (Marshalling message) = codes "failed to marshall message: " ++ string_bytes message
 text_of (Unmarshalling message) = codes "failed to unmarshall message: " ++ string_bytes message

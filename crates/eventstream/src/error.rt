@@ -6,17 +6,40 @@ use smithy_core::DateTime;
 use std::alloc::AllocError;
 use std::fmt;
 
-/// Why a message isn't written, or an event is no message.
+/// Why a message isn't written or read, or an event is no message.
 #[derive(Debug, Drop)]
 pub enum ErrorKind {
+    /// The header block of a message passes 4,294,967,295 bytes.
     HeadersTooLong,
+    /// The byte array or the text of a header passes 32,767 bytes.
     HeaderValueTooLong,
+    /// The name of a header passes 255 bytes, or the bytes that are there.
     InvalidHeaderNameLength,
+    /// The value of a header passes the bytes that are there, or the header block.
+    InvalidHeaderValue,
+    /// No kind of value has this byte.
+    InvalidHeaderValueType(u8),
+    /// The header block is too short for a header, or passes the frame.
+    InvalidHeadersLength,
+    /// The frame is shorter than the least one, or longer than the bytes that are there.
+    InvalidMessageLength,
+    /// A name or a text isn't UTF-8.
+    InvalidUtf8String,
+    /// The checksum of the bytes of the frame, and the other one that it carries.
+    MessageChecksumMismatch(u32, u32),
+    /// The frame of a message passes 4,294,967,295 bytes.
     MessageTooLong,
+    /// The payload of a message passes 4,294,967,295 bytes.
     PayloadTooLong,
+    /// The checksum of the two lengths, and the other one that the frame carries.
+    PreludeChecksumMismatch(u32, u32),
+    /// The whole milliseconds of a moment leave `i64`.
     TimestampValueTooLarge(DateTime),
+    /// An event is no message.
     Marshalling(String),
+    /// A message is no event.
     Unmarshalling(String),
+    /// Memory ran out.
     NoMemory,
 }
 
@@ -84,11 +107,24 @@ impl fmt::Display for Error {
                 f.write_str("header value too long to fit in event stream frame")
             }
             ErrorKind::InvalidHeaderNameLength => f.write_str("invalid header name length"),
+            ErrorKind::InvalidHeaderValue => f.write_str("invalid header value"),
+            ErrorKind::InvalidHeaderValueType(kind) => {
+                write!(f, "invalid header value type: {kind}")
+            }
+            ErrorKind::InvalidHeadersLength => f.write_str("invalid headers length"),
+            ErrorKind::InvalidMessageLength => f.write_str("invalid message length"),
+            ErrorKind::InvalidUtf8String => f.write_str("encountered invalid UTF-8 string"),
+            ErrorKind::MessageChecksumMismatch(computed, carried) => {
+                write!(f, "message checksum 0x{carried:X} didn't match expected checksum 0x{computed:X}")
+            }
             ErrorKind::MessageTooLong => {
                 f.write_str("message too long to fit in event stream frame")
             }
             ErrorKind::PayloadTooLong => {
                 f.write_str("message payload too long to fit in event stream frame")
+            }
+            ErrorKind::PreludeChecksumMismatch(computed, carried) => {
+                write!(f, "prelude checksum 0x{carried:X} didn't match expected checksum 0x{computed:X}")
             }
             ErrorKind::TimestampValueTooLarge(moment) => {
                 let secs = moment.secs();

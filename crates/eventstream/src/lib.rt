@@ -7,6 +7,7 @@
 #![tactic(auto)]
 
 mod error;
+mod read;
 #[cfg(test)]
 mod tests;
 mod write;

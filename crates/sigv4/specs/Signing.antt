@@ -1,6 +1,7 @@
 -- What signing a message promises.
-use Rattle.std.specs.Prelude.{◌≡◌, ℕ, ◌⊎◌, List, pos, negsuc, int_le, ◌&&◌, Bool, if◌then◌else◌, Option, Some, None, Result, Ok, Err, option_map, string_bytes}
+use Rattle.std.specs.Prelude.{◌≡◌, ℕ, ◌⊎◌, List, if◌then◌else◌, Option, Some, None, Result, Ok, Err, option_map, string_bytes}
 use Rattle.std.specs.Option.{option_or}
+use Rattle.smithy_core.specs.Civil.{is_in_years}
 use Rattle.smithy_core.specs.Instant.{Instant}
 use Rattle.smithy_core.specs.Parts.{Parts}
 use Rattle.smithy_core.specs.declared.identity.Identity.{Identity}
@@ -13,10 +14,6 @@ use Rattle.sigv4.specs.declared.error.SigningError.{SigningError}
 use Rattle.sigv4.specs.declared.error.SigningError.TheVariants.{FailedToEncodeMessage, MomentOutOfRange, NoMemory, UnsupportedIdentityType}
 use Rattle.sigv4.specs.declared.output.SigningOutput.{SigningOutput}
 use Rattle.sigv4.specs.declared.params.SigningParams.{SigningParams}
-
--- whether the moment lies in the years 0 to 9999
-abbrev pub is_in_years : Instant → Bool
-is_in_years t = int_le (negsuc 62167219199) t.secs && int_le t.secs (pos 253402300799)
 
 -- why an identity doesn't sign at a moment: it has no secret, or the moment lies outside the years
 abbrev pub unsignable : Identity → Instant → Option SigningError

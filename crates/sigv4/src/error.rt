@@ -9,9 +9,13 @@ use std::fmt;
 /// Why nothing is signed.
 #[derive(Debug, Drop)]
 pub enum SigningError {
+    /// The identity is no AWS credentials.
     UnsupportedIdentityType,
+    /// The message has no frame, for this reason.
     FailedToEncodeMessage(eventstream::Error),
+    /// The moment lies outside the years 0 to 9999.
     MomentOutOfRange(Moment),
+    /// Memory ran out.
     NoMemory,
 }
 

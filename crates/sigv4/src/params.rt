@@ -206,10 +206,15 @@ impl<'a, S: Drop> Builder<'a, S> {
 /// The part that [`SigningParams`] lack.
 #[derive(Clone, Copy, Debug, PartialEq, Eq)]
 pub enum BuildError {
+    /// The identity is missing.
     Identity,
+    /// The region is missing.
     Region,
+    /// The name of the service is missing.
     Name,
+    /// The moment is missing.
     Time,
+    /// The settings are missing.
     Settings,
 }
 

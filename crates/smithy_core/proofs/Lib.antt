@@ -2,4 +2,5 @@ pub mod CivilTextLemmas
 pub mod CutLemmas
 pub mod GainLemmas
 pub mod PairLemmas
+pub mod TextLemmas
 pub mod DayLemmas

@@ -1,5 +1,5 @@
 -- The Gregorian calendar (ISO 8601), day after day, and the two texts of time of AWS Signature Version 4.
-use Rattle.std.specs.Prelude.{ℕ, zero, suc, ◌+◌, ◌/◌, ◌%◌, List, nat_lt, if◌then◌else◌, pos, negsuc, ◌+ℤ◌, ◌≤ℤ◌, unsigned_abs}
+use Rattle.std.specs.Prelude.{ℕ, zero, suc, ◌+◌, ◌/◌, ◌%◌, List, nat_lt, Bool, ◌&&◌, if◌then◌else◌, pos, negsuc, ◌+ℤ◌, ◌≤ℤ◌, int_le, unsigned_abs}
 use Rattle.jiff_core.specs.Calendar.{days_in_month}
 use Rattle.smithy_core.specs.Instant.{Instant}
 use Rattle.smithy_core.specs.declared.civil_text.Civil.{Civil}
@@ -21,6 +21,10 @@ next_day d =
 unfoldable pub day_after : ℕ → Day
 day_after zero = record { year = 0; month = 1; day = 1 }
 day_after (suc n) = next_day (day_after n)
+
+-- whether the moment lies in the years 0 to 9999
+abbrev pub is_in_years : Instant → Bool
+is_in_years t = int_le (negsuc 62167219199) t.secs && int_le t.secs (pos 253402300799)
 
 -- the moment lies in the years 0 to 9999
 abbrev pub IsInYears : Instant → Type 0

@@ -14,8 +14,8 @@ const LAST_SECOND: i64 = 253_402_300_799;
 /// The days from 1 January of the year -9999, the first that `jiff_core` counts, to 1 January of the year 0.
 const DAYS_BEFORE: u32 = 3_652_059;
 
-#[tactic(auto, unfolding(crate::specs::Civil::civil_of))]
 /// The date and the time of day of a moment, and `None` outside the years 0 to 9999.
+#[tactic(auto, unfolding(crate::specs::Civil::civil_of))]
 pub fn civil(moment: Moment) -> Option<Civil>
     ensures { MatchOption result (IsInYears moment → ⊥) (λ civil. IsInYears moment × (civil ≡ civil_of moment)) }
 {

@@ -9,14 +9,23 @@ use bytes::Bytes;
 /// The value of a [`Header`]: one of the nine kinds of the event stream encoding.
 #[derive(Debug, Drop)]
 pub enum HeaderValue {
+    /// True or false.
     Bool(bool),
+    /// A whole number of 8 bits.
     Byte(i8),
+    /// A whole number of 16 bits.
     Int16(i16),
+    /// A whole number of 32 bits.
     Int32(i32),
+    /// A whole number of 64 bits.
     Int64(i64),
+    /// Bytes.
     ByteArray(Bytes),
+    /// UTF-8 text.
     String(StrBytes),
+    /// A moment, which a frame carries in whole milliseconds.
     Timestamp(DateTime),
+    /// The 128 bits of a UUID (RFC 9562), the highest first.
     Uuid(u128),
 }
 

@@ -7,6 +7,7 @@
 //! (`specs/Outside.antt`, `specs/Given.antt`).
 #![tactic(auto)]
 
+mod blob;
 mod civil_date;
 mod civil_text;
 mod env;
@@ -26,6 +27,7 @@ mod tests;
 mod text;
 mod text_pairs;
 
+pub use crate::blob::Blob;
 pub use crate::civil_date::civil;
 pub use crate::civil_text::Civil;
 pub use crate::env::Env;

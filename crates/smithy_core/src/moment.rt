@@ -1,6 +1,6 @@
 ghost use Rattle.std.specs.Prelude.{◌≡◌, ℕ, ◌<◌, ◌/◌, FitsSigned, MatchResult};
 ghost use Rattle.std.specs.Int.{w64};
-ghost use Rattle.smithy_core.specs.Instant.{floor_ms};
+ghost use Rattle.smithy_core.specs.Instant.{at_ms, floor_ms};
 
 use std::marker::Model;
 
@@ -57,7 +57,17 @@ impl DateTime {
         self.nanos
     }
 
-    /// Whole milliseconds, rounded down.
+    /// The moment of these whole milliseconds since 1970-01-01T00:00:00Z.
+    pub fn from_millis(millis: i64) -> DateTime
+        ensures { result ≡ at_ms millis }
+    {
+        DateTime {
+            secs: millis.div_euclid(1000),
+            nanos: millis.rem_euclid(1000) as u32 * 1_000_000,
+        }
+    }
+
+    /// Whole milliseconds since 1970-01-01T00:00:00Z, rounded down.
     ///
     /// # Errors
     ///

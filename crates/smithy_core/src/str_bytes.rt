@@ -1,4 +1,5 @@
-ghost use Rattle.std.specs.Prelude.{◌≡◌, ℕ, List, IsUtf8, IfOk, MatchResult};
+ghost use Rattle.std.specs.Prelude.{◌≡◌, ℕ, List, true, false, IsUtf8, IfOk, MatchResult};
+ghost use Rattle.std.specs.Str.{is_utf8};
 
 use crate::memory::Mem;
 use bytes::Bytes;
@@ -47,8 +48,9 @@ impl StrBytes {
     /// # Errors
     ///
     /// The bytes themselves, where they aren't UTF-8.
+    #[tactic(auto, using(crate::proofs::TextLemmas::is_text, crate::proofs::TextLemmas::no_text))]
     pub fn try_from_bytes(bytes: Bytes) -> Result<StrBytes, Bytes>
-        ensures { MatchResult result (λ text. (text ≡ bytes) × IsUtf8 bytes) (λ refused. (refused ≡ bytes) × (IsUtf8 bytes → ⊥)) }
+        ensures { MatchResult result (λ text. (text ≡ bytes) × (is_utf8 bytes ≡ true)) (λ refused. (refused ≡ bytes) × (is_utf8 bytes ≡ false)) }
     {
         match std::str::from_utf8(bytes.as_slice()) {
             Ok(_) => Ok(StrBytes { bytes }),

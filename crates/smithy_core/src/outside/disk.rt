@@ -7,8 +7,11 @@ ghost use Rattle.smithy_core.specs.Pairs.{last_value, value_if};
 /// Why a file wasn't read.
 #[derive(Clone, Copy, Debug, PartialEq, Eq)]
 pub enum DiskError {
+    /// No file has this path.
     NotFound,
+    /// The disk failed, and counted it.
     Failed,
+    /// Memory ran out.
     NoMemory,
 }
 

@@ -9,8 +9,11 @@ use std::alloc::{AllocError, Global};
 /// Why a source wasn't read to its end.
 #[derive(Clone, Copy, Debug, PartialEq, Eq)]
 pub enum ReadFault {
+    /// The source failed, and counted it.
     Failed,
+    /// The source has more bytes than the limit.
     TooLarge,
+    /// Memory ran out.
     NoMemory,
 }
 

@@ -6,7 +6,9 @@ use std::alloc::Global;
 /// Why a sink took nothing.
 #[derive(Clone, Copy, Debug, PartialEq, Eq)]
 pub enum SinkError {
+    /// The sink failed, and counted it.
     Failed,
+    /// Memory ran out.
     NoMemory,
 }
 

@@ -1,0 +1,148 @@
+-- The event stream encoding: what bytes are read as. The first fault in this order decides.
+use Rattle.std.specs.Prelude.{ℕ, zero, suc, ◌+◌, ◌-◌, ◌==◌, nat_lt, nat_le, not, true, false, if◌then◌else◌, List, [], ◌∷◌, ◌++◌, length, take, drop, slice_index, Result, Ok, Err}
+use Rattle.std.specs.Int.{Width, w8, w16, w32, w64, w128, byte_len, from_be_bytes, cast_signed}
+use Rattle.std.specs.Str.{is_utf8}
+use Rattle.mac_core.specs.Crc.{remainder}
+use Rattle.smithy_core.specs.Instant.{at_ms}
+use Rattle.smithy_core.specs.Parts.{Parts}
+use Rattle.smithy_core.specs.declared.header.Header.{Header}
+use Rattle.smithy_core.specs.declared.header.HeaderValue.{HeaderValue}
+use Rattle.smithy_core.specs.declared.header.HeaderValue.TheVariants.{Bool as Truth, Byte, Int16, Int32, Int64, ByteArray, String as Text, Timestamp, Uuid}
+use Rattle.eventstream.specs.declared.error.ErrorKind.{ErrorKind}
+use Rattle.eventstream.specs.declared.error.ErrorKind.TheVariants.{InvalidHeaderNameLength, InvalidHeaderValue, InvalidHeaderValueType, InvalidHeadersLength, InvalidMessageLength, InvalidUtf8String, MessageChecksumMismatch, PreludeChecksumMismatch}
+
+-- what comes after a part that was read; a fault ends the reading
+infixl 10 ◌>>=◌
+abbrev pub ◌>>=◌ : {A B : Type 0} → Result A ErrorKind → (A → Result B ErrorKind) → Result B ErrorKind
+(Ok x) >>= f = f x
+(Err kind) >>= f = Err kind
+
+-- the number of this width that bytes spell, the highest first
+unfoldable pub big_endian : Width → List ℕ → ℕ
+big_endian w bytes = from_be_bytes w bytes
+
+-- the number that the four bytes from a place on spell
+abbrev pub u32_at : ℕ → List ℕ → ℕ
+u32_at place bytes = big_endian w32 (take 4 (drop place bytes))
+
+-- ## Values
+
+-- so many bytes of a value, and the bytes after them
+unfoldable pub front_of : ℕ → List ℕ → Result (List ℕ × List ℕ) ErrorKind
+front_of n bytes = if nat_lt (length bytes) n then Err InvalidHeaderValue else Ok (take n bytes, drop n bytes)
+
+-- a value that a number of this width stands for, and the bytes after it
+unfoldable pub number_of : Width → (ℕ → HeaderValue) → List ℕ → Result (HeaderValue × List ℕ) ErrorKind
+number_of w value bytes = do
+  number ← front_of (byte_len w) bytes
+  Ok (value (big_endian w number.0), number.1)
+
+-- two bytes of length and that many bytes, and the bytes after them; three bytes have to be there
+unfoldable pub counted_of : List ℕ → Result (List ℕ × List ℕ) ErrorKind
+counted_of bytes =
+    if nat_lt (length bytes) 3 then Err InvalidHeaderValue else front_of (big_endian w16 (take 2 bytes)) (drop 2 bytes)
+
+-- a byte array, and the bytes after it
+unfoldable pub array_of : List ℕ → Result (HeaderValue × List ℕ) ErrorKind
+array_of bytes = do
+  array ← counted_of bytes
+  Ok (ByteArray array.0, array.1)
+
+-- a UTF-8 text, and the bytes after it
+unfoldable pub text_of : List ℕ → Result (HeaderValue × List ℕ) ErrorKind
+text_of bytes = do
+  text ← counted_of bytes
+  if is_utf8 text.0 then Ok (Text text.0, text.1) else Err InvalidUtf8String
+
+-- the value of a kind, and the bytes after it
+unfoldable pub value_of : ℕ → List ℕ → Result (HeaderValue × List ℕ) ErrorKind
+value_of kind bytes =
+    if kind == 0 then Ok (Truth true, bytes)
+    else if kind == 1 then Ok (Truth false, bytes)
+    else if kind == 2 then number_of w8 (λ n. Byte (cast_signed w8 n)) bytes
+    else if kind == 3 then number_of w16 (λ n. Int16 (cast_signed w16 n)) bytes
+    else if kind == 4 then number_of w32 (λ n. Int32 (cast_signed w32 n)) bytes
+    else if kind == 5 then number_of w64 (λ n. Int64 (cast_signed w64 n)) bytes
+    else if kind == 6 then array_of bytes
+    else if kind == 7 then text_of bytes
+    else if kind == 8 then number_of w64 (λ n. Timestamp (at_ms (cast_signed w64 n))) bytes
+    else if kind == 9 then number_of w128 (λ n. Uuid n) bytes
+    else Err (InvalidHeaderValueType kind)
+
+-- ## Headers
+
+-- a UTF-8 name behind its length, and the bytes after it, of which there is one at least
+unfoldable pub name_of : List ℕ → Result (List ℕ × List ℕ) ErrorKind
+name_of bytes =
+    let n = slice_index bytes 0 in
+    if nat_lt (length bytes) 2 then Err InvalidHeadersLength
+    else if nat_le (length bytes - 1) n then Err InvalidHeaderNameLength
+    else if is_utf8 (take n (drop 1 bytes)) then Ok (take n (drop 1 bytes), drop n (drop 1 bytes))
+    else Err InvalidUtf8String
+
+-- a header, and the bytes after it: its name, the kind of its value and the value
+unfoldable pub header_of : List ℕ → Result (Header × List ℕ) ErrorKind
+header_of bytes = do
+  name ← name_of bytes
+  value ← value_of (slice_index name.1 0) (drop 1 name.1)
+  Ok (record { name = name.0; value = value.0 }, value.1)
+
+-- a header of a block that has so many bytes left, and the bytes after it; it is read from all bytes, and may not pass the block
+unfoldable pub header_within : ℕ → List ℕ → Result (Header × List ℕ) ErrorKind
+header_within left bytes = do
+  header ← header_of bytes
+  if nat_lt left (length bytes - length header.1) then Err InvalidHeaderValue else Ok header
+
+-- the headers of a block that has so many bytes left, at most so many headers
+unfoldable pub headers_within : ℕ → ℕ → List ℕ → Result (List Header) ErrorKind
+headers_within most zero bytes = Ok []
+headers_within zero (suc left) bytes = Ok []
+headers_within (suc most) (suc left) bytes = do
+  header ← header_within (suc left) bytes
+  others ← headers_within most (suc left - (length bytes - length header.1)) header.1
+  Ok (header.0 ∷ others)
+
+-- the headers of a block of so many bytes; each header takes a byte at least
+abbrev pub headers_of : ℕ → List ℕ → Result (List Header) ErrorKind
+headers_of left bytes = headers_within left left bytes
+
+-- ## Frames
+
+-- the bytes of a frame, and of its header block
+pub record Lengths : Type 0 where
+  pub total : ℕ
+  pub headers : ℕ
+
+-- the lengths that the twelve bytes of a prelude tell, where so many bytes are there
+unfoldable pub lengths_of : ℕ → List ℕ → Result Lengths ErrorKind
+lengths_of there prelude =
+    let total = u32_at 0 prelude in
+    let headers = u32_at 4 prelude in
+    let computed = remainder (take 8 prelude) in
+    let carried = u32_at 8 prelude in
+    if nat_lt there total then Err InvalidMessageLength
+    else if not (computed == carried) then Err (PreludeChecksumMismatch computed carried)
+    else if headers == 1 then Err InvalidHeadersLength
+    else if nat_lt total 16 then Err InvalidMessageLength
+    else if nat_lt (total - 16) headers then Err InvalidHeadersLength
+    else Ok (record { total = total; headers = headers })
+
+-- the payload behind these headers, where the closing checksum is that of all bytes before it
+unfoldable pub message_of : Lengths → List ℕ → List ℕ → List Header → Result Parts ErrorKind
+message_of lengths prelude rest headers =
+    let computed = remainder (prelude ++ take (lengths.total - 16) rest) in
+    let carried = u32_at (lengths.total - 16) rest in
+    if computed == carried then Ok (record { headers = headers; payload = take (lengths.total - 16 - lengths.headers) (drop lengths.headers rest) })
+    else Err (MessageChecksumMismatch computed carried)
+
+-- the message and the length of the frame with a prelude and the bytes after it
+unfoldable pub read_after : List ℕ → List ℕ → Result (Parts × ℕ) ErrorKind
+read_after prelude rest = do
+  lengths ← lengths_of (12 + length rest) prelude
+  headers ← headers_of lengths.headers rest
+  message ← message_of lengths prelude rest headers
+  Ok (message, lengths.total)
+
+-- the message that the bytes begin with, and the length of its frame
+unfoldable pub read : List ℕ → Result (Parts × ℕ) ErrorKind
+read bytes = if nat_lt (length bytes) 12 then Err InvalidMessageLength else read_after (take 12 bytes) (drop 12 bytes)
