@@ -1,1 +1,2 @@
+pub mod HeadersLemmas
 pub mod LinkLemmas

@@ -8,6 +8,7 @@ use Rattle.smithy_core.specs.Parts.{Parts}
 use Rattle.smithy_core.specs.declared.header.Header.{Header}
 use Rattle.smithy_core.specs.declared.header.HeaderValue.{HeaderValue}
 use Rattle.smithy_core.specs.declared.header.HeaderValue.TheVariants.{Bool as Truth, Byte, Int16, Int32, Int64, ByteArray, String as Text, Timestamp, Uuid}
+use Rattle.eventstream.specs.declared.read.lengths.Lengths.{Lengths}
 use Rattle.eventstream.specs.declared.error.ErrorKind.{ErrorKind}
 use Rattle.eventstream.specs.declared.error.ErrorKind.TheVariants.{InvalidHeaderNameLength, InvalidHeaderValue, InvalidHeaderValueType, InvalidHeadersLength, InvalidMessageLength, InvalidUtf8String, MessageChecksumMismatch, PreludeChecksumMismatch}
 
@@ -107,11 +108,6 @@ abbrev pub headers_of : ℕ → List ℕ → Result (List Header) ErrorKind
 headers_of left bytes = headers_within left left bytes
 
 -- ## Frames
-
--- the bytes of a frame, and of its header block
-pub record Lengths : Type 0 where
-  pub total : ℕ
-  pub headers : ℕ
 
 -- the lengths that the twelve bytes of a prelude tell, where so many bytes are there
 unfoldable pub lengths_of : ℕ → List ℕ → Result Lengths ErrorKind

@@ -3,7 +3,7 @@ ghost use Rattle.eventstream.specs.Errors.{is_invalid_message};
 ghost use Rattle.eventstream.specs.declared.error.ErrorKind.TheVariants.{Marshalling, NoMemory, Unmarshalling};
 
 use smithy_core::DateTime;
-use std::alloc::AllocError;
+use std::alloc::{AllocError, AllocFailed};
 use std::fmt;
 
 /// Why a message isn't written or read, or an event is no message.
@@ -153,6 +153,16 @@ impl From<AllocError> for Error {
     ghost from_gives = { λ _ error. error.kind ≡ NoMemory };
 
     fn from(_e: AllocError) -> Error {
+        Error {
+            kind: ErrorKind::NoMemory,
+        }
+    }
+}
+
+impl<T: Drop> From<AllocFailed<T>> for Error {
+    ghost from_gives = { λ _ error. error.kind ≡ NoMemory };
+
+    fn from(_e: AllocFailed<T>) -> Error {
         Error {
             kind: ErrorKind::NoMemory,
         }

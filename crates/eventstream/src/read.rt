@@ -1,3 +1,6 @@
 mod header;
+mod headers;
+mod lengths;
 
-pub use crate::read::header::take_header;
+pub use crate::read::headers::read_headers;
+pub use crate::read::lengths::read_lengths;

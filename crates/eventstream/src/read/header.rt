@@ -12,7 +12,8 @@ use smithy_core::{DateTime, Header, HeaderValue, StrBytes};
 /// Takes the header at the front of all bytes that are there.
 #[tactic(auto, unfolding(crate::specs::Read::header_of))]
 pub fn take_header(rest: &mut Bytes) -> Result<Header, Error>
-    ensures { GivesFront (header_of rest.old) rest.new result }
+    ensures header { GivesFront header_of rest.old rest.new result }
+    ensures shorter { OnOk result (length rest.new < length rest.old) }
 {
     let name = take_name(rest)?;
     let kind = rest.as_slice()[0];
@@ -24,8 +25,8 @@ pub fn take_header(rest: &mut Bytes) -> Result<Header, Error>
 // A name behind its length, with one byte at least after it.
 #[tactic(auto, unfolding(crate::specs::Read::name_of))]
 fn take_name(rest: &mut Bytes) -> Result<StrBytes, Error>
-    ensures name { GivesFront (name_of rest.old) rest.new result }
-    ensures more { OnOk result (0 < length rest.new) }
+    ensures name { GivesFront name_of rest.old rest.new result }
+    ensures more { OnOk result ((0 < length rest.new) × (length rest.new < length rest.old)) }
 {
     if rest.len() < 2 {
         return Err(Error::from(ErrorKind::InvalidHeadersLength));
@@ -44,7 +45,7 @@ fn take_name(rest: &mut Bytes) -> Result<StrBytes, Error>
 // The value of a kind.
 #[tactic(auto, unfolding(crate::specs::Read::value_of))]
 fn take_value(kind: u8, rest: &mut Bytes) -> Result<HeaderValue, Error>
-    ensures { GivesFront (value_of kind rest.old) rest.new result }
+    ensures { GivesFront (value_of kind) rest.old rest.new result }
 {
     match kind {
         0 => Ok(HeaderValue::Bool(true)),
@@ -64,7 +65,7 @@ fn take_value(kind: u8, rest: &mut Bytes) -> Result<HeaderValue, Error>
 // A whole number of 8 bits.
 #[tactic(auto, unfolding(crate::specs::Read::number_of, crate::specs::Read::big_endian))]
 fn take_byte(rest: &mut Bytes) -> Result<HeaderValue, Error>
-    ensures { GivesFront (number_of w8 (λ n. Byte (cast_signed w8 n)) rest.old) rest.new result }
+    ensures { GivesFront (number_of w8 (λ n. Byte (cast_signed w8 n))) rest.old rest.new result }
 {
     Ok(HeaderValue::Byte(i8::from_be_bytes(take_chunk::<1>(rest)?)))
 }
@@ -72,7 +73,7 @@ fn take_byte(rest: &mut Bytes) -> Result<HeaderValue, Error>
 // A whole number of 16 bits.
 #[tactic(auto, unfolding(crate::specs::Read::number_of, crate::specs::Read::big_endian))]
 fn take_int16(rest: &mut Bytes) -> Result<HeaderValue, Error>
-    ensures { GivesFront (number_of w16 (λ n. Int16 (cast_signed w16 n)) rest.old) rest.new result }
+    ensures { GivesFront (number_of w16 (λ n. Int16 (cast_signed w16 n))) rest.old rest.new result }
 {
     Ok(HeaderValue::Int16(i16::from_be_bytes(take_chunk::<2>(rest)?)))
 }
@@ -80,7 +81,7 @@ fn take_int16(rest: &mut Bytes) -> Result<HeaderValue, Error>
 // A whole number of 32 bits.
 #[tactic(auto, unfolding(crate::specs::Read::number_of, crate::specs::Read::big_endian))]
 fn take_int32(rest: &mut Bytes) -> Result<HeaderValue, Error>
-    ensures { GivesFront (number_of w32 (λ n. Int32 (cast_signed w32 n)) rest.old) rest.new result }
+    ensures { GivesFront (number_of w32 (λ n. Int32 (cast_signed w32 n))) rest.old rest.new result }
 {
     Ok(HeaderValue::Int32(i32::from_be_bytes(take_chunk::<4>(rest)?)))
 }
@@ -88,7 +89,7 @@ fn take_int32(rest: &mut Bytes) -> Result<HeaderValue, Error>
 // A whole number of 64 bits.
 #[tactic(auto, unfolding(crate::specs::Read::number_of, crate::specs::Read::big_endian))]
 fn take_int64(rest: &mut Bytes) -> Result<HeaderValue, Error>
-    ensures { GivesFront (number_of w64 (λ n. Int64 (cast_signed w64 n)) rest.old) rest.new result }
+    ensures { GivesFront (number_of w64 (λ n. Int64 (cast_signed w64 n))) rest.old rest.new result }
 {
     Ok(HeaderValue::Int64(i64::from_be_bytes(take_chunk::<8>(rest)?)))
 }
@@ -96,7 +97,7 @@ fn take_int64(rest: &mut Bytes) -> Result<HeaderValue, Error>
 // A moment in whole milliseconds.
 #[tactic(auto, unfolding(crate::specs::Read::number_of, crate::specs::Read::big_endian))]
 fn take_timestamp(rest: &mut Bytes) -> Result<HeaderValue, Error>
-    ensures { GivesFront (number_of w64 (λ n. Timestamp (at_ms (cast_signed w64 n))) rest.old) rest.new result }
+    ensures { GivesFront (number_of w64 (λ n. Timestamp (at_ms (cast_signed w64 n)))) rest.old rest.new result }
 {
     let millis = i64::from_be_bytes(take_chunk::<8>(rest)?);
     Ok(HeaderValue::Timestamp(DateTime::from_millis(millis)))
@@ -105,7 +106,7 @@ fn take_timestamp(rest: &mut Bytes) -> Result<HeaderValue, Error>
 // The 128 bits of a UUID.
 #[tactic(auto, unfolding(crate::specs::Read::number_of, crate::specs::Read::big_endian))]
 fn take_uuid(rest: &mut Bytes) -> Result<HeaderValue, Error>
-    ensures { GivesFront (number_of w128 (λ n. Uuid n) rest.old) rest.new result }
+    ensures { GivesFront (number_of w128 (λ n. Uuid n)) rest.old rest.new result }
 {
     Ok(HeaderValue::Uuid(u128::from_be_bytes(take_chunk::<16>(rest)?)))
 }
@@ -113,7 +114,7 @@ fn take_uuid(rest: &mut Bytes) -> Result<HeaderValue, Error>
 // A byte array.
 #[tactic(auto, unfolding(crate::specs::Read::array_of))]
 fn take_array(rest: &mut Bytes) -> Result<HeaderValue, Error>
-    ensures { GivesFront (array_of rest.old) rest.new result }
+    ensures { GivesFront array_of rest.old rest.new result }
 {
     Ok(HeaderValue::ByteArray(take_counted(rest)?))
 }
@@ -121,7 +122,7 @@ fn take_array(rest: &mut Bytes) -> Result<HeaderValue, Error>
 // A UTF-8 text.
 #[tactic(auto, unfolding(crate::specs::Read::text_of))]
 fn take_text(rest: &mut Bytes) -> Result<HeaderValue, Error>
-    ensures { GivesFront (text_of rest.old) rest.new result }
+    ensures { GivesFront text_of rest.old rest.new result }
 {
     match StrBytes::try_from_bytes(take_counted(rest)?) {
         Ok(text) => Ok(HeaderValue::String(text)),
@@ -132,7 +133,7 @@ fn take_text(rest: &mut Bytes) -> Result<HeaderValue, Error>
 // Two bytes of length, and that many bytes.
 #[tactic(auto, unfolding(crate::specs::Read::counted_of, crate::specs::Read::front_of, crate::specs::Read::big_endian))]
 fn take_counted(rest: &mut Bytes) -> Result<Bytes, Error>
-    ensures { GivesFront (counted_of rest.old) rest.new result }
+    ensures { GivesFront counted_of rest.old rest.new result }
 {
     if rest.len() < 3 {
         return Err(Error::from(ErrorKind::InvalidHeaderValue));
@@ -144,7 +145,7 @@ fn take_counted(rest: &mut Bytes) -> Result<Bytes, Error>
 // So many bytes of a value.
 #[tactic(auto, unfolding(crate::specs::Read::front_of))]
 fn take_front(rest: &mut Bytes, len: usize) -> Result<Bytes, Error>
-    ensures { GivesFront (front_of len rest.old) rest.new result }
+    ensures { GivesFront (front_of len) rest.old rest.new result }
 {
     if rest.len() < len {
         return Err(Error::from(ErrorKind::InvalidHeaderValue));
@@ -155,7 +156,7 @@ fn take_front(rest: &mut Bytes, len: usize) -> Result<Bytes, Error>
 // The bytes of a number.
 #[tactic(auto, unfolding(crate::specs::Read::front_of))]
 fn take_chunk<const N: usize>(rest: &mut Bytes) -> Result<[u8; N], Error>
-    ensures { GivesFront (front_of N rest.old) rest.new result }
+    ensures { GivesFront (front_of N) rest.old rest.new result }
 {
     match rest.as_slice().split_first_chunk::<N>() {
         Some((chunk, _)) => {
