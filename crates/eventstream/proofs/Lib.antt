@@ -1,2 +1,3 @@
+pub mod FrontLemmas
 pub mod HeadersLemmas
 pub mod LinkLemmas

@@ -13,4 +13,5 @@ mod tests;
 mod write;
 
 pub use crate::error::{Error, ErrorKind};
+pub use crate::read::read_message_from;
 pub use crate::write::{frame_of, write_headers_to, write_message_to};

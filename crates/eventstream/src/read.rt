@@ -1,6 +1,94 @@
+ghost use Rattle.std.specs.Prelude.{◌≡◌, ℕ, ◌+◌, ◌-◌, ◌≤◌, ◌<◌, ◌++◌, length, take, drop, IfOk};
+ghost use Rattle.mac_core.specs.Crc.{remainder};
+ghost use Rattle.eventstream.specs.Read.{headers_of, lengths_of, message_of, read, read_after, u32_at};
+ghost use Rattle.eventstream.specs.Reads.{Gives, Reads};
+
 mod header;
 mod headers;
 mod lengths;
 
-pub use crate::read::headers::read_headers;
-pub use crate::read::lengths::read_lengths;
+use crate::error::{Error, ErrorKind};
+use crate::read::headers::read_headers;
+use crate::read::lengths::{Lengths, read_lengths, u32_at};
+use bytes::Bytes;
+use mac_core::Crc;
+use smithy_core::{Header, Message};
+use std::alloc::Global;
+
+/// The bytes of a prelude: two lengths and their checksum.
+pub const PRELUDE: usize = 12;
+
+/// Takes the message of one frame from the front.
+///
+/// # Errors
+///
+/// The first fault decides, in this order: fewer bytes than a prelude or than the frame announces,
+/// [`ErrorKind::InvalidMessageLength`]; [`ErrorKind::PreludeChecksumMismatch`]; a header block of one byte,
+/// [`ErrorKind::InvalidHeadersLength`]; a frame under 16 bytes, [`ErrorKind::InvalidMessageLength`]; a header block
+/// longer than the frame, [`ErrorKind::InvalidHeadersLength`]; the headers in order, each read from all bytes that are
+/// there; [`ErrorKind::MessageChecksumMismatch`]. A refused call takes nothing.
+#[tactic(auto, using(crate::proofs::FrontLemmas::announced_prelude), unfolding(crate::specs::Read::read))]
+pub fn read_message_from(alloc: Global, buffer: &mut Bytes) -> Result<Message, Error>
+    ensures { Reads (read buffer.old) buffer.old buffer.new result }
+{
+    let Some((prelude, _)) = buffer.as_slice().split_first_chunk::<PRELUDE>() else {
+        return Err(Error::from(ErrorKind::InvalidMessageLength));
+    };
+    let prelude = *prelude;
+    let rest = buffer.slice(PRELUDE..)?;
+    let (message, total) = read_after(alloc, prelude, &rest)?;
+    buffer.advance(total);
+    Ok(message)
+}
+
+/// The message of the frame with this prelude and the bytes after it, and the length of the frame.
+///
+/// # Errors
+///
+/// As [`read_message_from`].
+#[tactic(auto, unfolding(crate::specs::Read::read_after))]
+pub fn read_after(
+    alloc: Global,
+    prelude: [u8; PRELUDE],
+    rest: &Bytes,
+) -> Result<(Message, usize), Error>
+    ensures read { Gives (read_after prelude rest.now) result }
+    ensures total { IfOk result (λ read. (read.1 ≡ u32_at 0 prelude) × (read.1 ≤ 12 + length rest.now)) }
+{
+    let lengths = read_lengths(PRELUDE + rest.len(), prelude)?;
+    let headers = read_headers(alloc, lengths.headers, rest.clone()?)?;
+    let message = read_message(lengths, prelude, rest, headers)?;
+    Ok((message, lengths.total))
+}
+
+// The message of these headers and the payload behind them, where the closing checksum is right.
+#[tactic(auto, unfolding(crate::specs::Read::message_of))]
+fn read_message(
+    lengths: Lengths,
+    prelude: [u8; PRELUDE],
+    rest: &Bytes,
+    headers: Vec<Header>,
+) -> Result<Message, Error>
+    requires { (16 ≤ lengths.total) × (lengths.total ≤ 12 + length rest.now) × (lengths.headers + 16 ≤ lengths.total) }
+    ensures { Gives (message_of lengths prelude rest.now headers.items) result }
+{
+    let end = lengths.total - 16;
+    let computed = checksum_of(prelude.as_slice(), &rest.as_slice()[..end]);
+    let carried = u32_at(rest.as_slice(), end);
+    if computed != carried {
+        return Err(Error::from(ErrorKind::MessageChecksumMismatch(computed, carried)));
+    }
+    let payload = rest.slice(lengths.headers..end)?;
+    Ok(Message::new_from_parts(headers, payload))
+}
+
+// The checksum of two pieces.
+#[tactic(auto, using(mac_core::proofs::CrcLemmas::remainder_pieces))]
+fn checksum_of(first: &[u8], second: &[u8]) -> u32
+    ensures { result ≡ remainder (first.now ++ second.now) }
+{
+    let mut crc = Crc::new();
+    crc.update(first);
+    crc.update(second);
+    crc.value()
+}
