@@ -5,5 +5,7 @@
 #![tactic(auto)]
 
 mod seg_buf;
+#[cfg(test)]
+mod tests;
 
 pub use crate::seg_buf::SegBuf;
