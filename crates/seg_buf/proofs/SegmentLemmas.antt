@@ -3,7 +3,7 @@ use Rattle.std.proofs.Common.{◌≡◌, ℕ, ◌+◌, ◌<◌, ◌≤◌, List,
 use Rattle.std.proofs.lemmas.List.{drop-append-le}
 use Rattle.std.proofs.lemmas.List.Concat.{flat_map-append}
 use Rattle.std.specs.List.{flat_map}
-use Rattle.seg_buf.specs.Segments.{flat, AreLive, IsKept}
+use Rattle.seg_buf.specs.Segments.{flat, AreLive}
 
 -- the bytes of the pieces, one after another
 abbrev joined : List (List ℕ) → List ℕ
@@ -20,13 +20,13 @@ flat_pushed pieces taken piece live =
     ap (drop taken) (flat_map-append (λ part. part) pieces (piece ∷ []) ∙ ap (λ bytes. joined pieces ++ bytes) (append-nil piece))
     ∙ drop-append-le taken (joined pieces) piece (taken_within pieces taken live)
 
-live_pushed : (pieces : List (List ℕ)) (taken : ℕ) (piece : List ℕ) → AreLive pieces taken → 0 < length piece → AreLive (pieces ++ piece ∷ []) taken
-live_pushed [] taken piece live filled = (omega arith, refl)
-live_pushed (first ∷ pieces) taken piece live filled = (live.0, live_pushed pieces 0 piece live.1 filled)
+-- a piece that isn't empty is live at the end
+pub live_pushed : (pieces now : List (List ℕ)) (taken : ℕ) (piece : List ℕ) → now ≡ pieces ++ piece ∷ [] → AreLive pieces taken → 0 < length piece → AreLive now taken
+live_pushed [] now taken piece pushed live filled = rw pushed (omega arith, refl)
+live_pushed (first ∷ pieces) now taken piece pushed live filled = rw pushed (live.0, live_pushed pieces (pieces ++ piece ∷ []) 0 piece refl live.1 filled)
 
--- a piece that isn't empty is kept
-pub kept_pushed : (pieces : List (List ℕ)) (taken len : ℕ) (piece : List ℕ) → IsKept pieces taken len → 0 < length piece → IsKept (pieces ++ piece ∷ []) taken (len + length piece)
-kept_pushed pieces taken len piece kept filled = record {
-  live = live_pushed pieces taken piece kept.live filled;
-  counted = omega (arith, kept.counted, ap length (flat_pushed pieces taken piece kept.live), length-append (flat pieces taken) piece);
-}
+-- it adds its length
+pub length_pushed : (pieces now : List (List ℕ)) (taken : ℕ) (piece : List ℕ) → now ≡ pieces ++ piece ∷ [] → AreLive pieces taken → length (flat now taken) ≡ length (flat pieces taken) + length piece
+length_pushed pieces now taken piece pushed live = rw (pushed, flat_pushed pieces taken piece live) (length-append (flat pieces taken) piece)
+
+pub ruleset pushes = (flat_pushed, live_pushed, length_pushed)

@@ -67,7 +67,7 @@ impl SegBuf {
     }
 
     /// Appends the bytes of the piece, without copying them. It takes no memory.
-    #[tactic(auto, using(crate::proofs::SegmentLemmas::flat_pushed))]
+    #[tactic(auto, using(crate::proofs::SegmentLemmas::pushes))]
     pub fn push(&mut self, piece: Bytes)
         requires room { 1 ≤ self.old.spare }
         requires fits { length self.old.bytes + length piece < 2 ^ 64 }
