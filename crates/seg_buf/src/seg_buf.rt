@@ -1,0 +1,246 @@
+ghost use Rattle.std.specs.Prelude.{◌≡◌, ℕ, ◌+◌, ◌-◌, ◌^◌, ◌<◌, ◌≤◌, List, [], ◌++◌, length, take, drop, slice_index, min, IsOk, IfOk, OnOk, OnErr};
+
+use bytes::Bytes;
+use std::alloc::{AllocError, Global};
+use std::collections::VecDeque;
+use std::marker::Model;
+
+/// For how many pieces the first allocation has room.
+const FIRST_ROOM: usize = 4;
+
+/// Shared pieces of bytes, read as one list.
+///
+/// Contracts see it as its `Segments`: its bytes in one flat list, and for how many pieces more it
+/// has room.
+#[derive(Debug, Drop)]
+pub struct SegBuf {
+    // The pieces that aren't used up, in order.
+    pieces: VecDeque<Bytes>,
+    // How many bytes of the first piece were taken.
+    taken: usize,
+    // How many bytes are left in all.
+    len: usize,
+}
+
+impl Model for SegBuf {
+    ghost use Rattle.std.specs.Prelude.{◌-◌};
+    ghost use Rattle.std.specs.VecDeque.{deque_len, deque_capacity};
+    ghost use Rattle.seg_buf.specs.Segments.{Segments, flat, IsKept};
+
+    ghost Value = { Segments };
+
+    ghost view = { λ b. record { bytes = flat b.pieces.items b.taken; spare = deque_capacity b.pieces - deque_len b.pieces } };
+
+    ghost invariant = { λ b. IsKept b.pieces.items b.taken b.len };
+}
+
+impl SegBuf {
+    /// A buffer without bytes. How much room it has is left open.
+    pub fn new(alloc: Global) -> SegBuf
+        ensures { result.bytes ≡ [] }
+    {
+        SegBuf {
+            pieces: VecDeque::new(alloc),
+            taken: 0,
+            len: 0,
+        }
+    }
+
+    /// Makes room for one piece, where there is none.
+    ///
+    /// # Errors
+    ///
+    /// Memory ran out. Nothing has changed then.
+    pub fn reserve_one(&mut self) -> Result<(), AllocError>
+        ensures bytes { self.new.bytes ≡ self.old.bytes }
+        ensures ok { OnOk result (1 ≤ self.new.spare) }
+        ensures kept { self.old.spare ≤ self.new.spare }
+        ensures at_hand { 1 ≤ self.old.spare → IsOk result }
+        ensures err { OnErr result (self.new ≡ self.old) }
+    {
+        if self.pieces.len() == self.pieces.capacity() {
+            // `reserve` doesn't promise that a refusal leaves the room as it was.
+            let more = self.pieces.len().max(FIRST_ROOM);
+            self.pieces.reserve_exact(more)?;
+        }
+        Ok(())
+    }
+
+    /// Appends the bytes of the piece, without copying them. It takes no memory.
+    #[tactic(auto, using(crate::proofs::SegmentLemmas::pushes))]
+    pub fn push(&mut self, piece: Bytes)
+        requires room { 1 ≤ self.old.spare }
+        requires fits { length self.old.bytes + length piece < 2 ^ 64 }
+        ensures bytes { self.new.bytes ≡ self.old.bytes ++ piece }
+        ensures spare { self.old.spare ≤ self.new.spare + 1 }
+    {
+        if !piece.is_empty() {
+            self.len += piece.len();
+            self.pieces.push_back_reserved(piece);
+        }
+    }
+
+    /// The number of bytes.
+    pub fn remaining(&self) -> usize
+        ensures { result ≡ length self.now.bytes }
+    {
+        self.len
+    }
+
+    /// Drops the first `n` bytes. It takes no memory.
+    pub fn advance(&mut self, n: usize)
+        requires { n ≤ length self.old.bytes }
+        ensures bytes { self.new.bytes ≡ drop n self.old.bytes }
+        ensures spare { self.old.spare ≤ self.new.spare }
+    {
+        let mut left = n;
+        while left > 0 {
+            left -= self.advance_first(left);
+        }
+    }
+
+    // Drops up to `n` bytes of the first piece, and tells how many.
+    fn advance_first(&mut self, n: usize) -> usize
+        requires some { 0 < n }
+        requires within { n ≤ length self.old.bytes }
+        ensures some { 0 < result }
+        ensures bound { result ≤ n }
+        ensures bytes { self.new.bytes ≡ drop result self.old.bytes }
+        ensures spare { self.old.spare ≤ self.new.spare }
+    {
+        let Some(first) = self.pieces.front() else {
+            unreachable!()
+        };
+        let live = first.len() - self.taken;
+        if n < live {
+            self.taken += n;
+            self.len -= n;
+            return n;
+        }
+        let _used_up = self.pieces.pop_front();
+        self.taken = 0;
+        self.len -= live;
+        live
+    }
+
+    /// The byte at the place, counted from 0.
+    pub fn peek(&self, at: usize) -> u8
+        requires { at < length self.now.bytes }
+        ensures { result ≡ slice_index self.now.bytes at }
+    {
+        let mut left = at;
+        let mut taken = self.taken;
+        for piece in &self.pieces {
+            let live = piece.len() - taken;
+            if left < live {
+                return piece.as_slice()[taken + left];
+            }
+            left -= live;
+            taken = 0;
+        }
+        unreachable!()
+    }
+
+    // Fills the slice with the first bytes.
+    fn copy_into(&self, into: &mut [u8])
+        requires { length into.old ≤ length self.now.bytes }
+        ensures { into.new ≡ take (length into.old) self.now.bytes }
+    {
+        let mut filled = 0;
+        let mut taken = self.taken;
+        for piece in &self.pieces {
+            filled += put_at(into, filled, &piece.as_slice()[taken..]);
+            if filled == into.len() {
+                return;
+            }
+            taken = 0;
+        }
+    }
+
+    /// Takes the first 12 bytes. It takes no memory.
+    pub fn take_prelude(&mut self) -> [u8; 12]
+        requires { 12 ≤ length self.old.bytes }
+        ensures front { result ≡ take 12 self.old.bytes }
+        ensures rest { self.new.bytes ≡ drop 12 self.old.bytes }
+        ensures spare { self.old.spare ≤ self.new.spare }
+    {
+        let mut prelude = [0; 12];
+        self.copy_into(&mut prelude);
+        self.advance(prelude.len());
+        prelude
+    }
+
+    /// The first `n` bytes, which stay. They are shared where they lie in the first piece, and else
+    /// copied.
+    ///
+    /// # Errors
+    ///
+    /// Memory ran out.
+    pub fn copy_front(&self, n: usize) -> Result<Bytes, AllocError>
+        requires { n ≤ length self.now.bytes }
+        ensures { IfOk result (λ front. front ≡ take n self.now.bytes) }
+    {
+        match self.pieces.front() {
+            Some(first) if n <= first.len() - self.taken => first.slice(self.taken..self.taken + n),
+            _ => self.joined_front(n),
+        }
+    }
+
+    // A copy of the first `n` bytes.
+    fn joined_front(&self, n: usize) -> Result<Bytes, AllocError>
+        requires { n ≤ length self.now.bytes }
+        ensures { IfOk result (λ front. front ≡ take n self.now.bytes) }
+    {
+        let mut front = vec![in *self.pieces.allocator(); 0; n]?;
+        self.copy_into(&mut front);
+        Ok(Bytes::from_vec(front)?)
+    }
+
+    /// Takes the first `n` bytes. They are shared where they lie in the first piece, and else copied.
+    ///
+    /// # Errors
+    ///
+    /// Memory ran out. Nothing was taken then.
+    pub fn copy_to_bytes(&mut self, n: usize) -> Result<Bytes, AllocError>
+        requires { n ≤ length self.old.bytes }
+        ensures front { IfOk result (λ front. front ≡ take n self.old.bytes) }
+        ensures rest { OnOk result (self.new.bytes ≡ drop n self.old.bytes) }
+        ensures spare { self.old.spare ≤ self.new.spare }
+        ensures err { OnErr result (self.new ≡ self.old) }
+    {
+        let front = self.copy_front(n)?;
+        self.advance(n);
+        Ok(front)
+    }
+
+    /// An equal buffer, with room for as many pieces more. It shares the bytes.
+    ///
+    /// # Errors
+    ///
+    /// Memory ran out.
+    pub fn try_clone(&self) -> Result<SegBuf, AllocError>
+        ensures { IfOk result (λ copy. copy ≡ self.now) }
+    {
+        let alloc = *self.pieces.allocator();
+        let mut pieces = VecDeque::with_capacity(alloc, self.pieces.capacity())?;
+        for piece in &self.pieces {
+            pieces.push_back(piece.clone()?)?;
+        }
+        Ok(SegBuf {
+            pieces,
+            taken: self.taken,
+            len: self.len,
+        })
+    }
+}
+
+// Writes a front of the bytes at the place, as many as there is room for, and tells how many.
+fn put_at(into: &mut [u8], at: usize, bytes: &[u8]) -> usize
+    requires { at ≤ length into.old }
+    ensures count { result ≡ min (length bytes.now) (length into.old - at) }
+    ensures put { take (at + result) into.new ≡ take at into.old ++ take result bytes.now }
+{
+    let count = bytes.len().min(into.len() - at);
+    into[at..at + count].copy_from_slice(&bytes[..count]);
+    count
+}
