@@ -1,3 +1,4 @@
+pub mod DecodeLemmas
 pub mod FrontLemmas
 pub mod HeadersLemmas
 pub mod LinkLemmas

@@ -1,3 +1,4 @@
+pub mod Decoding
 pub mod Errors
 pub mod Frame
 pub mod Key

@@ -27,6 +27,11 @@ abbrev pub GivesHeaders : Result (List Header) ErrorKind → Result (Vec Header)
 GivesHeaders read (Ok headers) = read ≡ Ok headers.items
 GivesHeaders read (Err e) = Fails read e
 
+-- the message of a frame of this length is the answer
+abbrev pub GivesMessage : Result (Parts × ℕ) ErrorKind → ℕ → Result Parts Error → Type 0
+GivesMessage read len (Ok message) = read ≡ Ok (message, len)
+GivesMessage read len (Err e) = Fails read e
+
 -- the message is the answer, and its frame is taken; with a fault nothing is
 abbrev pub Reads : Result (Parts × ℕ) ErrorKind → List ℕ → List ℕ → Result Parts Error → Type 0
 Reads read old new (Ok message) = (read ≡ Ok (message, announced old)) × (new ≡ drop (announced old) old)

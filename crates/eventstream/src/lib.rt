@@ -6,12 +6,14 @@
 //! `specs/Link.antt`), below all crates that cite them.
 #![tactic(auto)]
 
+mod decode;
 mod error;
 mod read;
 #[cfg(test)]
 mod tests;
 mod write;
 
+pub use crate::decode::{DecodedFrame, MessageFrameDecoder};
 pub use crate::error::{Error, ErrorKind};
 pub use crate::read::read_message_from;
 pub use crate::write::{frame_of, write_headers_to, write_message_to};

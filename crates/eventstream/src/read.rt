@@ -1,7 +1,8 @@
-ghost use Rattle.std.specs.Prelude.{◌≡◌, ℕ, ◌+◌, ◌-◌, ◌≤◌, ◌<◌, ◌++◌, length, take, drop, IfOk};
+ghost use Rattle.std.specs.Prelude.{◌≡◌, ℕ, ◌+◌, ◌-◌, ◌≤◌, ◌<◌, ◌^◌, ◌++◌, length, take, drop, OnOk};
 ghost use Rattle.mac_core.specs.Crc.{remainder};
 ghost use Rattle.eventstream.specs.Read.{headers_of, lengths_of, message_of, read, read_after, u32_at};
-ghost use Rattle.eventstream.specs.Reads.{Gives, Reads};
+ghost use Rattle.eventstream.specs.Reading.{announced};
+ghost use Rattle.eventstream.specs.Reads.{Gives, GivesMessage, Reads};
 
 mod header;
 mod headers;
@@ -36,29 +37,32 @@ pub fn read_message_from(alloc: Global, buffer: &mut Bytes) -> Result<Message, E
     };
     let prelude = *prelude;
     let rest = buffer.slice(PRELUDE..)?;
-    let (message, total) = read_after(alloc, prelude, &rest)?;
-    buffer.advance(total);
+    let message = read_after(alloc, prelude, &rest)?;
+    buffer.advance(announced(&prelude));
     Ok(message)
 }
 
-/// The message of the frame with this prelude and the bytes after it, and the length of the frame.
+/// The message of the frame with this prelude and the bytes after it.
 ///
 /// # Errors
 ///
 /// As [`read_message_from`].
 #[tactic(auto, unfolding(crate::specs::Read::read_after))]
-pub fn read_after(
-    alloc: Global,
-    prelude: [u8; PRELUDE],
-    rest: &Bytes,
-) -> Result<(Message, usize), Error>
-    ensures read { Gives (read_after prelude rest.now) result }
-    ensures total { IfOk result (λ read. (read.1 ≡ u32_at 0 prelude) × (read.1 ≤ 12 + length rest.now)) }
+pub fn read_after(alloc: Global, prelude: [u8; PRELUDE], rest: &Bytes) -> Result<Message, Error>
+    ensures read { GivesMessage (read_after prelude rest.now) (announced prelude) result }
+    ensures there { OnOk result (announced prelude ≤ 12 + length rest.now) }
 {
     let lengths = read_lengths(PRELUDE + rest.len(), prelude)?;
     let headers = read_headers(alloc, lengths.headers, rest.clone()?)?;
-    let message = read_message(lengths, prelude, rest, headers)?;
-    Ok((message, lengths.total))
+    read_message(lengths, prelude, rest, headers)
+}
+
+/// The length of the frame that a prelude announces.
+pub fn announced(prelude: &[u8; PRELUDE]) -> usize
+    ensures value { result ≡ announced prelude.now }
+    ensures twelve { length prelude.now ≡ 12 }
+{
+    u32_at(prelude.as_slice(), 0) as usize
 }
 
 // The message of these headers and the payload behind them, where the closing checksum is right.

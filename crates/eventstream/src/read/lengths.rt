@@ -1,6 +1,7 @@
 ghost use Rattle.std.specs.Prelude.{◌≡◌, ℕ, ◌+◌, ◌≤◌, length, IfOk};
 ghost use Rattle.std.specs.Int.{w32};
 ghost use Rattle.eventstream.specs.Read.{big_endian, lengths_of, u32_at};
+ghost use Rattle.eventstream.specs.Reading.{announced};
 
 use crate::error::ErrorKind;
 use mac_core::crc32;
@@ -18,7 +19,7 @@ pub struct Lengths {
 #[tactic(auto, unfolding(crate::specs::Read::lengths_of))]
 pub fn read_lengths(there: usize, prelude: [u8; 12]) -> Result<Lengths, ErrorKind>
     ensures lengths { result ≡ lengths_of there prelude }
-    ensures fit { IfOk result (λ lengths. (lengths.total ≡ u32_at 0 prelude) × (16 ≤ lengths.total) × (lengths.total ≤ there) × (lengths.headers + 16 ≤ lengths.total)) }
+    ensures fit { IfOk result (λ lengths. (lengths.total ≡ announced prelude) × (16 ≤ lengths.total) × (lengths.total ≤ there) × (lengths.headers + 16 ≤ lengths.total)) }
 {
     let total = u32_at(prelude.as_slice(), 0) as usize;
     let headers = u32_at(prelude.as_slice(), 4) as usize;

@@ -1,0 +1,52 @@
+-- What a decoder of frames promises: one step of the reading on its prelude and its buffer, joined.
+use Rattle.std.specs.Prelude.{◌≡◌, ◌≢◌, ℕ, ◌<◌, ◌≤◌, nat_lt, if◌then◌else◌, ◌⊎◌, List, ◌++◌, length, take, drop, Option, Some, None, Result, Ok, Err}
+use Rattle.smithy_core.specs.Parts.{Parts}
+use Rattle.seg_buf.specs.Segments.{Segments}
+use Rattle.eventstream.specs.declared.decode.DecodedFrame.{DecodedFrame}
+use Rattle.eventstream.specs.declared.decode.DecodedFrame.TheVariants.{Incomplete, Complete}
+use Rattle.eventstream.specs.declared.error.ErrorKind.TheVariants.{NoMemory}
+use Rattle.eventstream.specs.declared.error.Error.{Error}
+use Rattle.eventstream.specs.Reading.{First, nothing, leftover, fault, begins, announced, first_of}
+
+-- the prelude that is kept, and then the bytes of the buffer
+abbrev pub joined : Option (List ℕ) → List ℕ → List ℕ
+joined None buffer = buffer
+joined (Some prelude) buffer = prelude ++ buffer
+
+-- the prelude of these bytes, once it is there
+abbrev pub prelude_of : List ℕ → Option (List ℕ)
+prelude_of bytes = if nat_lt (length bytes) 12 then None else Some (take 12 bytes)
+
+-- no byte is lost, and the prelude is taken once it is there
+abbrev pub Keeps : List ℕ → Option (List ℕ) → List ℕ → Type 0
+Keeps bytes prelude buffer = (prelude ≡ prelude_of bytes) × (joined prelude buffer ≡ bytes)
+
+-- there is less than a frame
+abbrev pub IsUnfinished : First → Type 0
+IsUnfinished nothing = Unit {0}
+IsUnfinished (leftover bytes) = Unit {0}
+IsUnfinished first = ⊥
+
+-- after a fault the frame is gone, and its prelude forgotten; a prelude that announces less than its own bytes stays
+abbrev pub LeavesFault : List ℕ → Option (List ℕ) → List ℕ → Type 0
+LeavesFault bytes prelude buffer =
+    ((announced bytes < 12) × Keeps bytes prelude buffer)
+    ⊎ ((12 ≤ announced bytes) × (prelude ≡ None) × (buffer ≡ drop (announced bytes) bytes))
+
+-- so many bytes are taken, unless memory ran out
+abbrev pub Finishes : ℕ → Result Parts Error → Option (List ℕ) → Segments → Option (List ℕ) → Segments → Result DecodedFrame Error → Type 0
+Finishes len (Ok message) kept old prelude new result =
+    (result ≡ Ok (Complete message)) × (prelude ≡ None) × (new.bytes ≡ drop len old.bytes)
+Finishes len (Err e) kept old prelude new result =
+    (result ≡ Err e)
+    × (((e.kind ≡ NoMemory) × (prelude ≡ kept) × (new ≡ old)) ⊎ ((e.kind ≢ NoMemory) × (prelude ≡ None) × (new.bytes ≡ drop len old.bytes)))
+
+-- one step of the reading; for want of memory nothing changes
+abbrev pub Steps : Option (List ℕ) → Segments → Option (List ℕ) → Segments → Result DecodedFrame Error → Type 0
+Steps kept old prelude new (Ok Incomplete) =
+    IsUnfinished (first_of (joined kept old.bytes)) × Keeps (joined kept old.bytes) prelude new.bytes
+Steps kept old prelude new (Ok (Complete message)) =
+    (first_of (joined kept old.bytes) ≡ begins message new.bytes) × (prelude ≡ None)
+Steps kept old prelude new (Err e) =
+    ((first_of (joined kept old.bytes) ≡ fault e.kind) × LeavesFault (joined kept old.bytes) prelude new.bytes)
+    ⊎ ((e.kind ≡ NoMemory) × (prelude ≡ kept) × (new ≡ old))

@@ -1,0 +1,170 @@
+ghost use Rattle.std.specs.Prelude.{◌≡◌, ◌+◌, ◌-◌, ◌≤◌, ◌<◌, length, drop, None, Some};
+ghost use Rattle.eventstream.specs.Decoding.{Finishes, Steps};
+ghost use Rattle.eventstream.specs.Reading.{announced};
+
+use crate::error::{Error, ErrorKind};
+use crate::read::{PRELUDE, announced, read_after, read_message_from};
+use seg_buf::SegBuf;
+use smithy_core::Message;
+use std::alloc::Global;
+use std::marker::Model;
+
+/// What a [`MessageFrameDecoder`] answers.
+#[derive(Debug, Drop)]
+pub enum DecodedFrame {
+    /// Less than a frame is there.
+    Incomplete,
+    /// The message of a frame.
+    Complete(Message),
+}
+
+/// Reads frames from bytes that come in pieces.
+///
+/// Contracts see it as the prelude that it has taken from a frame that isn't there yet.
+#[derive(Clone, Debug, Drop)]
+pub struct MessageFrameDecoder {
+    prelude: Option<[u8; PRELUDE]>,
+}
+
+impl Model for MessageFrameDecoder {
+    ghost use Rattle.std.specs.Prelude.{ℕ, List, Option};
+
+    ghost Value = { Option (List ℕ) };
+
+    ghost view = { λ decoder. decoder.prelude };
+}
+
+impl MessageFrameDecoder {
+    /// A decoder at the begin of a stream.
+    pub fn new() -> Self
+        ensures { result ≡ None }
+    {
+        MessageFrameDecoder { prelude: None }
+    }
+
+    /// The prelude that was taken and not yet used.
+    pub fn prelude(&self) -> Option<[u8; PRELUDE]>
+        ensures { result ≡ self.now }
+    {
+        self.prelude
+    }
+
+    /// Takes the next frame from the buffer, once it is there. Till then the decoder keeps its prelude.
+    ///
+    /// # Errors
+    ///
+    /// Those of [`read_message_from`](crate::read_message_from) for the bytes of the frame, which is taken
+    /// whole. A prelude that announces fewer bytes than its own is [`ErrorKind::InvalidMessageLength`], now
+    /// and at each later call. After [`ErrorKind::NoMemory`] nothing has changed.
+    pub fn decode_frame(
+        &mut self,
+        alloc: Global,
+        buffer: &mut SegBuf,
+    ) -> Result<DecodedFrame, Error>
+        ensures step { Steps self.old buffer.old self.new buffer.new result }
+        ensures spare { buffer.old.spare ≤ buffer.new.spare }
+    {
+        match self.prelude {
+            Some(prelude) => self.decode_rest(alloc, prelude, buffer),
+            None => self.decode_whole(alloc, buffer),
+        }
+    }
+
+    // Takes the rest of a frame whose prelude is kept.
+    fn decode_rest(
+        &mut self,
+        alloc: Global,
+        prelude: [u8; PRELUDE],
+        buffer: &mut SegBuf,
+    ) -> Result<DecodedFrame, Error>
+        requires { self.old ≡ Some prelude }
+        ensures step { Steps self.old buffer.old self.new buffer.new result }
+        ensures spare { buffer.old.spare ≤ buffer.new.spare }
+    {
+        let total = announced(&prelude);
+        if total < PRELUDE {
+            return Err(Error::from(ErrorKind::InvalidMessageLength));
+        }
+        let left = total - PRELUDE;
+        if buffer.remaining() < left {
+            return Ok(DecodedFrame::Incomplete);
+        }
+        let rest = buffer.copy_front(left)?;
+        let read = read_after(alloc, prelude, &rest);
+        self.finish(buffer, left, read)
+    }
+
+    // Takes a frame that is there whole, or else its prelude.
+    fn decode_whole(&mut self, alloc: Global, buffer: &mut SegBuf) -> Result<DecodedFrame, Error>
+        requires { self.old ≡ None }
+        ensures step { Steps self.old buffer.old self.new buffer.new result }
+        ensures spare { buffer.old.spare ≤ buffer.new.spare }
+    {
+        if buffer.remaining() < PRELUDE {
+            return Ok(DecodedFrame::Incomplete);
+        }
+        let total = front_announced(buffer);
+        if total < PRELUDE {
+            self.prelude = Some(buffer.take_prelude());
+            return Err(Error::from(ErrorKind::InvalidMessageLength));
+        }
+        if buffer.remaining() < total {
+            self.prelude = Some(buffer.take_prelude());
+            return Ok(DecodedFrame::Incomplete);
+        }
+        let mut frame = buffer.copy_front(total)?;
+        let read = read_message_from(alloc, &mut frame);
+        self.finish(buffer, total, read)
+    }
+
+    // Takes the bytes of a frame that was read, whatever came of it, unless memory ran out.
+    fn finish(
+        &mut self,
+        buffer: &mut SegBuf,
+        len: usize,
+        read: Result<Message, Error>,
+    ) -> Result<DecodedFrame, Error>
+        requires { len ≤ length buffer.old.bytes }
+        ensures taken { Finishes len read self.old buffer.old self.new buffer.new result }
+        ensures spare { buffer.old.spare ≤ buffer.new.spare }
+    {
+        match read {
+            Ok(message) => {
+                self.drop_frame(buffer, len);
+                Ok(DecodedFrame::Complete(message))
+            }
+            Err(error) => {
+                if !matches!(error.kind(), ErrorKind::NoMemory) {
+                    self.drop_frame(buffer, len);
+                }
+                Err(error)
+            }
+        }
+    }
+
+    // Forgets the prelude, and drops so many bytes of the buffer.
+    fn drop_frame(&mut self, buffer: &mut SegBuf, len: usize)
+        requires { len ≤ length buffer.old.bytes }
+        ensures prelude { self.new ≡ None }
+        ensures bytes { buffer.new.bytes ≡ drop len buffer.old.bytes }
+        ensures spare { buffer.old.spare ≤ buffer.new.spare }
+    {
+        buffer.advance(len);
+        self.prelude = None;
+    }
+}
+
+// The length that the first four bytes announce.
+#[tactic(auto, unfolding(crate::specs::Read::big_endian))]
+fn front_announced(buffer: &SegBuf) -> usize
+    requires { 4 ≤ length buffer.now.bytes }
+    ensures { result ≡ announced buffer.now.bytes }
+{
+    let front = [
+        buffer.peek(0),
+        buffer.peek(1),
+        buffer.peek(2),
+        buffer.peek(3),
+    ];
+    u32::from_be_bytes(front) as usize
+}
