@@ -1,5 +1,5 @@
 -- The kinds of errors.
-use Rattle.std.specs.Prelude.{ℕ, Bool, true, false, List, ◌++◌, codes, string_bytes}
+use Rattle.std.specs.Prelude.{◌≡◌, ℕ, Bool, true, false, List, ◌++◌, codes, string_bytes}
 use Rattle.std.specs.Fmt.{decimal, digits, signed_decimal}
 use Rattle.eventstream.specs.declared.error.ErrorKind.{ErrorKind}
 use Rattle.eventstream.specs.declared.error.ErrorKind.TheVariants.{HeadersTooLong, HeaderValueTooLong, InvalidHeaderNameLength, InvalidHeaderValue, InvalidHeaderValueType, InvalidHeadersLength, InvalidMessageLength, InvalidUtf8String, MessageChecksumMismatch, MessageTooLong, PayloadTooLong, PreludeChecksumMismatch, TimestampValueTooLarge, Marshalling, Unmarshalling, NoMemory}
@@ -41,3 +41,9 @@ text_of (TimestampValueTooLarge moment) = codes "timestamp value " ++ (signed_de
 text_of (Marshalling message) = codes "failed to marshall message: " ++ string_bytes message
 text_of (Unmarshalling message) = codes "failed to unmarshall message: " ++ string_bytes message
 text_of NoMemory = codes "no memory"
+
+-- the kinds are the same, and so are their texts
+abbrev pub IsSameKind : ErrorKind → ErrorKind → Type 0
+IsSameKind (Marshalling message) (Marshalling copy) = string_bytes copy ≡ string_bytes message
+IsSameKind (Unmarshalling message) (Unmarshalling copy) = string_bytes copy ≡ string_bytes message
+IsSameKind kind copy = copy ≡ kind

@@ -1,11 +1,11 @@
-ghost use Rattle.std.specs.Prelude.{◌≡◌, ◌+◌, ◌-◌, ◌≤◌, ◌<◌, length, drop, None, Some};
+ghost use Rattle.std.specs.Prelude.{◌≡◌, ◌+◌, ◌-◌, ◌≤◌, ◌<◌, length, drop, None, Some, IfOk};
 ghost use Rattle.eventstream.specs.Decoding.{Finishes, Steps};
 ghost use Rattle.eventstream.specs.Reading.{announced};
 
 use crate::error::{Error, ErrorKind};
 use crate::read::{PRELUDE, announced, read_after, read_message_from};
 use seg_buf::SegBuf;
-use smithy_core::Message;
+use smithy_core::{Mem, Message};
 use std::alloc::Global;
 use std::marker::Model;
 
@@ -16,6 +16,18 @@ pub enum DecodedFrame {
     Incomplete,
     /// The message of a frame.
     Complete(Message),
+}
+
+impl DecodedFrame {
+    /// An equal answer.
+    pub fn try_clone(&self) -> Mem<DecodedFrame>
+        ensures { IfOk result (λ copy. copy ≡ self.now) }
+    {
+        Ok(match self {
+            DecodedFrame::Incomplete => DecodedFrame::Incomplete,
+            DecodedFrame::Complete(message) => DecodedFrame::Complete(message.try_clone()?),
+        })
+    }
 }
 
 /// Reads frames from bytes that come in pieces.

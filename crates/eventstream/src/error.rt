@@ -1,8 +1,8 @@
-ghost use Rattle.std.specs.Prelude.{◌≡◌, ◌↔◌, IsTrue};
-ghost use Rattle.eventstream.specs.Errors.{is_invalid_message};
+ghost use Rattle.std.specs.Prelude.{◌≡◌, IfOk};
+ghost use Rattle.eventstream.specs.Errors.{IsSameKind, is_invalid_message};
 ghost use Rattle.eventstream.specs.declared.error.ErrorKind.TheVariants.{Marshalling, NoMemory, Unmarshalling};
 
-use smithy_core::DateTime;
+use smithy_core::{DateTime, Mem};
 use std::alloc::{AllocError, AllocFailed};
 use std::fmt;
 
@@ -43,6 +43,36 @@ pub enum ErrorKind {
     NoMemory,
 }
 
+impl ErrorKind {
+    /// An equal kind.
+    pub fn try_clone(&self) -> Mem<ErrorKind>
+        ensures { IfOk result (λ copy. IsSameKind self.now copy) }
+    {
+        Ok(match self {
+            ErrorKind::HeadersTooLong => ErrorKind::HeadersTooLong,
+            ErrorKind::HeaderValueTooLong => ErrorKind::HeaderValueTooLong,
+            ErrorKind::InvalidHeaderNameLength => ErrorKind::InvalidHeaderNameLength,
+            ErrorKind::InvalidHeaderValue => ErrorKind::InvalidHeaderValue,
+            ErrorKind::InvalidHeaderValueType(kind) => ErrorKind::InvalidHeaderValueType(*kind),
+            ErrorKind::InvalidHeadersLength => ErrorKind::InvalidHeadersLength,
+            ErrorKind::InvalidMessageLength => ErrorKind::InvalidMessageLength,
+            ErrorKind::InvalidUtf8String => ErrorKind::InvalidUtf8String,
+            ErrorKind::MessageChecksumMismatch(computed, carried) => {
+                ErrorKind::MessageChecksumMismatch(*computed, *carried)
+            }
+            ErrorKind::MessageTooLong => ErrorKind::MessageTooLong,
+            ErrorKind::PayloadTooLong => ErrorKind::PayloadTooLong,
+            ErrorKind::PreludeChecksumMismatch(computed, carried) => {
+                ErrorKind::PreludeChecksumMismatch(*computed, *carried)
+            }
+            ErrorKind::TimestampValueTooLarge(moment) => ErrorKind::TimestampValueTooLarge(*moment),
+            ErrorKind::Marshalling(message) => ErrorKind::Marshalling(message.clone()?),
+            ErrorKind::Unmarshalling(message) => ErrorKind::Unmarshalling(message.clone()?),
+            ErrorKind::NoMemory => ErrorKind::NoMemory,
+        })
+    }
+}
+
 /// The error of this crate: an [`ErrorKind`].
 #[derive(Debug, Drop)]
 pub struct Error {
@@ -73,6 +103,15 @@ impl Error {
         ensures { result.now ≡ self.now.kind }
     {
         &self.kind
+    }
+
+    /// An equal error.
+    pub fn try_clone(&self) -> Mem<Error>
+        ensures { IfOk result (λ copy. IsSameKind self.now.kind copy.kind) }
+    {
+        Ok(Error {
+            kind: self.kind.try_clone()?,
+        })
     }
 
     /// Whether the message itself is at fault, which no writer can send.
