@@ -160,8 +160,7 @@ impl SegBuf {
     /// Takes the first 12 bytes. It takes no memory.
     pub fn take_prelude(&mut self) -> [u8; 12]
         requires { 12 ≤ length self.old.bytes }
-        ensures front { result ≡ take 12 self.old.bytes }
-        ensures rest { self.new.bytes ≡ drop 12 self.old.bytes }
+        ensures bytes { self.old.bytes ≡ result ++ self.new.bytes }
         ensures spare { self.old.spare ≤ self.new.spare }
     {
         let mut prelude = [0; 12];
