@@ -161,6 +161,8 @@ impl SegBuf {
     pub fn take_prelude(&mut self) -> [u8; 12]
         requires { 12 ≤ length self.old.bytes }
         ensures bytes { self.old.bytes ≡ result ++ self.new.bytes }
+        ensures front { result ≡ take 12 self.old.bytes }
+        ensures rest { self.new.bytes ≡ drop 12 self.old.bytes }
         ensures spare { self.old.spare ≤ self.new.spare }
     {
         let mut prelude = [0; 12];
