@@ -1,6 +1,7 @@
 pub mod Errors
 pub mod Frame
 pub mod Key
+pub mod Laws
 pub mod Link
 pub mod Read
 pub mod Reading

@@ -7,10 +7,12 @@
 #![tactic(auto)]
 
 mod error;
+mod laws;
 mod read;
 #[cfg(test)]
 mod tests;
 mod write;
 
 pub use crate::error::{Error, ErrorKind};
+pub use crate::laws::frame_reads_back;
 pub use crate::write::{frame_of, write_headers_to, write_message_to};
