@@ -6,7 +6,7 @@ use Rattle.std.specs.Option.{option_or}
 use Rattle.std.proofs.lemmas.Bool.{eq-eqb, le-ltb, ne_eqb}
 use Rattle.std.proofs.lemmas.Bool.Decides.{nat_tests}
 use Rattle.std.proofs.lemmas.List.Elements.{recursion_from_All}
-use Rattle.std.proofs.lemmas.List.{take_at, drop_at}
+use Rattle.std.proofs.lemmas.List.{take_at, drop_at, nil_from_length}
 use Rattle.mac_core.specs.Crc.{remainder}
 use Rattle.mac_core.proofs.CrcLemmas.{remainder-below}
 use Rattle.smithy_core.specs.Parts.{Parts}
@@ -175,3 +175,22 @@ frame_again m more proper none =
     ap read (frame_rest m more)
     ∙ rw (long, take_at (prelude m) rest 12 (length-prelude m), drop_at (prelude m) rest 12 (length-prelude m), length-frame m)
     (after_again m more (recursion_from_All IsProper m.headers proper) (framed m none))
+
+-- ## No frame begins another
+
+-- the first number of a frame is its length
+pub u32-frame : (m : Parts) (more : List ℕ) → unframed m ≡ None → u32_at 0 (frame m ++ more) ≡ length (frame m)
+u32-frame m more none =
+    let short = (framed m none).short in
+    let headers = length (block m.headers) in
+    let sum = be32 (remainder (prelude_of (frame_len m) headers)) in
+    let rest = block m.headers ++ (m.payload ++ (closing m ++ more)) in
+    ap (u32_at 0) (frame_rest m more ∙ append_assoc (prelude_of (frame_len m) headers) sum rest ∙ append_assoc (be32 (frame_len m)) (be32 headers) (sum ++ rest))
+    ∙ u32_behind [] (be32 headers ++ (sum ++ rest)) 0 (frame_len m) refl short ∙ sym (length-frame m)
+
+-- a frame that begins another is the other
+pub frame_alone : (a b : Parts) (more : List ℕ) → unframed a ≡ None → unframed b ≡ None → frame a ++ more ≡ frame b → more ≡ []
+frame_alone a b more first second begins =
+    let other : u32_at 0 (frame b) ≡ length (frame b) = ap (u32_at 0) (sym (append-nil (frame b))) ∙ u32-frame b [] second in
+    let same : length (frame a) ≡ length (frame b) = sym (u32-frame a more first) ∙ ap (u32_at 0) begins ∙ other in
+    nil_from_length more (omega (arith, length-append (frame a) more, ap length begins, same))

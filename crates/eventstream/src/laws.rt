@@ -1,4 +1,5 @@
-ghost use Rattle.std.specs.Prelude.{◌≡◌, ◌++◌, length, None, Ok, All};
+ghost use Rattle.std.specs.Prelude.{◌≡◌, ℕ, List, [], ◌++◌, length, None, Ok, All};
+ghost use Rattle.smithy_core.specs.Parts.{Parts};
 ghost use Rattle.eventstream.specs.Frame.{frame, unframed};
 ghost use Rattle.eventstream.specs.Laws.{IsProper, IsProperValue, floored_message};
 ghost use Rattle.eventstream.specs.Read.{read};
@@ -12,6 +13,14 @@ pub fn frame_reads_back(message: &Message, more: &[u8])
     ensures { read (frame message.now ++ more.now) ≡ Ok (floored_message message.now, length (frame message.now)) }
 {
     know_headers(message.headers());
+}
+
+/// No frame begins another one. A message has one frame at most, since its frame is a function of it,
+/// so of two frames that lie at the front of the same bytes each is the other.
+#[tactic(auto, using(crate::proofs::FrameLemmas::frame_alone))]
+pub fn no_frame_begins_another()
+    ensures { (a b : Parts) (more : List ℕ) → unframed a ≡ None → unframed b ≡ None → frame a ++ more ≡ frame b → more ≡ [] }
+{
 }
 
 // What the types of the headers say.
