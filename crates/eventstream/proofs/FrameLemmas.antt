@@ -1,5 +1,5 @@
 -- A frame is as long as its first number says, and is read back, whatever follows it.
-use Rattle.std.proofs.Common.{◌≡◌, ℕ, ◌+◌, ◌-◌, ◌<◌, ◌≤◌, ◌^◌, List, [], ◌∷◌, ◌++◌, length, take, map, true, false, nat_lt, ◌==◌, All, None, Ok, refl, sym, ap, ◌∙◌, append_assoc, append-nil, arith, length-append}
+use Rattle.std.proofs.Common.{◌≡◌, ℕ, ◌+◌, ◌-◌, ◌<◌, ◌≤◌, ◌^◌, List, [], ◌∷◌, ◌++◌, length, take, map, true, false, nat_lt, ◌==◌, None, Ok, refl, sym, ap, ◌∙◌, append_assoc, append-nil, arith, length-append}
 use Rattle.std.specs.List.{AllByRecursion}
 use Rattle.std.specs.Int.{w32}
 use Rattle.std.specs.Option.{option_or}
@@ -16,7 +16,7 @@ use Rattle.smithy_core.specs.declared.header.HeaderValue.TheVariants.{Bool as Tr
 use Rattle.eventstream.specs.declared.error.ErrorKind.{ErrorKind}
 use Rattle.eventstream.specs.declared.error.ErrorKind.TheVariants.{HeadersTooLong, MessageTooLong, PayloadTooLong}
 use Rattle.eventstream.specs.Frame.{be32, block, first_unspelled, frame, frame_len, over, prelude_of, spelling, summed, unfit, unframed, value_spelling}
-use Rattle.eventstream.specs.Laws.{IsProper, floored_header, floored_message}
+use Rattle.eventstream.specs.Laws.{IsProper, IsProperHeader, floored_header, floored_message}
 use Rattle.eventstream.specs.Read.{big_endian, lengths_of, message_of, read, read_after, u32_at}
 use Rattle.eventstream.proofs.RoundLemmas.{both_none, headers_again, wide32}
 
@@ -151,7 +151,7 @@ message_again m more headers =
       take_at m.payload (closing m ++ more) (length m.payload) refl,
     ) refl
 
-after_again : (m : Parts) (more : List ℕ) → AllByRecursion IsProper m.headers → IsFramed m
+after_again : (m : Parts) (more : List ℕ) → AllByRecursion IsProperHeader m.headers → IsFramed m
     → read_after (prelude m) (block m.headers ++ (m.payload ++ (closing m ++ more))) ≡ Ok (floored_message m, frame_len m)
 unfolding read_after
 after_again m more proper is =
@@ -166,7 +166,7 @@ after_again m more proper is =
     rw (lengths, read_headers, message_again m more (map floored_header m.headers)) refl
 
 -- a frame is read back, whatever follows it
-pub frame_again : (m : Parts) (more : List ℕ) → All IsProper m.headers → unframed m ≡ None
+pub frame_again : (m : Parts) (more : List ℕ) → IsProper m → unframed m ≡ None
     → read (frame m ++ more) ≡ Ok (floored_message m, length (frame m))
 unfolding read
 frame_again m more proper none =
@@ -174,7 +174,7 @@ frame_again m more proper none =
     let long : nat_lt (length (prelude m ++ rest)) 12 ≡ false = le-ltb _ _ (omega (arith, length-append (prelude m) rest, length-prelude m)) in
     ap read (frame_rest m more)
     ∙ rw (long, take_at (prelude m) rest 12 (length-prelude m), drop_at (prelude m) rest 12 (length-prelude m), length-frame m)
-    (after_again m more (recursion_from_All IsProper m.headers proper) (framed m none))
+    (after_again m more (recursion_from_All IsProperHeader m.headers proper.headers) (framed m none))
 
 -- ## No frame begins another
 

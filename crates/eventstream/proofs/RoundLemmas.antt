@@ -19,7 +19,7 @@ use Rattle.smithy_core.specs.declared.header.HeaderValue.TheVariants.{Bool as Tr
 use Rattle.eventstream.specs.declared.error.ErrorKind.{ErrorKind}
 use Rattle.eventstream.specs.declared.error.ErrorKind.TheVariants.{HeaderValueTooLong, TimestampValueTooLarge}
 use Rattle.eventstream.specs.Frame.{block, first_unspelled, spelling, unspelled, unspelled_value, value_spelling}
-use Rattle.eventstream.specs.Laws.{IsProper, IsProperValue, floored_header, floored_value}
+use Rattle.eventstream.specs.Laws.{IsProperHeader, IsProperValue, floored_header, floored_value}
 use Rattle.eventstream.specs.Read.{array_of, big_endian, counted_of, front_of, header_of, header_within, headers_within, name_of, number_of, text_of, value_of}
 
 -- ## Numbers
@@ -144,7 +144,7 @@ name_again name rest utf8 more =
     let room : nat_le (length (length name ∷ name ++ rest) - 1) (length name) ≡ false = lt-leb _ _ (omega (arith, length-append name rest)) in
     rw (two, room, take_at name rest (length name) refl, drop_at name rest (length name) refl, is_text name utf8) refl
 
-header_again : (h : Header) (rest : List ℕ) → IsProper h → unspelled h ≡ None → 1 ≤ length rest → header_of (spelling h ++ rest) ≡ Ok (floored_header h, rest)
+header_again : (h : Header) (rest : List ℕ) → IsProperHeader h → unspelled h ≡ None → 1 ≤ length rest → header_of (spelling h ++ rest) ≡ Ok (floored_header h, rest)
 unfolding header_of
 header_again h rest proper spelled more =
     let parts : spelling h ++ rest ≡ length h.name ∷ h.name ++ (value_spelling h.value ++ rest) =
@@ -153,7 +153,7 @@ header_again h rest proper spelled more =
     ap header_of parts ∙ rw (name_again h.name (value_spelling h.value ++ rest) proper.name longer, value_again h.value rest proper.value (both_none _ (unspelled_value h.value) spelled).1 more) refl
 
 -- a header within a block takes its spelling
-within_again : (left : ℕ) (h : Header) (rest : List ℕ) → IsProper h → unspelled h ≡ None → 1 ≤ length rest → length (spelling h) ≤ left
+within_again : (left : ℕ) (h : Header) (rest : List ℕ) → IsProperHeader h → unspelled h ≡ None → 1 ≤ length rest → length (spelling h) ≤ left
     → header_within left (spelling h ++ rest) ≡ Ok (floored_header h, rest)
 unfolding header_within
 within_again left h rest proper spelled more enough =
@@ -161,7 +161,7 @@ within_again left h rest proper spelled more enough =
     rw (header_again h rest proper spelled more, inside) refl
 
 -- the headers of a block are read back from it, whatever follows it
-pub headers_again : (most : ℕ) (headers : List Header) (tail : List ℕ) → AllByRecursion IsProper headers → first_unspelled headers ≡ None
+pub headers_again : (most : ℕ) (headers : List Header) (tail : List ℕ) → AllByRecursion IsProperHeader headers → first_unspelled headers ≡ None
     → 1 ≤ length tail → length (block headers) ≤ most → headers_within most (length (block headers)) (block headers ++ tail) ≡ Ok (map floored_header headers)
 unfolding headers_within
 headers_again zero [] tail proper spelled more enough = refl

@@ -1,5 +1,5 @@
 -- What a frame that is read back gives.
-use Rattle.std.specs.Prelude.{◌<◌, ◌^◌, map, FitsSigned, IsUtf8}
+use Rattle.std.specs.Prelude.{◌<◌, ◌^◌, map, All, FitsSigned, IsUtf8}
 use Rattle.std.specs.Int.{w8, w16, w32, w64}
 use Rattle.smithy_core.specs.Instant.{floored}
 use Rattle.smithy_core.specs.Parts.{Parts}
@@ -20,9 +20,13 @@ IsProperValue (Timestamp t) = t.nanos < 1000000000
 IsProperValue (Uuid n) = n < 2 ^ 128
 
 -- what the type of a header says of it
-pub record IsProper (h : Header) : Type 0 where
+pub record IsProperHeader (h : Header) : Type 0 where
   pub name : IsUtf8 h.name
   pub value : IsProperValue h.value
+
+-- what the type of a message says of it
+pub record IsProper (m : Parts) : Type 0 where
+  pub headers : All IsProperHeader m.headers
 
 -- a value, a moment floored to whole milliseconds
 abbrev pub floored_value : HeaderValue → HeaderValue

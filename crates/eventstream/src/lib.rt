@@ -14,5 +14,8 @@ mod tests;
 mod write;
 
 pub use crate::error::{Error, ErrorKind};
-pub use crate::laws::frame_reads_back;
+pub use crate::laws::{
+    first_stays, frame_comes_first, frame_reads_back, frames_read_back, no_frame_begins_another,
+    reading_goes_on,
+};
 pub use crate::write::{frame_of, write_headers_to, write_message_to};
