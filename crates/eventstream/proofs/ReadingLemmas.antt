@@ -1,5 +1,5 @@
 -- The first message of a stream, and the reading that goes on after it.
-use Rattle.std.proofs.Common.{◌≡◌, ℕ, zero, suc, ◌+◌, ◌<◌, ◌≤◌, Bool, true, false, if◌then◌else◌, nat_lt, ◌==◌, List, [], ◌∷◌, ◌++◌, length, take, drop, map, flat_map, All, Result, Ok, Err, None, inl, inr, refl, sym, ap, subst, ◌∙◌, append-nil, arith, length-append, length-drop}
+use Rattle.std.proofs.Common.{◌≡◌, ℕ, zero, suc, ◌<◌, ◌≤◌, Bool, true, false, if◌then◌else◌, nat_lt, ◌==◌, List, [], ◌∷◌, ◌++◌, length, take, drop, map, flat_map, All, Result, Ok, Err, None, inl, inr, refl, sym, ap, subst, ◌∙◌, append-nil, arith, length-append, length-drop}
 use Rattle.std.specs.Int.{w32}
 use Rattle.std.specs.List.{AllByRecursion}
 use Rattle.std.proofs.lemmas.Bool.{cases_lt, le-ltb, lt-ltb, ltb-false, ne_eqb}
@@ -8,10 +8,10 @@ use Rattle.std.proofs.lemmas.List.{take_at, drop_at, take-append-le, drop-append
 use Rattle.smithy_core.specs.Parts.{Parts}
 use Rattle.eventstream.specs.declared.error.ErrorKind.{ErrorKind}
 use Rattle.eventstream.specs.declared.error.ErrorKind.TheVariants.{InvalidMessageLength}
-use Rattle.eventstream.specs.Frame.{frame, frame_len, unframed}
+use Rattle.eventstream.specs.Frame.{frame, unframed}
 use Rattle.eventstream.specs.Laws.{IsProper, floored_message}
-use Rattle.eventstream.specs.Read.{big_endian, read, u32_at}
-use Rattle.eventstream.specs.Reading.{First, nothing, leftover, fault, begins, Read, announced, as_first, first_of, onto, read_on, reading, reading_within}
+use Rattle.eventstream.specs.Read.{big_endian, read}
+use Rattle.eventstream.specs.Reading.{First, nothing, leftover, fault, begins, announced, as_first, first_of, onto, read_on, reading, reading_within}
 use Rattle.eventstream.proofs.FrameLemmas.{frame_again, length-frame, u32-frame}
 
 -- ## The first message

@@ -1,10 +1,10 @@
 -- Values and headers, read back from their spellings.
-use Rattle.std.proofs.Common.{◌≡◌, ℕ, ◌+◌, ◌/◌, ◌%◌, ◌*◌, ◌<◌, ◌≤◌, ◌^◌, ℤ, List, [], ◌∷◌, ◌++◌, length, drop, true, false, nat_le, nat_lt, map, ◌-◌, zero, suc, Option, Some, None, Ok, if◌then◌else◌, FitsSigned, IsUtf8, refl, ap, ◌∙◌, append_assoc, arith, length-append, slice_index}
-use Rattle.std.specs.Int.{Width, w8, w16, w32, w64, w128, byte_len, cast_signed, cast_unsigned, from_be_bytes, to_be_bytes, saturate_signed}
+use Rattle.std.proofs.Common.{◌≡◌, ℕ, ◌+◌, ◌/◌, ◌%◌, ◌*◌, ◌<◌, ◌≤◌, ◌^◌, ℤ, List, [], ◌∷◌, ◌++◌, length, drop, true, false, nat_le, nat_lt, map, ◌-◌, zero, suc, Option, Some, None, Ok, if◌then◌else◌, FitsSigned, IsUtf8, refl, sym, ap, ◌∙◌, append_assoc, arith, length-append, slice_index}
+use Rattle.std.specs.Int.{Width, w8, w16, w32, w64, w128, byte_at, byte_len, byte_worth, cast_signed, cast_unsigned, from_be_bytes, to_be_bytes, saturate_signed}
 use Rattle.std.specs.List.{AllByRecursion}
 use Rattle.std.specs.Option.{option_or}
 use Rattle.std.specs.Ordering.{int_eq}
-use Rattle.std.proofs.Math.Nat.{div-div-eq-div-mul}
+use Rattle.std.proofs.Math.Nat.{add-mul, div-div-eq-div-mul, mod-add-div', mul_assoc, mul_comm, pow-suc}
 use Rattle.std.proofs.lemmas.Bool.{le-ltb, lt-leb}
 use Rattle.std.proofs.lemmas.Bool.Decides.{nat_tests}
 use Rattle.std.proofs.lemmas.Int.{ints, to_z-of_z}
@@ -24,22 +24,30 @@ use Rattle.eventstream.specs.Read.{array_of, big_endian, counted_of, front_of, h
 
 -- ## Numbers
 
--- the next byte of a number, and what is above it
-next_byte : (n p : ℕ) → n / p ≡ n / p % 256 + n / (p * 256) * 256
-next_byte n p = omega (arith, div-div-eq-div-mul n p 256)
+-- a sum, and what the bytes of a number from byte k down are worth
+abbrev with_low : ℕ → ℕ → ℕ → ℕ
+with_low n sum zero = sum + byte_worth 0 (byte_at 0 n)
+with_low n sum (suc k) = with_low n (sum + byte_worth (suc k) (byte_at (suc k) n)) k
 
-joined_16 : (b0 b1 b2 b3 b4 b5 b6 b7 b8 b9 b10 b11 b12 b13 b14 b15 n r1 r2 r3 r4 r5 r6 r7 r8 r9 r10 r11 r12 r13 r14 r15 : ℕ)
-    → n ≡ b0 + r1 * 256 → r1 ≡ b1 + r2 * 256 → r2 ≡ b2 + r3 * 256 → r3 ≡ b3 + r4 * 256 → r4 ≡ b4 + r5 * 256 → r5 ≡ b5 + r6 * 256
-    → r6 ≡ b6 + r7 * 256 → r7 ≡ b7 + r8 * 256 → r8 ≡ b8 + r9 * 256 → r9 ≡ b9 + r10 * 256 → r10 ≡ b10 + r11 * 256 → r11 ≡ b11 + r12 * 256
-    → r12 ≡ b12 + r13 * 256 → r13 ≡ b13 + r14 * 256 → r14 ≡ b14 + r15 * 256 → r15 ≡ b15
-    → b15 * 256 ^ 15 + b14 * 256 ^ 14 + b13 * 256 ^ 13 + b12 * 256 ^ 12 + b11 * 256 ^ 11 + b10 * 256 ^ 10 + b9 * 256 ^ 9 + b8 * 256 ^ 8 + b7 * 256 ^ 7 + b6 * 256 ^ 6 + b5 * 256 ^ 5 + b4 * 256 ^ 4 + b3 * 256 ^ 3 + b2 * 256 ^ 2 + b1 * 256 + b0 ≡ n
-joined_16 b0 b1 b2 b3 b4 b5 b6 b7 b8 b9 b10 b11 b12 b13 b14 b15 n r1 r2 r3 r4 r5 r6 r7 r8 r9 r10 r11 r12 r13 r14 r15 e0 e1 e2 e3 e4 e5 e6 e7 e8 e9 e10 e11 e12 e13 e14 e15 = omega arith
+-- with what is above them they make up the number
+low_again : (n sum k : ℕ) → with_low n sum k + n / 256 ^ suc k * 256 ^ suc k ≡ sum + n
+low_again n sum zero = omega arith
+low_again n sum (suc k) =
+    let worth = 256 ^ suc k in
+    let high = n / worth in
+    let below = low_again n (sum + high % 256 * worth) k in
+    let split : high * worth ≡ high % 256 * worth + high / 256 * 256 * worth =
+    ap (λ (x : ℕ). x * worth) (sym (mod-add-div' high 256)) ∙ add-mul (high % 256) (high / 256 * 256) worth in
+    let above : n / 256 ^ suc (suc k) * 256 ^ suc (suc k) ≡ high / 256 * 256 * worth =
+    rw (pow-suc 256 (suc k), ← div-div-eq-div-mul n worth 256) (ap (λ (x : ℕ). high / 256 * x) (mul_comm worth 256) ∙ sym (mul_assoc (high / 256) 256 worth)) in
+    omega (arith, below, split, above)
+
+cancelled : (low high above n : ℕ) → low + above ≡ high + n → high ≡ above → low ≡ n
+cancelled low high above n sum same = omega arith
 
 from_be_bytes-to_be_bytes_16 : (n : ℕ) → n < 2 ^ 128 → from_be_bytes w128 (to_be_bytes w128 n) ≡ n
 from_be_bytes-to_be_bytes_16 n fits =
-    let low : n ≡ n % 256 + n / 256 * 256 = omega arith in
-    let high : n / 256 ^ 15 ≡ n / 256 ^ 15 % 256 = omega arith in
-    joined_16 _ _ _ _ _ _ _ _ _ _ _ _ _ _ _ _ n _ _ _ _ _ _ _ _ _ _ _ _ _ _ _ low (next_byte n 256) (next_byte n (256 ^ 2)) (next_byte n (256 ^ 3)) (next_byte n (256 ^ 4)) (next_byte n (256 ^ 5)) (next_byte n (256 ^ 6)) (next_byte n (256 ^ 7)) (next_byte n (256 ^ 8)) (next_byte n (256 ^ 9)) (next_byte n (256 ^ 10)) (next_byte n (256 ^ 11)) (next_byte n (256 ^ 12)) (next_byte n (256 ^ 13)) (next_byte n (256 ^ 14)) high
+    cancelled _ (byte_worth 15 (byte_at 15 n)) (n / 256 ^ 15 * 256 ^ 15) n (low_again n (byte_worth 15 (byte_at 15 n)) 14) (omega arith)
 
 -- a number of this width is read back from its bytes
 pub record IsWide (w : Width) (limit : ℕ) : Type 0 where

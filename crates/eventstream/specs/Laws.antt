@@ -1,4 +1,4 @@
--- What a frame that is read back gives.
+-- What a message is read back as, and what the types of its parts say of it.
 use Rattle.std.specs.Prelude.{◌<◌, ◌^◌, map, All, FitsSigned, IsUtf8}
 use Rattle.std.specs.Int.{w8, w16, w32, w64}
 use Rattle.smithy_core.specs.Instant.{floored}

@@ -1,7 +1,7 @@
 ghost use Rattle.std.specs.Prelude.{◌≡◌, ℕ, List, [], ◌++◌, length, map, flat_map, None, Ok, All};
 ghost use Rattle.std.specs.List.{AllByRecursion};
 ghost use Rattle.smithy_core.specs.Parts.{Parts};
-ghost use Rattle.eventstream.specs.declared.error.ErrorKind.{ErrorKind as Kind};
+ghost use Rattle.eventstream.specs.declared.error.ErrorKind.{ErrorKind};
 ghost use Rattle.eventstream.specs.Frame.{frame, unframed};
 ghost use Rattle.eventstream.specs.Laws.{IsProper, IsProperHeader, IsProperValue, floored_message};
 ghost use Rattle.eventstream.specs.Read.{read};
@@ -23,8 +23,7 @@ pub fn frame_reads_back(message: &Message, more: &[u8])
 #[tactic(auto, using(crate::proofs::FrameLemmas::frame_alone))]
 pub fn no_frame_begins_another()
     ensures { (a b : Parts) (more : List ℕ) → unframed a ≡ None → unframed b ≡ None → frame a ++ more ≡ frame b → more ≡ [] }
-{
-}
+{}
 
 /// A stream that begins with a frame begins with its message, each moment in whole milliseconds, and
 /// what follows the frame is read after it.
@@ -51,18 +50,16 @@ pub fn frames_read_back(messages: &[Message])
 #[tactic(auto, using(crate::proofs::ReadingLemmas::goes_on))]
 pub fn reading_goes_on()
     ensures { (bytes : List ℕ) (message : Parts) (rest : List ℕ) → first_of bytes ≡ begins message rest → reading bytes ≡ onto message (reading rest) }
-{
-}
+{}
 
 /// What a stream begins with stays, however it goes on: its first message, and a fault in place of one.
 #[tactic(auto, using(crate::proofs::ReadingLemmas::first_stays, crate::proofs::ReadingLemmas::fault_stays))]
 pub fn first_stays()
     ensures message { (bytes : List ℕ) (first : Parts) (rest more : List ℕ) → first_of bytes ≡ begins first rest → first_of (bytes ++ more) ≡ begins first (rest ++ more) }
-    ensures fault { (bytes : List ℕ) (kind : Kind) (more : List ℕ) → first_of bytes ≡ fault kind → first_of (bytes ++ more) ≡ fault kind }
-{
-}
+    ensures fault { (bytes : List ℕ) (kind : ErrorKind) (more : List ℕ) → first_of bytes ≡ fault kind → first_of (bytes ++ more) ≡ fault kind }
+{}
 
-// What the types of the messages say of them.
+// What the types of the messages say of them, which the laws above need.
 fn know_messages(messages: &[Message])
     ensures { All IsProper messages.now }
 {
@@ -92,6 +89,7 @@ fn know_header(header: &Header)
     know_value(header.value());
 }
 
+// Whoever reads a number knows its range.
 fn know_value(value: &HeaderValue)
     ensures { IsProperValue value.now }
 {
