@@ -76,8 +76,8 @@ steps_whole kept old prelude new len frame rest answer result none high whole is
     message_read frame rest (Err e) reads = reads.0
 
 -- a frame that isn't there whole
-pub more_unfinished : (bytes : List ℕ) → 12 ≤ length bytes → 12 ≤ announced bytes → length bytes < announced bytes → IsUnfinished (first_of bytes)
-more_unfinished bytes long high more = rw (first_more bytes long high more) tt
+pub more_unfinished : (bytes : List ℕ) → 12 ≤ length bytes → length bytes < announced bytes → IsUnfinished (first_of bytes)
+more_unfinished bytes long more = rw (first_more bytes long more) tt
 
 -- what a kept prelude announces, and how many bytes there are with it
 announces : (prelude rest : List ℕ) → length prelude ≡ 12 → (announced (prelude ++ rest) ≡ announced prelude) × (length (prelude ++ rest) ≡ 12 + length rest)
@@ -96,7 +96,7 @@ pub kept_unfinished : (prelude rest : List ℕ) → length prelude ≡ 12 → 12
     → IsUnfinished (first_of (prelude ++ rest)) × Keeps (prelude ++ rest) (Some prelude) rest
 kept_unfinished prelude rest twelve high more =
     let whole = announces prelude rest twelve in
-    (more_unfinished (prelude ++ rest) (omega (arith, whole.1)) (omega (arith, whole.0)) (omega (arith, whole.0, whole.1)), keeps_kept prelude rest twelve)
+    (more_unfinished (prelude ++ rest) (omega (arith, whole.1)) (omega (arith, whole.0, whole.1)), keeps_kept prelude rest twelve)
 
 -- the same as `steps_whole`, where a prelude was kept
 pub steps_rest : (kept : Option (List ℕ)) (taken : List ℕ) (old : Segments) (prelude : Option (List ℕ)) (new : Segments) (len : ℕ) (rest : List ℕ)

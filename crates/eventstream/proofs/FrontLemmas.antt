@@ -1,12 +1,11 @@
 -- The front of a stream of bytes.
-use Rattle.std.proofs.Common.{◌≡◌, ℕ, ◌<◌, ◌≤◌, nat_lt, ◌==◌, Bool, true, false, cond, List, [], ◌∷◌, ◌++◌, length, take, ap, refl, sym, ◌∙◌, arith}
+use Rattle.std.proofs.Common.{◌≡◌, ℕ, ◌<◌, ◌≤◌, nat_lt, ◌==◌, Bool, true, false, if◌then◌else◌, List, [], ◌∷◌, ◌++◌, length, take, ap, refl, sym, ◌∙◌, arith}
 use Rattle.std.specs.Int.{w32}
-use Rattle.std.proofs.lemmas.Bool.{le-ltb, lt-ltb}
-use Rattle.std.proofs.lemmas.Bool.Decides.{nat_tests}
+use Rattle.std.proofs.lemmas.Bool.{le-ltb, lt-ltb, ne_eqb}
 use Rattle.std.proofs.lemmas.List.{take_at, drop_at, length-append}
 use Rattle.eventstream.specs.declared.error.ErrorKind.TheVariants.{InvalidMessageLength}
 use Rattle.eventstream.specs.Read.{big_endian, read, read_after}
-use Rattle.eventstream.specs.Reading.{nothing, leftover, fault, announced, as_first, first_of}
+use Rattle.eventstream.specs.Reading.{First, nothing, leftover, fault, announced, as_first, first_of}
 use Rattle.eventstream.specs.Decoding.{IsUnfinished}
 
 first_four : (bytes : List ℕ) → take 4 (take 12 bytes) ≡ take 4 bytes
@@ -34,42 +33,54 @@ read_joined prelude rest twelve =
 
 -- ## What a stream begins with
 
-some_bytes : (bytes : List ℕ) → 12 ≤ length bytes → (length bytes == 0) ≡ false
-some_bytes bytes long = grind (arith, nat_tests)
+-- the bytes tell a first message, or a fault in its place
+pub record IsTold (bytes : List ℕ) : Type 0 where
+  pub long : 12 ≤ length bytes
+  pub there : announced bytes ≤ length bytes
 
-pub first_short : (bytes : List ℕ) → length bytes < 12 → IsUnfinished (first_of bytes)
+-- which
+abbrev pub told : ℕ → List ℕ → First
+told n bytes = if nat_lt n 12 then fault InvalidMessageLength else as_first bytes (read (take n bytes))
+
+pub told_is : (bytes : List ℕ) → IsTold bytes → first_of bytes ≡ told (announced bytes) bytes
 unfolding first_of
-first_short bytes short =
-    let test : nat_lt (length bytes) 12 ≡ true = lt-ltb (length bytes) 12 short in
-    rw test (by_none (length bytes == 0))
+told_is bytes is =
+    let some : (length bytes == 0) ≡ false = ne_eqb _ _ (λ none. absurd (omega arith)) in
+    let long : nat_lt (length bytes) 12 ≡ false = le-ltb _ _ is.long in
+    let there : nat_lt (length bytes) (announced bytes) ≡ false = le-ltb _ _ is.there in
+    rw (some, long, there) refl
+
+-- fewer bytes than a prelude tell nothing
+pub short_is : (bytes : List ℕ) → length bytes < 12 → first_of bytes ≡ (if length bytes == 0 then nothing else leftover bytes)
+unfolding first_of
+short_is bytes short = let test : nat_lt (length bytes) 12 ≡ true = lt-ltb _ _ short in rw test refl
+
+-- nor do fewer than they announce
+pub first_more : (bytes : List ℕ) → 12 ≤ length bytes → length bytes < announced bytes → first_of bytes ≡ leftover bytes
+unfolding first_of
+first_more bytes some partial =
+    let any : (length bytes == 0) ≡ false = ne_eqb _ _ (λ none. absurd (omega arith)) in
+    let long : nat_lt (length bytes) 12 ≡ false = le-ltb _ _ some in
+    let enough : nat_lt (announced bytes) 12 ≡ false = le-ltb _ _ (omega arith) in
+    let less : nat_lt (length bytes) (announced bytes) ≡ true = lt-ltb _ _ partial in
+    rw (any, long, enough, less) refl
+
+-- there is less than a frame
+pub first_short : (bytes : List ℕ) → length bytes < 12 → IsUnfinished (first_of bytes)
+first_short bytes short = rw (short_is bytes short) (by_none (length bytes == 0))
   where
-    by_none : (none : Bool) → IsUnfinished (cond none nothing (leftover bytes))
+    by_none : (none : Bool) → IsUnfinished (if none then nothing else leftover bytes)
     by_none true = tt
     by_none false = tt
 
+-- less than a prelude is announced
 pub first_bad : (bytes : List ℕ) → 12 ≤ length bytes → announced bytes < 12 → first_of bytes ≡ fault InvalidMessageLength
-unfolding first_of
 first_bad bytes long low =
-    let some = some_bytes bytes long in
-    let test : nat_lt (length bytes) 12 ≡ false = le-ltb (length bytes) 12 long in
-    let least : nat_lt (announced bytes) 12 ≡ true = lt-ltb (announced bytes) 12 low in
-    rw (some, test, least) refl
+    let test : nat_lt (announced bytes) 12 ≡ true = lt-ltb _ _ low in
+    told_is bytes (record { long = long; there = omega arith }) ∙ rw test refl
 
-pub first_more : (bytes : List ℕ) → 12 ≤ length bytes → 12 ≤ announced bytes → length bytes < announced bytes → first_of bytes ≡ leftover bytes
-unfolding first_of
-first_more bytes long high more =
-    let some = some_bytes bytes long in
-    let test : nat_lt (length bytes) 12 ≡ false = le-ltb (length bytes) 12 long in
-    let least : nat_lt (announced bytes) 12 ≡ false = le-ltb (announced bytes) 12 high in
-    let beyond : nat_lt (length bytes) (announced bytes) ≡ true = lt-ltb (length bytes) (announced bytes) more in
-    rw (some, test, least, beyond) refl
-
+-- a frame is there
 pub first_whole : (bytes : List ℕ) → 12 ≤ announced bytes → announced bytes ≤ length bytes → first_of bytes ≡ as_first bytes (read (take (announced bytes) bytes))
-unfolding first_of
 first_whole bytes high whole =
-    let long : 12 ≤ length bytes = omega arith in
-    let some = some_bytes bytes long in
-    let test : nat_lt (length bytes) 12 ≡ false = le-ltb (length bytes) 12 long in
-    let least : nat_lt (announced bytes) 12 ≡ false = le-ltb (announced bytes) 12 high in
-    let beyond : nat_lt (length bytes) (announced bytes) ≡ false = le-ltb (length bytes) (announced bytes) whole in
-    rw (some, test, least, beyond) refl
+    let test : nat_lt (announced bytes) 12 ≡ false = le-ltb _ _ high in
+    told_is bytes (record { long = omega arith; there = whole }) ∙ rw test refl

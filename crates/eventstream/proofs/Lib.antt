@@ -1,4 +1,7 @@
 pub mod DecodeLemmas
+pub mod FrameLemmas
 pub mod FrontLemmas
 pub mod HeadersLemmas
 pub mod LinkLemmas
+pub mod ReadingLemmas
+pub mod RoundLemmas

@@ -7,22 +7,12 @@ use Rattle.sha2.proofs.Facts256.{length-sha256}
 use Rattle.mac_core.specs.Mac.{mac, mac_of_block}
 use Rattle.smithy_core.specs.Civil.{IsInYears}
 use Rattle.smithy_core.specs.Instant.{Instant, floor_secs}
-use Rattle.smithy_core.specs.Parts.{Parts}
 use Rattle.smithy_core.specs.declared.header.Header.{Header}
 use Rattle.smithy_core.specs.declared.header.HeaderValue.TheVariants.{ByteArray}
 use Rattle.eventstream.specs.declared.error.ErrorKind.{ErrorKind}
-use Rattle.eventstream.specs.Frame.{be32, block, frame, frame_len, spelling, unfit, unframed, unspelled, unspelled_value, value_spelling}
+use Rattle.eventstream.specs.Frame.{block, spelling, unfit, unframed, unspelled, unspelled_value, value_spelling}
 use Rattle.eventstream.specs.Key.{Signer}
 use Rattle.eventstream.specs.Link.{date_header, link_code, link_message}
-
-length-be32 : (n : ℕ) → length (be32 n) ≡ 4
-unfolding be32
-length-be32 n = refl
-
--- a frame is as long as its first number says
-pub length-frame : (m : Parts) → length (frame m) ≡ frame_len m
-unfolding frame
-length-frame m = simp (length-append, length-be32) (omega arith)
 
 -- a code has 32 bytes
 pub length-mac : (key text : List ℕ) → length (mac key text) ≡ 32

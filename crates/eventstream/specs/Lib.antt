@@ -2,6 +2,7 @@ pub mod Decoding
 pub mod Errors
 pub mod Frame
 pub mod Key
+pub mod Laws
 pub mod Link
 pub mod Read
 pub mod Reading

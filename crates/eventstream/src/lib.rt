@@ -8,6 +8,7 @@
 
 mod decode;
 mod error;
+mod laws;
 mod read;
 #[cfg(test)]
 mod tests;
@@ -15,5 +16,9 @@ mod write;
 
 pub use crate::decode::{DecodedFrame, MessageFrameDecoder};
 pub use crate::error::{Error, ErrorKind};
+pub use crate::laws::{
+    first_stays, frame_comes_first, frame_reads_back, frames_read_back, no_frame_begins_another,
+    reading_goes_on,
+};
 pub use crate::read::read_message_from;
 pub use crate::write::{frame_of, write_headers_to, write_message_to};

@@ -1,4 +1,4 @@
-use Rattle.std.proofs.Common.{◌≡◌, ℕ, suc, ◌+◌, ◌-◌, ◌/◌, ◌<◌, List, [], ◌∷◌, ◌++◌, refl, ap, arith}
+use Rattle.std.proofs.Common.{◌≡◌, ℕ, suc, ◌+◌, ◌-◌, ◌/◌, ◌<◌, ◌^◌, List, [], ◌∷◌, ◌++◌, refl, ap, arith}
 use Rattle.mac_core.specs.Crc.{after_bit, after_bits, after_bytes, before_any, remainder}
 
 -- one bit of those that are left
@@ -21,3 +21,8 @@ after_bytes-append r (x ∷ xs) ys = after_bytes-append (after_bits 8 r x) xs ys
 pub remainder_pieces : (xs ys : List ℕ) → remainder (xs ++ ys) ≡ 0xFFFFFFFF - after_bytes (after_bytes before_any xs) ys
 unfolding remainder
 remainder_pieces xs ys = ap (λ (r : ℕ). 0xFFFFFFFF - r) (after_bytes-append before_any xs ys)
+
+-- a checksum has 32 bits
+pub remainder-below : (bytes : List ℕ) → remainder bytes < 2 ^ 32
+unfolding remainder
+remainder-below bytes = omega arith

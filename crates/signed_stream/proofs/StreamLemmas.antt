@@ -10,7 +10,8 @@ use Rattle.smithy_core.specs.Civil.{IsInYears}
 use Rattle.eventstream.specs.Frame.{frame, unframed}
 use Rattle.eventstream.specs.Key.{Signer}
 use Rattle.eventstream.specs.Link.{link_message, link_signature}
-use Rattle.eventstream.proofs.LinkLemmas.{length-frame, link_framed}
+use Rattle.eventstream.proofs.FrameLemmas.{length-frame}
+use Rattle.eventstream.proofs.LinkLemmas.{link_framed}
 use Rattle.signed_stream.specs.Stream.{IsStreamable, chain_lines, link_line}
 
 -- the line of the first event, and then the chain of the others from its signature on

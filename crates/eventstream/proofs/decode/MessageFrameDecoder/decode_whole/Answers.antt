@@ -22,10 +22,9 @@ pub returns-then-remaining-total-clause-step : goal.returns-then-remaining-total
 returns-then-remaining-total-clause-step c =
     let bytes = c.args.buffer.now.bytes in
     let long : 12 ≤ length bytes = omega (arith, c.remaining.ensures, c.if-remaining-lt-PRELUDE.false) in
-    let high : 12 ≤ announced bytes = omega (arith, c.front_announced-total.ensures, c.if-total-lt-PRELUDE.false) in
     let more : length bytes < announced bytes = omega (arith, c.remaining-2.ensures, c.front_announced-total.ensures, c.if-remaining-total.true) in
     rw (c.requires, c.take_prelude-then-remaining-total.ensures.front, c.take_prelude-then-remaining-total.ensures.rest)
-    (more_unfinished bytes long high more, keeps_taken bytes long)
+    (more_unfinished bytes long more, keeps_taken bytes long)
 
 pub returns-clause-step : goal.returns-clause-step
 returns-clause-step c =
