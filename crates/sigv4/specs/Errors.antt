@@ -4,21 +4,14 @@ use Rattle.std.specs.Fmt.{signed_decimal}
 use Rattle.eventstream.specs.Errors.{text_of as encoding_text}
 use Rattle.eventstream.specs.declared.error.Error.{Error}
 use Rattle.eventstream.specs.declared.error.ErrorKind.{ErrorKind}
-use Rattle.eventstream.specs.declared.error.ErrorKind.TheVariants.{HeadersTooLong, HeaderValueTooLong, InvalidHeaderNameLength, MessageTooLong, PayloadTooLong, TimestampValueTooLarge, Marshalling, Unmarshalling, NoMemory as NoRoom}
+use Rattle.eventstream.specs.declared.error.ErrorKind.TheVariants.{NoMemory as NoRoom}
 use Rattle.sigv4.specs.declared.error.SigningError.{SigningError}
 use Rattle.sigv4.specs.declared.error.SigningError.TheVariants.{FailedToEncodeMessage, MomentOutOfRange, NoMemory, UnsupportedIdentityType}
 
 -- the error of an encoding that failed for a reason
 abbrev pub error_for : ErrorKind → Error → SigningError
-error_for HeadersTooLong error = FailedToEncodeMessage error
-error_for HeaderValueTooLong error = FailedToEncodeMessage error
-error_for InvalidHeaderNameLength error = FailedToEncodeMessage error
-error_for MessageTooLong error = FailedToEncodeMessage error
-error_for PayloadTooLong error = FailedToEncodeMessage error
-error_for (TimestampValueTooLarge moment) error = FailedToEncodeMessage error
-error_for (Marshalling message) error = FailedToEncodeMessage error
-error_for (Unmarshalling message) error = FailedToEncodeMessage error
 error_for NoRoom error = NoMemory
+error_for _ error = FailedToEncodeMessage error
 
 -- want of memory stays what it is
 abbrev pub error_of : Error → SigningError

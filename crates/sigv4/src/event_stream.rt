@@ -1,3 +1,5 @@
+//! Signed messages of an event stream: each is signed over the signature before it.
+
 ghost use Rattle.std.specs.Prelude.{◌≡◌, [], None, Some, codes, IfOk, MatchResult};
 ghost use Rattle.std.specs.String.{string_bytes};
 ghost use Rattle.sha2.specs.Sha256.{sha256};
