@@ -7,7 +7,8 @@ use Rattle.std.specs.Str.{IsUtf8}
 use Rattle.std.specs.Str.Lossy.{utf8_valid_len}
 use Rattle.std.proofs.lemmas.Bool.{eq-eqb}
 use Rattle.std.proofs.lemmas.Str.{utf8_valid_len-IsUtf8}
-use Rattle.signed_stream.specs.Job.{Draft, job, lines_from, lines_of, no_draft, onto_first}
+use Rattle.signed_stream.specs.Job.{Draft, job, lines_from, no_draft}
+use Rattle.signed_stream.specs.Lines.{lines_of, onto_first}
 
 abbrev is_lf : ℕ → Bool
 is_lf b = eqb b 10

@@ -1,38 +1,9 @@
 -- The words of the command line.
-use Rattle.std.specs.Prelude.{ℕ, ◌+◌, ◌*◌, ◌-◌, ◌==◌, Bool, false, ◌&&◌, ◌||◌, not, nat_le, if◌then◌else◌, List, [], ◌∷◌, length, drop, codes, bytes_eq, slice_index, Option, Some, None, is_some, ℤ, pos, negsuc, neg_ℤ, int_lt}
+use Rattle.std.specs.Prelude.{ℕ, ◌+◌, ◌==◌, Bool, ◌&&◌, ◌||◌, not, nat_le, if◌then◌else◌, List, [], ◌∷◌, codes, bytes_eq, Option, Some, None, is_some, ℤ, pos, negsuc, int_lt}
 use Rattle.std.specs.List.{list_all, list_any}
-use Rattle.std.specs.Int.{w64, saturate_signed}
-use Rattle.std.specs.Ordering.{int_eq}
+use Rattle.std.specs.Int.{w64}
 use Rattle.smithy_core.specs.Instant.{Instant}
-
--- a decimal digit
-abbrev pub is_digit : ℕ → Bool
-is_digit b = nat_le 48 b && nat_le b 57
-
--- decimal digits without a leading zero
-abbrev pub is_natural : List ℕ → Bool
-is_natural [] = false
-is_natural (digit ∷ digits) = list_all is_digit (digit ∷ digits) && (not (digit == 48) || length digits == 0)
-
--- the number that digits spell after those that spell n
-abbrev pub number_on : ℕ → List ℕ → ℕ
-number_on n [] = n
-number_on n (digit ∷ digits) = number_on (10 * n + (digit - 48)) digits
-
--- the number, where it fits 64 bits with a sign
-abbrev pub if_fits : ℤ → Option ℤ
-if_fits z = if int_eq (saturate_signed w64 z) z then Some z else None
-
--- `-`, and then decimal digits without a leading zero, whose first isn't zero
-abbrev pub is_negative : List ℕ → Bool
-is_negative text = slice_index text 0 == 45 && is_natural (drop 1 text) && not (slice_index text 1 == 48)
-
--- the number that a text spells: decimal digits without a leading zero, with `-` before them where it is below 0
-unfoldable pub number : List ℕ → Option ℤ
-number text =
-    if is_natural text then if_fits (pos (number_on 0 text))
-    else if is_negative text then if_fits (neg_ℤ (pos (number_on 0 (drop 1 text))))
-    else None
+use Rattle.signed_stream.specs.Numbers.{is_digit, number}
 
 -- a letter, a digit or `-`
 abbrev pub is_name_byte : ℕ → Bool
@@ -97,7 +68,7 @@ option_step place given word value =
     if bytes_eq word (codes "--name") then
     (if is_some given.name then ends (bad_word place) else with_value (place + 1) (name_step (place + 1) given) value)
     else if bytes_eq word (codes "--at") then
-    (if is_some given.at then ends (bad_word place) else with_value (place + 1) (λ text. second_step (place + 1) given (number text)) value)
+    (if is_some given.at then ends (bad_word place) else with_value (place + 1) (λ text. second_step (place + 1) given (number w64 text)) value)
     else if is_later_option word then ends (unbuilt_word place)
     else ends (bad_word place)
 

@@ -1,32 +1,13 @@
 -- The job: lines, each a word, or a word, one space and a rest. Each line moves the draft of the job on, or is bad, or is of a form that isn't built.
-use Rattle.std.specs.Prelude.{ℕ, ◌+◌, ◌-◌, ◌==◌, nat_eq, Bool, true, false, ◌&&◌, ◌||◌, not, nat_le, nat_lt, if◌then◌else◌, List, [], ◌∷◌, ◌++◌, length, take, drop, codes, bytes_eq, slice_index, count_by, Result, Ok, Err, Option, Some, None, is_some, is_none, option_map, unwrap_or}
+use Rattle.std.specs.Prelude.{ℕ, ◌+◌, ◌-◌, ◌==◌, nat_eq, Bool, true, false, ◌&&◌, ◌||◌, not, nat_le, nat_lt, if◌then◌else◌, List, [], ◌∷◌, ◌++◌, length, take, drop, codes, bytes_eq, slice_index, count_by, Option, Some, None, is_some, is_none, option_map, unwrap_or}
 use Rattle.std.specs.Option.{option_to_list}
 use Rattle.std.specs.List.{list_all, list_any, starts_with, before_first, after_first}
 use Rattle.std.specs.Str.Lossy.{utf8_valid_len}
-use Rattle.hex.specs.Hex.{decode_of}
-use Rattle.hex.specs.declared.error.FromHexError.{FromHexError}
 use Rattle.smithy_core.specs.Parts.{Parts}
 use Rattle.smithy_core.specs.declared.header.Header.{Header}
-use Rattle.smithy_core.specs.declared.header.HeaderValue.TheVariants.{String as Text}
-use Rattle.signed_stream.specs.Command.{is_digit}
-
--- the byte joins the first line
-abbrev pub onto_first : ℕ → List (List ℕ) → List (List ℕ)
-onto_first b [] = (b ∷ []) ∷ []
-onto_first b (line ∷ lines) = (b ∷ line) ∷ lines
-
--- a line ends at LF, and the last one may lack it
-unfoldable pub lines_of : List ℕ → List (List ℕ)
-lines_of [] = []
-lines_of (b ∷ bytes) = if b == 10 then [] ∷ lines_of bytes else onto_first b (lines_of bytes)
-
--- what stands before the first space, or all
-abbrev pub word_of : List ℕ → List ℕ
-word_of line = before_first (λ b. b == 32) line
-
--- what stands after the first space, or nothing
-abbrev pub rest_of : List ℕ → List ℕ
-rest_of line = after_first (λ b. b == 32) line
+use Rattle.signed_stream.specs.EventHeader.{bytes_of, event_header}
+use Rattle.signed_stream.specs.Lines.{lines_of, rest_of, word_of}
+use Rattle.signed_stream.specs.Numbers.{is_digit}
 
 abbrev pub is_lower : ℕ → Bool
 is_lower b = nat_le 97 b && nat_le b 122
@@ -153,14 +134,6 @@ pub record Event : Type 0 where
 abbrev pub message_of : Event → Parts
 message_of event = record { headers = event.headers; payload = unwrap_or event.payload [] }
 
--- the header of `NAME text REST`
-unfoldable pub plain_event_header : List ℕ → Option Header
-plain_event_header rest =
-    let name = word_of rest in
-    let value = rest_of (rest_of rest) in
-    if nat_lt 0 (length name) && nat_le (length name) 255 && bytes_eq (word_of (rest_of rest)) (codes "text") && nat_le (length value) 32767
-    then Some (record { name = name; value = Text value }) else None
-
 -- ## The draft
 
 -- what the lines so far gave; settings from the line `credentials [default]` on, the events that are whole, and the one that is open
@@ -189,6 +162,11 @@ pub data LineStep : Type 0 where
 abbrev pub plain_or_unbuilt : Option Draft → LineStep
 plain_or_unbuilt None = unbuilt
 plain_or_unbuilt (Some draft) = moves_to draft
+
+-- the draft, where the line is whole
+abbrev pub whole_or_bad : Option Draft → LineStep
+whole_or_bad None = bad
+whole_or_bad (Some draft) = moves_to draft
 
 -- `method M`: once; M isn't empty and has no space
 unfoldable pub method_step : Draft → List ℕ → LineStep
@@ -221,16 +199,13 @@ event_step draft rest =
 -- `h NAME KIND VALUE`, of the event that is open
 unfoldable pub event_header_step : Draft → Event → List ℕ → LineStep
 event_header_step draft event rest =
-    plain_or_unbuilt (option_map (λ header. record draft { event = Some (record event { headers = event.headers ++ header ∷ [] }) }) (plain_event_header rest))
-
--- the payload that hexadecimal gives
-abbrev pub payload_of : Draft → Event → Result (List ℕ) FromHexError → LineStep
-payload_of draft event (Ok payload) = moves_to (record draft { event = Some (record event { payload = Some payload }) })
-payload_of draft event (Err e) = bad
+    whole_or_bad (option_map (λ header. record draft { event = Some (record event { headers = event.headers ++ header ∷ [] }) }) (event_header rest))
 
 -- `payload HEX`, of the event that is open: once, an even number of digits in either case
 unfoldable pub payload_step : Draft → Event → List ℕ → LineStep
-payload_step draft event rest = if is_some event.payload then bad else payload_of draft event (decode_of rest)
+payload_step draft event rest =
+    if is_some event.payload then bad
+    else whole_or_bad (option_map (λ payload. record draft { event = Some (record event { payload = Some payload }) }) (bytes_of rest))
 
 -- a line that stands after an `event`
 abbrev pub body_step : Option Event → (Event → LineStep) → LineStep

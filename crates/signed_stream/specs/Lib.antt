@@ -1,8 +1,11 @@
 pub mod Canonical
 pub mod Command
+pub mod EventHeader
 pub mod Fault
 pub mod Heads
 pub mod Job
+pub mod Lines
+pub mod Numbers
 pub mod Plan
 pub mod Reading
 pub mod Run

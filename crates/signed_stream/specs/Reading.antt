@@ -1,8 +1,6 @@
 -- What the reader of a job promises.
-use Rattle.std.specs.Prelude.{◌≡◌, ℕ, List, [], Result, Ok, Err, IsErr, Option, Some, None, option_map, string_bytes}
+use Rattle.std.specs.Prelude.{◌≡◌, ℕ, List, [], Result, Ok, Err, Option, Some, None, option_map, string_bytes}
 use Rattle.std.specs.Borrow.{Bor}
-use Rattle.hex.specs.declared.error.FromHexError.{FromHexError}
-use Rattle.smithy_core.specs.declared.header.Header.{Header}
 use Rattle.signed_stream.specs.Job.{Settings, Event, Draft, LineStep, moves_to, bad, unbuilt, PlainJob, Reading, plain_job, bad_line, unbuilt_line}
 use Rattle.signed_stream.specs.declared.job.credentials.PlainSettings.{PlainSettings}
 use Rattle.signed_stream.specs.declared.job.event.OpenEvent.{OpenEvent}
@@ -48,19 +46,12 @@ GivesSettings settings now (Err Bad) = ⊥
 GivesSettings settings now (Err NotBuilt) = settings ≡ None
 GivesSettings settings now (Err NoMemory) = Unit {0}
 
--- the header is the one that the text spells, unless memory ran out
-abbrev pub GivesHeader : Option Header → Result Header LineFault → Type 0
-GivesHeader header (Ok given) = header ≡ Some given
-GivesHeader header (Err Bad) = ⊥
-GivesHeader header (Err NotBuilt) = header ≡ None
-GivesHeader header (Err NoMemory) = Unit {0}
-
--- the payload is the one that the digits spell, unless memory ran out
-abbrev pub GivesPayload : Result (List ℕ) FromHexError → Result (List ℕ) LineFault → Type 0
-GivesPayload payload (Ok given) = payload ≡ Ok given
-GivesPayload payload (Err Bad) = IsErr payload
-GivesPayload payload (Err NotBuilt) = ⊥
-GivesPayload payload (Err NoMemory) = Unit {0}
+-- what is given is what the text spells, unless memory ran out
+abbrev pub Gives : {A : Type 0} → Option A → Result A LineFault → Type 0
+Gives spelled (Ok given) = spelled ≡ Some given
+Gives spelled (Err Bad) = spelled ≡ None
+Gives spelled (Err NotBuilt) = ⊥
+Gives spelled (Err NoMemory) = Unit {0}
 
 -- the pair is the one that the text spells
 abbrev pub GivesPair : Option (List ℕ × List ℕ) → Result (Bor (List ℕ) × Bor (List ℕ)) LineFault → Type 0

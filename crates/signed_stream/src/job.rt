@@ -1,10 +1,12 @@
 ghost use Rattle.std.specs.Prelude.{◌≡◌, ◌==◌, ◌+◌, [], count_by};
-ghost use Rattle.signed_stream.specs.Job.{job, lines_from, lines_of, no_draft};
+ghost use Rattle.signed_stream.specs.Job.{job, lines_from, no_draft};
+ghost use Rattle.signed_stream.specs.Lines.{lines_of};
 ghost use Rattle.signed_stream.specs.Reading.{ReadsJob, draft_of};
 
 mod credentials;
 mod draft;
 mod event;
+mod event_header;
 mod fault;
 mod header;
 mod lines;

@@ -9,6 +9,7 @@
 mod canonical;
 mod halt;
 mod job;
+mod numbers;
 mod running;
 mod saying;
 mod sign;

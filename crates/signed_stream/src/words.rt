@@ -1,7 +1,6 @@
-ghost use Rattle.std.specs.Prelude.{◌≡◌, ◌||◌, map};
+ghost use Rattle.std.specs.Prelude.{◌≡◌, map};
 ghost use Rattle.std.specs.String.{string_bytes};
-ghost use Rattle.std.specs.List.{list_all};
-ghost use Rattle.signed_stream.specs.Command.{command, is_digit, is_natural, is_negative, no_options, number, options_from};
+ghost use Rattle.signed_stream.specs.Command.{command, no_options, options_from};
 ghost use Rattle.signed_stream.specs.Words.{command_told};
 
 mod options;
@@ -50,52 +49,4 @@ fn read_options<'a>(words: &'a [String]) -> Result<StreamWords<'a>, WordsFault>
         index += 2;
     }
     given.finish(index + 2)
-}
-
-/// The number that a text spells: decimal digits without a leading zero, with `-` before them where it is below 0.
-#[tactic(auto, using(crate::proofs::NumberLemmas::parsed, crate::proofs::NumberLemmas::unparsed))]
-pub fn parse_number(text: &str) -> Option<i64>
-    ensures { result ≡ number text.now }
-{
-    if is_number(text.as_bytes()) {
-        text.parse::<i64>().ok()
-    } else {
-        None
-    }
-}
-
-// The text spells a number, which may not fit.
-fn is_number(text: &[u8]) -> bool
-    ensures { result ≡ (is_natural text.now || is_negative text.now) }
-{
-    is_natural(text) || is_negative(text)
-}
-
-// `-`, and then decimal digits that begin with none of zero.
-fn is_negative(text: &[u8]) -> bool
-    ensures { result ≡ is_negative text.now }
-{
-    match text {
-        [b'-', b'0', ..] => false,
-        [b'-', digits @ ..] => is_natural(digits),
-        _ => false,
-    }
-}
-
-// Decimal digits without a leading zero.
-fn is_natural(text: &[u8]) -> bool
-    ensures { result ≡ is_natural text.now }
-{
-    match text {
-        [] => false,
-        [b'0', _, ..] => false,
-        _ => are_digits(text),
-    }
-}
-
-// Decimal digits.
-fn are_digits(text: &[u8]) -> bool
-    ensures { result ≡ list_all is_digit text.now }
-{
-    text.iter().all(|b| b.is_ascii_digit())
 }

@@ -1,5 +1,6 @@
 use crate::job::credentials::PlainSettings;
-use crate::job::event::{OpenEvent, header_of, payload_of};
+use crate::job::event::OpenEvent;
+use crate::job::event_header::{bytes_of, header_of};
 use crate::job::fault::LineFault;
 use crate::job::header::pair_of;
 use crate::job::lines::cut_word;
@@ -170,7 +171,7 @@ impl Draft {
     {
         match &mut self.event {
             Some(event) if event.payload.is_none() => {
-                event.payload = Some(payload_of(alloc, rest)?);
+                event.payload = Some(bytes_of(alloc, rest)?);
                 Ok(())
             }
             _ => Err(LineFault::Bad),

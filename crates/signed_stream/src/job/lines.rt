@@ -1,5 +1,5 @@
 ghost use Rattle.std.specs.Prelude.{◌≡◌, ◌<◌, ◌∷◌, length};
-ghost use Rattle.signed_stream.specs.Job.{lines_of, rest_of, word_of};
+ghost use Rattle.signed_stream.specs.Lines.{lines_of, rest_of, word_of};
 
 /// The first line, and what stands after it.
 #[tactic(auto, using(crate::proofs::LineLemmas::lines))]

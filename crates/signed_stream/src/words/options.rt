@@ -4,7 +4,8 @@ ghost use Rattle.std.specs.List.{list_all};
 ghost use Rattle.smithy_core.specs.Civil.{IsInYears};
 ghost use Rattle.signed_stream.specs.Command.{is_later_option, is_name_byte};
 
-use crate::words::{WordsFault, parse_number};
+use crate::numbers::parse_i64;
+use crate::words::WordsFault;
 use smithy_core::Moment;
 
 // The first second of the year 0.
@@ -32,7 +33,9 @@ pub struct StreamOptions<'a> {
 impl<'a> StreamOptions<'a> {
     ghost use Rattle.std.specs.Prelude.{◌≡◌, ◌^◌, ◌<◌, option_map};
     ghost use Rattle.std.specs.String.{string_bytes};
-    ghost use Rattle.signed_stream.specs.Command.{command_of, name_step, no_options, number, option_step, second_step, with_value};
+    ghost use Rattle.std.specs.Int.{w64};
+    ghost use Rattle.signed_stream.specs.Command.{command_of, name_step, no_options, option_step, second_step, with_value};
+    ghost use Rattle.signed_stream.specs.Numbers.{number};
     ghost use Rattle.signed_stream.specs.Words.{command_told, options_of, step_told};
 
     // No options.
@@ -84,12 +87,12 @@ impl<'a> StreamOptions<'a> {
     // Takes the value of `--at` at a place.
     fn take_second(&mut self, place: usize, value: Option<&'a String>) -> Result<(), WordsFault>
         ensures { step_told result (options_of self.new)
-            ≡ with_value place (λ text. second_step place (options_of self.old) (number text)) (option_map (λ value. string_bytes value.now) value.entry) }
+            ≡ with_value place (λ text. second_step place (options_of self.old) (number w64 text)) (option_map (λ value. string_bytes value.now) value.entry) }
     {
         let Some(value) = value else {
             return Err(WordsFault::BadWord(place));
         };
-        let Some(secs) = parse_number(value.as_str()) else {
+        let Some(secs) = parse_i64(value.as_str()) else {
             return Err(WordsFault::BadWord(place));
         };
         if secs < FIRST_SECOND || secs > LAST_SECOND {

@@ -1,4 +1,4 @@
-use super::{WordsFault, parse_number, read_words};
+use super::{WordsFault, read_words};
 use std::alloc::Global;
 use std::test::Fail;
 
@@ -65,29 +65,6 @@ fn words_that_spell_none(rt: HostRuntime) -> Result<(), Fail> {
             Ok(_) => assert_eq!(rt; None, Some(fault), "at {text}"),
             Err(told) => assert_eq!(rt; told, fault, "at {text}"),
         }
-    }
-    Ok(())
-}
-
-#[test]
-fn numbers(rt: HostRuntime) -> Result<(), Fail> {
-    let cases = [
-        ("0", Some(0)),
-        ("-9", Some(-9)),
-        ("9223372036854775807", Some(i64::MAX)),
-        ("-9223372036854775808", Some(i64::MIN)),
-        ("-9223372036854775809", None),
-        ("", None),
-        ("-", None),
-        ("-0", None),
-        ("-01", None),
-        ("00", None),
-        ("+1", None),
-        (" 1", None),
-        ("1_0", None),
-    ];
-    for (text, number) in cases {
-        assert_eq!(rt; parse_number(text), number, "at {text}");
     }
     Ok(())
 }
