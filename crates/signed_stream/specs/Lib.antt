@@ -5,7 +5,9 @@ pub mod Heads
 pub mod Job
 pub mod Plan
 pub mod Reading
+pub mod Refusal
 pub mod Run
+pub mod Sending
 pub mod Signed
 pub mod Signing
 pub mod Status

@@ -9,6 +9,7 @@
 mod canonical;
 mod halt;
 mod job;
+mod job_stream;
 mod running;
 mod saying;
 mod sign;
