@@ -5,3 +5,4 @@ pub mod HeadersLemmas
 pub mod LinkLemmas
 pub mod ReadingLemmas
 pub mod RoundLemmas
+pub mod UnframedLemmas

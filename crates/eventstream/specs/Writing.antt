@@ -1,10 +1,20 @@
 -- What the writers promise.
 use Rattle.std.specs.Prelude.{◌≡◌, ℕ, ◌⊎◌, List, ◌++◌, Option, Some, None, Result, Ok, Err}
 use Rattle.eventstream.specs.declared.error.ErrorKind.{ErrorKind}
-use Rattle.eventstream.specs.declared.error.ErrorKind.TheVariants.{NoMemory}
+use Rattle.eventstream.specs.declared.error.ErrorKind.TheVariants.{InvalidHeaderNameLength, HeaderValueTooLong, TimestampValueTooLarge, HeadersTooLong, PayloadTooLong, MessageTooLong, NoMemory}
 use Rattle.eventstream.specs.declared.error.Error.{Error}
 
 -- with no fault the text is appended; with one nothing is, and the fault is told, or want of memory
 abbrev pub Writes : Option ErrorKind → List ℕ → List ℕ → List ℕ → Result (Unit {0}) Error → Type 0
 Writes fault text old new (Ok _) = (fault ≡ None) × (new ≡ old ++ text)
 Writes fault text old new (Err e) = ((fault ≡ Some e.kind) ⊎ (e.kind ≡ NoMemory)) × (new ≡ old)
+
+-- a reason why a message has no frame
+abbrev pub IsFrameFault : ErrorKind → Type 0
+IsFrameFault InvalidHeaderNameLength = Unit {0}
+IsFrameFault HeaderValueTooLong = Unit {0}
+IsFrameFault (TimestampValueTooLarge moment) = Unit {0}
+IsFrameFault HeadersTooLong = Unit {0}
+IsFrameFault PayloadTooLong = Unit {0}
+IsFrameFault MessageTooLong = Unit {0}
+IsFrameFault kind = ⊥

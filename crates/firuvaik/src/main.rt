@@ -1,6 +1,7 @@
 //! The program: makes the real objects, hands them to `run`, and ends with the number of its status.
 #![tactic(auto)]
 
+ghost use Rattle.std.specs.Prelude.{None};
 ghost use Rattle.signed_stream.specs.Plan.{writes};
 ghost use Rattle.signed_stream.specs.Run.{EndsAsPlanned, GainsAsPlanned};
 
@@ -65,8 +66,8 @@ fn sign<R: rt::Clock + Input + Alloc<A = Global>, K: ByteSink, E: ByteSink>(
 
 // Prints a text, and answers how the run ends.
 fn print_text<K: ByteSink>(text: &str, out: &mut K) -> Status
-    ensures ends { EndsAsPlanned (writes text.now) result }
-    ensures output { GainsAsPlanned (writes text.now) result (K.held out.old) (K.held out.new) }
+    ensures ends { EndsAsPlanned (writes text.now None) result }
+    ensures output { GainsAsPlanned (writes text.now None) result (K.held out.old) (K.held out.new) }
 {
     match write_all(out, text.as_bytes()) {
         Ok(()) => Status::Done,

@@ -1,23 +1,20 @@
 -- How a run ends, and what it writes.
-use Rattle.std.proofs.Common.{◌≡◌, ℕ, ◌<◌, ◌≤◌, ◌⊎◌, inl, inr, true, false, nat_lt, List, [], ◌++◌, length, Option, Some, None, refl, ◌∙◌, arith}
+use Rattle.std.proofs.Common.{◌≡◌, ℕ, ◌<◌, ◌≤◌, ◌⊎◌, inl, inr, true, false, nat_lt, List, length, Option, Some, None, option_map, refl, ◌∙◌, arith}
 use Rattle.std.proofs.lemmas.Bool.Decides.{nat_tests}
 use Rattle.smithy_core.specs.Instant.{Instant}
-use Rattle.smithy_core.specs.Outside.{Gains, GainsPrefix, IsAllOf, IsLongerThan}
-use Rattle.smithy_core.proofs.GainLemmas.{gains_front, gains_join, prefix_at_start, prefix_join, prefix_within}
-use Rattle.signed_stream.specs.Plan.{Ask, ask_plan, ends, streams, Plan, stops, writes, input_plan, job_plan, most_input}
-use Rattle.signed_stream.specs.Job.{job}
+use Rattle.smithy_core.specs.Outside.{IsAllOf, IsLongerThan}
+use Rattle.smithy_core.proofs.GainLemmas.{prefix_at_start}
+use Rattle.eventstream.specs.declared.error.ErrorKind.{ErrorKind}
+use Rattle.eventstream.specs.declared.error.ErrorKind.TheVariants as reasons
+use Rattle.signed_stream.specs.Job.{Reading, plain_job, bad_line, unbuilt_line, job}
+use Rattle.signed_stream.specs.Plan.{Ask, ask_plan, ends, streams, Plan, stops, writes, case_of, input_plan, job_plan, most_input, settings_plan}
+use Rattle.signed_stream.specs.Refusal.{Refusal, fault_at, fault_of}
 use Rattle.signed_stream.specs.Run.{EndsAsAsked, EndsAsPlanned, Fits, GainsAsPlanned, Keeps}
+use Rattle.signed_stream.specs.Written.{refusal_of, written_until}
 use Rattle.signed_stream.specs.declared.status.Status.{Status}
 use Rattle.signed_stream.specs.declared.status.Status.TheVariants.{Done, BadWords, JobTooLarge, BadJob, ReadFault, Refused, OutputFault, NoMemory, NotBuilt}
-
--- a back is written after its front
-pub back_written : (a b c : Option (List ℕ)) (front back : List ℕ) → Gains a b front → Gains b c back → Gains a c (front ++ back)
-back_written a b c front back first second = gains_join a b c [] back (front ++ back) (gains_front a b front back first) second
-
-pub back_cut : (a b c : Option (List ℕ)) (front back : List ℕ) → Gains a b front → GainsPrefix b c back → GainsPrefix a c (front ++ back)
-back_cut a b c front back first second = prefix_join a b c back (front ++ back) (gains_front a b front back first) second
-
-pub ruleset pieces = (back_written, back_cut, prefix_within)
+use Rattle.signed_stream.specs.declared.status.StreamFault.{StreamFault}
+use Rattle.signed_stream.specs.declared.status.StreamFault.TheVariants.{MissingCredentials, MissingSigningRegion}
 
 -- an answer that fits the plan is one of its answers
 pub fits_ends : (plan : Plan) (answer : Status) (before now : Option (List ℕ)) → Fits plan answer before now → EndsAsPlanned plan answer
@@ -26,27 +23,27 @@ fits_ends (stops status) answer before now fits = by_answer fits.0
     by_answer : (answer ≡ status) ⊎ (answer ≡ NoMemory) → (answer ≡ status) ⊎ (answer ≡ ReadFault) ⊎ (answer ≡ NoMemory)
     by_answer (inl is) = inl is
     by_answer (inr is) = inr (inr is)
-fits_ends (writes text) Done before now fits = inl refl
-fits_ends (writes text) OutputFault before now fits = inr (inr (inl refl))
-fits_ends (writes text) NoMemory before now fits = inr (inr (inr refl))
-fits_ends (writes text) (BadWords place) before now fits = absurd fits
-fits_ends (writes text) JobTooLarge before now fits = absurd fits
-fits_ends (writes text) (BadJob place) before now fits = absurd fits
-fits_ends (writes text) ReadFault before now fits = absurd fits
-fits_ends (writes text) (Refused fault) before now fits = absurd fits
-fits_ends (writes text) (NotBuilt place) before now fits = absurd fits
+fits_ends (writes text fault) Done before now fits = rw fits.0 (inl refl)
+fits_ends (writes text fault) (Refused told) before now fits = rw fits.0 (inl refl)
+fits_ends (writes text fault) OutputFault before now fits = inr (inr (inl refl))
+fits_ends (writes text fault) NoMemory before now fits = inr (inr (inr refl))
+fits_ends (writes text fault) (BadWords place) before now fits = absurd fits
+fits_ends (writes text fault) JobTooLarge before now fits = absurd fits
+fits_ends (writes text fault) (BadJob place) before now fits = absurd fits
+fits_ends (writes text fault) ReadFault before now fits = absurd fits
+fits_ends (writes text fault) (NotBuilt place) before now fits = absurd fits
 
 pub fits_gains : (plan : Plan) (answer : Status) (before now : Option (List ℕ)) → Fits plan answer before now → GainsAsPlanned plan answer before now
 fits_gains (stops status) answer before now fits = fits.1
-fits_gains (writes text) Done before now fits = fits
-fits_gains (writes text) OutputFault before now fits = fits
-fits_gains (writes text) NoMemory before now fits = fits
-fits_gains (writes text) (BadWords place) before now fits = absurd fits
-fits_gains (writes text) JobTooLarge before now fits = absurd fits
-fits_gains (writes text) (BadJob place) before now fits = absurd fits
-fits_gains (writes text) ReadFault before now fits = absurd fits
-fits_gains (writes text) (Refused fault) before now fits = absurd fits
-fits_gains (writes text) (NotBuilt place) before now fits = absurd fits
+fits_gains (writes text fault) Done before now fits = fits.1
+fits_gains (writes text fault) (Refused told) before now fits = fits.1
+fits_gains (writes text fault) OutputFault before now fits = fits
+fits_gains (writes text fault) NoMemory before now fits = fits
+fits_gains (writes text fault) (BadWords place) before now fits = absurd fits
+fits_gains (writes text fault) JobTooLarge before now fits = absurd fits
+fits_gains (writes text fault) (BadJob place) before now fits = absurd fits
+fits_gains (writes text fault) ReadFault before now fits = absurd fits
+fits_gains (writes text fault) (NotBuilt place) before now fits = absurd fits
 
 -- what stays as it was is kept by every answer
 pub keeps_same : (answer : Status) (before now : Option (List ℕ)) → now ≡ before → Keeps answer before now
@@ -57,25 +54,54 @@ keeps_same (BadWords place) before now same = same
 keeps_same JobTooLarge before now same = same
 keeps_same (BadJob place) before now same = same
 keeps_same ReadFault before now same = same
-keeps_same (Refused fault) before now same = same
+keeps_same (Refused fault) before now same = by_fault fault
+  where
+    by_fault : (fault : StreamFault) → Keeps (Refused fault) before now
+    by_fault MissingCredentials = same
+    by_fault MissingSigningRegion = same
+    by_fault fault = tt
 keeps_same (NotBuilt place) before now same = same
 
-pub fits_keeps : (plan : Plan) (answer : Status) (before now : Option (List ℕ)) → Fits plan answer before now → Keeps answer before now
-fits_keeps (stops status) answer before now fits = keeps_same answer before now fits.1
-fits_keeps (writes text) Done before now fits = tt
-fits_keeps (writes text) OutputFault before now fits = tt
-fits_keeps (writes text) NoMemory before now fits = tt
-fits_keeps (writes text) (BadWords place) before now fits = absurd fits
-fits_keeps (writes text) JobTooLarge before now fits = absurd fits
-fits_keeps (writes text) (BadJob place) before now fits = absurd fits
-fits_keeps (writes text) ReadFault before now fits = absurd fits
-fits_keeps (writes text) (Refused fault) before now fits = absurd fits
-fits_keeps (writes text) (NotBuilt place) before now fits = absurd fits
+-- an answer that fits the plan of a job keeps the output, but where it is done, tells the fault of an event or was cut short
+pub fits_keeps : (name : List ℕ) (at : Instant) (reading : Reading) (answer : Status) (before now : Option (List ℕ)) → Fits (job_plan name at reading) answer before now → Keeps answer before now
+fits_keeps name at (bad_line place) answer before now fits = keeps_same answer before now fits.1
+fits_keeps name at (unbuilt_line place) answer before now fits = keeps_same answer before now fits.1
+fits_keeps name at (plain_job j) answer before now fits = by_settings j.settings.key_id j.settings.secret j.settings.region fits
+  where
+    of_event : (refusal : Option Refusal) (fault : StreamFault) → option_map fault_of refusal ≡ Some fault → Keeps (Refused fault) before now
+    of_event None fault is = cc
+    of_event (Some refusal) fault is = let same : fault_of refusal ≡ fault = cc in rw (← same) (by_reason refusal.reason)
+      where
+        by_reason : (reason : ErrorKind) → Keeps (Refused (fault_at refusal.place reason)) before now
+        by_reason reasons.InvalidHeaderNameLength = tt
+        by_reason reasons.HeaderValueTooLong = tt
+        by_reason (reasons.TimestampValueTooLarge moment) = tt
+        by_reason reasons.HeadersTooLong = tt
+        by_reason reasons.PayloadTooLong = tt
+        by_reason reason = tt
+
+    by_writing : (text : List ℕ) (refusal : Option Refusal) (answer : Status) → Fits (writes text (option_map fault_of refusal)) answer before now → Keeps answer before now
+    by_writing text refusal (Refused fault) fits = of_event refusal fault fits.0
+    by_writing text refusal Done fits = tt
+    by_writing text refusal OutputFault fits = tt
+    by_writing text refusal NoMemory fits = tt
+    by_writing text refusal (BadWords place) fits = absurd fits
+    by_writing text refusal JobTooLarge fits = absurd fits
+    by_writing text refusal (BadJob place) fits = absurd fits
+    by_writing text refusal ReadFault fits = absurd fits
+    by_writing text refusal (NotBuilt place) fits = absurd fits
+
+    by_settings : (key_id secret region : Option (List ℕ)) → Fits (settings_plan j name at key_id secret region) answer before now → Keeps answer before now
+    by_settings (Some key_id) (Some secret) (Some region) fits =
+        let c = case_of j key_id secret region name at in by_writing (written_until (refusal_of c j.events) c j.events) (refusal_of c j.events) answer fits
+    by_settings (Some key_id) (Some secret) None fits = keeps_same answer before now fits.1
+    by_settings (Some key_id) None region fits = keeps_same answer before now fits.1
+    by_settings None secret region fits = keeps_same answer before now fits.1
 
 -- want of memory before any write fits every plan
 pub fits_no_memory : (plan : Plan) (held : Option (List ℕ)) → Fits plan NoMemory held held
 fits_no_memory (stops status) held = (inr refl, refl)
-fits_no_memory (writes text) held = prefix_at_start held text
+fits_no_memory (writes text fault) held = prefix_at_start held text
 
 -- the plan of an input that was read to its end
 pub plan_of_read : (name : List ℕ) (at : Instant) (left : Option (List ℕ)) (read bytes : List ℕ)
@@ -100,19 +126,19 @@ plan_too_large name at (Some told_bytes) bytes long told =
 -- what each answer before a plan is known leaves
 pub ends_read_fault : (plan : Plan) → EndsAsPlanned plan ReadFault
 ends_read_fault (stops status) = inr (inl refl)
-ends_read_fault (writes text) = inr (inl refl)
+ends_read_fault (writes text fault) = inr (inl refl)
 
 pub ends_no_memory : (plan : Plan) → EndsAsPlanned plan NoMemory
 ends_no_memory (stops status) = inr (inr refl)
-ends_no_memory (writes text) = inr (inr (inr refl))
+ends_no_memory (writes text fault) = inr (inr (inr refl))
 
 pub gains_read_fault : (plan : Plan) (held : Option (List ℕ)) → GainsAsPlanned plan ReadFault held held
 gains_read_fault (stops status) held = refl
-gains_read_fault (writes text) held = refl
+gains_read_fault (writes text fault) held = refl
 
 pub gains_no_memory : (plan : Plan) (held : Option (List ℕ)) → GainsAsPlanned plan NoMemory held held
 gains_no_memory (stops status) held = refl
-gains_no_memory (writes text) held = prefix_at_start held text
+gains_no_memory (writes text fault) held = prefix_at_start held text
 
 -- an early end
 pub early_asked : (asked : Ask) (status : Status) → ends status ≡ asked → EndsAsAsked asked status

@@ -1,12 +1,14 @@
 -- A run that says how it ended: the end stays, or want of memory takes its place.
-use Rattle.std.proofs.Common.{◌≡◌, ℕ, ◌⊎◌, inl, inr, Bool, true, false, List, Option, Some, None, nat_lt, length, refl, sym, ◌∙◌}
+use Rattle.std.proofs.Common.{◌≡◌, ℕ, ◌⊎◌, inl, inr, Bool, true, false, List, Option, Some, None, option_map, nat_lt, length, refl, sym, ◌∙◌}
 use Rattle.std.specs.Prelude.{if◌then◌else◌}
 use Rattle.smithy_core.specs.Instant.{Instant}
 use Rattle.smithy_core.proofs.GainLemmas.{prefix_at_start, prefix_from_whole}
 use Rattle.signed_stream.specs.Command.{Command, bad_word, unbuilt_word, stream, command}
 use Rattle.signed_stream.specs.Job.{PlainJob, Reading, plain_job, bad_line, unbuilt_line, job}
-use Rattle.signed_stream.specs.Plan.{Ask, ends, streams, Plan, stops, writes, ask, ask_plan, command_ask, has_later_variable, input_plan, job_plan, most_input, settings_plan}
+use Rattle.signed_stream.specs.Plan.{Ask, ends, streams, Plan, stops, writes, ask, ask_plan, case_of, command_ask, has_later_variable, input_plan, job_plan, most_input, settings_plan}
+use Rattle.signed_stream.specs.Refusal.{Refusal, fault_of}
 use Rattle.signed_stream.specs.Run.{EndsAsAsked, EndsAsPlanned, GainsAsPlanned, Keeps, Streams}
+use Rattle.signed_stream.specs.Written.{refusal_of, written_until}
 use Rattle.signed_stream.proofs.RunLemmas.{ends_no_memory}
 use Rattle.signed_stream.specs.declared.status.Status.{Status}
 use Rattle.signed_stream.specs.declared.status.Status.TheVariants.{Done, BadWords, JobTooLarge, BadJob, ReadFault, Refused, OutputFault, NoMemory, NotBuilt}
@@ -27,15 +29,15 @@ said_planned plan status answer fits (inr is) = rw is (ends_no_memory plan)
 -- what was written before memory ran out is a front of the text
 cut_short : (plan : Plan) (status : Status) (before now : Option (List ℕ)) → GainsAsPlanned plan status before now → GainsAsPlanned plan NoMemory before now
 cut_short (stops end) status before now gains = gains
-cut_short (writes text) Done before now gains = prefix_from_whole before now text gains
-cut_short (writes text) OutputFault before now gains = gains
-cut_short (writes text) NoMemory before now gains = gains
-cut_short (writes text) (BadWords place) before now gains = rw gains (prefix_at_start before text)
-cut_short (writes text) JobTooLarge before now gains = rw gains (prefix_at_start before text)
-cut_short (writes text) (BadJob place) before now gains = rw gains (prefix_at_start before text)
-cut_short (writes text) ReadFault before now gains = rw gains (prefix_at_start before text)
-cut_short (writes text) (Refused fault) before now gains = rw gains (prefix_at_start before text)
-cut_short (writes text) (NotBuilt place) before now gains = rw gains (prefix_at_start before text)
+cut_short (writes text fault) Done before now gains = prefix_from_whole before now text gains
+cut_short (writes text fault) (Refused told) before now gains = prefix_from_whole before now text gains
+cut_short (writes text fault) OutputFault before now gains = gains
+cut_short (writes text fault) NoMemory before now gains = gains
+cut_short (writes text fault) (BadWords place) before now gains = rw gains (prefix_at_start before text)
+cut_short (writes text fault) JobTooLarge before now gains = rw gains (prefix_at_start before text)
+cut_short (writes text fault) (BadJob place) before now gains = rw gains (prefix_at_start before text)
+cut_short (writes text fault) ReadFault before now gains = rw gains (prefix_at_start before text)
+cut_short (writes text fault) (NotBuilt place) before now gains = rw gains (prefix_at_start before text)
 
 pub said_gains : (plan : Plan) (status answer : Status) (before now : Option (List ℕ)) → GainsAsPlanned plan status before now → IsSaid status answer → GainsAsPlanned plan answer before now
 said_gains plan status answer before now gains (inl is) = rw is gains
@@ -58,22 +60,34 @@ stops_undone status other (inl is) = other (sym is)
 stops_undone status other (inr (inl is)) = cc
 stops_undone status other (inr (inr is)) = cc
 
+-- a run that is done has refused no event
+done_unrefused : (text : List ℕ) (refusal : Option Refusal) → EndsAsPlanned (writes text (option_map fault_of refusal)) Done → refusal ≡ None
+done_unrefused text None fits = refl
+done_unrefused text (Some refusal) (inl is) = cc
+done_unrefused text (Some refusal) (inr (inl is)) = cc
+done_unrefused text (Some refusal) (inr (inr (inl is))) = cc
+done_unrefused text (Some refusal) (inr (inr (inr is))) = cc
+
 by_settings : (words : List (List ℕ)) (bytes : List ℕ) (before now : Option (List ℕ)) (name : List ℕ) (at : Instant) (j : PlainJob) (key_id secret region : Option (List ℕ))
     → command words ≡ stream name at → job bytes ≡ plain_job j → j.settings ≡ record { key_id = key_id; secret = secret; region = region }
     → EndsAsPlanned (settings_plan j name at key_id secret region) Done → GainsAsPlanned (settings_plan j name at key_id secret region) Done before now
     → Streams words bytes before now
-by_settings words bytes before now name at j (Some key_id) (Some secret) (Some region) asked spelled selected fits gains = record {
-  name = name;
-  at = at;
-  read = j;
-  key_id = key_id;
-  secret = secret;
-  region = region;
-  asked = asked;
-  spelled = spelled;
-  selected = selected;
-  gained = gains;
-}
+by_settings words bytes before now name at j (Some key_id) (Some secret) (Some region) asked spelled selected fits gains =
+    let c = case_of j key_id secret region name at in
+    let unrefused = done_unrefused (written_until (refusal_of c j.events) c j.events) (refusal_of c j.events) fits in
+    record {
+      name = name;
+      at = at;
+      read = j;
+      key_id = key_id;
+      secret = secret;
+      region = region;
+      asked = asked;
+      spelled = spelled;
+      selected = selected;
+      unrefused = unrefused;
+      gained = rw unrefused at gains;
+    }
 by_settings words bytes before now name at j (Some key_id) (Some secret) None asked spelled selected fits gains = absurd (stops_undone _ (λ e. cc) fits)
 by_settings words bytes before now name at j (Some key_id) None region asked spelled selected fits gains = absurd (stops_undone _ (λ e. cc) fits)
 by_settings words bytes before now name at j None secret region asked spelled selected fits gains = absurd (stops_undone _ (λ e. cc) fits)

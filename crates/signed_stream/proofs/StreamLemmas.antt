@@ -1,85 +1,220 @@
--- A chain that is written line by line.
-use Rattle.std.proofs.Common.{◌≡◌, ℕ, suc, ◌+◌, ◌<◌, List, [], ◌∷◌, ◌++◌, Option, None, length, drop, get_or, refl, ◌∙◌, arith, append-nil, add-one}
-use Rattle.std.specs.Prelude.{Result, Ok, Err, OnErr, OnOk}
+-- A chain that is written line by line, up to the first event that is refused.
+use Rattle.std.proofs.Common.{◌≡◌, ℕ, suc, ◌+◌, ◌-◌, ◌<◌, ◌≤◌, List, [], ◌∷◌, ◌++◌, Option, Some, None, option_map, length, drop, get_or, replicate, refl, sym, ap, ◌∙◌, arith, append-nil, add-one}
+use Rattle.std.specs.Prelude.{Result, Ok, Err}
+use Rattle.std.specs.Option.{option_or}
 use Rattle.std.proofs.Math.Seq.{drop-cons}
+use Rattle.smithy_core.specs.Civil.{IsInYears}
 use Rattle.smithy_core.specs.Instant.{Instant}
 use Rattle.smithy_core.specs.Outside.{Gains, GainsPrefix, GainsRest}
 use Rattle.smithy_core.specs.Parts.{Parts}
-use Rattle.smithy_core.proofs.GainLemmas.{gains_front, gains_join, prefix_join, prefix_within}
-use Rattle.smithy_core.specs.Civil.{IsInYears}
+use Rattle.smithy_core.specs.declared.identity.Identity.{Identity}
+use Rattle.smithy_core.proofs.GainLemmas.{gains_at_start, gains_front, gains_join, prefix_at_start, prefix_join, prefix_within}
 use Rattle.eventstream.specs.Frame.{frame, unframed}
 use Rattle.eventstream.specs.Key.{Signer}
-use Rattle.eventstream.specs.Link.{link_message, link_signature}
-use Rattle.eventstream.proofs.FrameLemmas.{length-frame}
+use Rattle.eventstream.specs.Link.{begun, link_message, link_signature}
+use Rattle.eventstream.specs.declared.error.Error.{Error}
+use Rattle.eventstream.specs.declared.error.ErrorKind.{ErrorKind}
 use Rattle.eventstream.proofs.LinkLemmas.{link_framed}
-use Rattle.signed_stream.specs.Stream.{IsStreamable, chain_lines, link_line}
+use Rattle.eventstream.proofs.UnframedLemmas.{unframed_fault}
+use Rattle.sigv4.specs.Signing.{failed_encoding, refusal, unsignable}
+use Rattle.sigv4.specs.declared.error.SigningError.{SigningError}
+use Rattle.sigv4.specs.declared.error.SigningError.TheVariants.{FailedToEncodeMessage}
+use Rattle.signed_stream.specs.Refusal.{Refusal, fault_at, fault_of, first_refusal, unlinked}
+use Rattle.signed_stream.specs.Sending.{Halts, Sends, unless_refused}
+use Rattle.signed_stream.specs.Stream.{chain_lines, frame_lines, lines_before, link_line, streamed_lines}
+use Rattle.signed_stream.specs.declared.halt.Halt.{Halt}
+use Rattle.signed_stream.specs.declared.halt.Halt.TheVariants.{Refused, OutputFault, NoMemory}
+
+-- ## One message
+
+-- the closing message has a frame
+pub closing_framed : (signer : Signer) (signature : List ℕ) (t : Instant) → IsInYears t → unframed (link_message signer signature [] t) ≡ None
+closing_framed signer signature t within = link_framed signer signature [] t within (omega arith)
+
+-- a message that is signed has a frame
+pub signed_framed : (m : Parts) (identity : Identity) (t : Instant) → refusal m identity t ≡ None → unframed m ≡ None
+signed_framed m identity t = by_reason (unframed m)
+  where
+    by_reason : (reason : Option ErrorKind) → option_or (option_map failed_encoding reason) (unsignable identity t) ≡ None → reason ≡ None
+    by_reason None none = refl
+    by_reason (Some kind) none = cc
+
+-- a message that an identity doesn't sign, though it can, has no frame
+refused_by : (reason : Option ErrorKind) (identity : Identity) (t : Instant) (error : SigningError) → unsignable identity t ≡ None
+    → option_or (option_map failed_encoding reason) (unsignable identity t) ≡ Some error → option_map failed_encoding reason ≡ Some error
+refused_by None identity t error signs is = let none : None ≡ Some error = rw signs at is in none
+refused_by (Some kind) identity t error signs is = is
+
+-- the reason why a message that can be signed isn't
+pub refused_for : (m : Parts) (identity : Identity) (t : Instant) (error : Error) → unsignable identity t ≡ None
+    → refusal m identity t ≡ Some (FailedToEncodeMessage error) → unframed m ≡ Some error.kind
+refused_for m identity t error signs is = by_reason (unframed m) (refused_by (unframed m) identity t (FailedToEncodeMessage error) signs is)
+  where
+    by_reason : (reason : Option ErrorKind) → option_map failed_encoding reason ≡ Some (FailedToEncodeMessage error) → reason ≡ Some error.kind
+    by_reason None is = cc
+    by_reason (Some kind) is = cc
+
+-- a message that has a frame is sent as its line
+pub line_sent : {T : Type 0} (reason : Option ErrorKind) (place : ℕ) (text : List ℕ) (before now : Option (List ℕ)) (answer : Result T Halt)
+    → reason ≡ None → Sends None text before now answer → Sends (option_map (fault_at place) reason) (unless_refused reason text) before now answer
+line_sent reason place text before now answer none sends = rw none sends
+
+-- a message that has none is refused
+pub line_refused : (reason : Option ErrorKind) (kind : ErrorKind) (place : ℕ) (text : List ℕ) (held : Option (List ℕ))
+    → reason ≡ Some kind → (option_map (fault_at place) reason ≡ Some (fault_at place kind)) × Gains held held (unless_refused reason text)
+line_refused reason kind place text held is = rw is (refl, gains_at_start held [])
+
+pub ruleset sending = (signed_framed, refused_for, unframed_fault, line_sent, line_refused, prefix_at_start)
+
+-- ## The chain
 
 -- the line of the first event, and then the chain of the others from its signature on
-pub chain_lines-cons : (signer : Signer) (event : Parts) (events : List Parts) (at : Instant) (signature : List ℕ)
+chain_lines-cons : (signer : Signer) (event : Parts) (events : List Parts) (at : Instant) (signature : List ℕ)
     → chain_lines signer (event ∷ events) at signature
     ≡ link_line signer signature (frame event) at ++ chain_lines signer events at (link_signature signer signature (frame event) at)
 unfolding chain_lines link_line
 chain_lines-cons signer event events at signature = let more : length (event ∷ events) + 1 ≡ suc (length events + 1) = omega arith in rw more refl
 
 -- with no events there is the closing line alone
-pub chain_lines-nil : (signer : Signer) (at : Instant) (signature : List ℕ) → chain_lines signer [] at signature ≡ link_line signer signature [] at
+chain_lines-nil : (signer : Signer) (at : Instant) (signature : List ℕ) → chain_lines signer [] at signature ≡ link_line signer signature [] at
 unfolding chain_lines link_line
 chain_lines-nil signer at signature = append-nil _
 
--- the signed message of an event has a frame
-pub event_framed : (signer : Signer) (signature : List ℕ) (event : Parts) (t : Instant) → IsInYears t → IsStreamable event
-    → unframed (link_message signer signature (frame event) t) ≡ None
-event_framed signer signature event t within can =
-    let short = can.1 in
-    link_framed signer signature (frame event) t within (omega (arith, length-frame event))
+-- the lines of these events, whose places count from this one on, up to the refused one
+abbrev pub lines_from : Signer → ℕ → List Parts → Instant → List ℕ → Option Refusal → List ℕ
+lines_from signer place events at signature None = chain_lines signer events at signature
+lines_from signer place events at signature (Some refused) = frame_lines (begun signer events (replicate (refused.place - place) at) signature)
 
-pub closing_framed : (signer : Signer) (signature : List ℕ) (t : Instant) → IsInYears t → unframed (link_message signer signature [] t) ≡ None
-closing_framed signer signature t within = link_framed signer signature [] t within (omega arith)
+abbrev pub streamed_from : Signer → ℕ → List Parts → Instant → List ℕ → List ℕ
+streamed_from signer place events at signature = lines_from signer place events at signature (first_refusal signer place events at signature)
 
-pub ruleset framed = (event_framed, closing_framed)
+-- all events count from 1
+pub streamed_from-first : (signer : Signer) (events : List Parts) (at : Instant) (signature : List ℕ)
+    → streamed_from signer 1 events at signature ≡ streamed_lines signer events at signature (first_refusal signer 1 events at signature)
+unfolding lines_before
+streamed_from-first signer events at signature = by_refusal (first_refusal signer 1 events at signature)
+  where
+    by_refusal : (refused : Option Refusal) → lines_from signer 1 events at signature refused ≡ streamed_lines signer events at signature refused
+    by_refusal None = refl
+    by_refusal (Some refused) = refl
+
+-- a refused event has one of the places
+later : (signer : Signer) (place : ℕ) (events : List Parts) (at : Instant) (signature : List ℕ) (refused : Refusal)
+    → first_refusal signer place events at signature ≡ Some refused → place ≤ refused.place
+later signer place [] at signature refused is = cc
+later signer place (event ∷ events) at signature refused is =
+    by_reason (unlinked signer signature event at) (later signer (place + 1) events at (link_signature signer signature (frame event) at) refused) is
+  where
+    by_reason : (reason : Option ErrorKind) → (first_refusal signer (place + 1) events at (link_signature signer signature (frame event) at) ≡ Some refused → place + 1 ≤ refused.place)
+        → option_or (option_map (λ reason. record { place = place; reason = reason }) reason) (first_refusal signer (place + 1) events at (link_signature signer signature (frame event) at)) ≡ Some refused
+        → place ≤ refused.place
+    by_reason None others is = omega (arith, others is)
+    by_reason (Some reason) others is = let same : place ≡ refused.place = cc in omega arith
+
+-- the first event is linked: the others decide
+pub linked_refusal : (signer : Signer) (place : ℕ) (event : Parts) (events : List Parts) (at : Instant) (signature : List ℕ) → unlinked signer signature event at ≡ None
+    → first_refusal signer place (event ∷ events) at signature ≡ first_refusal signer (place + 1) events at (link_signature signer signature (frame event) at)
+linked_refusal signer place event events at signature linked = rw linked refl
+
+pub linked_lines : (signer : Signer) (place : ℕ) (event : Parts) (events : List Parts) (at : Instant) (signature : List ℕ) → unlinked signer signature event at ≡ None
+    → streamed_from signer place (event ∷ events) at signature
+    ≡ link_line signer signature (frame event) at ++ streamed_from signer (place + 1) events at (link_signature signer signature (frame event) at)
+unfolding link_line
+linked_lines signer place event events at signature linked =
+    ap (lines_from signer place (event ∷ events) at signature) (linked_refusal signer place event events at signature linked)
+    ∙ by_refusal (first_refusal signer (place + 1) events at next) (later signer (place + 1) events at next)
+  where
+    next : List ℕ
+    next = link_signature signer signature (frame event) at
+
+    by_refusal : (others : Option Refusal) → ((refused : Refusal) → others ≡ Some refused → place + 1 ≤ refused.place)
+        → lines_from signer place (event ∷ events) at signature others ≡ link_line signer signature (frame event) at ++ lines_from signer (place + 1) events at (link_signature signer signature (frame event) at) others
+    by_refusal None after = chain_lines-cons signer event events at signature
+    by_refusal (Some refused) after =
+        let one_more : refused.place - place ≡ suc (refused.place - (place + 1)) = omega (arith, after refused refl) in rw one_more refl
+
+-- the first event isn't linked: it is refused, and nothing is written
+pub unlinked_refusal : (signer : Signer) (place : ℕ) (event : Parts) (events : List Parts) (at : Instant) (signature : List ℕ) (reason : ErrorKind)
+    → unlinked signer signature event at ≡ Some reason → first_refusal signer place (event ∷ events) at signature ≡ Some (record { place = place; reason = reason })
+unlinked_refusal signer place event events at signature reason is = rw is refl
+
+pub unlinked_lines : (signer : Signer) (place : ℕ) (event : Parts) (events : List Parts) (at : Instant) (signature : List ℕ) (reason : ErrorKind)
+    → unlinked signer signature event at ≡ Some reason → streamed_from signer place (event ∷ events) at signature ≡ []
+unlinked_lines signer place event events at signature reason is =
+    let none : place - place ≡ 0 = omega arith in
+    ap (lines_from signer place (event ∷ events) at signature) (unlinked_refusal signer place event events at signature reason is) ∙ rw none refl
 
 -- the event at an index, and those after it
 pub event_front : (events : List Parts) (i : ℕ) (event : Parts) → i < length events → event ≡ get_or events i event → drop i events ≡ event ∷ drop (i + 1) events
 event_front events i event within is = drop-cons events i event within ∙ rw (← is, add-one) refl
 
--- an event was written: the chain of the others is left
-pub rest_more : (a b c : Option (List ℕ)) (signer : Signer) (event : Parts) (events : List Parts) (at : Instant) (signature next text : List ℕ)
+-- an event was sent: the others are left
+pub event_sent : (a b c : Option (List ℕ)) (signer : Signer) (place : ℕ) (event : Parts) (events : List Parts) (at : Instant) (signature next text : List ℕ) (whole : Option Refusal)
     → next ≡ link_signature signer signature (frame event) at
-    → GainsRest a b (chain_lines signer (event ∷ events) at signature) text
-    → Gains b c (link_line signer signature (frame event) at)
-    → GainsRest a c (chain_lines signer events at next) text
-rest_more a b c signer event events at signature next text is first second =
-    gains_join a b c (chain_lines signer events at next) (chain_lines signer (event ∷ events) at signature) text first
-    (rw (chain_lines-cons signer event events at signature, ← is) (gains_front b c (link_line signer signature (frame event) at) (chain_lines signer events at next) second))
+    → first_refusal signer place (event ∷ events) at signature ≡ whole
+    → GainsRest a b (streamed_from signer place (event ∷ events) at signature) text
+    → (option_map (fault_at place) (unlinked signer signature event at) ≡ None) × Gains b c (unless_refused (unlinked signer signature event at) (link_line signer signature (frame event) at))
+    → (first_refusal signer (place + 1) events at next ≡ whole) × GainsRest a c (streamed_from signer (place + 1) events at next) text
+event_sent a b c signer place event events at signature next text whole is decided first second =
+    let linked : unlinked signer signature event at ≡ None = by_reason (unlinked signer signature event at) second.0 in
+    let line = link_line signer signature (frame event) at in
+    let others = streamed_from signer (place + 1) events at (link_signature signer signature (frame event) at) in
+    let wrote : Gains b c line = rw linked at second.1 in
+    let left : GainsRest b c others (streamed_from signer place (event ∷ events) at signature) =
+    rw (linked_lines signer place event events at signature linked) (gains_front b c line others wrote) in (
+      rw is (sym (linked_refusal signer place event events at signature linked) ∙ decided),
+      rw is (gains_join a b c others (streamed_from signer place (event ∷ events) at signature) text first left),
+    )
+  where
+    by_reason : (reason : Option ErrorKind) → option_map (fault_at place) reason ≡ None → reason ≡ None
+    by_reason None none = refl
+    by_reason (Some reason) none = cc
 
--- an event was written in part: what was written is a front of the whole
-pub rest_cut : (a b c : Option (List ℕ)) (signer : Signer) (event : Parts) (events : List Parts) (at : Instant) (signature text : List ℕ)
-    → GainsRest a b (chain_lines signer (event ∷ events) at signature) text
-    → GainsPrefix b c (link_line signer signature (frame event) at)
-    → GainsPrefix a c text
-rest_cut a b c signer event events at signature text first second =
-    prefix_join a b c (chain_lines signer (event ∷ events) at signature) text first
-    (rw (chain_lines-cons signer event events at signature) (prefix_within b c (link_line signer signature (frame event) at) (chain_lines signer events at (link_signature signer signature (frame event) at)) second))
+-- an event wasn't sent: it is refused, or a front of its line was written
+pub event_halted : (a b c : Option (List ℕ)) (signer : Signer) (place : ℕ) (event : Parts) (events : List Parts) (at : Instant) (signature text : List ℕ) (whole : Option Refusal) (halt : Halt)
+    → first_refusal signer place (event ∷ events) at signature ≡ whole
+    → GainsRest a b (streamed_from signer place (event ∷ events) at signature) text
+    → Halts (option_map (fault_at place) (unlinked signer signature event at)) (unless_refused (unlinked signer signature event at) (link_line signer signature (frame event) at)) b c halt
+    → Halts (option_map fault_of whole) text a c halt
+event_halted a b c signer place event events at signature text whole halt decided first sends =
+    by_reason (unlinked signer signature event at) halt refl sends
+  where
+    line : List ℕ
+    line = link_line signer signature (frame event) at
 
--- the same of the closing line
-pub last_whole : (a b c : Option (List ℕ)) (signer : Signer) (at : Instant) (signature text : List ℕ)
-    → GainsRest a b (chain_lines signer [] at signature) text → Gains b c (link_line signer signature [] at) → Gains a c text
-last_whole a b c signer at signature text first second =
-    gains_join a b c [] (chain_lines signer [] at signature) text first (rw (chain_lines-nil signer at signature) second)
+    none_left : (reason : ErrorKind) → unlinked signer signature event at ≡ Some reason → GainsRest a b [] text
+    none_left reason is = rw (unlinked_lines signer place event events at signature reason is) at first
 
-pub last_cut : (a b c : Option (List ℕ)) (signer : Signer) (at : Instant) (signature text : List ℕ)
-    → GainsRest a b (chain_lines signer [] at signature) text → GainsPrefix b c (link_line signer signature [] at) → GainsPrefix a c text
-last_cut a b c signer at signature text first second =
-    prefix_join a b c (chain_lines signer [] at signature) text first (rw (chain_lines-nil signer at signature) second)
+    cut : (reason : Option ErrorKind) → unlinked signer signature event at ≡ reason → GainsPrefix b c (unless_refused reason (link_line signer signature (frame event) at)) → GainsPrefix a c text
+    cut None is part =
+        prefix_join a b c (streamed_from signer place (event ∷ events) at signature) text first
+        (rw (linked_lines signer place event events at signature is) (prefix_within b c (link_line signer signature (frame event) at) _ part))
+    cut (Some reason) is part = prefix_join a b c [] text (rw (unlinked_lines signer place event events at signature reason is) at first) part
 
-pub on_err_any : {T E P : Type 0} (r : Result T E) → P → OnErr r P
-on_err_any (Ok x) p = tt
-on_err_any (Err e) p = p
+    by_reason : (reason : Option ErrorKind) (halt : Halt) → unlinked signer signature event at ≡ reason
+        → Halts (option_map (fault_at place) reason) (unless_refused reason (link_line signer signature (frame event) at)) b c halt → Halts (option_map fault_of whole) text a c halt
+    by_reason reason OutputFault is sends = cut reason is sends
+    by_reason reason NoMemory is sends = cut reason is sends
+    by_reason None (Refused told) is sends = let wrong : None ≡ Some told = sends.0 in cc
+    by_reason (Some reason) (Refused told) is sends =
+        let same : Some (fault_at place reason) ≡ Some told = sends.0 in (
+          rw (← decided, unlinked_refusal signer place event events at signature reason is) same,
+          gains_join a b c [] [] text (rw (unlinked_lines signer place event events at signature reason is) at first) sends.1,
+        )
 
-pub on_err_map : {T E P Q : Type 0} (r : Result T E) → (P → Q) → OnErr r P → OnErr r Q
-on_err_map (Ok x) f p = tt
-on_err_map (Err e) f p = f p
+-- all events were sent: the closing line is left
+pub closing_sent : {T : Type 0} (a b c : Option (List ℕ)) (signer : Signer) (place : ℕ) (at : Instant) (signature text : List ℕ) (whole : Option Refusal) (answer : Result T Halt)
+    → first_refusal signer place [] at signature ≡ whole
+    → GainsRest a b (streamed_from signer place [] at signature) text
+    → Sends None (link_line signer signature [] at) b c answer
+    → Sends (option_map fault_of whole) text a c answer
+closing_sent {T} a b c signer place at signature text whole answer decided first = by_answer answer
+  where
+    left : GainsRest a b (link_line signer signature [] at) text
+    left = rw (chain_lines-nil signer at signature) at first
 
-pub on_ok_map : {T E P Q : Type 0} (r : Result T E) → (P → Q) → OnOk r P → OnOk r Q
-on_ok_map (Ok x) f p = f p
-on_ok_map (Err e) f p = tt
+    by_answer : (answer : Result T Halt) → Sends None (link_line signer signature [] at) b c answer → Sends (option_map fault_of whole) text a c answer
+    by_answer (Ok x) sends = (rw (← decided) refl, gains_join a b c [] (link_line signer signature [] at) text left sends.1)
+    by_answer (Err (Refused told)) sends = let wrong : None ≡ Some told = sends.0 in cc
+    by_answer (Err OutputFault) sends = prefix_join a b c (link_line signer signature [] at) text left sends
+    by_answer (Err NoMemory) sends = prefix_join a b c (link_line signer signature [] at) text left sends

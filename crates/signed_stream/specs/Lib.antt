@@ -8,7 +8,9 @@ pub mod Lines
 pub mod Numbers
 pub mod Plan
 pub mod Reading
+pub mod Refusal
 pub mod Run
+pub mod Sending
 pub mod Signed
 pub mod Signing
 pub mod Status

@@ -1,21 +1,24 @@
 -- What words, variables and input ask of a run.
-use Rattle.std.specs.Prelude.{ℕ, Bool, ◌||◌, nat_lt, if◌then◌else◌, List, codes, length, Option, Some, None, is_some}
+use Rattle.std.specs.Prelude.{ℕ, Bool, ◌||◌, nat_lt, if◌then◌else◌, List, codes, length, Option, Some, None, is_some, option_map}
 use Rattle.smithy_core.specs.Instant.{Instant}
 use Rattle.smithy_core.specs.Pairs.{last_value}
+use Rattle.smithy_core.specs.Parts.{Parts}
 use Rattle.signed_stream.specs.Canonical.{Case}
 use Rattle.signed_stream.specs.Command.{Command, bad_word, unbuilt_word, stream, command}
 use Rattle.signed_stream.specs.Job.{PlainJob, Reading, plain_job, bad_line, unbuilt_line, job}
-use Rattle.signed_stream.specs.Written.{written}
+use Rattle.signed_stream.specs.Refusal.{fault_of}
+use Rattle.signed_stream.specs.Written.{refusal_of, written_until}
 use Rattle.signed_stream.specs.declared.status.Status.{Status}
 use Rattle.signed_stream.specs.declared.status.Status.TheVariants.{BadWords, JobTooLarge, BadJob, Refused, NotBuilt}
+use Rattle.signed_stream.specs.declared.status.StreamFault.{StreamFault}
 use Rattle.signed_stream.specs.declared.status.StreamFault.TheVariants.{MissingCredentials, MissingSigningRegion}
 
 -- what a run is to do
 pub data Plan : Type 0 where
   -- to write nothing, and to end so
   stops : Status → Plan
-  -- to write this text
-  writes : List ℕ → Plan
+  -- to write this text, and then to be done, or to be refused for this fault of an event
+  writes : List ℕ → Option StreamFault → Plan
 
 -- the most bytes of an input
 abbrev pub most_input : ℕ
@@ -32,9 +35,13 @@ case_of j key_id secret region name at = record {
   at = at;
 }
 
+-- with a case and its events: to write all, or what stands before the first event that is refused
+abbrev pub stream_plan : Case → List Parts → Plan
+stream_plan c events = let refusal = refusal_of c events in writes (written_until refusal c events) (option_map fault_of refusal)
+
 -- with these settings: the key id and the secret are needed, and then the region
 abbrev pub settings_plan : PlainJob → List ℕ → Instant → Option (List ℕ) → Option (List ℕ) → Option (List ℕ) → Plan
-settings_plan j name at (Some key_id) (Some secret) (Some region) = writes (written (case_of j key_id secret region name at) j.events)
+settings_plan j name at (Some key_id) (Some secret) (Some region) = stream_plan (case_of j key_id secret region name at) j.events
 settings_plan j name at (Some key_id) (Some secret) None = stops (Refused MissingSigningRegion)
 settings_plan j name at (Some key_id) None region = stops (Refused MissingCredentials)
 settings_plan j name at None secret region = stops (Refused MissingCredentials)

@@ -1,13 +1,14 @@
--- The chain of events as lines, and what can be streamed.
-use Rattle.std.specs.Prelude.{◌≡◌, ℕ, ◌+◌, ◌≤◌, List, length, replicate, None}
+-- The chain of events as lines.
+use Rattle.std.specs.Prelude.{ℕ, ◌+◌, ◌-◌, List, length, replicate, Option, Some, None}
 use Rattle.std.specs.List.{flat_map}
 use Rattle.hex.specs.Hex.{encode_lower}
 use Rattle.smithy_core.specs.Instant.{Instant}
 use Rattle.smithy_core.specs.Parts.{Parts}
 use Rattle.smithy_core.specs.Text.{line}
-use Rattle.eventstream.specs.Frame.{frame, frame_len, unframed}
+use Rattle.eventstream.specs.Frame.{frame}
 use Rattle.eventstream.specs.Key.{Signer}
-use Rattle.eventstream.specs.Link.{chain, link_message}
+use Rattle.eventstream.specs.Link.{begun, chain, link_message}
+use Rattle.signed_stream.specs.Refusal.{Refusal}
 
 -- frames, one a line, in hexadecimal
 abbrev pub frame_lines : List (List ℕ) → List ℕ
@@ -21,6 +22,11 @@ link_line signer signature bytes at = line (encode_lower (frame (link_message si
 unfoldable pub chain_lines : Signer → List Parts → Instant → List ℕ → List ℕ
 chain_lines signer events at signature = frame_lines (chain signer events (replicate (length events + 1) at) signature)
 
--- the event has a frame, no longer than an input and a frame's own 16 bytes
-abbrev pub IsStreamable : Parts → Type 0
-IsStreamable event = (unframed event ≡ None) × (frame_len event ≤ 67108880)
+-- the lines of the events before the one at a place, all at one moment
+unfoldable pub lines_before : Signer → ℕ → List Parts → Instant → List ℕ → List ℕ
+lines_before signer place events at signature = frame_lines (begun signer events (replicate (place - 1) at) signature)
+
+-- the lines that are streamed: those of the chain, and where an event is refused those of the events before it
+abbrev pub streamed_lines : Signer → List Parts → Instant → List ℕ → Option Refusal → List ℕ
+streamed_lines signer events at signature None = chain_lines signer events at signature
+streamed_lines signer events at signature (Some refusal) = lines_before signer refusal.place events at signature

@@ -1,11 +1,12 @@
 -- The output as lines: the head of the signed request, and its frames in hexadecimal.
-use Rattle.std.specs.Prelude.{ℕ, List, [], ◌++◌, codes}
+use Rattle.std.specs.Prelude.{ℕ, List, [], ◌++◌, codes, Option, Some, None}
 use Rattle.std.specs.List.{flat_map}
 use Rattle.smithy_core.specs.Parts.{Parts}
 use Rattle.smithy_core.specs.Text.{line}
 use Rattle.signed_stream.specs.Canonical.{Case}
+use Rattle.signed_stream.specs.Refusal.{Refusal, first_refusal}
 use Rattle.signed_stream.specs.Signed.{signature_of, signed_headers}
-use Rattle.signed_stream.specs.Stream.{chain_lines}
+use Rattle.signed_stream.specs.Stream.{chain_lines, lines_before}
 
 -- `name: value`, as a line
 abbrev pub header_line : List ℕ × List ℕ → List ℕ
@@ -15,6 +16,23 @@ header_line header = line (header.0 ++ codes ": " ++ header.1)
 unfoldable pub head : List ℕ → List ℕ → List (List ℕ × List ℕ) → List ℕ
 head method target headers = line (method ++ codes " " ++ target) ++ flat_map header_line headers ++ line []
 
+-- the head of the signed request
+abbrev pub signed_head : Case → List ℕ
+signed_head c = head c.method c.target (signed_headers c)
+
 -- the head of the signed request, and then the chain of the events, all at the moment of the request
 unfoldable pub written : Case → List Parts → List ℕ
-written c events = head c.method c.target (signed_headers c) ++ chain_lines c.signer events c.at (signature_of c)
+written c events = signed_head c ++ chain_lines c.signer events c.at (signature_of c)
+
+-- the head of the signed request, and then the frames of the events before the one at a place
+unfoldable pub written_before : ℕ → Case → List Parts → List ℕ
+written_before place c events = signed_head c ++ lines_before c.signer place events c.at (signature_of c)
+
+-- the first event that is refused; places count from 1
+abbrev pub refusal_of : Case → List Parts → Option Refusal
+refusal_of c events = first_refusal c.signer 1 events c.at (signature_of c)
+
+-- what is written: all, and where an event is refused what stands before it
+abbrev pub written_until : Option Refusal → Case → List Parts → List ℕ
+written_until None c events = written c events
+written_until (Some refusal) c events = written_before refusal.place c events

@@ -1,8 +1,11 @@
+use crate::status::StreamFault;
 use std::alloc::AllocError;
 
 /// Why an output isn't whole.
 #[derive(Clone, Copy, Debug, PartialEq, Eq)]
 pub enum Halt {
+    /// An event is refused.
+    Refused(StreamFault),
     /// The output failed.
     OutputFault,
     /// Memory ran out.

@@ -9,6 +9,7 @@
 mod canonical;
 mod halt;
 mod job;
+mod job_stream;
 mod numbers;
 mod running;
 mod saying;

@@ -61,5 +61,17 @@ fn refusal_line(alloc: Global, fault: StreamFault) -> Mem<String>
         StreamFault::MissingSigningRegion => {
             String::from_str(alloc, "refused 3 MissingSigningRegion\n")
         }
+        StreamFault::InvalidHeaderNameLength(_) => {
+            String::from_str(alloc, "refused 11 InvalidHeaderNameLength\n")
+        }
+        StreamFault::HeaderValueTooLong(_) => {
+            String::from_str(alloc, "refused 12 HeaderValueTooLong\n")
+        }
+        StreamFault::TimestampValueTooLarge(_) => {
+            String::from_str(alloc, "refused 13 TimestampValueTooLarge\n")
+        }
+        StreamFault::HeadersTooLong(_) => String::from_str(alloc, "refused 14 HeadersTooLong\n"),
+        StreamFault::PayloadTooLong(_) => String::from_str(alloc, "refused 15 PayloadTooLong\n"),
+        StreamFault::MessageTooLong(_) => String::from_str(alloc, "refused 16 MessageTooLong\n"),
     }
 }

@@ -8,6 +8,18 @@ pub enum StreamFault {
     MissingCredentials,
     /// No place gives a region.
     MissingSigningRegion,
+    /// The event at this place has a header name over 255 bytes; places count from 1.
+    InvalidHeaderNameLength(usize),
+    /// The event at this place has a byte array or a text over 32,767 bytes.
+    HeaderValueTooLong(usize),
+    /// The event at this place has a timestamp whose floored milliseconds leave i64.
+    TimestampValueTooLarge(usize),
+    /// The header block of the event at this place passes 4,294,967,295 bytes.
+    HeadersTooLong(usize),
+    /// The payload of the event at this place, or of its signed message, passes 4,294,967,295 bytes.
+    PayloadTooLong(usize),
+    /// The frame of the event at this place, or of its signed message, passes 4,294,967,295 bytes.
+    MessageTooLong(usize),
 }
 
 /// How a run ended.
@@ -23,7 +35,7 @@ pub enum Status {
     BadJob(usize),
     /// The input failed.
     ReadFault,
-    /// The job can't be streamed.
+    /// The job can't be streamed; where an event is at fault, the output holds the head and the frames of the events before it.
     Refused(StreamFault),
     /// The output failed; it holds a front of the text.
     OutputFault,

@@ -1,18 +1,21 @@
-ghost use Rattle.std.specs.Prelude.{◌≡◌, ◌≤◌, [], None, IfOk, OnOk, OnErr, IsErrOf};
-ghost use Rattle.std.specs.List.{AllByRecursion};
+ghost use Rattle.std.specs.Prelude.{◌≡◌, ◌≤◌, [], None, IfOk, IsErrOf, option_map};
 ghost use Rattle.std.specs.String.{string_bytes};
 ghost use Rattle.hex.specs.Hex.{encode_lower};
 ghost use Rattle.smithy_core.specs.Civil.{IsInYears};
-ghost use Rattle.smithy_core.specs.Outside.{Gains, GainsPrefix, Rose};
+ghost use Rattle.smithy_core.specs.Outside.{Rose};
 ghost use Rattle.smithy_core.specs.Text.{line};
 ghost use Rattle.eventstream.specs.Frame.{frame, unframed};
 ghost use Rattle.eventstream.specs.Link.{link_message, link_signature};
+ghost use Rattle.eventstream.specs.Writing.{IsFrameFault};
 ghost use Rattle.sigv4.specs.Params.{signer_of};
 ghost use Rattle.sigv4.specs.Signing.{unsignable};
-ghost use Rattle.signed_stream.specs.Stream.{IsStreamable, chain_lines, link_line};
+ghost use Rattle.signed_stream.specs.Refusal.{fault_at, fault_of, first_refusal, unlinked};
+ghost use Rattle.signed_stream.specs.Sending.{Sends, unless_refused};
+ghost use Rattle.signed_stream.specs.Stream.{link_line, streamed_lines};
 
 use crate::halt::Halt;
-use eventstream::frame_of;
+use crate::status::StreamFault;
+use eventstream::{ErrorKind, frame_of, write_message_to};
 use sigv4::event_stream::{SigningParams, sign_empty_message, sign_message};
 use sigv4::{SigningError, SigningOutput};
 use smithy_core::{ByteSink, Message, SinkError, write_all};
@@ -22,8 +25,9 @@ use std::alloc::Global;
 ///
 /// # Errors
 ///
-/// [`Halt::OutputFault`] where the sink's count of faults rose, [`Halt::NoMemory`] for want of memory.
-/// After both the sink has gained a front of the lines.
+/// [`Halt::Refused`] with the fault of the first event that has no frame, or whose signed message has none: the
+/// sink has gained the lines of the events before it. [`Halt::OutputFault`] where the sink's count of faults rose
+/// and [`Halt::NoMemory`] for want of memory: it has gained a front of these lines.
 pub fn stream_events<K: ByteSink>(
     alloc: Global,
     params: &SigningParams<'_>,
@@ -33,42 +37,47 @@ pub fn stream_events<K: ByteSink>(
 ) -> Result<(), Halt>
     requires signs { unsignable params.now.identity.now params.now.time ≡ None }
     requires years { IsInYears params.now.time }
-    requires streamable { AllByRecursion IsStreamable events.now }
     ensures count { K.faults sink.old ≤ K.faults sink.new }
-    ensures ok { OnOk result (Gains (K.held sink.old) (K.held sink.new) (chain_lines (signer_of params.now) events.now params.now.time (string_bytes seed))) }
+    ensures sends { let refusal = first_refusal (signer_of params.now) 1 events.now params.now.time (string_bytes seed) in
+        Sends (option_map fault_of refusal) (streamed_lines (signer_of params.now) events.now params.now.time (string_bytes seed) refusal)
+        (K.held sink.old) (K.held sink.new) result }
     ensures failed { IsErrOf result Halt.OutputFault → Rose (K.faults sink.old) (K.faults sink.new) }
-    ensures err { OnErr result (GainsPrefix (K.held sink.old) (K.held sink.new) (chain_lines (signer_of params.now) events.now params.now.time (string_bytes seed))) }
 {
     let mut signature = seed;
+    let mut place = 1;
     'events: for event in events {
-        signature = send_event(alloc, params, signature.as_str(), event, sink)?;
+        signature = send_event(alloc, params, signature.as_str(), event, place, sink)?;
+        place += 1;
     }
     send_closing(alloc, params, signature.as_str(), sink)
 }
 
-// Signs an event over the signature before it, and writes the frame. The answer is the new signature.
-#[tactic(auto, using(smithy_core::proofs::GainLemmas::prefix_at_start, crate::proofs::StreamLemmas::framed), unfolding(crate::specs::Stream::link_line))]
+// Signs the event at a place over the signature before it, and writes the frame. The answer is the new signature.
+#[tactic(auto, using(crate::proofs::StreamLemmas::sending), unfolding(crate::specs::Stream::link_line, crate::specs::Refusal::unlinked))]
 fn send_event<K: ByteSink>(
     alloc: Global,
     params: &SigningParams<'_>,
     signature: &str,
     event: &Message,
+    place: usize,
     sink: &mut K,
 ) -> Result<String, Halt>
     requires signs { unsignable params.now.identity.now params.now.time ≡ None }
-    requires years { IsInYears params.now.time }
-    requires streamable { IsStreamable event.now }
     ensures count { K.faults sink.old ≤ K.faults sink.new }
     ensures next { IfOk result (λ next. string_bytes next ≡ link_signature (signer_of params.now) signature.now (frame event.now) params.now.time) }
-    ensures ok { OnOk result (Gains (K.held sink.old) (K.held sink.new) (link_line (signer_of params.now) signature.now (frame event.now) params.now.time)) }
+    ensures sends { let reason = unlinked (signer_of params.now) signature.now event.now params.now.time in
+        Sends (option_map (fault_at place) reason) (unless_refused reason (link_line (signer_of params.now) signature.now (frame event.now) params.now.time))
+        (K.held sink.old) (K.held sink.new) result }
     ensures failed { IsErrOf result Halt.OutputFault → Rose (K.faults sink.old) (K.faults sink.new) }
-    ensures err { OnErr result (GainsPrefix (K.held sink.old) (K.held sink.new) (link_line (signer_of params.now) signature.now (frame event.now) params.now.time)) }
 {
     match sign_message(alloc, event, signature, params) {
         Ok(signed) => {
             let (message, next) = signed.into_parts();
-            write_frame(alloc, &message, sink)?;
+            write_frame(alloc, &message, place, sink)?;
             Ok(next)
+        }
+        Err(SigningError::FailedToEncodeMessage(error)) => {
+            Err(Halt::Refused(fault_at(place, error.kind())))
         }
         Err(SigningError::NoMemory) => Err(Halt::NoMemory),
         Err(_) => unreachable!(),
@@ -76,7 +85,7 @@ fn send_event<K: ByteSink>(
 }
 
 // Signs no bytes over the signature before them, and writes the frame.
-#[tactic(auto, using(smithy_core::proofs::GainLemmas::prefix_at_start, crate::proofs::StreamLemmas::framed), unfolding(crate::specs::Stream::link_line))]
+#[tactic(auto, using(crate::proofs::StreamLemmas::sending, crate::proofs::StreamLemmas::closing_framed), unfolding(crate::specs::Stream::link_line))]
 fn send_closing<K: ByteSink>(
     alloc: Global,
     params: &SigningParams<'_>,
@@ -86,31 +95,67 @@ fn send_closing<K: ByteSink>(
     requires signs { unsignable params.now.identity.now params.now.time ≡ None }
     requires years { IsInYears params.now.time }
     ensures count { K.faults sink.old ≤ K.faults sink.new }
-    ensures ok { OnOk result (Gains (K.held sink.old) (K.held sink.new) (link_line (signer_of params.now) signature.now [] params.now.time)) }
+    ensures sends { Sends None (link_line (signer_of params.now) signature.now [] params.now.time) (K.held sink.old) (K.held sink.new) result }
     ensures failed { IsErrOf result Halt.OutputFault → Rose (K.faults sink.old) (K.faults sink.new) }
-    ensures err { OnErr result (GainsPrefix (K.held sink.old) (K.held sink.new) (link_line (signer_of params.now) signature.now [] params.now.time)) }
 {
     match sign_empty_message(alloc, signature, params) {
         Ok(signed) => {
             let (message, _) = signed.into_parts();
-            write_frame(alloc, &message, sink)
+            let frame = frame_of(alloc, &message)?;
+            write_line(alloc, frame.as_slice(), sink)
         }
         Err(SigningError::NoMemory) => Err(Halt::NoMemory),
         Err(_) => unreachable!(),
     }
 }
 
-// Writes the frame of a message as one line in hexadecimal.
-#[tactic(auto, using(smithy_core::proofs::GainLemmas::prefix_at_start))]
-fn write_frame<K: ByteSink>(alloc: Global, message: &Message, sink: &mut K) -> Result<(), Halt>
-    requires { unframed message.now ≡ None }
+// Writes the frame of the message at a place as one line in hexadecimal.
+#[tactic(auto, using(crate::proofs::StreamLemmas::sending))]
+fn write_frame<K: ByteSink>(
+    alloc: Global,
+    message: &Message,
+    place: usize,
+    sink: &mut K,
+) -> Result<(), Halt>
     ensures count { K.faults sink.old ≤ K.faults sink.new }
-    ensures ok { OnOk result (Gains (K.held sink.old) (K.held sink.new) (line (encode_lower (frame message.now)))) }
+    ensures sends { Sends (option_map (fault_at place) (unframed message.now)) (unless_refused (unframed message.now) (line (encode_lower (frame message.now))))
+        (K.held sink.old) (K.held sink.new) result }
     ensures failed { IsErrOf result Halt.OutputFault → Rose (K.faults sink.old) (K.faults sink.new) }
-    ensures err { OnErr result (GainsPrefix (K.held sink.old) (K.held sink.new) (line (encode_lower (frame message.now)))) }
 {
-    let frame = frame_of(alloc, message)?;
-    let mut text = hex::encode(alloc, frame.as_slice())?;
+    let mut frame = Vec::new(alloc);
+    match write_message_to(alloc, message, &mut frame) {
+        Ok(()) => write_line(alloc, frame.as_slice(), sink),
+        Err(error) => match error.kind() {
+            ErrorKind::NoMemory => Err(Halt::NoMemory),
+            reason => Err(Halt::Refused(fault_at(place, reason))),
+        },
+    }
+}
+
+// The fault that tells of the message at a place why it has no frame.
+fn fault_at(place: usize, reason: &ErrorKind) -> StreamFault
+    requires { IsFrameFault reason.now }
+    ensures { result ≡ fault_at place reason.now }
+{
+    match reason {
+        ErrorKind::InvalidHeaderNameLength => StreamFault::InvalidHeaderNameLength(place),
+        ErrorKind::HeaderValueTooLong => StreamFault::HeaderValueTooLong(place),
+        ErrorKind::TimestampValueTooLarge(_) => StreamFault::TimestampValueTooLarge(place),
+        ErrorKind::HeadersTooLong => StreamFault::HeadersTooLong(place),
+        ErrorKind::PayloadTooLong => StreamFault::PayloadTooLong(place),
+        ErrorKind::MessageTooLong => StreamFault::MessageTooLong(place),
+        _ => unreachable!(),
+    }
+}
+
+// Writes bytes as one line in hexadecimal.
+#[tactic(auto, using(smithy_core::proofs::GainLemmas::prefix_at_start))]
+fn write_line<K: ByteSink>(alloc: Global, bytes: &[u8], sink: &mut K) -> Result<(), Halt>
+    ensures count { K.faults sink.old ≤ K.faults sink.new }
+    ensures sends { Sends None (line (encode_lower bytes.now)) (K.held sink.old) (K.held sink.new) result }
+    ensures failed { IsErrOf result Halt.OutputFault → Rose (K.faults sink.old) (K.faults sink.new) }
+{
+    let mut text = hex::encode(alloc, bytes)?;
     text.push('\n')?;
     write_text(sink, text.as_bytes())
 }
@@ -119,13 +164,13 @@ fn write_frame<K: ByteSink>(alloc: Global, message: &Message, sink: &mut K) -> R
 ///
 /// # Errors
 ///
-/// As [`stream_events`].
+/// [`Halt::OutputFault`] where the sink's count of faults rose, [`Halt::NoMemory`] for want of memory.
+/// After both the sink has gained a front of the text.
 #[tactic(auto, using(smithy_core::proofs::GainLemmas::prefix_from_proper))]
 pub fn write_text<K: ByteSink>(sink: &mut K, text: &[u8]) -> Result<(), Halt>
     ensures count { K.faults sink.old ≤ K.faults sink.new }
-    ensures ok { OnOk result (Gains (K.held sink.old) (K.held sink.new) text.now) }
+    ensures sends { Sends None text.now (K.held sink.old) (K.held sink.new) result }
     ensures failed { IsErrOf result Halt.OutputFault → Rose (K.faults sink.old) (K.faults sink.new) }
-    ensures err { OnErr result (GainsPrefix (K.held sink.old) (K.held sink.new) text.now) }
 {
     match write_all(sink, text) {
         Ok(()) => Ok(()),

@@ -1,41 +1,40 @@
 use Rattle.std.proofs.Common.{◌≡◌, [], ◌+◌, drop, arith}
 use Rattle.std.proofs.Math.ListN.{drop_of_length-le}
+use Rattle.std.proofs.lemmas.Result.{err_from_is_err_and}
 use Rattle.std.specs.Prelude.{string_bytes}
 use Rattle.sigv4.specs.Params.{signer_of}
-use Rattle.signed_stream.proofs.StreamLemmas.{event_front, last_cut, last_whole, on_err_any, on_err_map, on_ok_map, rest_cut, rest_more}
+use Rattle.signed_stream.proofs.StreamLemmas.{closing_sent, event_front, event_halted, event_sent, streamed_from-first}
 use Rattle.signed_stream.proofs.stream.stream_events.Goals as goal
 
-pub returns-in_err-signature-clause-err : goal.returns-in_err-signature-clause-err
-returns-in_err-signature-clause-err g c =
+pub returns-in_err-signature-clause-sends : goal.returns-in_err-signature-clause-sends
+returns-in_err-signature-clause-sends g c =
+    let exit = err_from_is_err_and c.from_residual.result c.from_residual.ensures.1 in
+    let signer = signer_of c.args.params.now in
     let front = event_front c.args.events.now c.events.event-index c.event-item.result c.events-test.true c.event-item.is in
-    let wrote = rw c.as_str.ensures.value at c.in_err-signature.ensures.err in
-    on_err_any c.from_residual.result
-    (rest_cut _ _ _ (signer_of c.args.params.now) c.event-item.result (drop (c.events.event-index + 1) c.args.events.now) c.args.params.now.time (string_bytes c.events.signature) _
-    (rw front at c.events.invariant.gained) wrote)
+    let sends = rw c.as_str.ensures.value at c.in_err-signature.ensures.sends in
+    rw (← streamed_from-first signer c.args.events.now c.args.params.now.time (string_bytes c.args.seed), exit.1, exit.2)
+    (event_halted _ _ _ signer c.events.place c.event-item.result (drop (c.events.event-index + 1) c.args.events.now) c.args.params.now.time (string_bytes c.events.signature) _ _ _
+    (rw front at c.events.invariant.refusal) (rw front at c.events.invariant.gained) sends)
 
 pub events-preserved : goal.events-preserved
 events-preserved g c =
     let front = event_front c.args.events.now c.events.event-index c.event-item.result c.events-test.true c.event-item.is in
     let next = rw c.as_str.ensures.value at c.in_ok-signature.ensures.next in
-    let wrote = rw c.as_str.ensures.value at c.in_ok-signature.ensures.ok in
-    let streamable = rw front at c.events.invariant.streamable in
+    let sends = rw c.as_str.ensures.value at c.in_ok-signature.ensures.sends in
+    let sent = event_sent _ _ _ (signer_of c.args.params.now) c.events.place c.event-item.result (drop (c.events.event-index + 1) c.args.events.now) c.args.params.now.time
+    (string_bytes c.events.signature) (string_bytes c.in_ok-signature.signature) _ _ next (rw front at c.events.invariant.refusal) (rw front at c.events.invariant.gained) sends in
     record {
       count = omega (arith, c.events.invariant.count, c.send_event.ensures.count);
-      streamable = streamable.1;
-      gained = rest_more _ _ _ (signer_of c.args.params.now) c.event-item.result (drop (c.events.event-index + 1) c.args.events.now) c.args.params.now.time
-          (string_bytes c.events.signature) (string_bytes c.in_ok-signature.signature) _ next (rw front at c.events.invariant.gained) wrote;
+      place = omega (arith, c.events.invariant.place);
+      refusal = sent.0;
+      gained = sent.1;
     }
 
-pub returns-clause-ok : goal.returns-clause-ok
-returns-clause-ok g c =
+pub returns-clause-sends : goal.returns-clause-sends
+returns-clause-sends g c =
+    let signer = signer_of c.args.params.now in
     let done : drop c.events.event-index c.args.events.now ≡ [] = drop_of_length-le c.args.events.now c.events-test.false in
-    let wrote = rw c.as_str-2.ensures.value at c.send_closing.ensures.ok in
-    on_ok_map c.send_closing.result
-    (last_whole _ _ _ (signer_of c.args.params.now) c.args.params.now.time (string_bytes c.events.signature) _ (rw done at c.events.invariant.gained)) wrote
-
-pub returns-clause-err : goal.returns-clause-err
-returns-clause-err g c =
-    let done : drop c.events.event-index c.args.events.now ≡ [] = drop_of_length-le c.args.events.now c.events-test.false in
-    let wrote = rw c.as_str-2.ensures.value at c.send_closing.ensures.err in
-    on_err_map c.send_closing.result
-    (last_cut _ _ _ (signer_of c.args.params.now) c.args.params.now.time (string_bytes c.events.signature) _ (rw done at c.events.invariant.gained)) wrote
+    let sends = rw c.as_str-2.ensures.value at c.send_closing.ensures.sends in
+    rw (← streamed_from-first signer c.args.events.now c.args.params.now.time (string_bytes c.args.seed))
+    (closing_sent _ _ _ signer c.events.place c.args.params.now.time (string_bytes c.events.signature) _ _ _
+    (rw done at c.events.invariant.refusal) (rw done at c.events.invariant.gained) sends)

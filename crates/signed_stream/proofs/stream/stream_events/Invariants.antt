@@ -1,19 +1,22 @@
-use Rattle.std.proofs.Common.{◌≤◌, drop}
+use Rattle.std.proofs.Common.{◌≡◌, ◌≤◌, ◌+◌, drop}
 use Rattle.std.specs.Prelude.{string_bytes}
-use Rattle.std.specs.List.{AllByRecursion}
 use Rattle.smithy_core.specs.Outside.{GainsRest}
 use Rattle.sigv4.specs.Params.{signer_of}
-use Rattle.signed_stream.specs.Stream.{IsStreamable, chain_lines}
+use Rattle.signed_stream.specs.Refusal.{first_refusal}
+use Rattle.signed_stream.proofs.StreamLemmas.{streamed_from}
 use Rattle.signed_stream.proofs.stream.stream_events.Given as goal
 
--- what was written and the chain of the events to come are the whole chain
+-- the events to come have the refusal of all, and what was written and their lines are the lines of all
 abbrev pub invariant-events : goal.invariant-events
 invariant-events g l =
     let sink = g.K.ByteSink in
+    let signer = signer_of l.params in
+    let events = drop l.event-index l.events in
     record {
       count : sink.faults l.fn.sink ≤ sink.faults l.sink;
-      streamable : AllByRecursion IsStreamable (drop l.event-index l.events);
+      place : l.place ≡ l.event-index + 1;
+      refusal : first_refusal signer l.place events l.params.time (string_bytes l.signature) ≡ first_refusal signer 1 l.events l.params.time (string_bytes l.fn.seed);
       gained : GainsRest (sink.held l.fn.sink) (sink.held l.sink)
-          (chain_lines (signer_of l.params) (drop l.event-index l.events) l.params.time (string_bytes l.signature))
-          (chain_lines (signer_of l.params) l.events l.params.time (string_bytes l.fn.seed));
+          (streamed_from signer l.place events l.params.time (string_bytes l.signature))
+          (streamed_from signer 1 l.events l.params.time (string_bytes l.fn.seed));
     }

@@ -1,7 +1,7 @@
 use Rattle.std.proofs.Common.{◌≤◌, length, refl, inl, arith}
 use Rattle.signed_stream.specs.Plan.{input_plan, most_input}
-use Rattle.signed_stream.proofs.RunLemmas.{fits_ends, fits_gains, gains_no_memory, plan_of_read, plan_too_large}
-use Rattle.signed_stream.proofs.running.stream_input.Goals as goal
+use Rattle.signed_stream.proofs.RunLemmas.{fits_ends, fits_gains, fits_keeps, gains_no_memory, plan_of_read, plan_too_large}
+use Rattle.signed_stream.proofs.job_stream.stream_input.Goals as goal
 
 pub returns-in-Ok-clause-planned : goal.returns-in-Ok-clause-planned
 returns-in-Ok-clause-planned g c = λ bytes told.
@@ -18,6 +18,9 @@ returns-in-Ok-clause-output g c = λ bytes told.
     let plan = plan_of_read c.args.name.now c.args.at (g.S.ByteSource.left c.args.input.now) c.in-Ok.bytes.items bytes c.in-Ok.ensures.bytes short told in
     let fits = rw c.as_slice.ensures.value at c.stream_bytes.ensures.planned in
     rw plan (fits_gains _ _ _ _ fits)
+
+pub returns-in-Ok-clause-kept : goal.returns-in-Ok-clause-kept
+returns-in-Ok-clause-kept g c = fits_keeps _ _ _ _ _ _ c.stream_bytes.ensures.planned
 
 pub returns-in-Err-TooLarge-clause-planned : goal.returns-in-Err-TooLarge-clause-planned
 returns-in-Err-TooLarge-clause-planned g c = λ bytes told.

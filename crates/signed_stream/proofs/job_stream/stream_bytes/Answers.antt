@@ -3,7 +3,7 @@ use Rattle.signed_stream.specs.Plan.{job_plan}
 use Rattle.signed_stream.specs.Reading.{plain_of}
 use Rattle.signed_stream.proofs.PlainLemmas.{target_plain}
 use Rattle.signed_stream.proofs.RunLemmas.{fits_no_memory}
-use Rattle.signed_stream.proofs.running.stream_bytes.Goals as goal
+use Rattle.signed_stream.proofs.job_stream.stream_bytes.Goals as goal
 
 pub stream_job-requires-clause-target : goal.stream_job-requires-clause-target
 stream_job-requires-clause-target g c = target_plain c.args.bytes.now (plain_of c.in-Ok.job) c.in-Ok.ensures.0
