@@ -1,8 +1,12 @@
 pub mod Errors
+pub mod Expect
 pub mod Frame
 pub mod Key
 pub mod Link
 pub mod Read
 pub mod Reading
 pub mod Reads
+pub mod ResponseHeaders
+pub mod SizeHint
+pub mod Texts
 pub mod Writing

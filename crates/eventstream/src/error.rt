@@ -115,7 +115,10 @@ impl fmt::Display for Error {
             ErrorKind::InvalidMessageLength => f.write_str("invalid message length"),
             ErrorKind::InvalidUtf8String => f.write_str("encountered invalid UTF-8 string"),
             ErrorKind::MessageChecksumMismatch(computed, carried) => {
-                write!(f, "message checksum 0x{carried:X} didn't match expected checksum 0x{computed:X}")
+                write!(
+                    f,
+                    "message checksum 0x{carried:X} didn't match expected checksum 0x{computed:X}"
+                )
             }
             ErrorKind::MessageTooLong => {
                 f.write_str("message too long to fit in event stream frame")
@@ -124,7 +127,10 @@ impl fmt::Display for Error {
                 f.write_str("message payload too long to fit in event stream frame")
             }
             ErrorKind::PreludeChecksumMismatch(computed, carried) => {
-                write!(f, "prelude checksum 0x{carried:X} didn't match expected checksum 0x{computed:X}")
+                write!(
+                    f,
+                    "prelude checksum 0x{carried:X} didn't match expected checksum 0x{computed:X}"
+                )
             }
             ErrorKind::TimestampValueTooLarge(moment) => {
                 let secs = moment.secs();
