@@ -5,4 +5,5 @@ pub mod HeadersLemmas
 pub mod LinkLemmas
 pub mod ReadingLemmas
 pub mod RoundLemmas
+pub mod SizeHintLemmas
 pub mod UnframedLemmas

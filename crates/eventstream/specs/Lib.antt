@@ -1,5 +1,6 @@
 pub mod Decoding
 pub mod Errors
+pub mod Expect
 pub mod Frame
 pub mod Key
 pub mod Laws
@@ -7,4 +8,7 @@ pub mod Link
 pub mod Read
 pub mod Reading
 pub mod Reads
+pub mod ResponseHeaders
+pub mod SizeHint
+pub mod Texts
 pub mod Writing

@@ -1,4 +1,9 @@
-use crate::{Error, ErrorKind, frame_of, write_headers_to, write_message_to};
+mod response_headers;
+mod size_hints;
+mod surface;
+mod texts;
+
+use crate::{frame_of, write_headers_to, write_message_to};
 use bytes::Bytes;
 use smithy_core::{DateTime, Header, HeaderValue, Mem, Message, StrBytes};
 use std::alloc::Global;
@@ -59,6 +64,15 @@ fn message_of_every_kind(alloc: Global) -> Mem<Message> {
 
 fn named(name: &'static str, value: HeaderValue) -> Header {
     Header::new(StrBytes::from_static(name), value)
+}
+
+fn text_header(name: &'static str, value: &'static str) -> Header {
+    named(name, HeaderValue::String(StrBytes::from_static(value)))
+}
+
+// A message with one header.
+fn message_of(alloc: Global, header: Header, payload: &[u8]) -> Mem<Message> {
+    Message::new(alloc, Bytes::copy_from_slice(alloc, payload)?).add_header(header)
 }
 
 #[test]
@@ -132,37 +146,4 @@ fn header_of(alloc: Global, name_len: usize, value_len: usize) -> Mem<Header> {
     let bytes = vec![in alloc; 7u8; value_len]?;
     let value = HeaderValue::ByteArray(Bytes::copy_from_slice(alloc, bytes.as_slice())?);
     Ok(Header::new(StrBytes::copy_from_str(alloc, name.as_str())?, value))
-}
-
-#[test]
-fn printed_errors(rt: HostRuntime) -> Result<(), Fail> {
-    let message = String::from_str(rt.alloc(), "why")?;
-    let other = message.clone()?;
-    let headers = "headers too long to fit in event stream frame";
-    assert_printed(&rt, ErrorKind::HeadersTooLong, headers, true)?;
-    assert_printed(&rt, ErrorKind::HeaderValueTooLong, BAD_VALUE, true)?;
-    assert_printed(&rt, ErrorKind::InvalidHeaderNameLength, BAD_NAME, true)?;
-    let whole = "message too long to fit in event stream frame";
-    assert_printed(&rt, ErrorKind::MessageTooLong, whole, true)?;
-    let payload = "message payload too long to fit in event stream frame";
-    assert_printed(&rt, ErrorKind::PayloadTooLong, payload, true)?;
-    let late = DateTime::new(9_223_372_036_854_776, 0);
-    assert_printed(&rt, ErrorKind::TimestampValueTooLarge(late), BAD_TIME, true)?;
-    let marshall = "failed to marshall message: why";
-    assert_printed(&rt, ErrorKind::Marshalling(message), marshall, true)?;
-    let unmarshall = "failed to unmarshall message: why";
-    assert_printed(&rt, ErrorKind::Unmarshalling(other), unmarshall, false)?;
-    assert_printed(&rt, ErrorKind::NoMemory, "no memory", false)
-}
-
-fn assert_printed(
-    rt: &(impl Abort + AllocGlobal),
-    kind: ErrorKind,
-    text: &str,
-    invalid: bool,
-) -> Result<(), Fail> {
-    let error = Error::from(kind);
-    assert_eq!(rt; error.to_string(rt.alloc())?.as_str(), text);
-    assert_eq!(rt; error.is_invalid_message(), invalid);
-    Ok(())
 }

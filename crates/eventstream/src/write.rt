@@ -10,7 +10,7 @@ use smithy_core::{Header, HeaderValue, Mem, Message};
 use std::alloc::Global;
 
 /// The most bytes of a header's name.
-const MOST_NAME: usize = 255;
+pub(crate) const MOST_NAME: usize = 255;
 
 /// The most bytes of a header's byte array or text.
 const MOST_VALUE: usize = 32_767;
@@ -19,7 +19,7 @@ const MOST_VALUE: usize = 32_767;
 const MOST_FRAME: usize = 4_294_967_295;
 
 /// The bytes of a frame beside its header block and its payload.
-const OVERHEAD: usize = 16;
+pub(crate) const OVERHEAD: usize = 16;
 
 /// Appends the spellings of the headers.
 ///
