@@ -1,4 +1,5 @@
 use crate::{Crc, HmacSha256, crc32, hmac_sha256, sha256_hex};
+use std::alloc::AllocError;
 use std::process::Abort;
 use std::test::Fail;
 
@@ -20,6 +21,43 @@ fn checksums_of_the_encoding(rt: HostRuntime) {
     pieces.update(b"");
     pieces.update(b"56789");
     assert_eq!(rt; pieces.value(), 0xcbf4_3926);
+}
+
+// A checksum that is asked for goes on as before.
+#[test]
+fn checksum_between_pieces(rt: HostRuntime) {
+    let mut crc = Crc::new();
+    for _ in 0..3 {
+        assert_eq!(rt; crc.value(), 0);
+    }
+    crc.update(&[0, 0, 0, 5]);
+    assert_eq!(rt; crc.value(), 0x512e_2b93);
+    crc.update(&[0, 0x0a]);
+    assert_eq!(rt; crc.value(), 0x57dc_8a56);
+}
+
+#[test]
+fn appended_checksums(rt: HostRuntime) -> Result<(), Fail> {
+    let mut bytes = Vec::new(rt.alloc());
+    append_checksum(&mut bytes)?;
+    append_checksum(&mut bytes)?;
+    assert_eq!(rt;
+        bytes.as_slice(),
+        [0, 0, 0, 0, 0x21, 0x44, 0xdf, 0x1c].as_slice()
+    );
+    let mut bytes = Vec::from_slice(rt.alloc(), &[0, 0, 0, 5])?;
+    append_checksum(&mut bytes)?;
+    assert_eq!(rt;
+        bytes.as_slice(),
+        [0, 0, 0, 5, 0x51, 0x2e, 0x2b, 0x93].as_slice()
+    );
+    Ok(())
+}
+
+// Appends the checksum of the bytes so far.
+fn append_checksum(bytes: &mut Vec<u8>) -> Result<(), AllocError> {
+    let checksum = crc32(bytes.as_slice());
+    bytes.extend_from_slice(checksum.to_be_bytes().as_slice())
 }
 
 // RFC 4231, test cases 1, 2, 3, 6 and 7.
