@@ -2,7 +2,7 @@ ghost use Rattle.std.specs.Prelude.{◌≡◌, ◌≤◌, ℕ, List, Some, map, 
 ghost use Rattle.std.specs.String.{string_bytes};
 ghost use Rattle.smithy_core.specs.Outside.{IsAtEnd, Rose};
 ghost use Rattle.signed_stream.specs.Plan.{ask, ask_plan, has_later_variable};
-ghost use Rattle.signed_stream.specs.Run.{IsEarly, ask_told, EndsAsAsked, EndsAsPlanned, GainsAsPlanned, Keeps, Says, Streams};
+ghost use Rattle.signed_stream.specs.Run.{AsksInYears, IsEarly, ask_told, EndsAsAsked, EndsAsPlanned, GainsAsPlanned, Keeps, Says, Streams};
 
 use crate::job_stream::stream_input;
 use crate::saying::say;
@@ -60,6 +60,7 @@ fn answer<S: ByteSource, K: ByteSink>(
     input: &mut S,
     out: &mut K,
 ) -> Status
+    ensures years { AsksInYears (ask (map string_bytes words.now) env.now) }
     ensures asked { EndsAsAsked (ask (map string_bytes words.now) env.now) result }
     ensures planned { (bytes : List ℕ) → S.left input.old ≡ Some bytes → EndsAsPlanned (ask_plan (ask (map string_bytes words.now) env.now) bytes) result }
     ensures output { (bytes : List ℕ) → S.left input.old ≡ Some bytes
