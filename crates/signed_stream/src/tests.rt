@@ -1,5 +1,6 @@
 //! Runs on the objects in memory: the answers, and what the output and `err` hold after each.
 mod refused_events;
+mod refused_runs;
 
 use crate::{Status, StreamFault, run};
 use smithy_core::{
