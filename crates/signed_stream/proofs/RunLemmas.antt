@@ -1,6 +1,7 @@
 -- How a run ends, and what it writes.
 use Rattle.std.proofs.Common.{◌≡◌, ℕ, ◌<◌, ◌≤◌, ◌⊎◌, inl, inr, true, false, nat_lt, List, length, Option, Some, None, option_map, refl, ◌∙◌, arith}
 use Rattle.std.proofs.lemmas.Bool.Decides.{nat_tests}
+use Rattle.smithy_core.specs.Civil.{IsInYears}
 use Rattle.smithy_core.specs.Instant.{Instant}
 use Rattle.smithy_core.specs.Outside.{IsAllOf, IsLongerThan}
 use Rattle.smithy_core.proofs.GainLemmas.{prefix_at_start}
@@ -9,7 +10,7 @@ use Rattle.eventstream.specs.declared.error.ErrorKind.TheVariants as reasons
 use Rattle.signed_stream.specs.Job.{Reading, plain_job, bad_line, unbuilt_line, job}
 use Rattle.signed_stream.specs.Plan.{Ask, ask_plan, ends, streams, Plan, stops, writes, case_of, input_plan, job_plan, most_input, settings_plan}
 use Rattle.signed_stream.specs.Refusal.{Refusal, fault_at, fault_of}
-use Rattle.signed_stream.specs.Run.{EndsAsAsked, EndsAsPlanned, Fits, GainsAsPlanned, Keeps}
+use Rattle.signed_stream.specs.Run.{AsksInYears, EndsAsAsked, EndsAsPlanned, Fits, GainsAsPlanned, Keeps}
 use Rattle.signed_stream.specs.Written.{refusal_of, written_until}
 use Rattle.signed_stream.specs.declared.status.Status.{Status}
 use Rattle.signed_stream.specs.declared.status.Status.TheVariants.{Done, BadWords, JobTooLarge, BadJob, ReadFault, Refused, OutputFault, NoMemory, NotBuilt}
@@ -150,6 +151,9 @@ early_planned asked status bytes is = rw (← is) (inl refl)
 pub early_gains : (asked : Ask) (status : Status) (bytes : List ℕ) (held : Option (List ℕ)) → ends status ≡ asked → GainsAsPlanned (ask_plan asked bytes) status held held
 early_gains asked status bytes held is = rw (← is) refl
 
+pub early_years : (asked : Ask) (status : Status) → ends status ≡ asked → AsksInYears asked
+early_years asked status is = rw (← is) tt
+
 -- an end once the input is asked
 pub later_asked : (asked : Ask) (name : List ℕ) (at : Instant) (status : Status) → streams name at ≡ asked → ((place : ℕ) → status ≡ BadWords place → ⊥) → EndsAsAsked asked status
 later_asked asked name at status is never = rw (← is) (by_status status never)
@@ -165,6 +169,9 @@ later_asked asked name at status is never = rw (← is) (by_status status never)
     by_status NoMemory never = tt
     by_status (NotBuilt place) never = tt
 
+pub later_years : (asked : Ask) (name : List ℕ) (at : Instant) → streams name at ≡ asked → IsInYears at → AsksInYears asked
+later_years asked name at is years = rw (← is) years
+
 pub later_planned : (asked : Ask) (name : List ℕ) (at : Instant) (status : Status) (bytes : List ℕ) → streams name at ≡ asked
     → EndsAsPlanned (input_plan name at bytes) status → EndsAsPlanned (ask_plan asked bytes) status
 later_planned asked name at status bytes is fits = rw (← is) fits
@@ -173,4 +180,4 @@ pub later_gains : (asked : Ask) (name : List ℕ) (at : Instant) (status : Statu
     → GainsAsPlanned (input_plan name at bytes) status before now → GainsAsPlanned (ask_plan asked bytes) status before now
 later_gains asked name at status bytes before now is gains = rw (← is) gains
 
-pub ruleset ends_of_runs = (keeps_same, early_asked, early_planned, early_gains, later_asked, later_planned, later_gains)
+pub ruleset ends_of_runs = (keeps_same, early_asked, early_planned, early_gains, early_years, later_asked, later_planned, later_gains, later_years)

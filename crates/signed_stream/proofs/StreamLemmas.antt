@@ -21,7 +21,7 @@ use Rattle.sigv4.specs.declared.error.SigningError.{SigningError}
 use Rattle.sigv4.specs.declared.error.SigningError.TheVariants.{FailedToEncodeMessage}
 use Rattle.signed_stream.specs.Refusal.{Refusal, fault_at, fault_of, first_refusal, unlinked}
 use Rattle.signed_stream.specs.Sending.{Halts, Sends, unless_refused}
-use Rattle.signed_stream.specs.Stream.{chain_lines, frame_lines, lines_before, link_line, streamed_lines}
+use Rattle.signed_stream.specs.Stream.{HasFrames, chain_lines, frame_lines, lines_before, link_line, streamed_lines}
 use Rattle.signed_stream.specs.declared.halt.Halt.{Halt}
 use Rattle.signed_stream.specs.declared.halt.Halt.TheVariants.{Refused, OutputFault, NoMemory}
 
@@ -39,7 +39,7 @@ signed_framed m identity t = by_reason (unframed m)
     by_reason None none = refl
     by_reason (Some kind) none = cc
 
--- a message that an identity doesn't sign, though it can, has no frame
+-- where the identity signs, the message itself is why it isn't signed
 refused_by : (reason : Option ErrorKind) (identity : Identity) (t : Instant) (error : SigningError) → unsignable identity t ≡ None
     → option_or (option_map failed_encoding reason) (unsignable identity t) ≡ Some error → option_map failed_encoding reason ≡ Some error
 refused_by None identity t error signs is = let none : None ≡ Some error = rw signs at is in none
@@ -112,11 +112,11 @@ later signer place (event ∷ events) at signature refused is =
     by_reason (Some reason) others is = let same : place ≡ refused.place = cc in omega arith
 
 -- the first event is linked: the others decide
-pub linked_refusal : (signer : Signer) (place : ℕ) (event : Parts) (events : List Parts) (at : Instant) (signature : List ℕ) → unlinked signer signature event at ≡ None
+linked_refusal : (signer : Signer) (place : ℕ) (event : Parts) (events : List Parts) (at : Instant) (signature : List ℕ) → unlinked signer signature event at ≡ None
     → first_refusal signer place (event ∷ events) at signature ≡ first_refusal signer (place + 1) events at (link_signature signer signature (frame event) at)
 linked_refusal signer place event events at signature linked = rw linked refl
 
-pub linked_lines : (signer : Signer) (place : ℕ) (event : Parts) (events : List Parts) (at : Instant) (signature : List ℕ) → unlinked signer signature event at ≡ None
+linked_lines : (signer : Signer) (place : ℕ) (event : Parts) (events : List Parts) (at : Instant) (signature : List ℕ) → unlinked signer signature event at ≡ None
     → streamed_from signer place (event ∷ events) at signature
     ≡ link_line signer signature (frame event) at ++ streamed_from signer (place + 1) events at (link_signature signer signature (frame event) at)
 unfolding link_line
@@ -134,11 +134,11 @@ linked_lines signer place event events at signature linked =
         let one_more : refused.place - place ≡ suc (refused.place - (place + 1)) = omega (arith, after refused refl) in rw one_more refl
 
 -- the first event isn't linked: it is refused, and nothing is written
-pub unlinked_refusal : (signer : Signer) (place : ℕ) (event : Parts) (events : List Parts) (at : Instant) (signature : List ℕ) (reason : ErrorKind)
+unlinked_refusal : (signer : Signer) (place : ℕ) (event : Parts) (events : List Parts) (at : Instant) (signature : List ℕ) (reason : ErrorKind)
     → unlinked signer signature event at ≡ Some reason → first_refusal signer place (event ∷ events) at signature ≡ Some (record { place = place; reason = reason })
 unlinked_refusal signer place event events at signature reason is = rw is refl
 
-pub unlinked_lines : (signer : Signer) (place : ℕ) (event : Parts) (events : List Parts) (at : Instant) (signature : List ℕ) (reason : ErrorKind)
+unlinked_lines : (signer : Signer) (place : ℕ) (event : Parts) (events : List Parts) (at : Instant) (signature : List ℕ) (reason : ErrorKind)
     → unlinked signer signature event at ≡ Some reason → streamed_from signer place (event ∷ events) at signature ≡ []
 unlinked_lines signer place event events at signature reason is =
     let none : place - place ≡ 0 = omega arith in
@@ -218,3 +218,30 @@ closing_sent {T} a b c signer place at signature text whole answer decided first
     by_answer (Err (Refused told)) sends = let wrong : None ≡ Some told = sends.0 in cc
     by_answer (Err OutputFault) sends = prefix_join a b c (link_line signer signature [] at) text left sends
     by_answer (Err NoMemory) sends = prefix_join a b c (link_line signer signature [] at) text left sends
+
+-- ## No refusal
+
+none_of : (a b : Option ErrorKind) → option_or a b ≡ None → (a ≡ None) × (b ≡ None)
+none_of None b none = (refl, none)
+none_of (Some reason) b none = cc
+
+linked_frames : (signer : Signer) (signature : List ℕ) (event : Parts) (at : Instant) → unlinked signer signature event at ≡ None
+    → (unframed event ≡ None) × (unframed (link_message signer signature (frame event) at) ≡ None)
+unfolding unlinked
+linked_frames signer signature event at linked = none_of (unframed event) (unframed (link_message signer signature (frame event) at)) linked
+
+-- where no event is refused each frame is defined
+pub unrefused_frames : (signer : Signer) (place : ℕ) (events : List Parts) (at : Instant) (signature : List ℕ) → IsInYears at
+    → first_refusal signer place events at signature ≡ None → HasFrames signer events at signature
+unrefused_frames signer place [] at signature years none = closing_framed signer signature at years
+unrefused_frames signer place (event ∷ events) at signature years none =
+    by_reason (unlinked signer signature event at) refl (unrefused_frames signer (place + 1) events at (link_signature signer signature (frame event) at) years) none
+  where
+    by_reason : (reason : Option ErrorKind) → unlinked signer signature event at ≡ reason
+        → (first_refusal signer (place + 1) events at (link_signature signer signature (frame event) at) ≡ None → HasFrames signer events at (link_signature signer signature (frame event) at))
+        → option_or (option_map (λ reason. record { place = place; reason = reason }) reason) (first_refusal signer (place + 1) events at (link_signature signer signature (frame event) at)) ≡ None
+        → (unframed event ≡ None) × (unframed (link_message signer signature (frame event) at) ≡ None) × HasFrames signer events at (link_signature signer signature (frame event) at)
+    by_reason None linked others none =
+        let frames = linked_frames signer signature event at linked in
+        (frames.0, frames.1, others none)
+    by_reason (Some reason) refused others none = cc

@@ -1,11 +1,12 @@
 -- What a run promises.
 use Rattle.std.specs.Prelude.{◌≡◌, ℕ, ◌⊎◌, List, Option, Some, None, Result, Ok, Err}
+use Rattle.smithy_core.specs.Civil.{IsInYears}
 use Rattle.smithy_core.specs.Outside.{Gains, GainsPrefix, GainsProperPrefix, Rose}
 use Rattle.smithy_core.specs.Instant.{Instant}
 use Rattle.signed_stream.specs.Command.{command, stream}
 use Rattle.signed_stream.specs.Job.{PlainJob, job, plain_job}
 use Rattle.signed_stream.specs.Plan.{Ask, ends, streams, Plan, stops, writes, case_of}
-use Rattle.signed_stream.specs.Written.{refusal_of, written}
+use Rattle.signed_stream.specs.Written.{IsChained, written}
 use Rattle.signed_stream.specs.Status.{end_with, status_line}
 use Rattle.signed_stream.specs.declared.words.options.StreamWords.{StreamWords}
 use Rattle.signed_stream.specs.declared.status.Status.{Status}
@@ -52,8 +53,7 @@ Keeps NoMemory before now = Unit {0}
 Keeps answer before now = now ≡ before
 
 -- The headline: the words ask to stream for a name at a moment; the bytes are a plain job, whose profile gives a key id, a secret and a
--- region; each event has a frame, and so has its signed message; and the output gained exactly the head of the signed request and then
--- the chain of the events.
+-- region; the chain of the events is defined; and the output gained exactly the head of the signed request and then this chain.
 pub record Streams (words : List (List ℕ)) (bytes : List ℕ) (before now : Option (List ℕ)) : Type 0 where
   pub name : List ℕ
   pub at : Instant
@@ -64,7 +64,7 @@ pub record Streams (words : List (List ℕ)) (bytes : List ℕ) (before now : Op
   pub asked : command words ≡ stream name at
   pub spelled : job bytes ≡ plain_job read
   pub selected : read.settings ≡ record { key_id = Some key_id; secret = Some secret; region = Some region }
-  pub unrefused : refusal_of (case_of read key_id secret region name at) read.events ≡ None
+  pub framed : IsChained (case_of read key_id secret region name at) read.events
   pub gained : Gains before now (written (case_of read key_id secret region name at) read.events)
 
 -- an answer once the input is read, and what the output gained: as planned, unless the output's faults or want of memory come in between
@@ -80,6 +80,11 @@ Fits (writes text fault) answer before now = ⊥
 abbrev pub ask_told : Result StreamWords Status → Ask
 ask_told (Ok words) = streams words.name.now words.at
 ask_told (Err status) = ends status
+
+-- a moment that is asked for lies in the years
+abbrev pub AsksInYears : Ask → Type 0
+AsksInYears (ends status) = Unit {0}
+AsksInYears (streams name at) = IsInYears at
 
 -- the ends that words and variables alone can bring
 abbrev pub IsEarly : Status → Type 0

@@ -1,13 +1,13 @@
 -- The chain of events as lines.
-use Rattle.std.specs.Prelude.{ℕ, ◌+◌, ◌-◌, List, length, replicate, Option, Some, None}
+use Rattle.std.specs.Prelude.{◌≡◌, ℕ, ◌+◌, ◌-◌, List, [], ◌∷◌, length, replicate, Option, Some, None}
 use Rattle.std.specs.List.{flat_map}
 use Rattle.hex.specs.Hex.{encode_lower}
 use Rattle.smithy_core.specs.Instant.{Instant}
 use Rattle.smithy_core.specs.Parts.{Parts}
 use Rattle.smithy_core.specs.Text.{line}
-use Rattle.eventstream.specs.Frame.{frame}
+use Rattle.eventstream.specs.Frame.{frame, unframed}
 use Rattle.eventstream.specs.Key.{Signer}
-use Rattle.eventstream.specs.Link.{begun, chain, link_message}
+use Rattle.eventstream.specs.Link.{begun, chain, link_message, link_signature}
 use Rattle.signed_stream.specs.Refusal.{Refusal}
 
 -- frames, one a line, in hexadecimal
@@ -30,3 +30,10 @@ lines_before signer place events at signature = frame_lines (begun signer events
 abbrev pub streamed_lines : Signer → List Parts → Instant → List ℕ → Option Refusal → List ℕ
 streamed_lines signer events at signature None = chain_lines signer events at signature
 streamed_lines signer events at signature (Some refusal) = lines_before signer refusal.place events at signature
+
+-- each frame of the chain is defined: those of the events, of their signed messages, and of the closing one
+abbrev pub HasFrames : Signer → List Parts → Instant → List ℕ → Type 0
+HasFrames signer [] at signature = unframed (link_message signer signature [] at) ≡ None
+HasFrames signer (event ∷ events) at signature =
+    (unframed event ≡ None) × (unframed (link_message signer signature (frame event) at) ≡ None)
+    × HasFrames signer events at (link_signature signer signature (frame event) at)

@@ -6,7 +6,7 @@ use Rattle.smithy_core.specs.Text.{line}
 use Rattle.signed_stream.specs.Canonical.{Case}
 use Rattle.signed_stream.specs.Refusal.{Refusal, first_refusal}
 use Rattle.signed_stream.specs.Signed.{signature_of, signed_headers}
-use Rattle.signed_stream.specs.Stream.{chain_lines, lines_before}
+use Rattle.signed_stream.specs.Stream.{HasFrames, chain_lines, lines_before}
 
 -- `name: value`, as a line
 abbrev pub header_line : List ℕ × List ℕ → List ℕ
@@ -23,6 +23,10 @@ signed_head c = head c.method c.target (signed_headers c)
 -- the head of the signed request, and then the chain of the events, all at the moment of the request
 unfoldable pub written : Case → List Parts → List ℕ
 written c events = signed_head c ++ chain_lines c.signer events c.at (signature_of c)
+
+-- each frame of the chain of the events is defined
+abbrev pub IsChained : Case → List Parts → Type 0
+IsChained c events = HasFrames c.signer events c.at (signature_of c)
 
 -- the head of the signed request, and then the frames of the events before the one at a place
 unfoldable pub written_before : ℕ → Case → List Parts → List ℕ

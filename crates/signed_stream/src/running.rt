@@ -2,7 +2,7 @@ ghost use Rattle.std.specs.Prelude.{◌≡◌, ◌≤◌, ℕ, List, Some, map, 
 ghost use Rattle.std.specs.String.{string_bytes};
 ghost use Rattle.smithy_core.specs.Outside.{IsAtEnd, Rose};
 ghost use Rattle.signed_stream.specs.Plan.{ask, ask_plan, has_later_variable};
-ghost use Rattle.signed_stream.specs.Run.{IsEarly, ask_told, EndsAsAsked, EndsAsPlanned, GainsAsPlanned, Keeps, Says, Streams};
+ghost use Rattle.signed_stream.specs.Run.{AsksInYears, IsEarly, ask_told, EndsAsAsked, EndsAsPlanned, GainsAsPlanned, Keeps, Says, Streams};
 
 use crate::job_stream::stream_input;
 use crate::saying::say;
@@ -16,6 +16,8 @@ use std::alloc::Global;
 /// The words are those after the program's name. `stream --name NAME --at N` reads a job from `input`, signs its
 /// request by AWS Signature Version 4, and writes to `out` the head of the signed request and a chain of event
 /// stream frames: one for each event in order and an empty one last, each signed over the signature before it.
+/// The first event that has no frame, or whose signed message has none, ends the run with its fault, after the head
+/// and the frames of the events before it.
 pub fn run<S: ByteSource, D: Disk, C: Clock, K: ByteSink, E: ByteSink>(
     alloc: Global,
     words: &[String],
@@ -60,6 +62,7 @@ fn answer<S: ByteSource, K: ByteSink>(
     input: &mut S,
     out: &mut K,
 ) -> Status
+    ensures years { AsksInYears (ask (map string_bytes words.now) env.now) }
     ensures asked { EndsAsAsked (ask (map string_bytes words.now) env.now) result }
     ensures planned { (bytes : List ℕ) → S.left input.old ≡ Some bytes → EndsAsPlanned (ask_plan (ask (map string_bytes words.now) env.now) bytes) result }
     ensures output { (bytes : List ℕ) → S.left input.old ≡ Some bytes

@@ -1,13 +1,15 @@
 use Rattle.std.proofs.Common.{◌≡◌, map, refl}
 use Rattle.std.specs.Prelude.{string_bytes}
-use Rattle.signed_stream.proofs.SaidLemmas.{said_asked, said_gains, said_is, said_keeps, said_planned, streams_when_done}
+use Rattle.signed_stream.proofs.HeadlineLemmas.{streams_when_done}
+use Rattle.signed_stream.proofs.SaidLemmas.{said_asked, said_gains, said_is, said_keeps, said_planned}
 use Rattle.signed_stream.specs.declared.status.Status.TheVariants.{Done, ReadFault, OutputFault}
 use Rattle.signed_stream.proofs.running.run.Goals as goal
 
 pub returns-clause-headline : goal.returns-clause-headline
 returns-clause-headline g c = λ done bytes told.
     let is : c.answer-status.result ≡ Done = said_is c.answer-status.result c.say.result Done c.say.ensures.answer done (λ e. cc) in
-    streams_when_done (map string_bytes c.args.words.now) c.args.env.now bytes _ _ (rw is at (c.answer-status.ensures.planned bytes told)) (rw is at (c.answer-status.ensures.output bytes told))
+    streams_when_done (map string_bytes c.args.words.now) c.args.env.now bytes _ _ c.answer-status.ensures.years
+    (rw is at (c.answer-status.ensures.planned bytes told)) (rw is at (c.answer-status.ensures.output bytes told))
 
 pub returns-clause-asked : goal.returns-clause-asked
 returns-clause-asked g c = said_asked _ _ _ c.answer-status.ensures.asked c.say.ensures.answer
