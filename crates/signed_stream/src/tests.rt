@@ -1,4 +1,6 @@
 //! Runs on the objects in memory: the answers, and what the output and `err` hold after each.
+mod refused_events;
+
 use crate::{Status, StreamFault, run};
 use smithy_core::{
     ByteSink, CalmDisk, CalmSink, CalmSource, Env, FaultySink, FaultySource, FixedClock, Moment,
