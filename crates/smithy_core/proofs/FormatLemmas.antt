@@ -37,10 +37,10 @@ filled : (k n : ℕ) → n < 10 ^ suc k → n < 2 ^ 64 → replicate (suc k - le
 unfolding last_digits
 filled zero n small fits = rw (decimal_digit n (omega arith)) (let same : n % 10 ≡ n = omega arith in ap (λ d. (48 + d) ∷ []) (sym same))
 filled (suc k) n small fits = elim (cases_order n 10) [
-    | inl ten ↦ longer k n (omega arith) fits (filled k (n / 10) (omega arith) (omega arith))
-    | inr (inl one) ↦ shorter k n one
-    | inr (inr high) ↦ longer k n (omega arith) fits (filled k (n / 10) (omega arith) (omega arith))
-  ]
+  | inl ten ↦ longer k n (omega arith) fits (filled k (n / 10) (omega arith) (omega arith))
+  | inr (inl one) ↦ shorter k n one
+  | inr (inr high) ↦ longer k n (omega arith) fits (filled k (n / 10) (omega arith) (omega arith))
+]
 
 padded_by_zeros : (k : ℕ) (ds : List ℕ) → padded_integral (format_spec 32 0 4 k (2 ^ 64 - 1)) false [] ds ≡ replicate (k - length ds) 48 ++ ds
 unfolding padded_integral char_count

@@ -1,4 +1,6 @@
 ghost use Rattle.std.specs.Prelude.{◌≡◌, ◌<◌, ◌≤◌, ◌++◌, IfOk, OnOk};
+ghost use Rattle.std.specs.Fmt.{sign_text};
+ghost use Rattle.std.specs.Int.{is_negative};
 ghost use Rattle.std.specs.String.{string_bytes};
 ghost use Rattle.smithy_core.specs.CivilText.{FitsDigits};
 ghost use Rattle.smithy_core.specs.Format.{Formats, date_time_of, day_name, fraction, http_date_of, month_name, seconds_of, without_last_zeros};
@@ -46,7 +48,7 @@ impl DateTime {
     ///
     /// [`FormatFault::OutOfRange`] where the form shows a date and the moment lies outside the years 0 to 9999, and
     /// [`FormatFault::NoMemory`] for want of memory.
-    #[tactic(auto, unfolding(crate::specs::Format::formatted))]
+    #[tactic(auto, unfolding(crate::specs::Format::formatted), using(crate::proofs::DayLemmas::civil_fits))]
     pub fn fmt(self, alloc: Global, format: Format) -> Result<String, FormatFault>
         ensures { Formats format self result }
     {
@@ -79,7 +81,9 @@ fn date_time(alloc: Global, civil: Civil, nanos: u32) -> Mem<String>
         minute,
         second,
     } = civil;
-    let mut text = format!(in alloc; "{year:04}-{month:02}-{day:02}T{hour:02}:{minute:02}:{second:02}")?;
+    let mut text = format!(in alloc;
+        "{year:04}-{month:02}-{day:02}T{hour:02}:{minute:02}:{second:02}"
+    )?;
     push_fraction(&mut text, alloc, nanos)?;
     text.push('Z')?;
     Ok(text)
@@ -101,7 +105,9 @@ fn http_date(alloc: Global, civil: Civil, weekday: u8) -> Mem<String>
         second,
     } = civil;
     let (day_name, month_name) = (day_name(weekday), month_name(month));
-    format!(in alloc; "{day_name}, {day:02} {month_name} {year:04} {hour:02}:{minute:02}:{second:02} GMT")
+    format!(in alloc;
+        "{day_name}, {day:02} {month_name} {year:04} {hour:02}:{minute:02}:{second:02} GMT"
+    )
 }
 
 // The exact decimal number of seconds.
@@ -111,11 +117,17 @@ fn epoch_seconds(alloc: Global, moment: DateTime) -> Mem<String>
 {
     let nanos = i128::from(moment.secs()) * 1_000_000_000 + i128::from(moment.subsec_nanos());
     let size = nanos.unsigned_abs();
-    let sign = if nanos < 0 { "-" } else { "" };
+    let sign = sign_of(nanos);
     let whole = (size / 1_000_000_000) as u64;
     let mut text = format!(in alloc; "{sign}{whole}")?;
     push_fraction(&mut text, alloc, (size % 1_000_000_000) as u32)?;
     Ok(text)
+}
+
+fn sign_of(n: i128) -> &'static str
+    ensures { result.now ≡ sign_text (is_negative n) }
+{
+    if n < 0 { "-" } else { "" }
 }
 
 // A point and the digits of the fraction of a second, without the zeros at their end, or nothing.
