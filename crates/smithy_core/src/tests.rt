@@ -1,14 +1,17 @@
 use crate::{
     ByteSink, ByteSource, CalmDisk, CalmSink, CalmSource, Clock, Credentials, DateTime, Disk,
-    DiskError, Env, ErrorMetadata, Failed, FaultySink, FaultySource, FixedClock, Format,
-    FormatFault, Header, HeaderValue, Headers, HttpRequest, HttpResponse, Identity, ListClock, Mem,
-    Message, ReadFault, SinkError, StdSink, StdSource, StrBytes, SystemClock, TimeOutOfRange,
-    civil, push_line, read_all, write_all,
+    DiskError, Env, ErrorMetadata, Failed, FaultyDisk, FaultySink, FaultySource, FixedClock,
+    Format, FormatFault, Header, HeaderValue, Headers, HostDisk, HttpRequest, HttpResponse,
+    Identity, ListClock, Mem, Message, ReadFault, SinkError, StdSink, StdSource, StrBytes,
+    SystemClock, TimeOutOfRange, civil, push_line, read_all, write_all,
 };
 use bytes::Bytes;
 use std::alloc::Global;
+use std::env::FillError;
+use std::fs::File;
 use std::process::Abort;
 use std::test::Fail;
+use std::{env, fs, process};
 
 // The stamps are those of Python's `datetime`.
 #[test]
@@ -168,6 +171,18 @@ fn faulty_sink(rt: HostRuntime) -> Result<(), Fail> {
 }
 
 #[test]
+fn faulty_disk(rt: HostRuntime) -> Result<(), Fail> {
+    let fails = Vec::from_slice(rt.alloc(), &[2, 4])?;
+    let mut disk = FaultyDisk::new(two_at_one_path(rt.alloc())?, fails);
+    assert!(rt; holds(&disk.read("/a"), b"2"));
+    assert!(rt; matches!(disk.read("/a"), Err(DiskError::Failed)));
+    assert!(rt; matches!(disk.read("/b"), Err(DiskError::NotFound)));
+    assert!(rt; matches!(disk.read("/b"), Err(DiskError::Failed)));
+    assert!(rt; holds(&disk.read("/a"), b"2"));
+    Ok(())
+}
+
+#[test]
 fn reads_to_the_end(rt: HostRuntime) -> Result<(), Fail> {
     let content = Vec::from_slice(rt.alloc(), b"abcdef")?;
     let mut source = FaultySource::new(content, Vec::from_slice(rt.alloc(), &[2])?);
@@ -221,6 +236,76 @@ fn adapters_of_the_host(rt: HostRuntime) -> Result<(), Fail> {
     Ok(())
 }
 
+#[test]
+fn files_of_the_host(rt: HostRuntime) -> Result<(), Fail> {
+    let path = format!(in rt.alloc(); "/tmp/smithy_core-{}", process::id(rt.process()))?;
+    let mut disk = HostDisk::new(rt.alloc(), &rt);
+    assert!(rt; matches!(disk.read(path.as_str()), Err(DiskError::NotFound)));
+    fs::write(&rt, path.as_str(), "abc")?;
+    assert!(rt; holds(&disk.read(path.as_str()), b"abc"));
+    let file = File::create(&rt, path.as_str())?;
+    file.set_len(16_777_216)?;
+    assert!(rt; matches!(disk.read(path.as_str()), Ok(bytes) if bytes.len() == 16_777_216));
+    file.set_len(16_777_217)?;
+    assert!(rt; matches!(disk.read(path.as_str()), Err(DiskError::Failed)));
+    fs::remove_file(&rt, path.as_str())?;
+    assert!(rt; matches!(disk.read("/"), Err(DiskError::Failed)));
+    Ok(())
+}
+
+// Variables as a system may give them, and last a long one.
+#[derive(Drop)]
+struct Listed([&'static [u8]; 7]);
+
+impl env::Env for Listed {
+    fn arg(&self, _i: usize, _buf: &mut [u8]) -> Result<usize, FillError> {
+        Err(FillError::NotPresent)
+    }
+
+    fn var(&self, _name: &str, _buf: &mut [u8]) -> Result<usize, FillError> {
+        Err(FillError::NotPresent)
+    }
+
+    fn var_at(&self, i: usize, buf: &mut [u8]) -> Result<usize, FillError> {
+        if i < 7 {
+            copy_entry(self.0[i], buf)
+        } else if i == 7 {
+            let mut long = [b'='; 600];
+            long[0] = b'G';
+            copy_entry(&long, buf)
+        } else {
+            Err(FillError::NotPresent)
+        }
+    }
+}
+
+fn copy_entry(entry: &[u8], buf: &mut [u8]) -> Result<usize, FillError> {
+    if entry.len() > buf.len() {
+        return Err(FillError::TooLong);
+    }
+    buf[..entry.len()].copy_from_slice(entry);
+    Ok(entry.len())
+}
+
+#[test]
+fn variables(rt: HostRuntime) -> Result<(), Fail> {
+    let listed = Listed([b"A=1", b"B=\xFF", b"=C", b"D", b"A=2", b"E=a=b", b"F="]);
+    let env = Env::real(rt.alloc(), &listed)?;
+    assert_eq!(rt; env.get("A"), Some("1"));
+    assert_eq!(rt; env.get("B"), None);
+    assert_eq!(rt; env.get(""), None);
+    assert_eq!(rt; env.get("D"), None);
+    assert_eq!(rt; env.get("E"), Some("a=b"));
+    assert_eq!(rt; env.get("F"), Some(""));
+    assert!(rt; matches!(env.get("G"), Some(value) if value.len() == 598));
+    let host = Env::real(rt.alloc(), &rt)?;
+    match env::var(&rt, "PATH") {
+        Ok(path) => assert_eq!(rt; host.get("PATH"), Some(path.as_str())),
+        Err(_) => assert_eq!(rt; host.get("PATH"), None),
+    }
+    Ok(())
+}
+
 // Each call that can want memory gives its answer where there is enough.
 #[test]
 fn surface(rt: HostRuntime) -> Result<(), Fail> {
@@ -239,6 +324,7 @@ fn surface(rt: HostRuntime) -> Result<(), Fail> {
         ("DateTime", moment_holds(alloc)),
         ("push_line", line_holds(alloc)?),
         ("CalmDisk", disk_holds(alloc)?),
+        ("FaultyDisk", faulty_disk_holds(alloc)?),
         ("CalmSink", sink_holds(alloc)?),
     ];
     for (call, holds) in cases {
@@ -362,7 +448,7 @@ fn line_holds(alloc: Global) -> Mem<bool> {
     Ok(buffer.as_slice() == b"ab\n".as_slice())
 }
 
-fn disk_holds(alloc: Global) -> Mem<bool> {
+fn two_at_one_path(alloc: Global) -> Mem<Vec<(String, Vec<u8>)>> {
     let mut files = Vec::new(alloc);
     files.push((
         String::from_str(alloc, "/a")?,
@@ -372,11 +458,21 @@ fn disk_holds(alloc: Global) -> Mem<bool> {
         String::from_str(alloc, "/a")?,
         Vec::from_slice(alloc, b"2")?,
     ))?;
-    let mut disk = CalmDisk::new(files);
-    Ok(
-        matches!(disk.read("/a"), Ok(bytes) if bytes.as_slice() == b"2".as_slice())
-            && matches!(disk.read("/b"), Err(DiskError::NotFound)),
-    )
+    Ok(files)
+}
+
+fn holds(read: &Result<Vec<u8>, DiskError>, bytes: &[u8]) -> bool {
+    matches!(read, Ok(read) if read.as_slice() == bytes)
+}
+
+fn disk_holds(alloc: Global) -> Mem<bool> {
+    let mut disk = CalmDisk::new(two_at_one_path(alloc)?);
+    Ok(holds(&disk.read("/a"), b"2") && matches!(disk.read("/b"), Err(DiskError::NotFound)))
+}
+
+fn faulty_disk_holds(alloc: Global) -> Mem<bool> {
+    let mut disk = FaultyDisk::new(two_at_one_path(alloc)?, Vec::new(alloc));
+    Ok(holds(&disk.read("/a"), b"2"))
 }
 
 fn sink_holds(alloc: Global) -> Mem<bool> {
