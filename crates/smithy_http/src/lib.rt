@@ -1,0 +1,6 @@
+//! Requests before they are signed: labels and queries.
+#![tactic(auto)]
+
+mod escape;
+pub mod label;
+pub mod query;
