@@ -1,2 +1,6 @@
 pub mod Escape
 pub mod Label
+pub mod Query
+pub mod Target
+pub mod Building
+pub mod UriFault
