@@ -4,3 +4,5 @@ pub mod Query
 pub mod Target
 pub mod Building
 pub mod UriFault
+pub mod Applying
+pub mod Endpoint
