@@ -1,11 +1,13 @@
 use crate::{
     ByteSink, ByteSource, CalmDisk, CalmSink, CalmSource, Clock, Credentials, DateTime, Disk,
-    DiskError, Env, Failed, FaultySink, FaultySource, FixedClock, Header, HeaderValue, Headers,
-    HttpRequest, Identity, ListClock, Mem, Message, ReadFault, SinkError, StdSink, StdSource,
-    StrBytes, SystemClock, TimeOutOfRange, civil, push_line, read_all, write_all,
+    DiskError, Env, ErrorMetadata, Failed, FaultySink, FaultySource, FixedClock, Format,
+    FormatFault, Header, HeaderValue, Headers, HttpRequest, HttpResponse, Identity, ListClock, Mem,
+    Message, ReadFault, SinkError, StdSink, StdSource, StrBytes, SystemClock, TimeOutOfRange,
+    civil, push_line, read_all, write_all,
 };
 use bytes::Bytes;
 use std::alloc::Global;
+use std::process::Abort;
 use std::test::Fail;
 
 // The stamps are those of Python's `datetime`.
@@ -49,6 +51,69 @@ fn whole_milliseconds(rt: HostRuntime) {
     for (secs, nanos, millis) in cases {
         assert_eq!(rt; DateTime::new(secs, nanos).to_millis(), millis);
     }
+}
+
+// The dates are those of Python's `datetime`, and the numbers those of its `decimal`.
+#[test]
+fn dates_and_times(rt: HostRuntime) {
+    let form = Format::DateTime;
+    let row = DateTime::new(1_440_938_160, 500_000_000);
+    shows(&rt, row, form, "2015-08-30T12:36:00.5Z");
+    let whole = DateTime::new(1_576_540_098, 0);
+    shows(&rt, whole, form, "2019-12-16T23:48:18Z");
+    let before = DateTime::new(-1, 1);
+    shows(&rt, before, form, "1969-12-31T23:59:59.000000001Z");
+    let first = DateTime::new(-62_167_219_200, 120_000_000);
+    shows(&rt, first, form, "0000-01-01T00:00:00.12Z");
+    let last = DateTime::new(253_402_300_799, 999_999_999);
+    shows(&rt, last, form, "9999-12-31T23:59:59.999999999Z");
+    shows_nothing(&rt, DateTime::new(253_402_300_800, 0), form);
+    shows_nothing(&rt, DateTime::new(-62_167_219_201, 999_999_999), form);
+}
+
+#[test]
+fn http_dates(rt: HostRuntime) {
+    let form = Format::HttpDate;
+    let row = DateTime::new(1_440_938_160, 500_000_000);
+    shows(&rt, row, form, "Sun, 30 Aug 2015 12:36:00 GMT");
+    let winter = DateTime::new(1_576_540_098, 0);
+    shows(&rt, winter, form, "Mon, 16 Dec 2019 23:48:18 GMT");
+    let leap_day = DateTime::new(951_782_400, 0);
+    shows(&rt, leap_day, form, "Tue, 29 Feb 2000 00:00:00 GMT");
+    let first = DateTime::new(-62_167_219_200, 0);
+    shows(&rt, first, form, "Sat, 01 Jan 0000 00:00:00 GMT");
+    let last = DateTime::new(253_402_300_799, 999_999_999);
+    shows(&rt, last, form, "Fri, 31 Dec 9999 23:59:59 GMT");
+    shows_nothing(&rt, DateTime::new(253_402_300_800, 0), form);
+    shows_nothing(&rt, DateTime::new(-62_167_219_201, 999_999_999), form);
+}
+
+#[test]
+fn seconds(rt: HostRuntime) {
+    let form = Format::EpochSeconds;
+    let row = DateTime::new(1_440_938_160, 500_000_000);
+    shows(&rt, row, form, "1440938160.5");
+    shows(&rt, DateTime::new(-1, 500_000_000), form, "-0.5");
+    shows(&rt, DateTime::new(-2, 0), form, "-2");
+    shows(&rt, DateTime::new(0, 0), form, "0");
+    shows(&rt, DateTime::new(0, 1), form, "0.000000001");
+    let least = DateTime::new(i64::MIN, 1);
+    shows(&rt, least, form, "-9223372036854775807.999999999");
+    let greatest = DateTime::new(i64::MAX, 999_999_990);
+    shows(&rt, greatest, form, "9223372036854775807.99999999");
+}
+
+fn shows(rt: &(impl Abort + AllocGlobal), moment: DateTime, format: Format, text: &str) {
+    let shown = moment.fmt(rt.alloc(), format);
+    assert!(rt;
+        matches!(shown, Ok(shown) if shown.as_str() == text),
+        "{text}"
+    );
+}
+
+fn shows_nothing(rt: &(impl Abort + AllocGlobal), moment: DateTime, format: Format) {
+    let shown = moment.fmt(rt.alloc(), format);
+    assert!(rt; matches!(shown, Err(FormatFault::OutOfRange)));
 }
 
 #[test]
@@ -165,10 +230,13 @@ fn surface(rt: HostRuntime) -> Result<(), Fail> {
         ("Header", header_holds(alloc)?),
         ("Message", message_holds(alloc)?),
         ("Headers and HttpRequest", request_holds(alloc)?),
+        ("HttpResponse", response_holds(alloc)?),
+        ("ErrorMetadata", metadata_holds(alloc)?),
         ("Credentials", credentials_hold(alloc)?),
         ("Identity", identity_holds(alloc)?),
         ("Env", env_holds(alloc)?),
         ("Civil", civil_holds(alloc)?),
+        ("DateTime", moment_holds(alloc)),
         ("push_line", line_holds(alloc)?),
         ("CalmDisk", disk_holds(alloc)?),
         ("CalmSink", sink_holds(alloc)?),
@@ -220,6 +288,27 @@ fn request_holds(alloc: Global) -> Mem<bool> {
     )
 }
 
+fn response_holds(alloc: Global) -> Mem<bool> {
+    let mut headers = Headers::new(alloc);
+    headers.append("A", "1")?;
+    let response = HttpResponse {
+        status: 200,
+        headers,
+        skew: Some(-5),
+    };
+    let copy = response.try_clone()?;
+    Ok(copy.status == 200 && copy.headers.get("a") == Some("1") && copy.skew == Some(-5))
+}
+
+fn metadata_holds(alloc: Global) -> Mem<bool> {
+    let error = ErrorMetadata {
+        code: Some(String::from_str(alloc, "AuthFailure")?),
+        message: None,
+    };
+    let copy = error.try_clone()?;
+    Ok(matches!(copy.code, Some(code) if code.as_str() == "AuthFailure") && copy.message.is_none())
+}
+
 fn some_credentials(alloc: Global) -> Mem<Credentials> {
     let key_id = String::from_str(alloc, "AKID")?;
     let secret = String::from_str(alloc, "SECRET")?;
@@ -260,6 +349,11 @@ fn civil_holds(alloc: Global) -> Mem<bool> {
         Some(civil) => Ok(civil.stamp_text(alloc)?.as_str() == "20150830T123600Z"),
         None => Ok(false),
     }
+}
+
+fn moment_holds(alloc: Global) -> bool {
+    let shown = DateTime::new(0, 0).fmt(alloc, Format::EpochSeconds);
+    matches!(shown, Ok(shown) if shown.as_str() == "0")
 }
 
 fn line_holds(alloc: Global) -> Mem<bool> {
