@@ -1,8 +1,11 @@
+pub mod Applying
+pub mod Building
+pub mod Endpoint
 pub mod Escape
+pub mod HeaderGrammar
 pub mod Label
 pub mod Query
+pub mod SetIfAbsent
 pub mod Target
-pub mod Building
+pub mod Timestamp
 pub mod UriFault
-pub mod Applying
-pub mod Endpoint

@@ -4,9 +4,10 @@ ghost use Rattle.std.specs.String.{string_bytes};
 ghost use Rattle.percent_encoding.specs.Percent.{percent_decode};
 ghost use Rattle.smithy_http.specs.Escape.{escaped};
 ghost use Rattle.smithy_http.specs.Label.{label_set};
+ghost use Rattle.smithy_http.specs.Timestamp.{FormatsEscaped};
 
 use crate::escape::{BASE_SET, GREEDY_SET, escape};
-use smithy_core::Mem;
+use smithy_core::{DateTime, Format, FormatFault, Mem};
 use std::alloc::Global;
 
 /// How many segments of a path a label fills.
@@ -29,4 +30,16 @@ pub fn fmt_string(alloc: Global, t: &str, strategy: EncodingStrategy) -> Mem<Str
         EncodingStrategy::Default => escape(alloc, t, BASE_SET),
         EncodingStrategy::Greedy => escape(alloc, t, GREEDY_SET),
     }
+}
+
+/// The text of a moment as a label of one segment.
+///
+/// # Errors
+///
+/// Those of [`DateTime::fmt`].
+pub fn fmt_timestamp(alloc: Global, t: &DateTime, format: Format) -> Result<String, FormatFault>
+    ensures { FormatsEscaped format t.now result }
+{
+    let text = t.fmt(alloc, format)?;
+    Ok(fmt_string(alloc, text.as_str(), EncodingStrategy::Default)?)
 }

@@ -4,10 +4,12 @@ ghost use Rattle.std.specs.String.{string_bytes};
 ghost use Rattle.percent_encoding.specs.Percent.{percent_decode};
 ghost use Rattle.smithy_http.specs.Escape.{base_set, escaped};
 ghost use Rattle.smithy_http.specs.Query.{begun, pair, with_piece, written};
+ghost use Rattle.smithy_http.specs.Timestamp.{FormatsEscaped};
 
-use crate::piece::{marked, marked_pair};
+
 use crate::escape::{BASE_SET, escape};
-use smithy_core::Mem;
+use crate::piece::{marked, marked_pair};
+use smithy_core::{DateTime, Format, FormatFault, Mem};
 use std::alloc::Global;
 
 /// The text as a key or a value of a query: each byte that isn't unreserved escaped (RFC 3986, section 2).
@@ -18,6 +20,18 @@ pub fn fmt_string(alloc: Global, t: &str) -> Mem<String>
     ensures undone { IfOk result (λ escape. percent_decode (string_bytes escape) ≡ t.now) }
 {
     escape(alloc, t, BASE_SET)
+}
+
+/// The text of a moment as a key or a value of a query.
+///
+/// # Errors
+///
+/// Those of [`DateTime::fmt`].
+pub fn fmt_timestamp(alloc: Global, t: &DateTime, format: Format) -> Result<String, FormatFault>
+    ensures { FormatsEscaped format t.now result }
+{
+    let text = t.fmt(alloc, format)?;
+    Ok(fmt_string(alloc, text.as_str())?)
 }
 
 /// Appends a query to a text, piece by piece: `?` before the first, `&` before the others. Nothing is escaped.
