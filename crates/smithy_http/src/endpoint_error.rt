@@ -1,7 +1,9 @@
-ghost use Rattle.std.specs.Prelude.{◌≡◌};
+ghost use Rattle.std.specs.Prelude.{◌≡◌, IfOk};
+ghost use Rattle.smithy_http.specs.Applying.{IsSameEndpointError};
 ghost use Rattle.smithy_http.specs.declared.endpoint_error.InvalidEndpointError.TheVariants.{EndpointMustHaveScheme, FailedToConstructAuthority, FailedToConstructUri, NoMemory};
 
 use crate::uri_fault::UriFault;
+use smithy_core::Mem;
 use std::alloc::AllocError;
 
 /// Why an endpoint isn't applied.
@@ -40,6 +42,26 @@ impl InvalidEndpointError {
         ensures { result ≡ FailedToConstructUri }
     {
         InvalidEndpointError::FailedToConstructUri
+    }
+
+    /// An equal error.
+    pub fn try_clone(&self) -> Mem<InvalidEndpointError>
+        ensures { IfOk result (λ copy. IsSameEndpointError self.now copy) }
+    {
+        Ok(match self {
+            InvalidEndpointError::EndpointMustHaveScheme => {
+                InvalidEndpointError::EndpointMustHaveScheme
+            }
+            InvalidEndpointError::FailedToConstructAuthority { authority } => {
+                InvalidEndpointError::FailedToConstructAuthority {
+                    authority: authority.clone()?,
+                }
+            }
+            InvalidEndpointError::FailedToConstructUri => {
+                InvalidEndpointError::FailedToConstructUri
+            }
+            InvalidEndpointError::NoMemory => InvalidEndpointError::NoMemory,
+        })
     }
 }
 

@@ -7,9 +7,11 @@ mod endpoint_prefix;
 mod escape;
 mod header_grammar;
 pub mod label;
+mod merge;
 mod piece;
 pub mod query;
 mod query_writer;
+mod resolve_error;
 mod set_header;
 mod target;
 mod uri_fault;
@@ -18,7 +20,9 @@ pub use crate::endpoint::apply_endpoint;
 pub use crate::endpoint_error::InvalidEndpointError;
 pub use crate::endpoint_prefix::EndpointPrefix;
 pub use crate::header_grammar::{is_header_name, is_header_value};
+pub use crate::merge::{MergeFault, append_merge_header_maps};
 pub use crate::query_writer::QueryWriter;
+pub use crate::resolve_error::ResolveEndpointError;
 pub use crate::set_header::{
     HeaderFault, set_request_header_if_absent, set_response_header_if_absent,
 };
