@@ -1,21 +1,26 @@
 -- What building a target promises.
-use Rattle.std.specs.Prelude.{◌≡◌, ◌⊎◌, ℕ, List, [], ◌∷◌, ◌++◌, codes, Option, Some, None, Result, Ok, Err, String, string_bytes, unwrap_or}
+use Rattle.std.specs.Prelude.{◌≡◌, ◌⊎◌, ℕ, List, [], ◌∷◌, ◌++◌, codes, Option, Some, None, Result, Ok, Err, String, string_bytes, unwrap_or, fold}
 use Rattle.std.specs.declared.alloc.Global.{Global}
 use Rattle.http_uri.specs.Uri.{Spells, SpellsNone, uri_query}
 use Rattle.http_uri.specs.declared.uri.Uri.{Uri}
+use Rattle.smithy_http.specs.Query.{pair}
 use Rattle.smithy_http.specs.Target.{Target, target_of, target_text, IsAuthorityAlone}
 use Rattle.smithy_http.specs.declared.uri_fault.UriFault.{UriFault}
 use Rattle.smithy_http.specs.declared.uri_fault.UriFault.TheVariants.{InvalidUri, NoMemory}
 
--- what stands before one more piece of a query
-abbrev pub before_piece : Option (List ℕ) → List ℕ
-before_piece None = []
-before_piece (Some []) = []
-before_piece (Some (byte ∷ query)) = (byte ∷ query) ++ codes "&"
+-- what stands before one more pair: the query and `&`, where it isn't empty
+abbrev pub before_pair : Option (List ℕ) → List ℕ
+before_pair None = []
+before_pair (Some []) = []
+before_pair (Some (byte ∷ query)) = (byte ∷ query) ++ codes "&"
 
--- the target with one more piece in its query: after `&` where it had some
-abbrev pub with_query_piece : Target → List ℕ → Target
-with_query_piece t piece = record t { query = Some (before_piece t.query ++ piece) }
+-- the target with one more pair in its query
+abbrev pub with_pair : Target → List ℕ → List ℕ → Target
+with_pair t key value = record t { query = Some (before_pair t.query ++ pair key value) }
+
+-- the target with more pairs, one after another
+abbrev pub with_pairs : Target → List (List ℕ × List ℕ) → Target
+with_pairs t pairs = fold (λ target p. with_pair target p.0 p.1) t pairs
 
 -- the target without a query
 abbrev pub without_query : Target → Target

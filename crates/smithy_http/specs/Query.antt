@@ -11,6 +11,10 @@ ampersand = 38
 abbrev pub pair : List ℕ → List ℕ → List ℕ
 pair key value = key ++ (codes "=" ++ value)
 
+-- the same of a pair
+abbrev pub pair_text : List ℕ × List ℕ → List ℕ
+pair_text p = pair p.0 p.1
+
 -- `?` and the pieces with `&` between, or nothing where there are none
 abbrev pub query_of : List (List ℕ) → List ℕ
 query_of [] = []

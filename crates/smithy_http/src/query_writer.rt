@@ -1,8 +1,7 @@
 ghost use Rattle.std.specs.Prelude.{◌≡◌, [], unwrap_or, IfOk, OnOk, OnErr, string_bytes};
 ghost use Rattle.http_uri.specs.Uri.{uri_query};
-ghost use Rattle.smithy_http.specs.Building.{Builds, BuildsQuery, Reads, with_query_piece, without_query};
+ghost use Rattle.smithy_http.specs.Building.{Builds, BuildsQuery, Reads, with_pair, without_query};
 ghost use Rattle.smithy_http.specs.Escape.{base_set, escaped};
-ghost use Rattle.smithy_http.specs.Query.{pair};
 ghost use Rattle.smithy_http.specs.Target.{target_of, target_text};
 
 use crate::piece::marked_pair;
@@ -83,7 +82,7 @@ impl QueryWriter {
 
     /// Adds a parameter, its key and its value escaped. After want of memory nothing is added.
     pub fn insert(&mut self, k: &str, v: &str) -> Mem<()>
-        ensures ok { OnOk result (self.new ≡ with_query_piece self.old (pair (escaped base_set k.now) (escaped base_set v.now))) }
+        ensures ok { OnOk result (self.new ≡ with_pair self.old (escaped base_set k.now) (escaped base_set v.now)) }
         ensures err { OnErr result (self.new ≡ self.old) }
     {
         let alloc = *self.query.allocator();
@@ -94,7 +93,7 @@ impl QueryWriter {
 
     /// Adds a parameter as it is given. After want of memory nothing is added.
     pub fn insert_encoded(&mut self, encoded_k: &str, encoded_v: &str) -> Mem<()>
-        ensures ok { OnOk result (self.new ≡ with_query_piece self.old (pair encoded_k.now encoded_v.now)) }
+        ensures ok { OnOk result (self.new ≡ with_pair self.old encoded_k.now encoded_v.now) }
         ensures err { OnErr result (self.new ≡ self.old) }
     {
         let mark = if self.query.is_empty() { "" } else { "&" };
