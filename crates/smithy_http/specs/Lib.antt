@@ -1,0 +1,14 @@
+pub mod Applying
+pub mod Building
+pub mod Endpoint
+pub mod Escape
+pub mod HeaderGrammar
+pub mod Label
+pub mod Merge
+pub mod MergeFault
+pub mod Query
+pub mod Resolving
+pub mod SetIfAbsent
+pub mod Target
+pub mod Timestamp
+pub mod UriFault

@@ -1,0 +1,15 @@
+-- What setting a header promises, where headers are pairs of a name in lower case and a value.
+use Rattle.std.specs.Prelude.{◌≡◌, ℕ, List, [], ◌∷◌, ◌++◌, Result, Ok, Err, IsNone, IsSome, MatchOption}
+use Rattle.smithy_core.specs.Pairs.{first_value, lower}
+use Rattle.smithy_http.specs.HeaderGrammar.{IsHeaderName, IsHeaderValue}
+use Rattle.smithy_http.specs.declared.set_header.HeaderFault.{HeaderFault}
+use Rattle.smithy_http.specs.declared.set_header.HeaderFault.TheVariants.{InvalidHeaderName, InvalidHeaderValue, NoMemory}
+
+-- where a header has the name nothing changes, else the header is appended; or the first test that fails: the name, and where it is absent the value
+abbrev pub SetsIfAbsent : List ℕ → List ℕ → List (List ℕ × List ℕ) → List (List ℕ × List ℕ) → Result (Unit {0}) HeaderFault → Type 0
+SetsIfAbsent name value old new (Ok _) =
+    IsHeaderName name × MatchOption (first_value old (lower name)) (IsHeaderValue value × (new ≡ old ++ (lower name, value) ∷ [])) (λ _. new ≡ old)
+SetsIfAbsent name value old new (Err InvalidHeaderName) = ¬ (IsHeaderName name) × (new ≡ old)
+SetsIfAbsent name value old new (Err InvalidHeaderValue) =
+    IsHeaderName name × IsNone (first_value old (lower name)) × ¬ (IsHeaderValue value) × (new ≡ old)
+SetsIfAbsent name value old new (Err NoMemory) = new ≡ old
