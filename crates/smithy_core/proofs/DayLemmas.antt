@@ -1,4 +1,4 @@
-use Rattle.std.proofs.Common.{◌≡◌, ℕ, zero, suc, ◌+◌, ◌/◌, ◌%◌, ◌<◌, ◌≤◌, inl, inr, refl, arith, ℤ, pos, ◌+ℤ◌, true, false, Bool, cond, nat_lt}
+use Rattle.std.proofs.Common.{◌≡◌, ℕ, zero, suc, ◌+◌, ◌/◌, ◌<◌, ◌≤◌, inl, inr, refl, arith, ℤ, pos, ◌+ℤ◌, true, false, Bool, cond, nat_lt}
 use Rattle.std.specs.Prelude.{negsuc, unsigned_abs, ◌≤ℤ◌}
 use Rattle.std.proofs.lemmas.Bool.{cases_order, ltb-false, ltb-true}
 use Rattle.jiff_core.specs.declared.civil.date.Date.{Date}
