@@ -1,3 +1,5 @@
+ghost use Rattle.std.specs.Prelude.{◌≤◌, IfOk, length};
+
 use crate::{
     ByteSink, ByteSource, CalmDisk, CalmSink, CalmSource, Clock, Credentials, DateTime, Disk,
     DiskError, Env, ErrorMetadata, Failed, FaultyDisk, FaultySink, FaultySource, FixedClock,
@@ -107,11 +109,10 @@ fn seconds(rt: HostRuntime) {
 }
 
 fn shows(rt: &(impl Abort + AllocGlobal), moment: DateTime, format: Format, text: &str) {
-    let shown = moment.fmt(rt.alloc(), format);
-    assert!(rt;
-        matches!(shown, Ok(shown) if shown.as_str() == text),
-        "{text}"
-    );
+    match moment.fmt(rt.alloc(), format) {
+        Ok(shown) => assert_eq!(rt; shown.as_str(), text),
+        Err(_) => assert!(rt; false, "{text}"),
+    }
 }
 
 fn shows_nothing(rt: &(impl Abort + AllocGlobal), moment: DateTime, format: Format) {
@@ -279,7 +280,9 @@ impl env::Env for Listed {
     }
 }
 
-fn copy_entry(entry: &[u8], buf: &mut [u8]) -> Result<usize, FillError> {
+fn copy_entry(entry: &[u8], buf: &mut [u8]) -> Result<usize, FillError>
+    ensures { IfOk result (λ n. n ≤ length buf.new) }
+{
     if entry.len() > buf.len() {
         return Err(FillError::TooLong);
     }
@@ -392,7 +395,7 @@ fn metadata_holds(alloc: Global) -> Mem<bool> {
         message: None,
     };
     let copy = error.try_clone()?;
-    Ok(matches!(copy.code, Some(code) if code.as_str() == "AuthFailure") && copy.message.is_none())
+    Ok(matches!(&copy.code, Some(code) if code.as_str() == "AuthFailure") && copy.message.is_none())
 }
 
 fn some_credentials(alloc: Global) -> Mem<Credentials> {
@@ -439,7 +442,7 @@ fn civil_holds(alloc: Global) -> Mem<bool> {
 
 fn moment_holds(alloc: Global) -> bool {
     let shown = DateTime::new(0, 0).fmt(alloc, Format::EpochSeconds);
-    matches!(shown, Ok(shown) if shown.as_str() == "0")
+    matches!(&shown, Ok(shown) if shown.as_str() == "0")
 }
 
 fn line_holds(alloc: Global) -> Mem<bool> {
