@@ -33,7 +33,12 @@ pub fn apply_endpoint(
 }
 
 // The target at the endpoint.
-fn target_at(alloc: Global, uri: &Uri, endpoint: &Uri, prefix: &str) -> Result<Uri, InvalidEndpointError>
+fn target_at(
+    alloc: Global,
+    uri: &Uri,
+    endpoint: &Uri,
+    prefix: &str,
+) -> Result<Uri, InvalidEndpointError>
     ensures { MovesTo prefix.now (target_of endpoint.now) (target_of uri.now) result }
 {
     let authority = checked_authority(prefixed_authority(alloc, prefix, endpoint)?)?;
@@ -41,7 +46,13 @@ fn target_at(alloc: Global, uri: &Uri, endpoint: &Uri, prefix: &str) -> Result<U
         return Err(InvalidEndpointError::EndpointMustHaveScheme);
     };
     let path = joined_path(alloc, endpoint.path(), uri.path())?;
-    let text = join_target(alloc, Some(scheme), Some(authority.as_str()), path.as_str(), uri.query())?;
+    let text = join_target(
+        alloc,
+        Some(scheme),
+        Some(authority.as_str()),
+        path.as_str(),
+        uri.query(),
+    )?;
     Ok(parse_target(text)?)
 }
 

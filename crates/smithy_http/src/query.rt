@@ -6,7 +6,6 @@ ghost use Rattle.smithy_http.specs.Escape.{base_set, escaped};
 ghost use Rattle.smithy_http.specs.Query.{begun, pair, with_piece, written};
 ghost use Rattle.smithy_http.specs.Timestamp.{FormatsEscaped};
 
-
 use crate::escape::{BASE_SET, escape};
 use crate::piece::{marked, marked_pair};
 use smithy_core::{DateTime, Format, FormatFault, Mem};

@@ -31,10 +31,10 @@ impl Model for QueryWriter {
     ghost Value = { Target };
 
     ghost view = { λ writer. record {
-        scheme = uri_scheme writer.base;
-        authority = uri_authority writer.base;
-        path = uri_path writer.base;
-        query = if writer.has_query then Some (string_bytes writer.query) else None
+      scheme = uri_scheme writer.base;
+      authority = uri_authority writer.base;
+      path = uri_path writer.base;
+      query = if writer.has_query then Some (string_bytes writer.query) else None;
     } };
 
     ghost invariant = { λ writer. writer.has_query ≡ false → string_bytes writer.query ≡ [] };
