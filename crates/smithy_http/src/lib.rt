@@ -1,4 +1,11 @@
-//! Requests before they are signed: labels and queries.
+//! Requests before they are signed: labels and queries are escaped, targets are built and sent to endpoints, headers are
+//! set and merged.
+//!
+//! The layer above is promised that an escaped text has the escapes of `specs/Escape.antt` and decodes to the text again;
+//! that [`QueryWriter`] builds the target with its pairs, and refuses exactly where there is no such target
+//! (`specs/Building.antt`); that [`apply_endpoint`] gives the target at the endpoint, or the first test that fails
+//! (`specs/Applying.antt`); and that headers are set where they are absent and merged in order
+//! (`specs/SetIfAbsent.antt`, `specs/Merge.antt`).
 #![tactic(auto)]
 
 mod endpoint;
