@@ -1,3 +1,0 @@
-mod EscapeLemmas
-mod SlashLemmas
-mod QueryLemmas
