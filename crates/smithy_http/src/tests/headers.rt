@@ -31,19 +31,23 @@ fn set_in_requests(rt: HostRuntime) -> Result<(), Fail> {
 #[test]
 fn set_in_responses(rt: HostRuntime) -> Result<(), Fail> {
     let alloc = rt.alloc();
-    let mut headers = Headers::new(alloc);
-    headers.append("foo", "bar")?;
-    let mut response = HttpResponse {
-        status: 200,
-        headers,
-        skew: None,
-    };
+    let mut response = response_with(alloc, "foo", "bar")?;
     set_response_header_if_absent(alloc, &mut response, "foo", "baz")?;
     assert_eq!(rt; response.headers.get("foo"), Some("bar"));
     set_response_header_if_absent(alloc, &mut response, "other", "value")?;
     assert_eq!(rt; response.headers.get("other"), Some("value"));
     assert_eq!(rt; response.headers.len(), 2);
     Ok(())
+}
+
+pub(crate) fn response_with(alloc: Global, name: &str, value: &str) -> Mem<HttpResponse> {
+    let mut headers = Headers::new(alloc);
+    headers.append(name, value)?;
+    Ok(HttpResponse {
+        status: 200,
+        headers,
+        skew: None,
+    })
 }
 
 // Every mark, digit, letter and blank that a value of the SDK's user agent may have.
@@ -99,7 +103,7 @@ fn names_and_values(rt: HostRuntime) -> Result<(), Fail> {
 }
 
 // How many headers there are after one is set beside `foo`.
-fn sets(alloc: Global, name: &str, value: &str) -> Mem<Result<usize, HeaderFault>> {
+pub(crate) fn sets(alloc: Global, name: &str, value: &str) -> Mem<Result<usize, HeaderFault>> {
     let mut request = request_with(alloc, "foo", "bar")?;
     Ok(
         match set_request_header_if_absent(alloc, &mut request, name, value) {

@@ -26,7 +26,7 @@ fn merged(rt: HostRuntime) -> Result<(), Fail> {
     Ok(())
 }
 
-fn merges_to(alloc: Global, left: &str, right: &str, want: &str) -> Result<bool, Fail> {
+pub(crate) fn merges_to(alloc: Global, left: &str, right: &str, want: &str) -> Result<bool, Fail> {
     let merged = append_merge_header_maps(alloc, map_of(alloc, left)?, map_of(alloc, right)?)?;
     Ok(shown(alloc, &merged)?.as_str() == want)
 }

@@ -7,23 +7,29 @@ use std::test::Fail;
 
 #[test]
 fn written_to_texts(rt: HostRuntime) -> Result<(), Fail> {
-    let mut text = String::new(rt.alloc());
+    let alloc = rt.alloc();
+    let mut text = String::new(alloc);
     let mut writer = Writer::new(&mut text);
     writer.push_v("a")?;
     writer.push_kv("b", "c")?;
     assert_eq!(rt; text.as_str(), "?a&b=c");
-    let mut text = String::from_str(rt.alloc(), "www.example.com")?;
+    let text = written_after(alloc, "www.example.com")?;
+    assert_eq!(rt; text.as_str(), "www.example.com?key=value&another_value");
+    Ok(())
+}
+
+// The text with a pair and a value written to it.
+pub(crate) fn written_after(alloc: Global, front: &str) -> Mem<String> {
+    let mut text = String::from_str(alloc, front)?;
     let mut writer = Writer::new(&mut text);
     writer.push_kv("key", "value")?;
     writer.push_v("another_value")?;
-    assert_eq!(rt; text.as_str(), "www.example.com?key=value&another_value");
-    Ok(())
+    Ok(text)
 }
 
 #[test]
 fn written_to_targets(rt: HostRuntime) -> Result<(), Fail> {
     let alloc = rt.alloc();
-    let here = "http://www.example.com/path?original=here";
     let cases = [
         (
             "no path",
@@ -31,11 +37,19 @@ fn written_to_targets(rt: HostRuntime) -> Result<(), Fail> {
         ),
         (
             "a path",
-            two_follow(alloc, "http://h.example/path", "http://h.example/path?")?,
+            two_follow(
+                alloc,
+                "http://www.example.com/path",
+                "http://www.example.com/path?",
+            )?,
         ),
         (
             "a query",
-            two_follow(alloc, here, "http://www.example.com/path?original=here&")?,
+            two_follow(
+                alloc,
+                "http://www.example.com/path?original=here",
+                "http://www.example.com/path?original=here&",
+            )?,
         ),
         (
             "an empty query",
@@ -54,15 +68,16 @@ fn written_to_targets(rt: HostRuntime) -> Result<(), Fail> {
 }
 
 // Whether two parameters more come after this front.
-fn two_follow(alloc: Global, target: &str, front: &str) -> Result<bool, UriFault> {
-    let text = target_text(alloc, two_more(alloc, target)?)?;
+pub(crate) fn two_follow(alloc: Global, target: &str, front: &str) -> Result<bool, UriFault> {
+    let text = target_text(alloc, two_more(alloc, target, "another")?)?;
     let want = format!(in alloc; "{front}key=val%25ue&another=value")?;
     Ok(text.as_str() == want.as_str())
 }
 
-fn two_more(alloc: Global, target: &str) -> Result<QueryWriter, UriFault> {
+// The target with a parameter `key` and another of this key.
+pub(crate) fn two_more(alloc: Global, target: &str, key: &str) -> Result<QueryWriter, UriFault> {
     let mut writer = one_more(alloc, target, "key", "val%ue")?;
-    writer.insert("another", "value")?;
+    writer.insert(key, "value")?;
     Ok(writer)
 }
 
@@ -80,33 +95,26 @@ fn target_text(alloc: Global, writer: QueryWriter) -> Result<String, UriFault> {
 #[test]
 fn built_queries(rt: HostRuntime) -> Result<(), Fail> {
     let alloc = rt.alloc();
-    let two = two_more(alloc, "http://www.example.com")?.build_query()?;
-    assert_eq!(rt; two.as_str(), "key=val%25ue&another=value");
-    let escaped = one_more(alloc, "http://www.example.com", "ano%ther", "value")?.build_query()?;
-    assert_eq!(rt; escaped.as_str(), "ano%25ther=value");
+    let two = two_more(alloc, "http://www.example.com", "ano%ther")?.build_query()?;
+    assert_eq!(rt; two.as_str(), "key=val%25ue&ano%25ther=value");
     assert_eq!(rt; query_given(alloc, "a", "%2F")?.as_str(), "a=%2F");
+    let mut writer = cleared(alloc)?;
+    writer.insert("new", "value")?;
+    assert_eq!(rt; writer.build_query()?.as_str(), "new=value");
+    assert_eq!(rt; cleared(alloc)?.build_query()?.as_str(), "");
     Ok(())
 }
 
 // The query of a parameter that is given as it stands.
-fn query_given(alloc: Global, key: &str, value: &str) -> Result<String, UriFault> {
+pub(crate) fn query_given(alloc: Global, key: &str, value: &str) -> Result<String, UriFault> {
     let mut writer = QueryWriter::new_from_string(alloc, "http://h.example/")?;
     writer.insert_encoded(key, value)?;
     writer.build_query()
 }
 
-#[test]
-fn cleared_queries(rt: HostRuntime) -> Result<(), Fail> {
-    let alloc = rt.alloc();
+// A target whose parameters were taken away.
+fn cleared(alloc: Global) -> Result<QueryWriter, UriFault> {
     let target = "http://www.example.com/path?original=here&foo=1";
-    let mut writer = cleared(alloc, target)?;
-    writer.insert("new", "value")?;
-    assert_eq!(rt; writer.build_query()?.as_str(), "new=value");
-    assert_eq!(rt; cleared(alloc, target)?.build_query()?.as_str(), "");
-    Ok(())
-}
-
-fn cleared(alloc: Global, target: &str) -> Result<QueryWriter, UriFault> {
     let mut writer = QueryWriter::new_from_string(alloc, target)?;
     writer.clear_params();
     Ok(writer)
@@ -121,8 +129,7 @@ fn every_ascii_value(rt: HostRuntime) -> Result<(), Fail> {
 }
 
 fn value_is_escaped(alloc: Global, byte: u8) -> Result<bool, UriFault> {
-    let mut value = String::new(alloc);
-    value.push(char::from(byte))?;
+    let value = char::from(byte).to_string(alloc)?;
     let writer = one_more(alloc, "http://www.example.com", "key", value.as_str())?;
     let want = format!(in alloc;
         "http://www.example.com/?key={}",
@@ -143,14 +150,15 @@ fn escaped_byte(alloc: Global, byte: u8) -> Mem<String> {
 #[test]
 fn refused_targets(rt: HostRuntime) -> Result<(), Fail> {
     let alloc = rt.alloc();
-    assert!(rt; is_refused(&QueryWriter::new_from_string(alloc, " ")));
-    assert!(rt; is_refused(&QueryWriter::new_from_string(alloc, "h.example")));
-    assert!(rt; is_refused(&alone(alloc)?.build_uri()));
-    assert!(rt; is_refused(&alone(alloc)?.build_query()));
-    assert!(rt; is_refused(&one_more(alloc, "*", "a", "b")?.build_uri()));
-    assert!(rt; is_refused(&query_given(alloc, "a", " ")));
-    let star = QueryWriter::new_from_string(alloc, "*")?;
-    assert_eq!(rt; target_text(alloc, star)?.as_str(), "*");
+    let cases = [
+        is_refused(&QueryWriter::new_from_string(alloc, " ")),
+        is_refused(&QueryWriter::new_from_string(alloc, "h.example")),
+        is_refused(&alone(alloc)?.build_uri()),
+        is_refused(&alone(alloc)?.build_query()),
+        is_refused(&one_more(alloc, "*", "a", "b")?.build_uri()),
+        is_refused(&query_given(alloc, "a", " ")),
+    ];
+    assert_eq!(rt; cases, [true; 6]);
     Ok(())
 }
 
