@@ -1,3 +1,5 @@
 mod EscapeLemmas
 mod SlashLemmas
 mod QueryLemmas
+mod FitLemmas
+mod TargetLemmas

@@ -3,6 +3,7 @@ use Rattle.std.specs.Prelude.{◌≡◌, ◌⊎◌, ℕ, List, [], ◌∷◌, �
 use Rattle.std.specs.declared.alloc.Global.{Global}
 use Rattle.http_uri.specs.Uri.{Spells, SpellsNone, uri_query}
 use Rattle.http_uri.specs.declared.uri.Uri.{Uri}
+use Rattle.smithy_http.specs.Escape.{base_set, escaped}
 use Rattle.smithy_http.specs.Query.{pair}
 use Rattle.smithy_http.specs.Target.{Target, target_of, target_text, IsAuthorityAlone}
 use Rattle.smithy_http.specs.declared.uri_fault.UriFault.{UriFault}
@@ -21,6 +22,10 @@ with_pair t key value = record t { query = Some (before_pair t.query ++ pair key
 -- the target with more pairs, one after another
 abbrev pub with_pairs : Target → List (List ℕ × List ℕ) → Target
 with_pairs t pairs = fold (λ target p. with_pair target p.0 p.1) t pairs
+
+-- a pair with its key and its value escaped
+abbrev pub escaped_pair : List ℕ × List ℕ → List ℕ × List ℕ
+escaped_pair p = (escaped base_set p.0, escaped base_set p.1)
 
 -- the target without a query
 abbrev pub without_query : Target → Target

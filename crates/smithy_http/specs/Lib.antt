@@ -2,7 +2,6 @@ pub mod Applying
 pub mod Building
 pub mod Endpoint
 pub mod Escape
-pub mod HeaderGrammar
 pub mod Label
 pub mod Merge
 pub mod MergeFault

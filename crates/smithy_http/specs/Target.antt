@@ -1,7 +1,7 @@
 -- Targets of requests: the parts that `http_uri` reads, and the text that joins them again (RFC 3986, section 5.3).
 use Rattle.std.specs.Prelude.{◌≡◌, ℕ, List, [], ◌∷◌, ◌++◌, codes, Option, Some, None, IsNone, IsSome}
 use Rattle.http_uri.specs.ByteClasses.{framed_text}
-use Rattle.http_uri.specs.Uri.{uri_scheme, uri_authority, uri_path, uri_query}
+use Rattle.http_uri.specs.Uri.{SpellsNone, uri_scheme, uri_authority, uri_path, uri_query}
 use Rattle.http_uri.specs.declared.uri.Uri.{Uri}
 
 pub record Target : Type 0 where
@@ -21,3 +21,11 @@ target_text t = framed_text [] t.scheme (codes "://") ++ (framed_text [] t.autho
 -- an authority without a scheme
 abbrev pub IsAuthorityAlone : Target → Type 0
 IsAuthorityAlone t = IsNone t.scheme × IsSome t.authority
+
+-- the text is accepted as a target
+abbrev pub IsAccepted : List ℕ → Type 0
+IsAccepted text = ¬ (SpellsNone text)
+
+-- a text after a scheme and an authority
+abbrev pub at_authority : List ℕ → List ℕ → List ℕ → List ℕ
+at_authority scheme authority text = scheme ++ (codes "://" ++ (authority ++ text))

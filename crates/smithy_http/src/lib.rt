@@ -12,7 +12,6 @@ mod endpoint;
 mod endpoint_error;
 mod endpoint_prefix;
 mod escape;
-mod header_grammar;
 pub mod label;
 mod laws;
 mod merge;
@@ -29,8 +28,9 @@ mod uri_fault;
 pub use crate::endpoint::apply_endpoint;
 pub use crate::endpoint_error::InvalidEndpointError;
 pub use crate::endpoint_prefix::EndpointPrefix;
-pub use crate::header_grammar::{is_header_name, is_header_value};
-pub use crate::laws::{pairs_are_joined, pieces_are_joined};
+pub use crate::laws::{
+    labels_fit, pairs_are_joined, pairs_are_read_back, pieces_are_joined, query_parts_fit,
+};
 pub use crate::merge::{MergeFault, append_merge_header_maps};
 pub use crate::query_writer::QueryWriter;
 pub use crate::resolve_error::ResolveEndpointError;
@@ -38,3 +38,4 @@ pub use crate::set_header::{
     HeaderFault, set_request_header_if_absent, set_response_header_if_absent,
 };
 pub use crate::uri_fault::UriFault;
+pub use smithy_core::{is_header_name, is_header_value};

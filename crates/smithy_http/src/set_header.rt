@@ -2,8 +2,7 @@ ghost use Rattle.std.specs.Prelude.{◌≡◌};
 ghost use Rattle.smithy_http.specs.SetIfAbsent.{SetsIfAbsent};
 ghost use Rattle.smithy_http.specs.declared.set_header.HeaderFault.TheVariants.{NoMemory};
 
-use crate::header_grammar::{is_header_name, is_header_value};
-use smithy_core::{Headers, HttpRequest, HttpResponse};
+use smithy_core::{Headers, HttpRequest, HttpResponse, is_header_name, is_header_value};
 use std::alloc::{AllocError, Global};
 
 /// Why a header isn't set.

@@ -1,5 +1,5 @@
 ghost use Rattle.std.specs.Prelude.{◌↔◌, IsTrue};
-ghost use Rattle.smithy_http.specs.HeaderGrammar.{IsHeaderName, IsHeaderValue};
+ghost use Rattle.smithy_core.specs.HeaderGrammar.{IsHeaderName, IsHeaderValue};
 
 use http_header::is_token;
 
