@@ -1,12 +1,12 @@
 -- The sets of the code are those of the definitions.
-use Rattle.std.proofs.Common.{◌≡◌, ℕ, ◌<◌, ◌≤◌, inl, inr, true, false, not, ◌&&◌, ◌||◌, ◌==◌, Bool, cond, List, [], ◌∷◌, ◌++◌, refl, sym, ap, arith}
+use Rattle.std.proofs.Common.{◌≡◌, ℕ, ◌<◌, ◌≤◌, inl, inr, true, false, not, ◌||◌, Bool, cond, List, [], ◌∷◌, ◌++◌, refl, sym, ap, arith}
 use Rattle.std.proofs.lemmas.Bool.{agree_below, agree_below_at, cases_order}
 use Rattle.std.proofs.lemmas.Bool.Decides.{nat_tests}
 use Rattle.std.specs.Char.{is_ascii}
 use Rattle.percent_encoding.specs.declared.ascii_set.AsciiSet.{AsciiSet}
 use Rattle.percent_encoding.specs.AsciiSet.{contains, should_percent_encode}
 use Rattle.percent_encoding.specs.Percent.{percent_encode, percent_encode_byte}
-use Rattle.smithy_http.specs.Escape.{is_plain, base_set, greedy_set, escaped}
+use Rattle.smithy_http.specs.Escape.{base_set, greedy_set, escaped}
 use Rattle.smithy_http.specs.declared.escape.TheConstants.{BASE_SET, GREEDY_SET}
 
 -- the set of the code escapes the bytes that the test passes

@@ -1,15 +1,14 @@
 -- What escaped text is made of, and that a target may have it.
-use Rattle.std.proofs.Common.{rules, ◌≡◌, ◌≢◌, subst, take, lt-ltb, ℕ, ◌+◌, ◌/◌, ◌%◌, ◌<◌, ◌≤◌, ◌||◌, ◌&&◌, ◌==◌, Bool, cond, true, false, not, IsTrue, List, [], ◌∷◌, ◌++◌, length, get_or, Some, None, refl, sym, ap, ◌∙◌, arith, inl, inr, append-nil, append_assoc, length-append, le-ltb, take_all, All}
+use Rattle.std.proofs.Common.{rules, ◌≡◌, ◌≢◌, subst, take, lt-ltb, ℕ, ◌/◌, ◌%◌, ◌<◌, ◌≤◌, ◌||◌, ◌==◌, Bool, cond, true, false, IsTrue, List, [], ◌∷◌, ◌++◌, length, get_or, Some, refl, sym, ap, ◌∙◌, arith, inl, inr, append_assoc, length-append, le-ltb, take_all, All}
 use Rattle.std.proofs.lemmas.Bool.{cases_Bool, agree_below_at}
 use Rattle.std.proofs.lemmas.Bool.Decides.{nat_tests}
 use Rattle.std.proofs.lemmas.List.Elements.{All-append, All-nil, All-cons, All-get_or, All-from_get_or}
 use Rattle.std.proofs.lemmas.Str.{IsUtf8-from_ascii, IsUtf8-append}
-use Rattle.std.specs.Prelude.{codes, IsAscii, IsUtf8}
+use Rattle.std.specs.Prelude.{codes, IsUtf8}
 use Rattle.std.specs.Fmt.{digit_glyph}
 use Rattle.percent_encoding.specs.Percent.{percent_encode_byte}
-use Rattle.http_uri.specs.ByteClasses.{is_path_byte, is_query_byte, is_delimiter, index_of, split_once_front, split_once_back}
-use Rattle.http_uri.specs.Grammar.{AllPass, IsScheme, IsAuthority, IsPathAndQuery, IsForm, IsAbsoluteForm, IsPathInput, normal_scheme, without_fragment}
-use Rattle.http_uri.specs.Uri.{SpellsNone}
+use Rattle.http_uri.specs.ByteClasses.{is_path_byte, is_query_byte, is_delimiter, index_of, split_once_front}
+use Rattle.http_uri.specs.Grammar.{AllPass, IsScheme, IsAuthority, IsPathAndQuery, IsPathInput, normal_scheme, without_fragment}
 use Rattle.http_uri.proofs.RunLemmas.{AllPass-at, AllPass-from, IsAscii-pass, index_of_at_least, index_of_is}
 use Rattle.http_uri.proofs.PathLemmas.{IsPathAndQuery_slash}
 use Rattle.smithy_http.specs.Label.{label_set}
@@ -87,15 +86,18 @@ accepted scheme authority tail is_scheme host slash valid inside short none =
     take_all _ tail (index_of_at_least 35 tail (length tail) (omega arith) λ k h. All-get_or (λ byte. byte ≢ 35) tail k 0 h inside) in
     let mark : IsTrue (is_delimiter (get_or tail 0 0)) = rw slash refl in
     let input : IsPathInput tail = record { start = inr mark; short = valid.short; kept = subst IsPathAndQuery (sym whole) valid } in
-    none (Some (normal_scheme scheme)) (Some authority) tail (short, record {
-      name = scheme;
-      tail = tail;
-      spelled = simp append_assoc;
-      is_scheme = is_scheme;
-      normal = refl;
-      is_authority = host;
-      is_tail = inr (mark, input, sym whole);
-    })
+    none (Some (normal_scheme scheme)) (Some authority) tail (
+      short,
+      record {
+        name = scheme;
+        tail = tail;
+        spelled = simp append_assoc;
+        is_scheme = is_scheme;
+        normal = refl;
+        is_authority = host;
+        is_tail = inr (mark, input, sym whole);
+      },
+    )
 
 inside_of_harmless : (text : List ℕ) → AllPass is_harmless text → All (λ byte. byte ≢ 35) text
 inside_of_harmless text all = All-from_get_or (λ byte. byte ≢ 35) text 0 λ k h. harmless_inside (get_or text k 0) (AllPass-at is_harmless text all k h)

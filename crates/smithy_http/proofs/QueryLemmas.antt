@@ -1,5 +1,5 @@
 -- Queries that are written piece by piece.
-use Rattle.std.proofs.Common.{◌≡◌, ℕ, ◌+◌, ◌<◌, true, List, [], ◌∷◌, ◌++◌, length, map, fold, Option, Some, None, refl, sym, ap, ◌∙◌, append_assoc, append-nil, length-append, arith, codes}
+use Rattle.std.proofs.Common.{◌≡◌, ℕ, ◌<◌, true, List, [], ◌∷◌, ◌++◌, length, map, fold, Some, refl, sym, ap, ◌∙◌, append_assoc, append-nil, length-append, arith, codes}
 use Rattle.std.specs.List.{join_with_byte}
 use Rattle.smithy_http.specs.Building.{before_pair, with_pair, with_pairs}
 use Rattle.smithy_http.specs.Query.{ampersand, begun, pair_text, query_of, with_piece}

@@ -1,24 +1,21 @@
 -- A target whose query has the bytes of a query is read back as it is.
-use Rattle.std.proofs.Common.{rules, ◌/◌, ◌%◌, map, ◌||◌, is_some, get_or-take, length-take-le, ◌≡◌, ◌≢◌, ℕ, ◌+◌, ◌<◌, ◌≤◌, ◌⊎◌, ◌==◌, Bool, cond, true, false, nat_lt, not, IsTrue, List, [], ◌∷◌, ◌++◌, length, get_or, take, drop, Option, Some, None, refl, sym, ap, subst, ◌∙◌, arith, inl, inr, take_at, take_all, drop_at, drop-drop, length-append, append-nil, append_assoc, ne_eqb, lt-ltb, le-ltb, All}
+use Rattle.std.proofs.Common.{rules, map, ◌||◌, is_some, get_or-take, ◌≡◌, ◌≢◌, ℕ, ◌+◌, ◌<◌, ◌≤◌, ◌⊎◌, ◌==◌, cond, true, false, nat_lt, not, IsTrue, List, [], ◌∷◌, ◌++◌, length, get_or, take, drop, Option, Some, None, refl, sym, ap, subst, ◌∙◌, arith, inl, inr, take_at, take_all, drop_at, drop-drop, length-append, append-nil, append_assoc, ne_eqb, lt-ltb, le-ltb, All}
 use Rattle.std.specs.Prelude.{IfSome, IsNone, IsSome, bytes_eq, codes}
 use Rattle.std.proofs.lemmas.Bool.{false≢true}
 use Rattle.std.proofs.lemmas.List.{get_or_append_left, append_cancel_left}
 use Rattle.std.proofs.lemmas.Bool.{cases_Bool, cases_eq, or_right}
 use Rattle.std.proofs.lemmas.Bool.Decides.{nat_tests}
 use Rattle.std.proofs.lemmas.List.Elements.{All-append, All-nil, All-cons, All-get_or, All-from_get_or}
-use Rattle.http_uri.specs.ByteClasses.{lowercase, is_path_byte, is_query_byte, is_scheme_byte, is_delimiter, index_of, framed_text, split_once_front, split_once_back}
+use Rattle.http_uri.specs.ByteClasses.{lowercase, is_path_byte, is_query_byte, is_scheme_byte, is_delimiter, index_of, framed_text, split_once_front}
 use Rattle.http_uri.specs.Grammar.{AllPass, without_fragment, path_of, query_of, normal_scheme, or_slash, IsAuthority, IsForm, IsAbsoluteForm, HasScheme, StartsOrigin, IsTail, scheme_len, authority_len}
-use Rattle.http_uri.specs.Uri.{Spells, uri_scheme, uri_authority, uri_data, uri_path, uri_query, uri_text}
+use Rattle.http_uri.specs.Uri.{Spells, uri_scheme, uri_authority, uri_data, uri_path, uri_text}
 use Rattle.http_uri.specs.declared.uri.Uri.{Uri}
-use Rattle.std.proofs.lemmas.Bool.{agree_below_at}
-use Rattle.std.specs.Fmt.{digit_glyph}
-use Rattle.percent_encoding.specs.Percent.{percent_encode_byte}
-use Rattle.smithy_http.specs.Escape.{is_plain, base_set, escaped}
+use Rattle.smithy_http.specs.Escape.{base_set, escaped}
 use Rattle.smithy_http.proofs.FitLemmas.{base_harmless, query_of_harmless}
 use Rattle.smithy_http.specs.Query.{pair}
 use Rattle.smithy_http.specs.Building.{before_pair, escaped_pair, with_pair, with_pairs}
 use Rattle.smithy_http.specs.Target.{Target, target_of, target_text, IsAuthorityAlone}
-use Rattle.http_uri.proofs.RunLemmas.{AllPass-at, index_of_at_least, index_of_is, index_of_le, run-append}
+use Rattle.http_uri.proofs.RunLemmas.{AllPass-at, index_of_at_least, index_of_is, run-append}
 use Rattle.http_uri.proofs.SchemeLemmas.{scheme_byte_plain}
 use Rattle.http_uri.proofs.AuthorityLemmas.{IsAuthority_no_delimiter}
 use Rattle.http_uri.proofs.UriLemmas.{cut_name, cut_rest, cut_authority, cut_scheme, cut_first, IsAuthority_first, IsAuthority_no_scheme}

@@ -3,7 +3,7 @@ use Rattle.std.specs.Prelude.{◌≡◌, ℕ, List, Result, Ok, Err, IsNone, IsS
 use Rattle.http_uri.specs.Grammar.{IsAuthority}
 use Rattle.http_uri.specs.Uri.{Spells, SpellsNone}
 use Rattle.http_uri.specs.declared.uri.Uri.{Uri}
-use Rattle.smithy_http.specs.Target.{Target, target_of, target_text}
+use Rattle.smithy_http.specs.Target.{Target, target_text}
 use Rattle.smithy_http.specs.Endpoint.{prefixed_authority, at_endpoint}
 use Rattle.smithy_http.specs.declared.endpoint_error.InvalidEndpointError.{InvalidEndpointError}
 use Rattle.smithy_http.specs.declared.endpoint_error.InvalidEndpointError.TheVariants.{EndpointMustHaveScheme, FailedToConstructAuthority, FailedToConstructUri, NoMemory}

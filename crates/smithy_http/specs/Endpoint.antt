@@ -1,5 +1,5 @@
 -- Targets at an endpoint.
-use Rattle.std.specs.Prelude.{◌≡◌, ◌==◌, ℕ, List, [], ◌∷◌, ◌++◌, codes, if◌then◌else◌, Option, Some, None, IsNone, IsSome, unwrap_or}
+use Rattle.std.specs.Prelude.{◌==◌, ℕ, List, [], ◌∷◌, ◌++◌, codes, if◌then◌else◌, Some, unwrap_or}
 use Rattle.http_uri.specs.ByteClasses.{slash}
 use Rattle.smithy_http.specs.Target.{Target}
 

@@ -1,5 +1,5 @@
 -- Targets of requests: the parts that `http_uri` reads, and the text that joins them again (RFC 3986, section 5.3).
-use Rattle.std.specs.Prelude.{◌≡◌, ℕ, List, [], ◌∷◌, ◌++◌, codes, Option, Some, None, IsNone, IsSome}
+use Rattle.std.specs.Prelude.{ℕ, List, [], ◌++◌, codes, Option, IsNone, IsSome}
 use Rattle.http_uri.specs.ByteClasses.{framed_text}
 use Rattle.http_uri.specs.Uri.{SpellsNone, uri_scheme, uri_authority, uri_path, uri_query}
 use Rattle.http_uri.specs.declared.uri.Uri.{Uri}

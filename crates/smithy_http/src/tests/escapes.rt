@@ -74,7 +74,12 @@ fn moments(rt: HostRuntime) -> Result<(), Fail> {
     let late = DateTime::new(253_402_300_800, 0);
     let date = "Sun%2C%2030%20Aug%202015%2012%3A36%3A00%20GMT";
     let cases = [
-        label_moment_is(alloc, &moment, Format::DateTime, "2015-08-30T12%3A36%3A00.5Z")?,
+        label_moment_is(
+            alloc,
+            &moment,
+            Format::DateTime,
+            "2015-08-30T12%3A36%3A00.5Z",
+        )?,
         query_moment_is(alloc, &moment, Format::HttpDate, date)?,
         query_moment_is(alloc, &moment, Format::EpochSeconds, "1440938160.5")?,
     ];
