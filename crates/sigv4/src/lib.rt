@@ -10,13 +10,19 @@
 
 mod error;
 pub mod event_stream;
+mod host;
 mod key;
+mod modes;
 mod output;
 mod params;
+mod path;
 mod signature;
 #[cfg(test)]
 mod tests;
+mod trim;
 pub mod v4;
 
 pub use crate::error::SigningError;
+pub use crate::modes::{PercentEncodingMode, UriPathNormalizationMode};
 pub use crate::output::SigningOutput;
+pub use crate::path::normalize_uri_path;
