@@ -1,7 +1,7 @@
-ghost use Rattle.std.specs.Prelude.{◌≡◌, ◌++◌, ◌||◌, ◌==◌, not, [], length, codes, if◌then◌else◌, IfOk, OnOk};
-ghost use Rattle.std.specs.List.{flat_map};
+ghost use Rattle.std.specs.Prelude.{◌≡◌, ◌++◌, ◌||◌, not, codes, IfOk, OnOk};
+ghost use Rattle.std.specs.List.{flat_map, join_with_byte};
 ghost use Rattle.std.specs.String.{string_bytes};
-ghost use Rattle.sigv4.specs.Path.{after_piece, after_slash, canonical_path, encoded_again, names_here, names_parent, norm, piece_texts};
+ghost use Rattle.sigv4.specs.Path.{after_piece, after_slash, canonical_path, encoded_again, names_here, names_parent, norm, piece_texts, slash, tail};
 
 use crate::modes::{PercentEncodingMode, UriPathNormalizationMode};
 use smithy_core::Mem;
@@ -37,24 +37,35 @@ fn keep<'a>(kept: &mut Vec<&'a str>, piece: &'a str) -> Mem<bool>
     Ok(true)
 }
 
-// Each piece after a slash, and one more slash where there is no piece or the path ends open.
+// A slash, the pieces with slashes between, and the tail.
+#[tactic(auto, using(crate::proofs::PathLemmas::none_joined, crate::proofs::PathLemmas::some_joined))]
 fn join_pieces(alloc: Global, kept: &[&str], ends_open: bool) -> Mem<String>
     ensures { IfOk result (λ text. string_bytes text
-        ≡ flat_map after_slash (piece_texts kept.now) ++ (if (length kept.now == 0) || ends_open then codes "/" else [])) }
+        ≡ codes "/" ++ (join_with_byte slash (piece_texts kept.now) ++ tail ends_open (piece_texts kept.now))) }
 {
+    if kept.is_empty() {
+        return String::from_str(alloc, "/");
+    }
     let mut text = String::new(alloc);
-    for piece in kept {
+    push_pieces(&mut text, kept)?;
+    text.push_str(if ends_open { "/" } else { "" })?;
+    Ok(text)
+}
+
+// Appends each piece after a slash.
+fn push_pieces(text: &mut String, pieces: &[&str]) -> Mem<()>
+    ensures { OnOk result (string_bytes text.new ≡ string_bytes text.old ++ flat_map after_slash (piece_texts pieces.now)) }
+{
+    for piece in pieces {
         text.push('/')?;
         text.push_str(piece)?;
     }
-    if kept.is_empty() || ends_open {
-        text.push('/')?;
-    }
-    Ok(text)
+    Ok(())
 }
 
 /// The path of a canonical request: in its normal form unless that is disabled, and escaped once more unless it is to be
 /// escaped a single time.
+#[tactic(auto, unfolding(crate::specs::Path::canonical_path))]
 pub(crate) fn canonical_path(
     alloc: Global,
     normalization: UriPathNormalizationMode,
