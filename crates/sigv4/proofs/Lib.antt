@@ -1,2 +1,6 @@
 pub mod HeadLemmas
+pub mod JoinLemmas
+pub mod PathLemmas
+pub mod QueryLemmas
 pub mod ScopeLemmas
+pub mod TrimLemmas

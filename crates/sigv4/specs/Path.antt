@@ -1,5 +1,5 @@
 -- Paths of a canonical request: in their normal form (RFC 3986, section 5.2.4, with repeated slashes merged), and escaped.
-use Rattle.std.specs.Prelude.{ℕ, ◌-◌, Bool, not, ◌&&◌, ◌||◌, ◌==◌, List, [], ◌∷◌, ◌++◌, codes, length, fold, map, take, slice_index_or, bytes_eq, if◌then◌else◌}
+use Rattle.std.specs.Prelude.{ℕ, ◌-◌, Bool, true, ◌||◌, ◌==◌, List, [], ◌∷◌, ◌++◌, codes, length, fold, map, take, slice_index_or, bytes_eq, if◌then◌else◌}
 use Rattle.std.specs.Borrow.{Bor}
 use Rattle.std.specs.List.{join_with_byte, slice_split}
 use Rattle.smithy_http.specs.Escape.{escaped, greedy_set}
@@ -45,11 +45,14 @@ piece_texts pieces = map (λ piece. piece.now) pieces
 abbrev pub after_slash : List ℕ → List ℕ
 after_slash piece = slash ∷ piece
 
--- `/` and the kept pieces with `/` between, and one more `/` where any is kept and the last piece of all names no file
+-- one more `/` where the last piece of all names no file and any piece is kept
+abbrev pub tail : Bool → List (List ℕ) → List ℕ
+tail true (piece ∷ pieces) = codes "/"
+tail is_open pieces = []
+
+-- `/`, the kept pieces with `/` between, and the tail
 abbrev pub norm_of : List (List ℕ) → List ℕ
-norm_of pieces =
-    let tail = if ends_open pieces && not (length (kept pieces) == 0) then codes "/" else [] in
-    codes "/" ++ (join_with_byte slash (kept pieces) ++ tail)
+norm_of pieces = codes "/" ++ (join_with_byte slash (kept pieces) ++ tail (ends_open pieces) (kept pieces))
 
 -- the path in its normal form
 unfoldable pub norm : List ℕ → List ℕ

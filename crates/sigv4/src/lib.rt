@@ -16,6 +16,7 @@ mod heads;
 mod host;
 mod instructions;
 mod key;
+mod laws;
 mod modes;
 mod output;
 mod params;

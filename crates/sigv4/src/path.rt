@@ -1,19 +1,24 @@
-ghost use Rattle.std.specs.Prelude.{◌≡◌, ◌++◌, ◌||◌, ◌==◌, not, [], length, codes, if◌then◌else◌, IfOk, OnOk};
-ghost use Rattle.std.specs.List.{flat_map};
+ghost use Rattle.std.specs.Prelude.{◌≡◌, ◌++◌, ◌||◌, not, codes, IfOk, OnOk};
+ghost use Rattle.std.specs.List.{flat_map, join_with_byte};
 ghost use Rattle.std.specs.String.{string_bytes};
-ghost use Rattle.sigv4.specs.Path.{after_piece, after_slash, canonical_path, encoded_again, names_here, names_parent, norm, piece_texts};
+ghost use Rattle.sigv4.specs.Path.{after_piece, after_slash, canonical_path, encoded_again, names_here, names_parent, norm, piece_texts, slash, tail};
 
 use crate::modes::{PercentEncodingMode, UriPathNormalizationMode};
 use smithy_core::Mem;
 use smithy_http::label::{self, EncodingStrategy};
-use std::alloc::{AllocError, Global};
+use std::alloc::Global;
 
 /// The path in its normal form (RFC 3986, section 5.2.4, with repeated slashes merged): it begins with `/`, has no piece
 /// that is empty, `.` or `..`, and ends with `/` where the path's last piece was one of these. This crate's own.
 pub fn normalize_uri_path(alloc: Global, path: &str) -> Mem<String>
     ensures { IfOk result (λ text. string_bytes text ≡ norm path.now) }
 {
-    Err(AllocError)
+    let mut kept = Vec::new(alloc);
+    let mut ends_open = true;
+    for piece in path.split('/') {
+        ends_open = !keep(&mut kept, piece)?;
+    }
+    join_pieces(alloc, &kept, ends_open)
 }
 
 // Keeps the piece, where it names something; `..` drops the kept piece before it. Answers whether the piece was kept.
@@ -32,16 +37,35 @@ fn keep<'a>(kept: &mut Vec<&'a str>, piece: &'a str) -> Mem<bool>
     Ok(true)
 }
 
-// Each piece after a slash, and one more slash where there is no piece or the path ends open.
+// A slash, the pieces with slashes between, and the tail.
+#[tactic(auto, using(crate::proofs::PathLemmas::none_joined, crate::proofs::PathLemmas::some_joined))]
 fn join_pieces(alloc: Global, kept: &[&str], ends_open: bool) -> Mem<String>
     ensures { IfOk result (λ text. string_bytes text
-        ≡ flat_map after_slash (piece_texts kept.now) ++ (if (length kept.now == 0) || ends_open then codes "/" else [])) }
+        ≡ codes "/" ++ (join_with_byte slash (piece_texts kept.now) ++ tail ends_open (piece_texts kept.now))) }
 {
-    Err(AllocError)
+    if kept.is_empty() {
+        return String::from_str(alloc, "/");
+    }
+    let mut text = String::new(alloc);
+    push_pieces(&mut text, kept)?;
+    text.push_str(if ends_open { "/" } else { "" })?;
+    Ok(text)
+}
+
+// Appends each piece after a slash.
+fn push_pieces(text: &mut String, pieces: &[&str]) -> Mem<()>
+    ensures { OnOk result (string_bytes text.new ≡ string_bytes text.old ++ flat_map after_slash (piece_texts pieces.now)) }
+{
+    for piece in pieces {
+        text.push('/')?;
+        text.push_str(piece)?;
+    }
+    Ok(())
 }
 
 /// The path of a canonical request: in its normal form unless that is disabled, and escaped once more unless it is to be
 /// escaped a single time.
+#[tactic(auto, unfolding(crate::specs::Path::canonical_path))]
 pub(crate) fn canonical_path(
     alloc: Global,
     normalization: UriPathNormalizationMode,
