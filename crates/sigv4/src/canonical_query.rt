@@ -13,11 +13,7 @@ use std::marker::Model;
 /// The query of a canonical request: the pairs of the target's query, as form decoding gives them, and then the
 /// parameters; each escaped, and all of them sorted by key and then by value.
 #[tactic(auto, unfolding(crate::specs::Query::query, crate::specs::Query::decoded))]
-pub(crate) fn canonical_query(
-    alloc: Global,
-    uri: &Uri,
-    parameters: &[(&str, &str)],
-) -> Mem<String>
+pub(crate) fn canonical_query(alloc: Global, uri: &Uri, parameters: &[(&str, &str)]) -> Mem<String>
     ensures { IfOk result (λ text. string_bytes text ≡ query (decoded (target_of uri.now) ++ map parameter_text parameters.now)) }
 {
     let mut pairs = EscapedPairs::new(alloc);
