@@ -4,4 +4,5 @@ pub mod PathLemmas
 pub mod QueryLemmas
 pub mod RefusalLemmas
 pub mod ScopeLemmas
+pub mod SortLemmas
 pub mod TrimLemmas

@@ -1,5 +1,5 @@
 -- Queries of a canonical request.
-use Rattle.std.specs.Prelude.{ℕ, List, [], ◌∷◌, map, string_bytes, unwrap_or, if◌then◌else◌}
+use Rattle.std.specs.Prelude.{ℕ, Bool, List, [], ◌∷◌, map, string_bytes, unwrap_or, if◌then◌else◌}
 use Rattle.std.specs.declared.alloc.Global.{Global}
 use Rattle.std.specs.declared.string.String.{String}
 use Rattle.std.specs.declared.cmp.Ordering.{Ordering}
@@ -48,6 +48,10 @@ sorted (p ∷ pairs) = inserted p (sorted pairs)
 -- key and value with each byte escaped that isn't unreserved
 abbrev pub escaped_pair : Pair → Pair
 escaped_pair p = (escaped base_set p.0, escaped base_set p.1)
+
+-- what stands before a pair: `&`, unless it is the first
+abbrev pub mark : Bool → List ℕ
+mark is_first = if is_first then [] else ampersand ∷ []
 
 -- the pairs as `key=value` with `&` between
 abbrev pub joined : List Pair → List ℕ

@@ -1,8 +1,9 @@
 ghost use Rattle.std.specs.Prelude.{◌≡◌, ◌++◌, [], ◌∷◌, map, IfOk, OnOk};
 ghost use Rattle.std.specs.String.{string_bytes};
 ghost use Rattle.form_urlencoded.specs.Form.{pair_text as parameter_text};
+ghost use Rattle.smithy_http.specs.Query.{pair_text};
 ghost use Rattle.smithy_http.specs.Target.{target_of};
-ghost use Rattle.sigv4.specs.Query.{decoded, decoded_pairs, escaped_pair, joined, query, sorted, string_pair};
+ghost use Rattle.sigv4.specs.Query.{decoded, decoded_pairs, escaped_pair, joined, mark, query, sorted, string_pair};
 
 use http_uri::Uri;
 use smithy_core::Mem;
@@ -12,7 +13,6 @@ use std::marker::Model;
 
 /// The query of a canonical request: the pairs of the target's query, as form decoding gives them, and then the
 /// parameters; each escaped, and all of them sorted by key and then by value.
-#[tactic(auto, unfolding(crate::specs::Query::query, crate::specs::Query::decoded))]
 pub(crate) fn canonical_query(alloc: Global, uri: &Uri, parameters: &[(&str, &str)]) -> Mem<String>
     ensures { IfOk result (λ text. string_bytes text ≡ query (decoded (target_of uri.now) ++ map parameter_text parameters.now)) }
 {
@@ -93,13 +93,21 @@ fn join_pairs(alloc: Global, pairs: &[(String, String)]) -> Mem<String>
     ensures { IfOk result (λ text. string_bytes text ≡ joined (map string_pair pairs.now)) }
 {
     let mut text = String::new(alloc);
-    for (i, (key, value)) in pairs.iter().enumerate() {
-        if i != 0 {
-            text.push('&')?;
-        }
-        text.push_str(key.as_str())?;
-        text.push('=')?;
-        text.push_str(value.as_str())?;
+    for (i, pair) in pairs.iter().enumerate() {
+        push_pair(&mut text, i == 0, pair)?;
     }
     Ok(text)
+}
+
+// Appends the pair, after `&` where it isn't the first.
+fn push_pair(text: &mut String, is_first: bool, pair: &(String, String)) -> Mem<()>
+    ensures { OnOk result (string_bytes text.new ≡ string_bytes text.old ++ (mark is_first ++ pair_text (string_pair pair.now))) }
+{
+    if !is_first {
+        text.push('&')?;
+    }
+    text.push_str(pair.0.as_str())?;
+    text.push('=')?;
+    text.push_str(pair.1.as_str())?;
+    Ok(())
 }
