@@ -1,8 +1,10 @@
+pub mod CanonicalLemmas
 pub mod HeadLemmas
 pub mod JoinLemmas
 pub mod PathLemmas
 pub mod QueryLemmas
 pub mod RefusalLemmas
 pub mod ScopeLemmas
+pub mod SignatureLemmas
 pub mod SortLemmas
 pub mod TrimLemmas

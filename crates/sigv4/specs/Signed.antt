@@ -3,7 +3,8 @@ use Rattle.std.specs.Prelude.{ℕ, Bool, true, false, List, [], ◌∷◌, ◌++
 use Rattle.smithy_core.specs.Civil.{stamp}
 use Rattle.smithy_core.specs.Pairs.{inserted, lower}
 use Rattle.eventstream.specs.Key.{scope}
-use Rattle.sigv4.specs.Canonical.{Pair, canonical, joined_names, names, told_payload, token_name}
+use Rattle.sigv4.specs.Canonical.{canonical, joined_names, names, told_payload, token_name}
+use Rattle.sigv4.specs.Query.{Pair}
 use Rattle.sigv4.specs.Case.{Case}
 use Rattle.sigv4.specs.Signature.{signature}
 
@@ -11,14 +12,14 @@ use Rattle.sigv4.specs.Signature.{signature}
 unfoldable pub signature_of : Case → List ℕ
 signature_of c = signature c.signer c.at (canonical c)
 
--- the key id and the scope
-abbrev pub credential : Case → List ℕ
-credential c = c.key_id ++ (codes "/" ++ scope c.at c.signer.region c.signer.name)
+-- the algorithm, the credential, which is the key id and the scope, and the names of the signed headers
+abbrev pub authorization_text : List ℕ → List ℕ → List ℕ → List ℕ
+authorization_text key_id scope_text names_text =
+    codes "AWS4-HMAC-SHA256 Credential=" ++ (key_id ++ (codes "/" ++ (scope_text ++ (codes ", SignedHeaders=" ++ (names_text ++ codes ", Signature=")))))
 
--- the authorization up to its signature: the algorithm, the credential and the names
+-- the authorization of a case up to its signature
 unfoldable pub authorization_front : Case → List ℕ
-authorization_front c =
-    codes "AWS4-HMAC-SHA256 Credential=" ++ (credential c ++ (codes ", SignedHeaders=" ++ (joined_names (names c) ++ codes ", Signature=")))
+authorization_front c = authorization_text c.key_id (scope c.at c.signer.region c.signer.name) (joined_names (names c))
 
 -- the authorization of a case
 unfoldable pub authorization : Case → List ℕ

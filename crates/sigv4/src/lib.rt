@@ -8,8 +8,11 @@
 //! is missing (`specs/Params.antt`).
 #![tactic(auto)]
 
+mod authorization;
 mod body;
+mod canonical;
 mod canonical_query;
+mod credentials;
 mod error;
 pub mod event_stream;
 mod heads;
@@ -21,6 +24,7 @@ mod modes;
 mod output;
 mod params;
 mod path;
+mod prepared;
 mod refusal;
 mod request;
 mod settings;
