@@ -39,11 +39,17 @@ abbrev pub TellsCanonical : Identity → Case → Result (String Global) Signing
 TellsCanonical identity c (Ok text) = (request_refusal identity c ≡ None) × (string_bytes text ≡ canonical c)
 TellsCanonical identity c (Err error) = (request_refusal identity c ≡ Some error) ⊎ (error ≡ NoMemory)
 
--- with no refusal the answer is the headers that go out, no parameters, and the signature; with one it is the refusal, or want of memory
+-- the headers that go out, no parameters, and the signature
+pub record IsSigned (c : Case) (output : SigningOutput SigningInstructions) : Type 0 where
+  pub headers : instructions_of output.output ≡ instructions c
+  pub params : output.output.params.items ≡ []
+  pub signature : string_bytes output.signature ≡ signature_of c
+
+-- with no refusal the case is signed; with one it is the refusal, or want of memory
+abbrev pub Signs : Option SigningError → Case → Result (SigningOutput SigningInstructions) SigningError → Type 0
+Signs refused c (Ok output) = (refused ≡ None) × IsSigned c output
+Signs refused c (Err error) = (refused ≡ Some error) ⊎ (error ≡ NoMemory)
+
+-- the same, where the refusals are those of who signs and of the request
 abbrev pub SignsRequest : Identity → Case → Result (SigningOutput SigningInstructions) SigningError → Type 0
-SignsRequest identity c (Ok output) =
-    (request_refusal identity c ≡ None)
-    × (instructions_of output.output ≡ instructions c)
-    × (output.output.params.items ≡ [])
-    × (string_bytes output.signature ≡ signature_of c)
-SignsRequest identity c (Err error) = (request_refusal identity c ≡ Some error) ⊎ (error ≡ NoMemory)
+SignsRequest identity c result = Signs (request_refusal identity c) c result

@@ -6,6 +6,7 @@ use Rattle.eventstream.specs.Key.{scope}
 use Rattle.sigv4.specs.Canonical.{canonical, joined_names, names, told_payload, token_name}
 use Rattle.sigv4.specs.Query.{Pair}
 use Rattle.sigv4.specs.Case.{Case}
+use Rattle.sigv4.specs.Settings.{Settings}
 use Rattle.sigv4.specs.Signature.{signature}
 
 -- the signature of a case
@@ -40,12 +41,16 @@ abbrev pub optional : List ℕ → Bool → Option (List ℕ) → List Instructi
 optional name sensitive None = []
 optional name sensitive (Some value) = record { name = name; value = value; sensitive = sensitive } ∷ []
 
--- the headers that go out: the date, the authorization, the payload's text and the token, also where that isn't signed
+-- the date, the authorization, the payload's text and the token
+abbrev pub instructions_for : Settings → List ℕ → List ℕ → Option (List ℕ) → Option (List ℕ) → List Instruction
+instructions_for settings stamp_text authorization_text payload token =
+    (plain (codes "x-amz-date") stamp_text ∷ plain (codes "authorization") authorization_text ∷ [])
+    ++ optional (codes "x-amz-content-sha256") false payload
+    ++ optional (token_name settings) true token
+
+-- the headers that go out of a case: the token also where it isn't signed
 unfoldable pub instructions : Case → List Instruction
-instructions c =
-    (plain (codes "x-amz-date") (stamp c.at) ∷ plain (codes "authorization") (authorization c) ∷ [])
-    ++ optional (codes "x-amz-content-sha256") false (told_payload c.settings.payload_checksum_kind c.payload)
-    ++ optional (token_name c.settings) true c.token
+instructions c = instructions_for c.settings (stamp c.at) (authorization c) (told_payload c.settings.payload_checksum_kind c.payload) c.token
 
 -- the headers after inserting these, in order
 abbrev pub with_instructions : List Pair → List Instruction → List Pair

@@ -1,5 +1,15 @@
-ghost use Rattle.std.specs.Prelude.{◌≡◌};
+ghost use Rattle.std.specs.Prelude.{◌≡◌, ◌++◌, codes, map, true, false, IfOk, OnOk, option_copied};
 ghost use Rattle.std.specs.String.{string_bytes};
+ghost use Rattle.sigv4.specs.Canonical.{told_payload, token_name};
+ghost use Rattle.sigv4.specs.RequestSigning.{instruction_of};
+ghost use Rattle.sigv4.specs.Settings.{settings_of};
+ghost use Rattle.sigv4.specs.Signed.{instructions_for, optional};
+
+use crate::heads::token_name;
+use crate::prepared::Prepared;
+use crate::settings::{PayloadChecksumKind, SigningSettings};
+use smithy_core::Mem;
+use std::alloc::Global;
 
 /// A header that a signed request gets.
 #[derive(Drop)]
@@ -10,6 +20,16 @@ pub struct Header {
 }
 
 impl Header {
+    fn new(alloc: Global, name: &str, value: String, sensitive: bool) -> Mem<Header>
+        ensures { IfOk result (λ header. instruction_of header ≡ record { name = name.now; value = string_bytes value; sensitive = sensitive }) }
+    {
+        Ok(Header {
+            name: String::from_str(alloc, name)?,
+            value,
+            sensitive,
+        })
+    }
+
     /// The name.
     pub fn name(&self) -> &str
         ensures { result.now ≡ string_bytes self.now.name }
@@ -53,4 +73,64 @@ impl SigningInstructions {
     {
         self.params.as_slice()
     }
+}
+
+/// The headers that go out: the date, the authorization with its signature, the payload's text and the token.
+pub(crate) fn header_instructions(
+    alloc: Global,
+    settings: &SigningSettings,
+    token: Option<&str>,
+    prepared: Prepared,
+    signature: &str,
+) -> Mem<Vec<Header>>
+    ensures { IfOk result (λ headers. map instruction_of headers.items ≡ instructions_for (settings_of settings.now)
+        (string_bytes prepared.stamp) (string_bytes prepared.authorization ++ signature.now)
+        (told_payload settings.now.payload_checksum_kind (string_bytes prepared.payload)) (option_copied token.entry)) }
+{
+    let Prepared {
+        stamp,
+        payload,
+        mut authorization,
+        text: _,
+    } = prepared;
+    authorization.push_str(signature)?;
+    let mut headers = Vec::with_capacity(alloc, 4)?;
+    headers.push(Header::new(alloc, "x-amz-date", stamp, false)?)?;
+    headers.push(Header::new(alloc, "authorization", authorization, false)?)?;
+    push_payload(alloc, &mut headers, settings, payload)?;
+    push_token(alloc, &mut headers, settings, token)?;
+    Ok(headers)
+}
+
+// Appends the header of the payload's text, where that has one.
+fn push_payload(
+    alloc: Global,
+    headers: &mut Vec<Header>,
+    settings: &SigningSettings,
+    payload: String,
+) -> Mem<()>
+    ensures { OnOk result (map instruction_of headers.new.items ≡ map instruction_of headers.old.items
+        ++ optional (codes "x-amz-content-sha256") false (told_payload settings.now.payload_checksum_kind (string_bytes payload))) }
+{
+    if settings.payload_checksum_kind == PayloadChecksumKind::XAmzSha256 {
+        headers.push(Header::new(alloc, "x-amz-content-sha256", payload, false)?)?;
+    }
+    Ok(())
+}
+
+// Appends the token's header, where one is held.
+fn push_token(
+    alloc: Global,
+    headers: &mut Vec<Header>,
+    settings: &SigningSettings,
+    token: Option<&str>,
+) -> Mem<()>
+    ensures { OnOk result (map instruction_of headers.new.items ≡ map instruction_of headers.old.items
+        ++ optional (token_name (settings_of settings.now)) true (option_copied token.entry)) }
+{
+    if let Some(token) = token {
+        let value = String::from_str(alloc, token)?;
+        headers.push(Header::new(alloc, token_name(settings), value, true)?)?;
+    }
+    Ok(())
 }

@@ -69,6 +69,13 @@ impl Prepared {
             text,
         })
     }
+
+    /// The canonical text.
+    pub(crate) fn into_text(self) -> String
+        ensures { string_bytes result ≡ string_bytes self.text }
+    {
+        self.text
+    }
 }
 
 // The payload's text, where it has a header.
