@@ -7,4 +7,5 @@ pub mod RefusalLemmas
 pub mod ScopeLemmas
 pub mod SignatureLemmas
 pub mod SortLemmas
+pub mod TargetLemmas
 pub mod TrimLemmas

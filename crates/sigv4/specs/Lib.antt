@@ -3,6 +3,7 @@ pub mod Case
 pub mod Errors
 pub mod HeadMap
 pub mod Host
+pub mod Instructions
 pub mod Params
 pub mod Path
 pub mod Query

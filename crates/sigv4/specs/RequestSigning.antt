@@ -1,26 +1,17 @@
 -- What signing a request promises.
-use Rattle.std.specs.Prelude.{◌≡◌, ◌⊎◌, ℕ, List, [], map, Option, Some, None, Result, Ok, Err, String, string_bytes}
+use Rattle.std.specs.Prelude.{◌≡◌, ◌⊎◌, [], Option, Some, None, Result, Ok, Err, String, string_bytes}
 use Rattle.std.specs.declared.alloc.Global.{Global}
 use Rattle.smithy_core.specs.Civil.{stamp}
 use Rattle.smithy_core.specs.declared.identity.Identity.{Identity}
 use Rattle.sigv4.specs.Canonical.{canonical}
 use Rattle.sigv4.specs.Case.{Case}
 use Rattle.sigv4.specs.Refusal.{request_refusal, unfit}
-use Rattle.sigv4.specs.Signed.{Instruction, authorization_front, instructions, signature_of}
+use Rattle.sigv4.specs.Signed.{authorization_front, instructions, signature_of}
 use Rattle.sigv4.specs.declared.error.SigningError.{SigningError}
 use Rattle.sigv4.specs.declared.error.SigningError.TheVariants.{NoMemory}
-use Rattle.sigv4.specs.declared.instructions.Header.{Header}
 use Rattle.sigv4.specs.declared.instructions.SigningInstructions.{SigningInstructions}
 use Rattle.sigv4.specs.declared.output.SigningOutput.{SigningOutput}
 use Rattle.sigv4.specs.declared.prepared.Prepared.{Prepared}
-
--- what a contract sees of a header that goes out
-abbrev pub instruction_of : Header → Instruction
-instruction_of header = record { name = string_bytes header.name; value = string_bytes header.value; sensitive = header.sensitive }
-
--- and of them all
-abbrev pub instructions_of : SigningInstructions → List Instruction
-instructions_of made = map instruction_of made.headers.items
 
 -- the texts that a signature of a case is made of
 pub record IsPrepared (c : Case) (made : Prepared) : Type 0 where
@@ -41,8 +32,8 @@ TellsCanonical identity c (Err error) = (request_refusal identity c ≡ Some err
 
 -- the headers that go out, no parameters, and the signature
 pub record IsSigned (c : Case) (output : SigningOutput SigningInstructions) : Type 0 where
-  pub headers : instructions_of output.output ≡ instructions c
-  pub params : output.output.params.items ≡ []
+  pub headers : output.output.headers ≡ instructions c
+  pub params : output.output.params ≡ []
   pub signature : string_bytes output.signature ≡ signature_of c
 
 -- with no refusal the case is signed; with one it is the refusal, or want of memory

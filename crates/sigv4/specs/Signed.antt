@@ -1,11 +1,11 @@
 -- The signed request of AWS Signature Version 4, in header form.
-use Rattle.std.specs.Prelude.{ℕ, Bool, true, false, List, [], ◌∷◌, ◌++◌, codes, fold, Option, Some, None}
+use Rattle.std.specs.Prelude.{ℕ, Bool, true, false, List, [], ◌∷◌, ◌++◌, codes, Option, Some, None}
 use Rattle.smithy_core.specs.Civil.{stamp}
-use Rattle.smithy_core.specs.Pairs.{inserted, lower}
 use Rattle.eventstream.specs.Key.{scope}
 use Rattle.sigv4.specs.Canonical.{canonical, joined_names, names, told_payload, token_name}
 use Rattle.sigv4.specs.Query.{Pair}
 use Rattle.sigv4.specs.Case.{Case}
+use Rattle.sigv4.specs.Instructions.{Instruction, with_instructions}
 use Rattle.sigv4.specs.Settings.{Settings}
 use Rattle.sigv4.specs.Signature.{signature}
 
@@ -26,12 +26,6 @@ authorization_front c = authorization_text c.key_id (scope c.at c.signer.region 
 unfoldable pub authorization : Case → List ℕ
 authorization c = authorization_front c ++ signature_of c
 
--- a header that goes out: its name, its value, and whether that is to be kept out of logs
-pub record Instruction : Type 0 where
-  pub name : List ℕ
-  pub value : List ℕ
-  pub sensitive : Bool
-
 -- one that may be told
 abbrev pub plain : List ℕ → List ℕ → Instruction
 plain name value = record { name = name; value = value; sensitive = false }
@@ -51,10 +45,6 @@ instructions_for settings stamp_text authorization_text payload token =
 -- the headers that go out of a case: the token also where it isn't signed
 unfoldable pub instructions : Case → List Instruction
 instructions c = instructions_for c.settings (stamp c.at) (authorization c) (told_payload c.settings.payload_checksum_kind c.payload) c.token
-
--- the headers after inserting these, in order
-abbrev pub with_instructions : List Pair → List Instruction → List Pair
-with_instructions headers instructions = fold (λ all i. inserted all (lower i.name) i.value) headers instructions
 
 -- the headers of the signed request
 unfoldable pub signed_headers : Case → List Pair

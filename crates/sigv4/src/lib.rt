@@ -8,6 +8,7 @@
 //! is missing (`specs/Params.antt`).
 #![tactic(auto)]
 
+mod apply;
 mod authorization;
 mod body;
 mod canonical;
@@ -15,6 +16,7 @@ mod canonical_query;
 mod credentials;
 mod error;
 pub mod event_stream;
+mod header;
 mod heads;
 mod host;
 mod instructions;
@@ -38,7 +40,8 @@ pub mod v4;
 
 pub use crate::body::SignableBody;
 pub use crate::error::{SigningError, ValuePlace};
-pub use crate::instructions::{Header, SigningInstructions};
+pub use crate::header::{Header, HeaderPairs};
+pub use crate::instructions::SigningInstructions;
 pub use crate::laws::{normal_paths_stay, trimmed_texts_stay};
 pub use crate::modes::{PercentEncodingMode, UriPathNormalizationMode};
 pub use crate::output::SigningOutput;

@@ -70,10 +70,7 @@ fn sign_prepared(
         prepared,
         signature.as_str(),
     )?;
-    let instructions = SigningInstructions {
-        headers,
-        params: Vec::new(alloc),
-    };
+    let instructions = SigningInstructions::of_headers(alloc, headers);
     Ok(SigningOutput::new(instructions, signature))
 }
 
