@@ -1,6 +1,7 @@
 pub mod CanonicalLemmas
 pub mod HeadLemmas
 pub mod JoinLemmas
+pub mod NameLemmas
 pub mod PathLemmas
 pub mod QueryLemmas
 pub mod RefusalLemmas

@@ -8,6 +8,7 @@ pub mod Params
 pub mod Path
 pub mod Query
 pub mod Refusal
+pub mod RequestParams
 pub mod RequestSigning
 pub mod Settings
 pub mod Signature
