@@ -1,1 +1,6 @@
+pub mod JoinLemmas
+pub mod PathLemmas
+pub mod QueryLemmas
 pub mod ScopeLemmas
+pub mod SortLemmas
+pub mod TrimLemmas

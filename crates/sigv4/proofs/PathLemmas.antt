@@ -85,16 +85,16 @@ again [] false all = refl
 again (k ∷ ks) true all =
     let joined : join_with_byte slash (k ∷ ks) ++ codes "/" ≡ join_with_byte slash (k ∷ (ks ++ [] ∷ [])) = sym (join_more slash (k ∷ ks) []) in
     let cut : slice_split (λ b. b == slash) (join_with_byte slash (k ∷ ks) ++ codes "/") ≡ k ∷ (ks ++ [] ∷ []) =
-        ap (slice_split (λ b. b == slash)) joined ∙ split_joined slash k (ks ++ [] ∷ []) (lacking_push (k ∷ ks) (lacking (k ∷ ks) all)) in
+    ap (slice_split (λ b. b == slash)) joined ∙ split_joined slash k (ks ++ [] ∷ []) (lacking_push (k ∷ ks) (lacking (k ∷ ks) all)) in
     let same : kept ([] ∷ k ∷ (ks ++ [] ∷ [])) ≡ k ∷ ks =
-        fold-append after_segment [] (k ∷ ks) ([] ∷ []) ∙ ap (λ (front : List (List ℕ)). after_segment front []) (kept_again [] (k ∷ ks) all) in
+    fold-append after_segment [] (k ∷ ks) ([] ∷ []) ∙ ap (λ (front : List (List ℕ)). after_segment front []) (kept_again [] (k ∷ ks) all) in
     let ended : ends_open ([] ∷ k ∷ (ks ++ [] ∷ [])) ≡ true = ends_push ([] ∷ k ∷ ks) [] in
     ap (λ (rest : List (List ℕ)). norm_of ([] ∷ rest)) cut
     ∙ ap (λ (front : List (List ℕ)). text_of front (ends_open ([] ∷ k ∷ (ks ++ [] ∷ [])))) same
     ∙ ap (text_of (k ∷ ks)) ended
 again (k ∷ ks) false all =
     let cut : slice_split (λ b. b == slash) (join_with_byte slash (k ∷ ks) ++ []) ≡ k ∷ ks =
-        ap (slice_split (λ b. b == slash)) (append-nil (join_with_byte slash (k ∷ ks))) ∙ split_joined slash k ks (lacking (k ∷ ks) all) in
+    ap (slice_split (λ b. b == slash)) (append-nil (join_with_byte slash (k ∷ ks))) ∙ split_joined slash k ks (lacking (k ∷ ks) all) in
     ap (λ (rest : List (List ℕ)). norm_of ([] ∷ rest)) cut
     ∙ ap (λ (front : List (List ℕ)). text_of front (ends_open ([] ∷ k ∷ ks))) (kept_again [] (k ∷ ks) all)
     ∙ ap (text_of (k ∷ ks)) (last_kept [] k ks all)

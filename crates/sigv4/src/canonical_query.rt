@@ -13,11 +13,7 @@ use std::marker::Model;
 
 /// The query of a canonical request: the pairs of the target's query, as form decoding gives them, and then the
 /// parameters; each escaped, and all of them sorted by key and then by value.
-pub(crate) fn canonical_query(
-    alloc: Global,
-    uri: &Uri,
-    parameters: &[(&str, &str)],
-) -> Mem<String>
+pub(crate) fn canonical_query(alloc: Global, uri: &Uri, parameters: &[(&str, &str)]) -> Mem<String>
     ensures { IfOk result (λ text. string_bytes text ≡ query (decoded (target_of uri.now) ++ map parameter_text parameters.now)) }
 {
     let mut pairs = EscapedPairs::new(alloc);
@@ -87,9 +83,18 @@ impl EscapedPairs {
     fn into_text(mut self) -> Mem<String>
         ensures { IfOk result (λ text. string_bytes text ≡ joined (sorted self)) }
     {
-        self.pairs.sort()?;
+        sort_pairs(&mut self.pairs)?;
         join_pairs(*self.pairs.allocator(), &self.pairs)
     }
+}
+
+// Puts the pairs in the order of their keys, and then of their values.
+#[tactic(auto, using(crate::proofs::SortLemmas::sorted_pairs))]
+fn sort_pairs(pairs: &mut Vec<(String, String)>) -> Mem<()>
+    ensures { OnOk result (map string_pair pairs.new.items ≡ sorted (map string_pair pairs.old.items)) }
+{
+    pairs.sort()?;
+    Ok(())
 }
 
 // The pairs as `key=value` with `&` between.

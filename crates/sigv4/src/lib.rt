@@ -8,10 +8,12 @@
 //! is missing (`specs/Params.antt`).
 #![tactic(auto)]
 
+mod canonical_query;
 mod error;
 pub mod event_stream;
 mod host;
 mod key;
+mod laws;
 mod modes;
 mod output;
 mod params;
@@ -23,6 +25,7 @@ mod trim;
 pub mod v4;
 
 pub use crate::error::SigningError;
+pub use crate::laws::{normal_paths_stay, trimmed_texts_stay};
 pub use crate::modes::{PercentEncodingMode, UriPathNormalizationMode};
 pub use crate::output::SigningOutput;
 pub use crate::path::normalize_uri_path;
