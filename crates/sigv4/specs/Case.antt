@@ -1,5 +1,5 @@
 -- What is signed, and with what: a request and the parameters of its signature.
-use Rattle.std.specs.Prelude.{◌≡◌, ℕ, List, [], codes, Option, None, option_map, string_bytes}
+use Rattle.std.specs.Prelude.{◌≡◌, ℕ, List, [], codes, Option, Some, None, option_map, string_bytes}
 use Rattle.sha2.specs.Sha256.{sha256}
 use Rattle.hex.specs.Hex.{encode_lower}
 use Rattle.smithy_core.specs.Instant.{Instant}
@@ -36,6 +36,20 @@ payload_text UnsignedPayload = codes "UNSIGNED-PAYLOAD"
 payload_text (Precomputed text) = string_bytes text
 payload_text StreamingUnsignedPayloadTrailer = codes "STREAMING-UNSIGNED-PAYLOAD-TRAILER"
 payload_text StreamingSignedPayloadTrailer = codes "STREAMING-AWS4-HMAC-SHA256-PAYLOAD-TRAILER"
+
+-- the bytes, where these are the body
+abbrev pub bytes_of : SignableBody → Option (List ℕ)
+bytes_of (Bytes bytes) = Some bytes.now
+bytes_of _ = None
+
+-- the bodies are the same
+abbrev pub IsSameBody : SignableBody → SignableBody → Type 0
+IsSameBody (Bytes bytes) (Bytes copy) = copy.now ≡ bytes.now
+IsSameBody UnsignedPayload UnsignedPayload = Unit {0}
+IsSameBody (Precomputed text) (Precomputed copy) = string_bytes copy ≡ string_bytes text
+IsSameBody StreamingUnsignedPayloadTrailer StreamingUnsignedPayloadTrailer = Unit {0}
+IsSameBody StreamingSignedPayloadTrailer StreamingSignedPayloadTrailer = Unit {0}
+IsSameBody _ _ = ⊥
 
 -- the key id of credentials, and nothing of a token
 abbrev pub key_id_of : Identity → List ℕ
@@ -78,3 +92,10 @@ pub record HasKeys (identity : Identity) (credentials : Keys) : Type 0 where
   pub key_id : string_bytes credentials.key_id ≡ key_id_of identity
   pub secret : string_bytes credentials.secret ≡ secret_of identity
   pub token : option_map string_bytes credentials.token ≡ token_of identity
+
+-- the requests have the same method, target and headers, and the same body
+pub record IsSameRequest (request copy : SignableRequest) : Type 0 where
+  pub method : copy.method.now ≡ request.method.now
+  pub target : target_of copy.uri ≡ target_of request.uri
+  pub headers : copy.headers.now ≡ request.headers.now
+  pub body : IsSameBody request.body copy.body

@@ -1,5 +1,5 @@
-ghost use Rattle.std.specs.Prelude.{◌≡◌, IfOk, string_bytes};
-ghost use Rattle.sigv4.specs.Case.{payload_text};
+ghost use Rattle.std.specs.Prelude.{◌≡◌, [], Some, IfOk, string_bytes};
+ghost use Rattle.sigv4.specs.Case.{IsSameBody, bytes_of, payload_text};
 
 use mac_core::sha256_hex;
 use smithy_core::Mem;
@@ -20,10 +20,29 @@ pub enum SignableBody<'a> {
     StreamingSignedPayloadTrailer,
 }
 
-impl SignableBody<'_> {
+impl<'a> SignableBody<'a> {
     /// No bytes.
-    pub fn empty() -> SignableBody<'static> {
+    pub fn empty() -> SignableBody<'static>
+        ensures { bytes_of result ≡ Some [] }
+    {
         SignableBody::Bytes(b"".as_slice())
+    }
+
+    /// An equal body, over the same bytes.
+    pub fn try_clone(&self) -> Mem<SignableBody<'a>>
+        ensures { IfOk result (IsSameBody self.now) }
+    {
+        Ok(match self {
+            SignableBody::Bytes(bytes) => SignableBody::Bytes(bytes),
+            SignableBody::UnsignedPayload => SignableBody::UnsignedPayload,
+            SignableBody::Precomputed(text) => SignableBody::Precomputed(text.clone()?),
+            SignableBody::StreamingUnsignedPayloadTrailer => {
+                SignableBody::StreamingUnsignedPayloadTrailer
+            }
+            SignableBody::StreamingSignedPayloadTrailer => {
+                SignableBody::StreamingSignedPayloadTrailer
+            }
+        })
     }
 }
 

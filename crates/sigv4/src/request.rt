@@ -1,10 +1,11 @@
-ghost use Rattle.std.specs.Prelude.{◌≡◌};
+ghost use Rattle.std.specs.Prelude.{◌≡◌, IfOk};
+ghost use Rattle.sigv4.specs.Case.{IsSameRequest};
 ghost use Rattle.sigv4.specs.Targets.{IsMadeOf};
 
 use crate::body::SignableBody;
 use crate::error::SigningError;
 use http_uri::Uri;
-use smithy_core::Headers;
+use smithy_core::{Headers, Mem};
 use smithy_http::read_target;
 use std::alloc::Global;
 
@@ -37,6 +38,18 @@ impl<'a> SignableRequest<'a> {
             uri: read_target(alloc, uri)?,
             headers,
             body,
+        })
+    }
+
+    /// An equal request, over the same headers.
+    pub fn try_clone(&self) -> Mem<SignableRequest<'a>>
+        ensures { IfOk result (IsSameRequest self.now) }
+    {
+        Ok(SignableRequest {
+            method: self.method,
+            uri: self.uri.clone()?,
+            headers: self.headers,
+            body: self.body.try_clone()?,
         })
     }
 

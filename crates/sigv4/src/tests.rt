@@ -4,6 +4,7 @@ mod canonical_texts;
 mod messages;
 mod parameters;
 mod request_parts;
+mod requests;
 
 use crate::event_stream::{SigningParams as MessageParams, sign_empty_message, sign_message};
 use crate::v4::{SigningParams, calculate_signature, credential_scope, request_signature};
