@@ -8,15 +8,47 @@
 //! is missing (`specs/Params.antt`).
 #![tactic(auto)]
 
+mod apply;
+mod authorization;
+mod body;
+mod canonical;
+mod canonical_query;
+mod credentials;
 mod error;
 pub mod event_stream;
+mod header;
+mod heads;
+mod host;
+mod instructions;
 mod key;
+mod laws;
+mod modes;
 mod output;
 mod params;
+mod path;
+mod prepared;
+mod refusal;
+mod request;
+mod settings;
 mod signature;
+mod signing;
+mod signing_params;
 #[cfg(test)]
 mod tests;
+mod trim;
 pub mod v4;
 
-pub use crate::error::SigningError;
+pub use crate::body::SignableBody;
+pub use crate::error::{SigningError, ValuePlace};
+pub use crate::header::{Header, HeaderPairs};
+pub use crate::instructions::SigningInstructions;
+pub use crate::laws::{normal_paths_stay, signed_names_ascend, trimmed_texts_stay};
+pub use crate::modes::{PercentEncodingMode, UriPathNormalizationMode};
 pub use crate::output::SigningOutput;
+pub use crate::path::normalize_uri_path;
+pub use crate::request::SignableRequest;
+pub use crate::settings::{
+    PayloadChecksumKind, SessionTokenMode, SignatureLocation, SigningSettings,
+};
+pub use crate::signing::{canonical_text, sign};
+pub use crate::signing_params::{SignatureVersion, SigningParams};

@@ -112,7 +112,7 @@ fn outcome(answer: Result<SigningOutput<Message>, SigningError>) -> &'static str
         },
         Err(SigningError::UnsupportedIdentityType) => "identity",
         Err(SigningError::MomentOutOfRange(_)) => "moment",
-        Err(SigningError::NoMemory) => "memory",
+        Err(_) => "other",
     }
 }
 

@@ -1,0 +1,73 @@
+-- Paths of a canonical request: in their normal form (RFC 3986, section 5.2.4, with repeated slashes merged), and escaped.
+use Rattle.std.specs.Prelude.{ℕ, ◌-◌, Bool, true, ◌||◌, ◌==◌, List, [], ◌∷◌, ◌++◌, codes, length, fold, map, take, slice_index_or, bytes_eq, if◌then◌else◌}
+use Rattle.std.specs.Borrow.{Bor}
+use Rattle.std.specs.List.{join_with_byte, slice_split}
+use Rattle.smithy_http.specs.Escape.{escaped, greedy_set}
+use Rattle.sigv4.specs.declared.modes.PercentEncodingMode.{PercentEncodingMode}
+use Rattle.sigv4.specs.declared.modes.PercentEncodingMode.TheVariants.{Double, Single}
+use Rattle.sigv4.specs.declared.modes.UriPathNormalizationMode.{UriPathNormalizationMode}
+use Rattle.sigv4.specs.declared.modes.UriPathNormalizationMode.TheVariants.{Enabled, Disabled}
+
+-- `/`
+abbrev pub slash : ℕ
+slash = 47
+
+-- the segments between the slashes
+abbrev pub segments : List ℕ → List (List ℕ)
+segments path = slice_split (λ b. b == slash) path
+
+-- a segment that is empty or `.`, and one that is `..`
+abbrev pub names_here : List ℕ → Bool
+names_here segment = bytes_eq segment [] || bytes_eq segment (codes ".")
+
+abbrev pub names_parent : List ℕ → Bool
+names_parent segment = bytes_eq segment (codes "..")
+
+-- the kept segments after one more: an empty segment and `.` are dropped, and `..` drops the kept segment before it, if any
+abbrev pub after_segment : List (List ℕ) → List ℕ → List (List ℕ)
+after_segment kept segment =
+    if names_parent segment then take (length kept - 1) kept
+    else if names_here segment then kept else kept ++ segment ∷ []
+
+-- the segments that are kept
+abbrev pub kept : List (List ℕ) → List (List ℕ)
+kept segments = fold after_segment [] segments
+
+-- the last segment of all is empty, `.` or `..`
+abbrev pub ends_open : List (List ℕ) → Bool
+ends_open segments = let last = slice_index_or segments (length segments - 1) [] in names_here last || names_parent last
+
+-- what the segments point to
+abbrev pub segment_texts : List (Bor (List ℕ)) → List (List ℕ)
+segment_texts segments = map (λ segment. segment.now) segments
+
+-- a segment after a slash
+abbrev pub after_slash : List ℕ → List ℕ
+after_slash segment = slash ∷ segment
+
+-- one more `/` where the last segment of all names no file and any segment is kept
+abbrev pub tail : Bool → List (List ℕ) → List ℕ
+tail true (segment ∷ segments) = codes "/"
+tail is_open segments = []
+
+-- `/`, the kept segments with `/` between, and the tail
+abbrev pub norm_of : List (List ℕ) → List ℕ
+norm_of segments = codes "/" ++ (join_with_byte slash (kept segments) ++ tail (ends_open segments) (kept segments))
+
+-- the path in its normal form
+unfoldable pub norm : List ℕ → List ℕ
+norm path = norm_of (segments path)
+
+-- the path, in its normal form unless that is disabled
+abbrev pub normalized : UriPathNormalizationMode → List ℕ → List ℕ
+normalized Enabled path = norm path
+normalized Disabled path = path
+
+-- the path, escaped once more unless it is to be escaped a single time
+abbrev pub encoded_again : PercentEncodingMode → List ℕ → List ℕ
+encoded_again Double path = escaped greedy_set path
+encoded_again Single path = path
+
+-- the path of a canonical request
+unfoldable pub canonical_path : UriPathNormalizationMode → PercentEncodingMode → List ℕ → List ℕ
+canonical_path normalization encoding path = encoded_again encoding (normalized normalization path)

@@ -1,0 +1,62 @@
+ghost use Rattle.std.specs.Prelude.{◌≡◌, IfOk};
+ghost use Rattle.sigv4.specs.Case.{IsSameRequest};
+ghost use Rattle.sigv4.specs.Targets.{IsMadeOf};
+
+use crate::body::SignableBody;
+use crate::error::SigningError;
+use http_uri::Uri;
+use smithy_core::{Headers, Mem};
+use smithy_http::read_target;
+use std::alloc::Global;
+
+/// A request to be signed.
+#[derive(Drop)]
+pub struct SignableRequest<'a> {
+    pub(crate) method: &'a str,
+    pub(crate) uri: Uri,
+    pub(crate) headers: &'a Headers,
+    pub(crate) body: SignableBody<'a>,
+}
+
+impl<'a> SignableRequest<'a> {
+    /// A request of these parts.
+    ///
+    /// # Errors
+    ///
+    /// [`SigningError::InvalidUri`] exactly where the text isn't accepted as a target, or has an authority without a scheme.
+    pub fn new(
+        alloc: Global,
+        method: &'a str,
+        uri: &str,
+        headers: &'a Headers,
+        body: SignableBody<'a>,
+    ) -> Result<Self, SigningError>
+        ensures { IsMadeOf method.now uri.now headers.now body.entry result }
+    {
+        Ok(SignableRequest {
+            method,
+            uri: read_target(alloc, uri)?,
+            headers,
+            body,
+        })
+    }
+
+    /// An equal request, over the same headers.
+    pub fn try_clone(&self) -> Mem<SignableRequest<'a>>
+        ensures { IfOk result (IsSameRequest self.now) }
+    {
+        Ok(SignableRequest {
+            method: self.method,
+            uri: self.uri.clone()?,
+            headers: self.headers,
+            body: self.body.try_clone()?,
+        })
+    }
+
+    /// The body.
+    pub fn body(&self) -> &SignableBody<'_>
+        ensures { result.now ≡ self.now.body }
+    {
+        &self.body
+    }
+}
