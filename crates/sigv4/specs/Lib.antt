@@ -1,4 +1,16 @@
+pub mod Canonical
+pub mod Case
 pub mod Errors
+pub mod HeadMap
+pub mod Host
 pub mod Params
+pub mod Path
+pub mod Query
+pub mod Refusal
+pub mod RequestSigning
+pub mod Settings
 pub mod Signature
+pub mod Signed
 pub mod Signing
+pub mod Targets
+pub mod Trim

@@ -2,13 +2,37 @@ ghost use Rattle.std.specs.Prelude.{◌≡◌};
 ghost use Rattle.sigv4.specs.declared.error.SigningError.TheVariants.{NoMemory};
 
 use eventstream::ErrorKind;
+use http_uri::UriError;
 use smithy_core::Moment;
 use std::alloc::AllocError;
 use std::fmt;
 
+/// A text of a request that goes into a header.
+#[derive(Clone, Copy, Debug, PartialEq, Eq)]
+pub enum ValuePlace {
+    /// The value of the header at this place, counted from 1.
+    Header(usize),
+    /// The host.
+    Host,
+    /// The session token.
+    Token,
+    /// The payload's text.
+    PayloadHash,
+    /// The authorization.
+    Authorization,
+}
+
 /// Why nothing is signed.
 #[derive(Debug, Drop)]
 pub enum SigningError {
+    /// The text isn't accepted as a target, or has an authority without a scheme.
+    InvalidUri,
+    /// The name of the header at this place, counted from 1, is outside the grammar of header names.
+    InvalidHeaderName(usize),
+    /// The text at this place is outside the grammar of header values.
+    InvalidHeaderValue(ValuePlace),
+    /// Neither the target nor a header has a host.
+    MissingHost,
     /// The identity is no AWS credentials.
     UnsupportedIdentityType,
     /// The message has no frame, for this reason.
@@ -19,6 +43,23 @@ pub enum SigningError {
     NoMemory,
 }
 
+impl fmt::Display for ValuePlace {
+    ghost use Rattle.std.specs.Prelude.{Some};
+    ghost use Rattle.sigv4.specs.Errors.{place_text};
+
+    ghost output = { λ place. Some (place_text place) };
+
+    fn fmt<W: fmt::Write>(&self, f: &mut fmt::Formatter<W>) -> fmt::Result {
+        match self {
+            ValuePlace::Header(place) => write!(f, "header {place}"),
+            ValuePlace::Host => f.write_str("the host"),
+            ValuePlace::Token => f.write_str("the session token"),
+            ValuePlace::PayloadHash => f.write_str("the payload's digest"),
+            ValuePlace::Authorization => f.write_str("the authorization"),
+        }
+    }
+}
+
 impl fmt::Display for SigningError {
     ghost use Rattle.std.specs.Prelude.{Some};
     ghost use Rattle.sigv4.specs.Errors.{text_of};
@@ -27,6 +68,12 @@ impl fmt::Display for SigningError {
 
     fn fmt<W: fmt::Write>(&self, f: &mut fmt::Formatter<W>) -> fmt::Result {
         match self {
+            SigningError::InvalidUri => f.write_str("invalid target"),
+            SigningError::InvalidHeaderName(place) => {
+                write!(f, "invalid name of header {place}")
+            }
+            SigningError::InvalidHeaderValue(place) => write!(f, "invalid value of {place}"),
+            SigningError::MissingHost => f.write_str("missing host"),
             SigningError::UnsupportedIdentityType => {
                 f.write_str("only AWS credentials are supported for signing")
             }
@@ -53,6 +100,19 @@ impl From<eventstream::Error> for SigningError {
         match inner.kind() {
             ErrorKind::NoMemory => SigningError::NoMemory,
             _ => SigningError::FailedToEncodeMessage(inner),
+        }
+    }
+}
+
+impl From<UriError> for SigningError {
+    ghost use Rattle.sigv4.specs.Targets.{target_error};
+
+    ghost from_gives = { λ inner error. error ≡ target_error inner };
+
+    fn from(inner: UriError) -> SigningError {
+        match inner {
+            UriError::Invalid(_) => SigningError::InvalidUri,
+            UriError::OutOfMemory => SigningError::NoMemory,
         }
     }
 }

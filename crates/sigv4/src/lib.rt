@@ -8,15 +8,36 @@
 //! is missing (`specs/Params.antt`).
 #![tactic(auto)]
 
+mod body;
 mod error;
 pub mod event_stream;
+mod heads;
+mod host;
+mod instructions;
 mod key;
+mod modes;
 mod output;
 mod params;
+mod path;
+mod request;
+mod settings;
 mod signature;
+mod signing;
+mod signing_params;
 #[cfg(test)]
 mod tests;
+mod trim;
 pub mod v4;
 
-pub use crate::error::SigningError;
+pub use crate::body::SignableBody;
+pub use crate::error::{SigningError, ValuePlace};
+pub use crate::instructions::{Header, SigningInstructions};
+pub use crate::modes::{PercentEncodingMode, UriPathNormalizationMode};
 pub use crate::output::SigningOutput;
+pub use crate::path::normalize_uri_path;
+pub use crate::request::SignableRequest;
+pub use crate::settings::{
+    PayloadChecksumKind, SessionTokenMode, SignatureLocation, SigningSettings,
+};
+pub use crate::signing::{canonical_text, sign};
+pub use crate::signing_params::{SignatureVersion, SigningParams};

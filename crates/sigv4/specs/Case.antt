@@ -1,0 +1,67 @@
+-- What is signed, and with what: a request and the parameters of its signature.
+use Rattle.std.specs.Prelude.{ℕ, List, [], codes, Option, None, option_map, string_bytes}
+use Rattle.sha2.specs.Sha256.{sha256}
+use Rattle.hex.specs.Hex.{encode_lower}
+use Rattle.smithy_core.specs.Instant.{Instant}
+use Rattle.smithy_core.specs.declared.identity.Identity.{Identity}
+use Rattle.smithy_core.specs.declared.identity.Identity.TheVariants.{Credentials, Token}
+use Rattle.smithy_http.specs.Target.{Target, target_of}
+use Rattle.eventstream.specs.Key.{Signer}
+use Rattle.sigv4.specs.Params.{signer_of}
+use Rattle.sigv4.specs.Settings.{Settings, settings_of}
+use Rattle.sigv4.specs.declared.body.SignableBody.{SignableBody}
+use Rattle.sigv4.specs.declared.body.SignableBody.TheVariants.{Bytes, UnsignedPayload, Precomputed, StreamingUnsignedPayloadTrailer, StreamingSignedPayloadTrailer}
+use Rattle.sigv4.specs.declared.request.SignableRequest.{SignableRequest}
+use Rattle.sigv4.specs.declared.signing_params.SigningParams.{SigningParams}
+use Rattle.sigv4.specs.declared.signing_params.SigningParams.TheVariants.{V4}
+
+pub record Case : Type 0 where
+  pub method : List ℕ
+  pub target : Target
+  pub headers : List (List ℕ × List ℕ)
+  pub payload : List ℕ
+  pub settings : Settings
+  pub key_id : List ℕ
+  pub token : Option (List ℕ)
+  pub signer : Signer
+  pub at : Instant
+
+-- the payload's text: the digest of the bytes, the digest that is given, or the word for a payload that isn't signed as a whole
+abbrev pub payload_text : SignableBody → List ℕ
+payload_text (Bytes bytes) = encode_lower (sha256 bytes.now)
+payload_text UnsignedPayload = codes "UNSIGNED-PAYLOAD"
+payload_text (Precomputed text) = string_bytes text
+payload_text StreamingUnsignedPayloadTrailer = codes "STREAMING-UNSIGNED-PAYLOAD-TRAILER"
+payload_text StreamingSignedPayloadTrailer = codes "STREAMING-AWS4-HMAC-SHA256-PAYLOAD-TRAILER"
+
+-- the key id of credentials, and nothing of a token
+abbrev pub key_id_of : Identity → List ℕ
+key_id_of (Credentials credentials) = string_bytes credentials.key_id
+key_id_of (Token token) = []
+
+-- the session token of credentials that hold one
+abbrev pub token_of : Identity → Option (List ℕ)
+token_of (Credentials credentials) = option_map string_bytes credentials.token
+token_of (Token token) = None
+
+-- who signs
+abbrev pub identity_of : SigningParams → Identity
+identity_of (V4 params) = params.identity.now
+
+-- the settings
+abbrev pub params_settings : SigningParams → Settings
+params_settings (V4 params) = settings_of params.settings
+
+-- a request and its parameters
+abbrev pub case_of : SignableRequest → SigningParams → Case
+case_of request (V4 params) = record {
+  method = request.method.now;
+  target = target_of request.uri;
+  headers = request.headers.now;
+  payload = payload_text request.body;
+  settings = settings_of params.settings;
+  key_id = key_id_of params.identity.now;
+  token = token_of params.identity.now;
+  signer = signer_of params;
+  at = params.time;
+}

@@ -1,0 +1,42 @@
+-- What contracts see of a map from the names of headers to their values.
+use Rattle.std.specs.Prelude.{◌≡◌, ℕ, Bool, true, false, codes, List, [], ◌∷◌, ◌++◌, map, Option, Some, None, if◌then◌else◌, option_map, String, string_bytes}
+use Rattle.std.specs.BTreeMap.{BTreeMap, get_by_text}
+use Rattle.std.specs.declared.alloc.Global.{Global}
+use Rattle.smithy_core.specs.Pairs.{named_values}
+use Rattle.smithy_core.specs.Text.{line}
+use Rattle.sigv4.specs.Canonical.{Pair, is_signed}
+use Rattle.sigv4.specs.Settings.{Settings}
+
+abbrev pub HeadMap : Type 0
+HeadMap = BTreeMap (String Global) (String Global)
+
+-- the text at a name
+abbrev pub value_at : HeadMap → List ℕ → Option (List ℕ)
+value_at heads name = option_map string_bytes (get_by_text heads name)
+
+-- the entries, as texts
+abbrev pub texts : HeadMap → List Pair
+texts heads = map (λ entry. (string_bytes entry.0, string_bytes entry.1)) heads.entries
+
+-- a text with more values behind it, each behind `,`
+abbrev pub appended : Option (List ℕ) → List (List ℕ) → Option (List ℕ)
+appended text [] = text
+appended None (value ∷ values) = appended (Some value) values
+appended (Some text) (value ∷ values) = appended (Some (text ++ 44 ∷ value)) values
+
+-- the values of a name in order, where it is signed
+abbrev pub signed_values : Settings → List Pair → List ℕ → List (List ℕ)
+signed_values settings pairs name = if is_signed settings name then named_values pairs name else []
+
+-- the map has each signed name of these headers, with its values
+abbrev pub HoldsHeads : Settings → List Pair → HeadMap → Type 0
+HoldsHeads settings pairs heads = (name : List ℕ) → value_at heads name ≡ appended None (signed_values settings pairs name)
+
+-- `name:value`, as a line
+abbrev pub pair_line : Pair → List ℕ
+pair_line head = line (head.0 ++ codes ":" ++ head.1)
+
+-- what stands before a name
+abbrev pub separator_before : Bool → List ℕ
+separator_before true = []
+separator_before false = codes ";"

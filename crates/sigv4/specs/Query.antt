@@ -1,0 +1,52 @@
+-- Queries of a canonical request.
+use Rattle.std.specs.Prelude.{ℕ, List, [], ◌∷◌, map, fold, unwrap_or, if◌then◌else◌}
+use Rattle.std.specs.declared.cmp.Ordering.{Ordering}
+use Rattle.std.specs.Cmp.Lexicographic.{slice_cmp}
+use Rattle.std.specs.List.{join_with_byte}
+use Rattle.std.specs.Ordering.{is_gt, nat_cmp, ordering_then}
+use Rattle.std.specs.Str.Lossy.{utf8_lossy}
+use Rattle.form_urlencoded.specs.Form.{decode, raw_pairs}
+use Rattle.smithy_http.specs.Escape.{base_set, escaped}
+use Rattle.smithy_http.specs.Query.{ampersand, pair_text}
+use Rattle.smithy_http.specs.Target.{Target}
+
+-- a key and its value
+abbrev pub Pair : Type 0
+Pair = List ℕ × List ℕ
+
+-- the text that form decoding gives (URL Standard, section 5.1): `+` is a space, and U+FFFD stands for bytes that aren't UTF-8
+abbrev pub decoded_text : List ℕ → List ℕ
+decoded_text bytes = utf8_lossy (decode bytes)
+
+abbrev pub decoded_pair : Pair → Pair
+decoded_pair p = (decoded_text p.0, decoded_text p.1)
+
+-- the decoded pairs of a target's query
+unfoldable pub decoded : Target → List Pair
+decoded target = map decoded_pair (raw_pairs (unwrap_or target.query []))
+
+-- by key, and then by value, in the order of their bytes
+abbrev pub pair_cmp : Pair → Pair → Ordering
+pair_cmp p q = ordering_then (slice_cmp nat_cmp p.0 q.0) (slice_cmp nat_cmp p.1 q.1)
+
+-- the pair before the first one that is greater
+abbrev pub inserted : Pair → List Pair → List Pair
+inserted p [] = p ∷ []
+inserted p (q ∷ pairs) = if is_gt (pair_cmp p q) then q ∷ inserted p pairs else p ∷ q ∷ pairs
+
+-- the pairs in ascending order
+abbrev pub sorted : List Pair → List Pair
+sorted [] = []
+sorted (p ∷ pairs) = inserted p (sorted pairs)
+
+-- key and value with each byte escaped that isn't unreserved
+abbrev pub escaped_pair : Pair → Pair
+escaped_pair p = (escaped base_set p.0, escaped base_set p.1)
+
+-- escaped pairs, sorted, as `key=value` with `&` between
+unfoldable pub query_text : List Pair → List ℕ
+query_text pairs = join_with_byte ampersand (map pair_text (sorted pairs))
+
+-- the pairs, escaped and then sorted, as `key=value` with `&` between
+unfoldable pub query : List Pair → List ℕ
+query pairs = query_text (map escaped_pair pairs)

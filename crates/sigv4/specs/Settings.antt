@@ -1,0 +1,57 @@
+-- What contracts see of the settings of a signature.
+use Rattle.std.specs.Prelude.{◌≡◌, ℕ, List, [], ◌∷◌, codes, map, Option, Some, None, option_map, string_bytes}
+use Rattle.sigv4.specs.declared.modes.PercentEncodingMode.{PercentEncodingMode}
+use Rattle.sigv4.specs.declared.modes.PercentEncodingMode.TheVariants.{Double}
+use Rattle.sigv4.specs.declared.modes.UriPathNormalizationMode.{UriPathNormalizationMode}
+use Rattle.sigv4.specs.declared.modes.UriPathNormalizationMode.TheVariants.{Enabled}
+use Rattle.sigv4.specs.declared.settings.PayloadChecksumKind.{PayloadChecksumKind}
+use Rattle.sigv4.specs.declared.settings.PayloadChecksumKind.TheVariants.{NoHeader}
+use Rattle.sigv4.specs.declared.settings.SessionTokenMode.{SessionTokenMode}
+use Rattle.sigv4.specs.declared.settings.SessionTokenMode.TheVariants.{Include}
+use Rattle.sigv4.specs.declared.settings.SignatureLocation.{SignatureLocation}
+use Rattle.sigv4.specs.declared.settings.SignatureLocation.TheVariants.{Headers}
+use Rattle.sigv4.specs.declared.settings.SigningSettings.{SigningSettings}
+
+-- the settings, with names as texts
+pub record Settings : Type 0 where
+  pub percent_encoding_mode : PercentEncodingMode
+  pub payload_checksum_kind : PayloadChecksumKind
+  pub signature_location : SignatureLocation
+  pub expires_in : Option ℕ
+  pub excluded_headers : Option (List (List ℕ))
+  pub uri_path_normalization_mode : UriPathNormalizationMode
+  pub session_token_mode : SessionTokenMode
+  pub session_token_name_override : Option (List ℕ)
+
+abbrev pub settings_of : SigningSettings → Settings
+settings_of s = record {
+  percent_encoding_mode = s.percent_encoding_mode;
+  payload_checksum_kind = s.payload_checksum_kind;
+  signature_location = s.signature_location;
+  expires_in = s.expires_in;
+  excluded_headers = option_map (λ names. map string_bytes names.items) s.excluded_headers;
+  uri_path_normalization_mode = s.uri_path_normalization_mode;
+  session_token_mode = s.session_token_mode;
+  session_token_name_override = option_map string_bytes s.session_token_name_override;
+}
+
+-- the names that aren't signed unless the settings say otherwise
+abbrev pub default_exclusions : List (List ℕ)
+default_exclusions = codes "authorization" ∷ codes "user-agent" ∷ codes "x-amzn-trace-id" ∷ codes "transfer-encoding" ∷ []
+
+-- the settings of header form
+abbrev pub default_settings : Settings
+default_settings = record {
+  percent_encoding_mode = Double;
+  payload_checksum_kind = NoHeader;
+  signature_location = Headers;
+  expires_in = None;
+  excluded_headers = Some default_exclusions;
+  uri_path_normalization_mode = Enabled;
+  session_token_mode = Include;
+  session_token_name_override = None;
+}
+
+-- the signature goes into headers, and the token's header has its default name
+abbrev pub IsHeaderForm : Settings → Type 0
+IsHeaderForm s = (s.signature_location ≡ Headers) × (s.session_token_name_override ≡ None)
