@@ -1,6 +1,6 @@
 ghost use Rattle.std.specs.Prelude.{◌≡◌, ◌≤◌, ◌++◌, ℕ, List, Option, Some, None, option_map, IsErrOf};
 ghost use Rattle.std.specs.String.{string_bytes};
-ghost use Rattle.smithy_core.specs.Civil.{IsInYears};
+ghost use Rattle.smithy_core.specs.Civil.{IsInYears, is_in_years};
 ghost use Rattle.smithy_core.specs.Outside.{IsAtEnd, Rose};
 ghost use Rattle.smithy_http.specs.Target.{Target};
 ghost use Rattle.sigv4.specs.Signing.{unsignable};
@@ -25,7 +25,8 @@ use crate::words::StreamWords;
 use crate::written::head_of;
 use sigv4::event_stream::SigningParams;
 use smithy_core::{
-    ByteSink, ByteSource, Credentials, HttpRequest, Identity, Message, ReadFault, civil, read_all,
+    ByteSink, ByteSource, Credentials, HttpRequest, Identity, Message, Moment, ReadFault, civil,
+    read_all,
 };
 use std::alloc::Global;
 
@@ -99,7 +100,7 @@ fn stream_job<K: ByteSink>(
         events,
     } = job;
     match (settings.key_id, settings.secret, settings.region) {
-        (Some(_), Some(_), Some(_)) if civil(words.at).is_none() => {
+        (Some(_), Some(_), Some(_)) if !is_in_years(words.at) => {
             Status::Refused(StreamFault::MomentOutOfRange(words.at))
         }
         (Some(key_id), Some(secret), Some(region)) => {
@@ -122,6 +123,13 @@ fn stream_job<K: ByteSink>(
         (Some(_), Some(_), None) => Status::Refused(StreamFault::MissingSigningRegion),
         _ => Status::Refused(StreamFault::MissingCredentials),
     }
+}
+
+// Whether the moment lies in the years 0 to 9999.
+fn is_in_years(moment: Moment) -> bool
+    ensures { result ≡ is_in_years moment }
+{
+    civil(moment).is_some()
 }
 
 // Signs the request, and streams its head and the events.
