@@ -332,3 +332,12 @@ names_behind-nil [] = refl
 names_behind-nil (name ∷ names) = names_behind-cons [] name names
 
 pub ruleset joins = (names_behind-nil)
+
+-- ---- names as texts
+
+-- a name is found among texts where it is found among strings
+pub any-texts : (name : List ℕ) (names : List (String Global)) → list_any (bytes_eq name) (map string_bytes names) ≡ list_any (λ other. bytes_eq name (string_bytes other)) names
+any-texts name [] = refl
+any-texts name (other ∷ names) = ap (λ b. bytes_eq name (string_bytes other) || b) (any-texts name names)
+
+pub ruleset finds = (any-texts)

@@ -1,5 +1,5 @@
 -- Paths of a canonical request: in their normal form (RFC 3986, section 5.2.4, with repeated slashes merged), and escaped.
-use Rattle.std.specs.Prelude.{ℕ, ◌-◌, Bool, not, ◌&&◌, ◌||◌, ◌==◌, List, [], ◌∷◌, ◌++◌, codes, length, fold, map, take, slice_index_or, bytes_eq, if◌then◌else◌}
+use Rattle.std.specs.Prelude.{ℕ, ◌-◌, Bool, true, ◌||◌, ◌==◌, List, [], ◌∷◌, ◌++◌, codes, length, fold, map, take, slice_index_or, bytes_eq, if◌then◌else◌}
 use Rattle.std.specs.Borrow.{Bor}
 use Rattle.std.specs.List.{join_with_byte, slice_split}
 use Rattle.smithy_http.specs.Escape.{escaped, greedy_set}
@@ -12,48 +12,51 @@ use Rattle.sigv4.specs.declared.modes.UriPathNormalizationMode.TheVariants.{Enab
 abbrev pub slash : ℕ
 slash = 47
 
--- the pieces between the slashes
-abbrev pub pieces : List ℕ → List (List ℕ)
-pieces path = slice_split (λ b. b == slash) path
+-- the segments between the slashes
+abbrev pub segments : List ℕ → List (List ℕ)
+segments path = slice_split (λ b. b == slash) path
 
--- a piece that is empty or `.`, and one that is `..`
+-- a segment that is empty or `.`, and one that is `..`
 abbrev pub names_here : List ℕ → Bool
-names_here piece = bytes_eq piece [] || bytes_eq piece (codes ".")
+names_here segment = bytes_eq segment [] || bytes_eq segment (codes ".")
 
 abbrev pub names_parent : List ℕ → Bool
-names_parent piece = bytes_eq piece (codes "..")
+names_parent segment = bytes_eq segment (codes "..")
 
--- the kept pieces after one more: an empty piece and `.` are dropped, and `..` drops the kept piece before it, if any
-abbrev pub after_piece : List (List ℕ) → List ℕ → List (List ℕ)
-after_piece kept piece =
-    if names_parent piece then take (length kept - 1) kept
-    else if names_here piece then kept else kept ++ piece ∷ []
+-- the kept segments after one more: an empty segment and `.` are dropped, and `..` drops the kept segment before it, if any
+abbrev pub after_segment : List (List ℕ) → List ℕ → List (List ℕ)
+after_segment kept segment =
+    if names_parent segment then take (length kept - 1) kept
+    else if names_here segment then kept else kept ++ segment ∷ []
 
--- the pieces that are kept
+-- the segments that are kept
 abbrev pub kept : List (List ℕ) → List (List ℕ)
-kept pieces = fold after_piece [] pieces
+kept segments = fold after_segment [] segments
 
--- the last piece of all is empty, `.` or `..`
+-- the last segment of all is empty, `.` or `..`
 abbrev pub ends_open : List (List ℕ) → Bool
-ends_open pieces = let last = slice_index_or pieces (length pieces - 1) [] in names_here last || names_parent last
+ends_open segments = let last = slice_index_or segments (length segments - 1) [] in names_here last || names_parent last
 
--- what the pieces point to
-abbrev pub piece_texts : List (Bor (List ℕ)) → List (List ℕ)
-piece_texts pieces = map (λ piece. piece.now) pieces
+-- what the segments point to
+abbrev pub segment_texts : List (Bor (List ℕ)) → List (List ℕ)
+segment_texts segments = map (λ segment. segment.now) segments
 
--- a piece after a slash
+-- a segment after a slash
 abbrev pub after_slash : List ℕ → List ℕ
-after_slash piece = slash ∷ piece
+after_slash segment = slash ∷ segment
 
--- `/` and the kept pieces with `/` between, and one more `/` where any is kept and the last piece of all names no file
+-- one more `/` where the last segment of all names no file and any segment is kept
+abbrev pub tail : Bool → List (List ℕ) → List ℕ
+tail true (segment ∷ segments) = codes "/"
+tail is_open segments = []
+
+-- `/`, the kept segments with `/` between, and the tail
 abbrev pub norm_of : List (List ℕ) → List ℕ
-norm_of pieces =
-    let tail = if ends_open pieces && not (length (kept pieces) == 0) then codes "/" else [] in
-    codes "/" ++ (join_with_byte slash (kept pieces) ++ tail)
+norm_of segments = codes "/" ++ (join_with_byte slash (kept segments) ++ tail (ends_open segments) (kept segments))
 
 -- the path in its normal form
 unfoldable pub norm : List ℕ → List ℕ
-norm path = norm_of (pieces path)
+norm path = norm_of (segments path)
 
 -- the path, in its normal form unless that is disabled
 abbrev pub normalized : UriPathNormalizationMode → List ℕ → List ℕ

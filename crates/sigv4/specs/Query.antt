@@ -1,5 +1,7 @@
 -- Queries of a canonical request.
-use Rattle.std.specs.Prelude.{ℕ, List, [], ◌∷◌, map, fold, unwrap_or, if◌then◌else◌}
+use Rattle.std.specs.Prelude.{ℕ, Bool, List, [], ◌∷◌, map, string_bytes, unwrap_or, if◌then◌else◌}
+use Rattle.std.specs.declared.alloc.Global.{Global}
+use Rattle.std.specs.declared.string.String.{String}
 use Rattle.std.specs.declared.cmp.Ordering.{Ordering}
 use Rattle.std.specs.Cmp.Lexicographic.{slice_cmp}
 use Rattle.std.specs.List.{join_with_byte}
@@ -21,9 +23,13 @@ decoded_text bytes = utf8_lossy (decode bytes)
 abbrev pub decoded_pair : Pair → Pair
 decoded_pair p = (decoded_text p.0, decoded_text p.1)
 
--- the decoded pairs of a target's query
+-- the pairs that form decoding gives of a query
+abbrev pub decoded_pairs : List ℕ → List Pair
+decoded_pairs query = map decoded_pair (raw_pairs query)
+
+-- the same of a target's query
 unfoldable pub decoded : Target → List Pair
-decoded target = map decoded_pair (raw_pairs (unwrap_or target.query []))
+decoded target = decoded_pairs (unwrap_or target.query [])
 
 -- by key, and then by value, in the order of their bytes
 abbrev pub pair_cmp : Pair → Pair → Ordering
@@ -43,10 +49,18 @@ sorted (p ∷ pairs) = inserted p (sorted pairs)
 abbrev pub escaped_pair : Pair → Pair
 escaped_pair p = (escaped base_set p.0, escaped base_set p.1)
 
--- escaped pairs, sorted, as `key=value` with `&` between
-unfoldable pub query_text : List Pair → List ℕ
-query_text pairs = join_with_byte ampersand (map pair_text (sorted pairs))
+-- what stands before a pair: `&`, unless it is the first
+abbrev pub mark : Bool → List ℕ
+mark is_first = if is_first then [] else ampersand ∷ []
+
+-- the pairs as `key=value` with `&` between
+abbrev pub joined : List Pair → List ℕ
+joined pairs = join_with_byte ampersand (map pair_text pairs)
 
 -- the pairs, escaped and then sorted, as `key=value` with `&` between
 unfoldable pub query : List Pair → List ℕ
-query pairs = query_text (map escaped_pair pairs)
+query pairs = joined (sorted (map escaped_pair pairs))
+
+-- a pair of texts, as contracts see it
+abbrev pub string_pair : String Global × String Global → Pair
+string_pair p = (string_bytes p.0, string_bytes p.1)

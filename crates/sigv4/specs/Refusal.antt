@@ -1,12 +1,13 @@
 -- Why a request isn't signed: the first test that fails.
-use Rattle.std.specs.Prelude.{ℕ, ◌+◌, Bool, List, [], ◌∷◌, if◌then◌else◌, Option, Some, None}
+use Rattle.std.specs.Prelude.{◌≡◌, ℕ, ◌+◌, Bool, List, [], ◌∷◌, if◌then◌else◌, Option, Some, None, option_copied, Result, Ok, Err}
 use Rattle.std.specs.List.{list_all}
+use denote.Ref.{Bor}
 use Rattle.std.specs.Option.{option_or}
 use Rattle.http_header.specs.FieldName.{is_field_name}
 use Rattle.http_header.specs.Token.{is_value_byte}
 use Rattle.smithy_core.specs.declared.identity.Identity.{Identity}
 use Rattle.smithy_http.specs.Target.{Target}
-use Rattle.sigv4.specs.Canonical.{Pair, has_host, told_payload}
+use Rattle.sigv4.specs.Canonical.{Pair, added_host, has_host, told_payload}
 use Rattle.sigv4.specs.Case.{Case}
 use Rattle.sigv4.specs.Host.{host_text}
 use Rattle.sigv4.specs.Signed.{authorization}
@@ -20,6 +21,10 @@ use Rattle.sigv4.specs.declared.error.ValuePlace.TheVariants.{Header, Host, Toke
 abbrev pub is_value : List ℕ → Bool
 is_value text = list_all is_value_byte text
 
+-- whether the text may be a header's name (RFC 9110, section 5.1)
+abbrev pub is_name : List ℕ → Bool
+is_name text = is_field_name text
+
 -- the error, where the test fails
 abbrev pub unless : Bool → SigningError → Option SigningError
 unless passes error = if passes then None else Some error
@@ -30,7 +35,7 @@ unfit_value place text = unless (is_value text) (InvalidHeaderValue place)
 
 -- a header's name and then its value is outside its grammar
 abbrev pub unfit_header : ℕ → Pair → Option SigningError
-unfit_header place header = option_or (unless (is_field_name header.0) (InvalidHeaderName place)) (unfit_value (Header place) header.1)
+unfit_header place header = option_or (unless (is_name header.0) (InvalidHeaderName place)) (unfit_value (Header place) header.1)
 
 -- the first such header, where the first of these has this place
 abbrev pub unfit_headers : ℕ → List Pair → Option SigningError
@@ -61,3 +66,13 @@ unfit c =
 -- the same after the tests of who signs and when
 abbrev pub request_refusal : Identity → Case → Option SigningError
 request_refusal identity c = option_or (unsignable identity c.at) (unfit c)
+
+-- a test that answers why it fails
+abbrev pub Tests : Option SigningError → Result (Unit {0}) SigningError → Type 0
+Tests refused (Ok _) = refused ≡ None
+Tests refused (Err error) = refused ≡ Some error
+
+-- the host that is added, exactly where the test of the host doesn't fail
+abbrev pub AddsHost : Target → List Pair → Result (Option (Bor (List ℕ))) SigningError → Type 0
+AddsHost target headers (Ok host) = (unfit_host target headers ≡ None) × (option_copied host ≡ added_host target headers)
+AddsHost target headers (Err error) = unfit_host target headers ≡ Some error

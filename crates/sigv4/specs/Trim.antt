@@ -1,14 +1,22 @@
 -- Values of headers in a canonical request.
-use Rattle.std.specs.Prelude.{ℕ, Bool, not, ◌==◌, List, length, filter}
+use Rattle.std.specs.Prelude.{ℕ, Bool, not, ◌==◌, List, [], ◌∷◌, length, filter, if◌then◌else◌}
 use Rattle.std.specs.List.{join_with_byte, slice_split}
 
 -- a space
 abbrev pub space : ℕ
 space = 32
 
+-- a piece that isn't empty
+abbrev pub is_word : List ℕ → Bool
+is_word piece = not (length piece == 0)
+
 -- the pieces between the spaces that aren't empty
 abbrev pub words : List ℕ → List (List ℕ)
-words text = filter (λ piece. not (length piece == 0)) (slice_split (λ b. b == space) text)
+words text = filter is_word (slice_split (λ b. b == space) text)
+
+-- what stands before a word: a space, unless it is the first
+abbrev pub before_word : Bool → List ℕ
+before_word is_first = if is_first then [] else space ∷ []
 
 -- the spaces at the ends cut, and each run of spaces made one
 unfoldable pub trim_all : List ℕ → List ℕ

@@ -2,8 +2,8 @@ ghost use Rattle.std.specs.Prelude.{◌≡◌};
 ghost use Rattle.sigv4.specs.declared.error.SigningError.TheVariants.{NoMemory};
 
 use eventstream::ErrorKind;
-use http_uri::UriError;
 use smithy_core::Moment;
+use smithy_http::UriFault;
 use std::alloc::AllocError;
 use std::fmt;
 
@@ -104,15 +104,15 @@ impl From<eventstream::Error> for SigningError {
     }
 }
 
-impl From<UriError> for SigningError {
+impl From<UriFault> for SigningError {
     ghost use Rattle.sigv4.specs.Targets.{target_error};
 
     ghost from_gives = { λ inner error. error ≡ target_error inner };
 
-    fn from(inner: UriError) -> SigningError {
+    fn from(inner: UriFault) -> SigningError {
         match inner {
-            UriError::Invalid(_) => SigningError::InvalidUri,
-            UriError::OutOfMemory => SigningError::NoMemory,
+            UriFault::InvalidUri => SigningError::InvalidUri,
+            UriFault::NoMemory => SigningError::NoMemory,
         }
     }
 }

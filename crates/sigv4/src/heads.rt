@@ -1,6 +1,6 @@
 ghost use Rattle.std.specs.Prelude.{◌≡◌, ℕ, List, [], ◌∷◌, ◌++◌, map, codes, Some, bytes_eq, if◌then◌else◌, option_copied, string_bytes, IfOk, OnOk};
 ghost use Rattle.std.specs.BTreeMap.{IsOrdered};
-ghost use Rattle.std.specs.List.{flat_map};
+ghost use Rattle.std.specs.List.{flat_map, list_any};
 ghost use Rattle.std.specs.String.{string_cmp};
 ghost use Rattle.smithy_core.specs.Pairs.{inserted, lower};
 ghost use Rattle.smithy_core.specs.Text.{line};
@@ -26,15 +26,21 @@ pub(crate) fn token_name(settings: &SigningSettings) -> &str
 }
 
 /// Whether a header of this name is signed.
-#[tactic(auto, unfolding(crate::specs::Canonical::is_signed))]
+#[tactic(auto, using(crate::proofs::HeadLemmas::finds), unfolding(crate::specs::Canonical::is_signed))]
 pub(crate) fn is_signed(settings: &SigningSettings, name: &str) -> bool
     ensures { result ≡ is_signed (settings_of settings.now) name.now }
 {
     let is_excluded = match &settings.excluded_headers {
-        Some(names) => names.iter().any(|excluded| name == excluded.as_str()),
+        Some(names) => is_among(names.as_slice(), name),
         None => false,
     };
     !(is_excluded || names_excluded_token(settings, name))
+}
+
+fn is_among(names: &[String], name: &str) -> bool
+    ensures { result ≡ list_any (λ other. bytes_eq name.now (string_bytes other)) names.now }
+{
+    names.iter().any(|other| name == other.as_str())
 }
 
 // Whether the name is that of a token that isn't signed.
@@ -70,13 +76,7 @@ pub(crate) fn signed_heads(
     put_given(alloc, settings, &mut heads, headers)?;
     put_optional(alloc, settings, &mut heads, "host", added.host)?;
     put(alloc, settings, &mut heads, "x-amz-date", added.stamp)?;
-    put_optional(
-        alloc,
-        settings,
-        &mut heads,
-        token_name(settings),
-        added.token,
-    )?;
+    put_token(alloc, settings, &mut heads, added.token)?;
     put_optional(
         alloc,
         settings,
@@ -148,6 +148,19 @@ fn push_value(values: &mut String, value: &str) -> Mem<()>
 {
     values.push_str(",")?;
     push_trimmed(values, value)
+}
+
+// Puts the session token in place of all of its name, where one is held.
+fn put_token(
+    alloc: Global,
+    settings: &SigningSettings,
+    heads: &mut BTreeMap<String, String>,
+    token: Option<&str>,
+) -> Mem<()>
+    ensures { OnOk result ((pairs : List Pair) → HoldsHeads (settings_of settings.now) pairs heads.old
+        → HoldsHeads (settings_of settings.now) (with_optional (token_name (settings_of settings.now)) (option_copied token.entry) pairs) heads.new) }
+{
+    put_optional(alloc, settings, heads, token_name(settings), token)
 }
 
 // Puts a header in place of all of its name, where there is a value.

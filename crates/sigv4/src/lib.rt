@@ -9,16 +9,19 @@
 #![tactic(auto)]
 
 mod body;
+mod canonical_query;
 mod error;
 pub mod event_stream;
 mod heads;
 mod host;
 mod instructions;
 mod key;
+mod laws;
 mod modes;
 mod output;
 mod params;
 mod path;
+mod refusal;
 mod request;
 mod settings;
 mod signature;
@@ -32,6 +35,7 @@ pub mod v4;
 pub use crate::body::SignableBody;
 pub use crate::error::{SigningError, ValuePlace};
 pub use crate::instructions::{Header, SigningInstructions};
+pub use crate::laws::{normal_paths_stay, trimmed_texts_stay};
 pub use crate::modes::{PercentEncodingMode, UriPathNormalizationMode};
 pub use crate::output::SigningOutput;
 pub use crate::path::normalize_uri_path;

@@ -1,60 +1,71 @@
-ghost use Rattle.std.specs.Prelude.{◌≡◌, ◌++◌, ◌||◌, ◌==◌, not, [], length, codes, if◌then◌else◌, IfOk, OnOk};
-ghost use Rattle.std.specs.List.{flat_map};
+ghost use Rattle.std.specs.Prelude.{◌≡◌, ◌++◌, ◌||◌, not, codes, IfOk, OnOk};
+ghost use Rattle.std.specs.List.{flat_map, join_with_byte};
 ghost use Rattle.std.specs.String.{string_bytes};
-ghost use Rattle.sigv4.specs.Path.{after_piece, after_slash, canonical_path, encoded_again, names_here, names_parent, norm, piece_texts};
+ghost use Rattle.sigv4.specs.Path.{after_segment, after_slash, canonical_path, names_here, names_parent, norm, segment_texts, slash, tail};
 
 use crate::modes::{PercentEncodingMode, UriPathNormalizationMode};
 use smithy_core::Mem;
 use smithy_http::label::{self, EncodingStrategy};
 use std::alloc::Global;
 
-/// The path in its normal form (RFC 3986, section 5.2.4, with repeated slashes merged): it begins with `/`, has no piece
-/// that is empty, `.` or `..`, and ends with `/` where the path's last piece was one of these. This crate's own.
+/// The path in its normal form (RFC 3986, section 5.2.4, with repeated slashes merged): it begins with `/`, has no segment
+/// that is empty, `.` or `..`, and ends with `/` where the path's last segment was one of these. This crate's own.
 pub fn normalize_uri_path(alloc: Global, path: &str) -> Mem<String>
     ensures { IfOk result (λ text. string_bytes text ≡ norm path.now) }
 {
     let mut kept = Vec::new(alloc);
     let mut ends_open = true;
-    for piece in path.split('/') {
-        ends_open = !keep(&mut kept, piece)?;
+    for segment in path.split('/') {
+        ends_open = !keep(&mut kept, segment)?;
     }
-    join_pieces(alloc, &kept, ends_open)
+    join_segments(alloc, &kept, ends_open)
 }
 
-// Keeps the piece, where it names something; `..` drops the kept piece before it. Answers whether the piece was kept.
-fn keep<'a>(kept: &mut Vec<&'a str>, piece: &'a str) -> Mem<bool>
-    ensures kept { OnOk result (piece_texts kept.new.items ≡ after_piece (piece_texts kept.old.items) piece.now) }
-    ensures answer { IfOk result (λ is_kept. is_kept ≡ not (names_here piece.now || names_parent piece.now)) }
+// Keeps the segment, where it names something; `..` drops the kept segment before it. Answers whether the segment was kept.
+fn keep<'a>(kept: &mut Vec<&'a str>, segment: &'a str) -> Mem<bool>
+    ensures kept { OnOk result (segment_texts kept.new.items ≡ after_segment (segment_texts kept.old.items) segment.now) }
+    ensures answer { IfOk result (λ is_kept. is_kept ≡ not (names_here segment.now || names_parent segment.now)) }
 {
-    if piece == ".." {
+    if segment == ".." {
         kept.pop();
         return Ok(false);
     }
-    if piece.is_empty() || piece == "." {
+    if segment.is_empty() || segment == "." {
         return Ok(false);
     }
-    kept.push(piece)?;
+    kept.push(segment)?;
     Ok(true)
 }
 
-// Each piece after a slash, and one more slash where there is no piece or the path ends open.
-fn join_pieces(alloc: Global, kept: &[&str], ends_open: bool) -> Mem<String>
+// A slash, the segments with slashes between, and the tail.
+#[tactic(auto, using(crate::proofs::PathLemmas::none_joined, crate::proofs::PathLemmas::some_joined))]
+fn join_segments(alloc: Global, kept: &[&str], ends_open: bool) -> Mem<String>
     ensures { IfOk result (λ text. string_bytes text
-        ≡ flat_map after_slash (piece_texts kept.now) ++ (if (length kept.now == 0) || ends_open then codes "/" else [])) }
+        ≡ codes "/" ++ (join_with_byte slash (segment_texts kept.now) ++ tail ends_open (segment_texts kept.now))) }
 {
+    if kept.is_empty() {
+        return String::from_str(alloc, "/");
+    }
     let mut text = String::new(alloc);
-    for piece in kept {
-        text.push('/')?;
-        text.push_str(piece)?;
-    }
-    if kept.is_empty() || ends_open {
-        text.push('/')?;
-    }
+    push_segments(&mut text, kept)?;
+    text.push_str(if ends_open { "/" } else { "" })?;
     Ok(text)
+}
+
+// Appends each segment after a slash.
+fn push_segments(text: &mut String, segments: &[&str]) -> Mem<()>
+    ensures { OnOk result (string_bytes text.new ≡ string_bytes text.old ++ flat_map after_slash (segment_texts segments.now)) }
+{
+    for segment in segments {
+        text.push('/')?;
+        text.push_str(segment)?;
+    }
+    Ok(())
 }
 
 /// The path of a canonical request: in its normal form unless that is disabled, and escaped once more unless it is to be
 /// escaped a single time.
+#[tactic(auto, unfolding(crate::specs::Path::canonical_path))]
 pub(crate) fn canonical_path(
     alloc: Global,
     normalization: UriPathNormalizationMode,
@@ -63,20 +74,19 @@ pub(crate) fn canonical_path(
 ) -> Mem<String>
     ensures { IfOk result (λ text. string_bytes text ≡ canonical_path normalization encoding path.now) }
 {
-    match normalization {
-        UriPathNormalizationMode::Enabled => {
+    match (normalization, encoding) {
+        (UriPathNormalizationMode::Enabled, PercentEncodingMode::Double) => {
             let path = normalize_uri_path(alloc, path)?;
-            encode_again(alloc, encoding, path.as_str())
+            label::fmt_string(alloc, path.as_str(), EncodingStrategy::Greedy)
         }
-        UriPathNormalizationMode::Disabled => encode_again(alloc, encoding, path),
-    }
-}
-
-fn encode_again(alloc: Global, encoding: PercentEncodingMode, path: &str) -> Mem<String>
-    ensures { IfOk result (λ text. string_bytes text ≡ encoded_again encoding path.now) }
-{
-    match encoding {
-        PercentEncodingMode::Double => label::fmt_string(alloc, path, EncodingStrategy::Greedy),
-        PercentEncodingMode::Single => String::from_str(alloc, path),
+        (UriPathNormalizationMode::Enabled, PercentEncodingMode::Single) => {
+            normalize_uri_path(alloc, path)
+        }
+        (UriPathNormalizationMode::Disabled, PercentEncodingMode::Double) => {
+            label::fmt_string(alloc, path, EncodingStrategy::Greedy)
+        }
+        (UriPathNormalizationMode::Disabled, PercentEncodingMode::Single) => {
+            String::from_str(alloc, path)
+        }
     }
 }

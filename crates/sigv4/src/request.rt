@@ -5,6 +5,7 @@ use crate::body::SignableBody;
 use crate::error::SigningError;
 use http_uri::Uri;
 use smithy_core::Headers;
+use smithy_http::read_target;
 use std::alloc::Global;
 
 /// A request to be signed.
@@ -31,13 +32,9 @@ impl<'a> SignableRequest<'a> {
     ) -> Result<Self, SigningError>
         ensures { IsMadeOf method.now uri.now headers.now body.entry result }
     {
-        let uri = Uri::from_str(alloc, uri)?;
-        if uri.scheme().is_none() && uri.authority().is_some() {
-            return Err(SigningError::InvalidUri);
-        }
         Ok(SignableRequest {
             method,
-            uri,
+            uri: read_target(alloc, uri)?,
             headers,
             body,
         })

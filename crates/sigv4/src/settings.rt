@@ -81,7 +81,10 @@ impl SigningSettings {
             payload_checksum_kind: self.payload_checksum_kind,
             signature_location: self.signature_location,
             expires_in: self.expires_in,
-            excluded_headers: self.excluded_headers.clone()?,
+            excluded_headers: match &self.excluded_headers {
+                Some(names) => Some(copied_names(*names.allocator(), names.as_slice())?),
+                None => None,
+            },
             uri_path_normalization_mode: self.uri_path_normalization_mode,
             session_token_mode: self.session_token_mode,
             session_token_name_override: self.session_token_name_override.clone()?,
@@ -99,4 +102,15 @@ fn default_exclusions(alloc: Global) -> Mem<Vec<String>>
     names.push(String::from_str(alloc, "x-amzn-trace-id")?)?;
     names.push(String::from_str(alloc, "transfer-encoding")?)?;
     Ok(names)
+}
+
+// The same names.
+fn copied_names(alloc: Global, names: &[String]) -> Mem<Vec<String>>
+    ensures { IfOk result (λ copies. map string_bytes copies.items ≡ map string_bytes names.now) }
+{
+    let mut copies = Vec::new(alloc);
+    for name in names {
+        copies.push(name.clone()?)?;
+    }
+    Ok(copies)
 }

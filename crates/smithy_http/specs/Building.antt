@@ -38,6 +38,12 @@ SpellsNoTarget text = SpellsNone text ⊎ ((uri : Uri) × Spells text uri × IsA
 abbrev pub IsRefused : Target → Type 0
 IsRefused t = IsAuthorityAlone t ⊎ SpellsNone (target_text t)
 
+-- a URI is read, exactly where the text spells a target
+abbrev pub ReadsTarget : List ℕ → Result Uri UriFault → Type 0
+ReadsTarget text (Ok uri) = SpellsTarget text uri
+ReadsTarget text (Err InvalidUri) = SpellsNoTarget text
+ReadsTarget text (Err NoMemory) = Unit {0}
+
 -- a target is read, exactly where the text spells one
 abbrev pub Reads : List ℕ → Result Target UriFault → Type 0
 Reads text (Ok t) = (uri : Uri) × SpellsTarget text uri × (t ≡ target_of uri)
@@ -60,3 +66,8 @@ Builds t (Err NoMemory) = Unit {0}
 abbrev pub BuildsQuery : Target → Result (String Global) UriFault → Type 0
 BuildsQuery t (Ok query) = (uri : Uri) × Builds t (Ok uri) × (string_bytes query ≡ unwrap_or (uri_query uri) [])
 BuildsQuery t (Err fault) = Builds t (Err fault)
+
+-- the text of the target that is built
+abbrev pub BuildsText : Target → Result (String Global) UriFault → Type 0
+BuildsText t (Ok text) = (uri : Uri) × Builds t (Ok uri) × (string_bytes text ≡ target_text t)
+BuildsText t (Err fault) = Builds t (Err fault)

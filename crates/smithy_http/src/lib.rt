@@ -37,4 +37,5 @@ pub use crate::resolve_error::ResolveEndpointError;
 pub use crate::set_header::{
     HeaderFault, set_request_header_if_absent, set_response_header_if_absent,
 };
+pub use crate::target::read_target;
 pub use crate::uri_fault::UriFault;

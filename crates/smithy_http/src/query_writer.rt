@@ -1,12 +1,12 @@
 ghost use Rattle.std.specs.Prelude.{◌≡◌, [], unwrap_or, IfOk, OnOk, OnErr, string_bytes};
 ghost use Rattle.http_uri.specs.Uri.{uri_query};
-ghost use Rattle.smithy_http.specs.Building.{Builds, BuildsQuery, Reads, with_pair, without_query};
+ghost use Rattle.smithy_http.specs.Building.{Builds, BuildsQuery, BuildsText, Reads, with_pair, without_query};
 ghost use Rattle.smithy_http.specs.Escape.{base_set, escaped};
 ghost use Rattle.smithy_http.specs.Target.{target_of, target_text};
 
 use crate::piece::marked_pair;
 use crate::query::fmt_string;
-use crate::target::{is_authority_alone, join_target, parse_target};
+use crate::target::{is_authority_alone, join_target, parse_target, read_target};
 use crate::uri_fault::UriFault;
 use http_uri::Uri;
 use smithy_core::Mem;
@@ -50,10 +50,7 @@ impl QueryWriter {
     pub fn new_from_string(alloc: Global, uri: &str) -> Result<QueryWriter, UriFault>
         ensures { Reads uri.now result }
     {
-        let uri = Uri::from_str(alloc, uri)?;
-        if is_authority_alone(&uri) {
-            return Err(UriFault::InvalidUri);
-        }
+        let uri = read_target(alloc, uri)?;
         Ok(QueryWriter::new(alloc, &uri)?)
     }
 
@@ -125,6 +122,18 @@ impl QueryWriter {
     {
         let uri = self.build()?;
         Ok(copied_query(*self.query.allocator(), &uri)?)
+    }
+
+    /// The text of the target that [`QueryWriter::build_uri`] gives.
+    ///
+    /// # Errors
+    ///
+    /// Those of [`QueryWriter::build_uri`].
+    pub fn build_text(self) -> Result<String, UriFault>
+        ensures { BuildsText self result }
+    {
+        let _uri = self.build()?;
+        Ok(self.text()?)
     }
 
     /// A writer of the same target.

@@ -1,7 +1,7 @@
 ghost use Rattle.std.specs.Prelude.{◌≡◌, ◌++◌, ◌↔◌, IsTrue, IfOk, OnOk, option_copied};
 ghost use Rattle.std.specs.String.{string_bytes};
 ghost use Rattle.http_uri.specs.ByteClasses.{framed_text};
-ghost use Rattle.smithy_http.specs.Building.{Parses};
+ghost use Rattle.smithy_http.specs.Building.{Parses, ReadsTarget};
 ghost use Rattle.smithy_http.specs.Target.{IsAuthorityAlone, target_of, target_text};
 
 use crate::uri_fault::UriFault;
@@ -42,6 +42,22 @@ fn push_framed(out: &mut String, lead: &str, part: Option<&str>, trail: &str) ->
 }
 
 /// The target that the text spells.
+///
+/// # Errors
+///
+/// [`UriFault::InvalidUri`] exactly where the text isn't accepted as a target, or passes 65,534 bytes,
+/// or has an authority without a scheme.
+pub fn read_target(alloc: Global, text: &str) -> Result<Uri, UriFault>
+    ensures { ReadsTarget text.now result }
+{
+    let uri = Uri::from_str(alloc, text)?;
+    if is_authority_alone(&uri) {
+        return Err(UriFault::InvalidUri);
+    }
+    Ok(uri)
+}
+
+/// The URI that the text spells.
 pub(crate) fn parse_target(text: String) -> Result<Uri, UriFault>
     ensures { Parses (string_bytes text) result }
 {

@@ -1,6 +1,6 @@
 use Rattle.std.proofs.Common.{◌≡◌, ◌++◌, map}
 use Rattle.std.specs.Prelude.{string_bytes}
-use Rattle.sigv4.specs.Canonical.{joined_names}
+use Rattle.sigv4.specs.Canonical.{Pair, joined_names}
 use Rattle.sigv4.specs.HeadMap.{separator_before, texts}
 use Rattle.sigv4.proofs.HeadLemmas.{names_behind}
 use Rattle.sigv4.proofs.heads.joined_names.Given as goal
@@ -8,4 +8,4 @@ use Rattle.sigv4.proofs.heads.joined_names.Given as goal
 -- what was written and the names to come are all of them
 abbrev pub invariant-loop-name : goal.invariant-loop-name
 invariant-loop-name l =
-    string_bytes l.names ++ names_behind (separator_before l.is_first) (map (λ entry. string_bytes entry.0) l.name-iterator) ≡ joined_names (map (λ entry. entry.0) (texts l.heads))
+    string_bytes l.names ++ names_behind (separator_before l.is_first) (map (λ (head : Pair). head.0) (map (λ entry. (string_bytes entry.0, string_bytes entry.1)) l.name-iterator)) ≡ joined_names (map (λ (head : Pair). head.0) (texts l.heads))

@@ -1,0 +1,21 @@
+use Rattle.std.proofs.Common.{◌≡◌, ◌++◌, [], ℕ, Bor, List, Option, map, unwrap_or, sym, ap, ◌∙◌}
+use Rattle.std.proofs.lemmas.List.{map-append}
+use Rattle.form_urlencoded.specs.Form.{pair_text as parameter_text}
+use Rattle.http_uri.specs.Uri.{uri_query}
+use Rattle.sigv4.specs.Query.{Pair, decoded, decoded_pairs, escaped_pair, query}
+use Rattle.sigv4.proofs.QueryLemmas.{copied_or}
+use Rattle.sigv4.proofs.canonical_query.canonical_query.Goals as goal
+
+pub returns : goal.returns
+unfolding query decoded
+returns c =
+    let parameters = map parameter_text c.args.parameters.now in
+    let text : c.unwrap_or.result.now ≡ unwrap_or (uri_query c.args.uri.now) [] =
+    ap (λ (t : Bor (List ℕ)). t.now) c.unwrap_or.ensures ∙ copied_or c.query.result _ ∙ ap (λ (t : Option (List ℕ)). unwrap_or t []) c.query.ensures.value in
+    let first : c.push_query.new.self ≡ map escaped_pair (decoded_pairs (unwrap_or (uri_query c.args.uri.now) [])) =
+    c.in_ok-push_query.ensures ∙ ap (λ (front : List Pair). front ++ map escaped_pair (decoded_pairs c.unwrap_or.result.now)) c.new-pairs.ensures
+    ∙ ap (λ (t : List ℕ). map escaped_pair (decoded_pairs t)) text in
+    let both : c.push_parameters.new.self ≡ map escaped_pair (decoded_pairs (unwrap_or (uri_query c.args.uri.now) []) ++ parameters) =
+    c.in_ok-push_parameters.ensures ∙ ap (λ (front : List Pair). front ++ map escaped_pair parameters) first
+    ∙ sym (map-append escaped_pair (decoded_pairs (unwrap_or (uri_query c.args.uri.now) [])) parameters) in
+    rw both at c.into_text.ensures
