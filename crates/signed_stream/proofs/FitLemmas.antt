@@ -42,7 +42,7 @@ refused_fits text case events (Some target) told held is = by_error (unfit (case
     by_error None is = cc
     by_error (Some error) is = stopped (fault_for error) told held cc
 
-pub unsigned_fits : {T : Type 0} (text : List ℕ) (case : Target → Case) (events : List Parts) (headers : List (List ℕ × List ℕ)) (halt : Halt) (held : Option (List ℕ))
+pub unsigned_fits : (text : List ℕ) (case : Target → Case) (events : List Parts) (headers : List (List ℕ × List ℕ)) (halt : Halt) (held : Option (List ℕ))
     → SignsRequest text case headers (Err halt) → FitsTarget (ReadsTarget text) (target_plan text case events) (halted halt) held held
 unsigned_fits text case events headers (halts.Refused told) held refused = inr (refused.0, refused.1, refused_fits text case events refused.0 told held refused.2)
 unsigned_fits text case events headers halts.OutputFault held refused = absurd refused
@@ -68,10 +68,10 @@ fits_same Reads one other answer before now same (inl fits) = inl (λ target. rw
 fits_same Reads one other answer before now same (inr found) = inr (found.0, found.1, rw (same found.0) found.2)
 
 -- what the profile of a job gives
-pub record Gives (j : PlainJob) (key_id secret region : List ℕ) : Type 0 where
-  pub key_id : j.settings.key_id ≡ Some key_id
-  pub secret : j.settings.secret ≡ Some secret
-  pub region : j.settings.region ≡ Some region
+pub record Gives (j : PlainJob) (k s r : List ℕ) : Type 0 where
+  pub key_id : j.settings.key_id ≡ Some k
+  pub secret : j.settings.secret ≡ Some s
+  pub region : j.settings.region ≡ Some r
 
 pub job_fits : (wanted : Wanted) (j : PlainJob) (selected : Selected) (answer : Status) (before now : Option (List ℕ))
     → Gives j selected.key_id selected.secret selected.region → selected.token ≡ j.settings.token → is_in_years wanted.at ≡ true

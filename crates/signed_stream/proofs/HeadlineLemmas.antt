@@ -53,7 +53,7 @@ done_job : (wanted : Wanted) (bytes : List ℕ) (j : PlainJob) (target : Target)
     → length bytes ≤ most_input → job bytes ≡ plain_job j → ReadsTarget j.target (Some target)
     → j.settings ≡ record { key_id = key_id; secret = secret; token = j.settings.token; region = region }
     → Fits (settings_plan j wanted (Some target) j.settings key_id secret region) Done before now → StreamsInput wanted bytes before now
-done_job wanted bytes j target before now (Some key_id) (Some secret) (Some region) short spelled accepted settled = by_years (is_in_years wanted.at) refl
+done_job wanted bytes j target before now (Some key_id) (Some secret) (Some region) short spelled accepted settled fits = by_years (is_in_years wanted.at) refl fits
   where
     selected : Selected
     selected = record { key_id = key_id; secret = secret; token = j.settings.token; region = region }

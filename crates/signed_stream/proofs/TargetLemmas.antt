@@ -1,17 +1,33 @@
 -- A text spells one target, or none.
-use Rattle.std.proofs.Common.{◌≡◌, ℕ, ◌⊎◌, inl, inr, List, Option, Some, None, refl, sym, ap, ◌∙◌, subst}
-use Rattle.http_uri.specs.Uri.{Spells, SpellsNone}
+use Rattle.std.proofs.Common.{◌≡◌, ◌==◌, ℕ, ◌⊎◌, inl, inr, not, List, [], length, Option, Some, None, refl, sym, ap, ◌∙◌, subst}
+use Rattle.std.specs.Prelude.{if◌then◌else◌, ◌||◌, is_some}
+use Rattle.http_uri.specs.Grammar.{path_of, query_of}
+use Rattle.http_uri.specs.Uri.{Spells, SpellsNone, uri_authority, uri_data, uri_scheme}
 use Rattle.http_uri.specs.declared.uri.Uri.{Uri}
 use Rattle.http_uri.proofs.Theorems.{Spells_unique}
 use Rattle.smithy_http.specs.Building.{SpellsNoTarget, SpellsTarget}
 use Rattle.smithy_http.specs.Target.{IsAuthorityAlone, Target, target_of}
 use Rattle.signed_stream.specs.Targets.{ReadsTarget}
 
+-- the target of a scheme, an authority and a path with its query
+target_with : Option (List ℕ) → Option (List ℕ) → List ℕ → Target
+target_with scheme authority kept = record {
+  scheme = scheme;
+  authority = authority;
+  path = (if not (length kept == 0) || is_some scheme then path_of kept else []);
+  query = query_of kept;
+}
+
+target_of_parts : (u : Uri) → target_of u ≡ target_with (uri_scheme u) (uri_authority u) (uri_data u)
+unfolding target_with
+target_of_parts u = refl
+
 -- the URIs that one text spells have one target
 one_target : (text : List ℕ) (u v : Uri) → Spells text u → Spells text v → target_of u ≡ target_of v
 one_target text u v first second =
     let same = Spells_unique text u v first second in
-    rw (same.0, same.1, same.2) refl
+    target_of_parts u ∙ ap (λ s. target_with s (uri_authority u) (uri_data u)) same.0 ∙ ap (λ a. target_with (uri_scheme v) a (uri_data u)) same.1
+    ∙ ap (target_with (uri_scheme v) (uri_authority v)) same.2 ∙ sym (target_of_parts v)
 
 -- no text spells a target and none
 pub spells_one_way : (text : List ℕ) (uri : Uri) → SpellsNoTarget text → SpellsTarget text uri → ⊥

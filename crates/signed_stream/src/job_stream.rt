@@ -69,6 +69,7 @@ fn stream_bytes<K: ByteSink>(
     out: &mut K,
 ) -> Status
     ensures never_bad_words { (place : ℕ) → result ≡ Status.BadWords place → ⊥ }
+    ensures never_read_fault { result ≡ Status.ReadFault → ⊥ }
     ensures planned { FitsTarget (ReadsTargetOf (job bytes.now)) (λ target. job_plan (wanted_of words.now) target (job bytes.now)) result (K.held out.old) (K.held out.new) }
     ensures output_fault { result ≡ Status.OutputFault → Rose (K.faults out.old) (K.faults out.new) }
     ensures count { K.faults out.old ≤ K.faults out.new }
@@ -89,6 +90,7 @@ fn stream_job<K: ByteSink>(
     out: &mut K,
 ) -> Status
     ensures never_bad_words { (place : ℕ) → result ≡ Status.BadWords place → ⊥ }
+    ensures never_read_fault { result ≡ Status.ReadFault → ⊥ }
     ensures planned { FitsTarget (ReadsTarget (string_bytes job.request.target)) (λ target. job_plan (wanted_of words.now) target (plain_job (plain_of job)))
         result (K.held out.old) (K.held out.new) }
     ensures output_fault { result ≡ Status.OutputFault → Rose (K.faults out.old) (K.faults out.new) }
