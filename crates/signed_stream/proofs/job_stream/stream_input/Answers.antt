@@ -12,7 +12,7 @@ returns-in-Ok-clause-streamed g c = λ done bytes told.
     let short : length c.in-Ok.bytes.items ≤ most_input = omega (arith, counted, c.in-Ok.ensures.short) in
     let same = all_read (g.S.ByteSource.left c.args.input.now) c.in-Ok.bytes.items bytes c.in-Ok.ensures.bytes told in
     let fits = rw (c.as_slice.ensures.value, done) at c.stream_bytes.ensures.planned in
-    done_streams (wanted_of c.args.words.now) bytes (job c.in-Ok.bytes.items) _ _ (rw (← same) short) (rw same refl) fits
+    done_streams (wanted_of c.args.words.now) bytes (job c.in-Ok.bytes.items) (g.K.ByteSink.held c.args.out.now) (g.K.ByteSink.held c.stream_bytes.new.out) (rw (← same) short) (rw same refl) fits
 
 pub returns-in-Ok-clause-planned : goal.returns-in-Ok-clause-planned
 returns-in-Ok-clause-planned g c = λ bytes target told reads.
@@ -20,7 +20,7 @@ returns-in-Ok-clause-planned g c = λ bytes target told reads.
     let short : length c.in-Ok.bytes.items ≤ most_input = omega (arith, counted, c.in-Ok.ensures.short) in
     let same = all_read (g.S.ByteSource.left c.args.input.now) c.in-Ok.bytes.items bytes c.in-Ok.ensures.bytes told in
     let fits = rw c.as_slice.ensures.value at c.stream_bytes.ensures.planned in
-    rw (plan_of_read (wanted_of c.args.words.now) c.in-Ok.bytes.items bytes target short same) (fits_ends _ _ _ _ (fits_read _ _ _ _ _ target fits (rw same reads)))
+    rw (plan_of_read (wanted_of c.args.words.now) c.in-Ok.bytes.items bytes target short same) (fits_ends _ c.stream_bytes.result (g.K.ByteSink.held c.args.out.now) (g.K.ByteSink.held c.stream_bytes.new.out) (fits_read (wanted_of c.args.words.now) (job c.in-Ok.bytes.items) c.stream_bytes.result (g.K.ByteSink.held c.args.out.now) (g.K.ByteSink.held c.stream_bytes.new.out) target fits (rw same reads)))
 
 pub returns-in-Ok-clause-output : goal.returns-in-Ok-clause-output
 returns-in-Ok-clause-output g c = λ bytes target told reads.
@@ -28,10 +28,11 @@ returns-in-Ok-clause-output g c = λ bytes target told reads.
     let short : length c.in-Ok.bytes.items ≤ most_input = omega (arith, counted, c.in-Ok.ensures.short) in
     let same = all_read (g.S.ByteSource.left c.args.input.now) c.in-Ok.bytes.items bytes c.in-Ok.ensures.bytes told in
     let fits = rw c.as_slice.ensures.value at c.stream_bytes.ensures.planned in
-    rw (plan_of_read (wanted_of c.args.words.now) c.in-Ok.bytes.items bytes target short same) (fits_gains _ _ _ _ (fits_read _ _ _ _ _ target fits (rw same reads)))
+    rw (plan_of_read (wanted_of c.args.words.now) c.in-Ok.bytes.items bytes target short same) (fits_gains _ c.stream_bytes.result (g.K.ByteSink.held c.args.out.now) (g.K.ByteSink.held c.stream_bytes.new.out) (fits_read (wanted_of c.args.words.now) (job c.in-Ok.bytes.items) c.stream_bytes.result (g.K.ByteSink.held c.args.out.now) (g.K.ByteSink.held c.stream_bytes.new.out) target fits (rw same reads)))
 
 pub returns-in-Ok-clause-kept : goal.returns-in-Ok-clause-kept
-returns-in-Ok-clause-kept g c = read_keeps _ _ _ _ _ c.stream_bytes.ensures.planned
+returns-in-Ok-clause-kept g c =
+    read_keeps (wanted_of c.args.words.now) (job c.as_slice.result.now) c.stream_bytes.result (g.K.ByteSink.held c.args.out.now) (g.K.ByteSink.held c.stream_bytes.new.out) c.stream_bytes.ensures.planned
 
 pub returns-in-Err-TooLarge-clause-planned : goal.returns-in-Err-TooLarge-clause-planned
 returns-in-Err-TooLarge-clause-planned g c = λ bytes target told reads.

@@ -8,7 +8,7 @@ use Rattle.signed_stream.proofs.job_stream.stream_request.Goals as goal
 pub returns-in_err-signature-clause-planned : goal.returns-in_err-signature-clause-planned
 returns-in_err-signature-clause-planned g c =
     let exit = err_from_is_err_and c.from_residual.result c.from_residual.ensures.1 in
-    rw (exit.1, exit.2) (unsigned_fits _ _ c.args.events.now _ _ _ c.in_err-signature.ensures.signs)
+    rw (exit.1, exit.2) (unsigned_fits _ _ c.args.events.now c.sign_request.new.request.headers _ _ c.in_err-signature.ensures.signs)
 
 pub returns-clause-planned : goal.returns-clause-planned
 returns-clause-planned g c =
