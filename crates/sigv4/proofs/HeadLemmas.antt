@@ -10,7 +10,7 @@ use Rattle.std.proofs.lemmas.Cmp.{nat_list_cmp_total}
 use Rattle.std.specs.Cmp.Lexicographic.{slice_cmp}
 use Rattle.std.proofs.lemmas.Cmp.{eq_by_cmp_equiv}
 use Rattle.std.specs.BTreeMap.{BTreeMap, get_by_text, is_at, IsOrdered}
-use Rattle.std.specs.List.{join_with_byte, list_any, AllByRecursion}
+use Rattle.std.specs.List.{flat_map, join_with_byte, list_any, AllByRecursion}
 use Rattle.std.specs.List.Sorted.{IsStrictlySortedBy}
 use Rattle.std.specs.Map.{keys_of, lookup}
 use Rattle.std.specs.FinMap.{FinMap, entries, entries_sorted, from_entries, keys, get, get-entries, get-from_entries, find, is_sorted}
@@ -20,8 +20,9 @@ use Rattle.std.proofs.lemmas.Map.Lookups.{exact_bytes}
 use Rattle.std.proofs.lemmas.Map.Text.{is_eq-slice_cmp}
 use Rattle.std.proofs.lemmas.Slice.Eq.{bytes_eq-Decides}
 use Rattle.smithy_core.specs.Pairs.{inserted, named_values, without}
-use Rattle.sigv4.specs.Canonical.{Pair, is_signed, joined_names, joined_values, ordered_set, signed_names}
-use Rattle.sigv4.specs.HeadMap.{HeadMap, HoldsHeads, appended, signed_values, texts, value_at}
+use Rattle.sigv4.specs.Canonical.{head_line, is_signed, joined_names, joined_values, ordered_set, signed_names, with_added}
+use Rattle.sigv4.specs.Query.{Pair}
+use Rattle.sigv4.specs.HeadMap.{HeadMap, HoldsHeads, appended, pair_line, signed_values, texts, value_at}
 use Rattle.sigv4.specs.Settings.{Settings}
 
 -- ---- values
@@ -341,3 +342,31 @@ any-texts name [] = refl
 any-texts name (other ∷ names) = ap (λ b. bytes_eq name (string_bytes other) || b) (any-texts name names)
 
 pub ruleset finds = (any-texts)
+
+-- ---- the names and the lines of a map that holds headers
+
+map-first : (f : List ℕ → List ℕ) (names : List (List ℕ)) → map (λ (head : Pair). head.0) (map (λ n. (n, f n)) names) ≡ names
+map-first f [] = refl
+map-first f (name ∷ names) = ap (λ rest. name ∷ rest) (map-first f names)
+
+flat_map-lines : (pairs : List Pair) (names : List (List ℕ)) → flat_map pair_line (map (λ n. (n, joined_values pairs n)) names) ≡ flat_map (head_line pairs) names
+flat_map-lines pairs [] = refl
+flat_map-lines pairs (name ∷ names) = ap (λ rest. head_line pairs name ++ rest) (flat_map-lines pairs names)
+
+pub names-held : (settings : Settings) (pairs : List Pair) (heads : HeadMap) → IsOrdered string_cmp heads → HoldsHeads settings pairs heads
+    → map (λ (head : Pair). head.0) (texts heads) ≡ signed_names settings pairs
+names-held settings pairs heads ordered holds =
+    ap (map (λ (head : Pair). head.0)) (texts-held settings pairs heads ordered holds) ∙ map-first (joined_values pairs) (signed_names settings pairs)
+
+pub lines-held : (settings : Settings) (pairs : List Pair) (heads : HeadMap) → IsOrdered string_cmp heads → HoldsHeads settings pairs heads
+    → flat_map pair_line (texts heads) ≡ flat_map (head_line pairs) (signed_names settings pairs)
+lines-held settings pairs heads ordered holds =
+    ap (flat_map pair_line) (texts-held settings pairs heads ordered holds) ∙ flat_map-lines pairs (signed_names settings pairs)
+
+-- ---- the headers that a signature adds
+
+-- a map that holds headers holds the same headers under other words
+pub held-same : {settings settings' : Settings} {host host' : Option (List ℕ)} {stamp stamp' : List ℕ} {token token' payload payload' : Option (List ℕ)}
+    (given : List Pair) (heads : HeadMap) → settings ≡ settings' → host ≡ host' → stamp ≡ stamp' → token ≡ token' → payload ≡ payload'
+    → HoldsHeads settings (with_added settings host stamp token payload given) heads → HoldsHeads settings' (with_added settings' host' stamp' token' payload' given) heads
+held-same given heads e f g h k holds name = holds name ∙ (λ i. appended None (signed_values (e i) (with_added (e i) (f i) (g i) (h i) (k i) given) name))

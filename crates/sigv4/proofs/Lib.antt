@@ -1,8 +1,12 @@
+pub mod CanonicalLemmas
 pub mod HeadLemmas
 pub mod JoinLemmas
+pub mod NameLemmas
 pub mod PathLemmas
 pub mod QueryLemmas
 pub mod RefusalLemmas
 pub mod ScopeLemmas
+pub mod SignatureLemmas
 pub mod SortLemmas
+pub mod TargetLemmas
 pub mod TrimLemmas

@@ -11,17 +11,13 @@ use Rattle.smithy_http.specs.Target.{Target}
 use Rattle.sigv4.specs.Case.{Case}
 use Rattle.sigv4.specs.Host.{host_text}
 use Rattle.sigv4.specs.Path.{canonical_path}
-use Rattle.sigv4.specs.Query.{decoded, query}
+use Rattle.sigv4.specs.Query.{Pair, decoded, query}
 use Rattle.sigv4.specs.Settings.{Settings}
 use Rattle.sigv4.specs.Trim.{trim_all}
 use Rattle.sigv4.specs.declared.settings.PayloadChecksumKind.{PayloadChecksumKind}
 use Rattle.sigv4.specs.declared.settings.PayloadChecksumKind.TheVariants.{XAmzSha256, NoHeader}
 use Rattle.sigv4.specs.declared.settings.SessionTokenMode.{SessionTokenMode}
 use Rattle.sigv4.specs.declared.settings.SessionTokenMode.TheVariants.{Include, Exclude}
-
--- a name and a value
-abbrev pub Pair : Type 0
-Pair = List ℕ × List ℕ
 
 -- the name of the session token's header
 abbrev pub token_name : Settings → List ℕ
@@ -95,10 +91,10 @@ joined_values heads name = join_with_byte 44 (named_values heads name)
 abbrev pub head_line : List Pair → List ℕ → List ℕ
 head_line heads name = line (name ++ codes ":" ++ joined_values heads name)
 
--- the lines method, path, query, one for each name, an empty one, the names, and the payload's text with no LF after it
-abbrev pub text_of : List ℕ → List ℕ → List Pair → List Pair → List (List ℕ) → List ℕ → List ℕ
-text_of method path pairs heads names payload =
-    line method ++ line path ++ line (query pairs) ++ flat_map (head_line heads) names ++ line [] ++ line (joined_names names) ++ payload
+-- the lines method, path, query, those of the headers, an empty one, the names, and the payload's text with no LF after it
+abbrev pub text_of : List ℕ → List ℕ → List ℕ → List ℕ → List ℕ → List ℕ → List ℕ
+text_of method path query lines names payload =
+    line method ++ line path ++ line query ++ lines ++ line [] ++ line names ++ payload
 
 -- the path
 abbrev pub path_of : Case → List ℕ
@@ -110,4 +106,4 @@ pairs c = decoded c.target
 
 -- the canonical text
 unfoldable pub canonical : Case → List ℕ
-canonical c = text_of c.method (path_of c) (pairs c) (heads c) (names c) c.payload
+canonical c = text_of c.method (path_of c) (query (pairs c)) (flat_map (head_line (heads c)) (names c)) (joined_names (names c)) c.payload

@@ -1,17 +1,20 @@
 -- What is signed, and with what: a request and the parameters of its signature.
-use Rattle.std.specs.Prelude.{ℕ, List, [], codes, Option, None, option_map, string_bytes}
+use Rattle.std.specs.Prelude.{◌≡◌, ℕ, List, [], codes, Option, None, option_map, string_bytes}
 use Rattle.sha2.specs.Sha256.{sha256}
 use Rattle.hex.specs.Hex.{encode_lower}
 use Rattle.smithy_core.specs.Instant.{Instant}
+use Rattle.smithy_core.specs.declared.identity.Credentials.{Credentials as Keys}
 use Rattle.smithy_core.specs.declared.identity.Identity.{Identity}
 use Rattle.smithy_core.specs.declared.identity.Identity.TheVariants.{Credentials, Token}
 use Rattle.smithy_http.specs.Target.{Target, target_of}
 use Rattle.eventstream.specs.Key.{Signer}
-use Rattle.sigv4.specs.Params.{signer_of}
+use Rattle.sigv4.specs.Params.{secret_of, signer_of}
 use Rattle.sigv4.specs.Settings.{Settings, settings_of}
 use Rattle.sigv4.specs.declared.body.SignableBody.{SignableBody}
 use Rattle.sigv4.specs.declared.body.SignableBody.TheVariants.{Bytes, UnsignedPayload, Precomputed, StreamingUnsignedPayloadTrailer, StreamingSignedPayloadTrailer}
+use Rattle.sigv4.specs.declared.params.SigningParams.{SigningParams as V4Params}
 use Rattle.sigv4.specs.declared.request.SignableRequest.{SignableRequest}
+use Rattle.sigv4.specs.declared.settings.SigningSettings.{SigningSettings}
 use Rattle.sigv4.specs.declared.signing_params.SigningParams.{SigningParams}
 use Rattle.sigv4.specs.declared.signing_params.SigningParams.TheVariants.{V4}
 
@@ -52,9 +55,9 @@ identity_of (V4 params) = params.identity.now
 abbrev pub params_settings : SigningParams → Settings
 params_settings (V4 params) = settings_of params.settings
 
--- a request and its parameters
-abbrev pub case_of : SignableRequest → SigningParams → Case
-case_of request (V4 params) = record {
+-- a request, and the parameters of Version 4
+abbrev pub case_under : SignableRequest → V4Params SigningSettings → Case
+case_under request params = record {
   method = request.method.now;
   target = target_of request.uri;
   headers = request.headers.now;
@@ -65,3 +68,13 @@ case_of request (V4 params) = record {
   signer = signer_of params;
   at = params.time;
 }
+
+-- a request and its parameters
+abbrev pub case_of : SignableRequest → SigningParams → Case
+case_of request (V4 params) = case_under request params
+
+-- what an identity and its credentials have in common
+pub record HasKeys (identity : Identity) (credentials : Keys) : Type 0 where
+  pub key_id : string_bytes credentials.key_id ≡ key_id_of identity
+  pub secret : string_bytes credentials.secret ≡ secret_of identity
+  pub token : option_map string_bytes credentials.token ≡ token_of identity

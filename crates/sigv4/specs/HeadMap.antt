@@ -4,7 +4,8 @@ use Rattle.std.specs.BTreeMap.{BTreeMap, get_by_text}
 use Rattle.std.specs.declared.alloc.Global.{Global}
 use Rattle.smithy_core.specs.Pairs.{named_values}
 use Rattle.smithy_core.specs.Text.{line}
-use Rattle.sigv4.specs.Canonical.{Pair, is_signed}
+use Rattle.sigv4.specs.Canonical.{is_signed}
+use Rattle.sigv4.specs.Query.{Pair}
 use Rattle.sigv4.specs.Settings.{Settings}
 
 abbrev pub HeadMap : Type 0

@@ -3,10 +3,12 @@ pub mod Case
 pub mod Errors
 pub mod HeadMap
 pub mod Host
+pub mod Instructions
 pub mod Params
 pub mod Path
 pub mod Query
 pub mod Refusal
+pub mod RequestParams
 pub mod RequestSigning
 pub mod Settings
 pub mod Signature

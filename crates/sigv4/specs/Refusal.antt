@@ -7,7 +7,8 @@ use Rattle.http_header.specs.FieldName.{is_field_name}
 use Rattle.http_header.specs.Token.{is_value_byte}
 use Rattle.smithy_core.specs.declared.identity.Identity.{Identity}
 use Rattle.smithy_http.specs.Target.{Target}
-use Rattle.sigv4.specs.Canonical.{Pair, added_host, has_host, told_payload}
+use Rattle.sigv4.specs.Canonical.{added_host, has_host, told_payload}
+use Rattle.sigv4.specs.Query.{Pair}
 use Rattle.sigv4.specs.Case.{Case}
 use Rattle.sigv4.specs.Host.{host_text}
 use Rattle.sigv4.specs.Signed.{authorization}
@@ -56,12 +57,17 @@ abbrev pub unfit_optional : ValuePlace → Option (List ℕ) → Option SigningE
 unfit_optional place None = None
 unfit_optional place (Some text) = unfit_value place text
 
--- the first test of a request that fails: its headers in order, the host, the token, the payload's text, the authorization
+-- the first test that fails of the headers in order, the host, the token and the payload's text
+abbrev pub unfit_parts : Target → List Pair → Option (List ℕ) → Option (List ℕ) → Option SigningError
+unfit_parts target headers token payload =
+    option_or (unfit_headers 1 headers) (option_or (unfit_host target headers)
+    (option_or (unfit_optional Token token) (unfit_optional PayloadHash payload)))
+
+-- the first test of a request that fails: its parts, and then the authorization
 unfoldable pub unfit : Case → Option SigningError
 unfit c =
-    option_or (unfit_headers 1 c.headers) (option_or (unfit_host c.target c.headers)
-    (option_or (unfit_optional Token c.token) (option_or (unfit_optional PayloadHash (told_payload c.settings.payload_checksum_kind c.payload))
-    (unfit_value Authorization (authorization c)))))
+    option_or (unfit_parts c.target c.headers c.token (told_payload c.settings.payload_checksum_kind c.payload))
+    (unfit_value Authorization (authorization c))
 
 -- the same after the tests of who signs and when
 abbrev pub request_refusal : Identity → Case → Option SigningError
@@ -76,3 +82,8 @@ Tests refused (Err error) = refused ≡ Some error
 abbrev pub AddsHost : Target → List Pair → Result (Option (Bor (List ℕ))) SigningError → Type 0
 AddsHost target headers (Ok host) = (unfit_host target headers ≡ None) × (option_copied host ≡ added_host target headers)
 AddsHost target headers (Err error) = unfit_host target headers ≡ Some error
+
+-- the same, where no earlier test of the parts fails, nor a later one
+abbrev pub FindsHost : Target → List Pair → Option (List ℕ) → Option (List ℕ) → Result (Option (Bor (List ℕ))) SigningError → Type 0
+FindsHost target headers token payload (Ok host) = (unfit_parts target headers token payload ≡ None) × (option_copied host ≡ added_host target headers)
+FindsHost target headers token payload (Err error) = unfit_parts target headers token payload ≡ Some error

@@ -12,15 +12,14 @@ ghost use Rattle.eventstream.specs.Link.{date_header, link_message, link_signatu
 ghost use Rattle.sigv4.specs.Params.{secret_of, signer_of};
 ghost use Rattle.sigv4.specs.Signing.{Links, refusal, unsignable};
 
+use crate::credentials::credentials_for;
 use crate::error::SigningError;
 use crate::key::{generate_signing_key, scope_bytes};
 use crate::output::SigningOutput;
 use bytes::Bytes;
 use eventstream::{ErrorKind, write_headers_to, write_message_to};
 use mac_core::{hmac_sha256, sha256_hex};
-use smithy_core::{
-    Header, HeaderValue, Identity, Mem, Message, Moment, StrBytes, civil, push_line,
-};
+use smithy_core::{Header, HeaderValue, Mem, Message, Moment, StrBytes, civil, push_line};
 use std::alloc::{AllocError, Global};
 
 /// The parameters of a signed message, which have no settings.
@@ -74,29 +73,14 @@ fn sign_bytes(
     ensures { Links (unsignable params.now.identity.now params.now.time)
         params.now last_signature.now bytes.items result }
 {
-    match secret_for(params.identity(), params.time()) {
-        Ok(secret) => {
-            let date = whole_second(params.time());
-            let key = generate_signing_key(secret, date, params.region(), params.name());
-            Ok(link(alloc, bytes, last_signature, params, key.as_slice())?)
-        }
-        Err(error) => Err(error),
-    }
-}
-
-// The secret of an identity that signs at a moment.
-fn secret_for<'a>(identity: &'a Identity, time: Moment) -> Result<&'a str, SigningError>
-    ensures { MatchResult result
-        (λ secret. (unsignable identity.now time ≡ None) × IsInYears time × (secret.now ≡ secret_of identity.now))
-        (λ error. unsignable identity.now time ≡ Some error) }
-{
-    match identity {
-        Identity::Token(_) => Err(SigningError::UnsupportedIdentityType),
-        Identity::Credentials(credentials) => match civil(time) {
-            Some(_) => Ok(credentials.secret_access_key()),
-            None => Err(SigningError::MomentOutOfRange(time)),
-        },
-    }
+    let credentials = credentials_for(params.identity(), params.time())?;
+    let key = generate_signing_key(
+        credentials.secret_access_key(),
+        whole_second(params.time()),
+        params.region(),
+        params.name(),
+    );
+    Ok(link(alloc, bytes, last_signature, params, key.as_slice())?)
 }
 
 // The moment without its nanoseconds.

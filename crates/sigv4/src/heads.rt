@@ -4,7 +4,8 @@ ghost use Rattle.std.specs.List.{flat_map, list_any};
 ghost use Rattle.std.specs.String.{string_cmp};
 ghost use Rattle.smithy_core.specs.Pairs.{inserted, lower};
 ghost use Rattle.smithy_core.specs.Text.{line};
-ghost use Rattle.sigv4.specs.Canonical.{Pair, given_heads, is_signed, joined_names, names_excluded_token, token_name, with_added, with_optional};
+ghost use Rattle.sigv4.specs.Canonical.{given_heads, is_signed, joined_names, names_excluded_token, token_name, with_added, with_optional};
+ghost use Rattle.sigv4.specs.Query.{Pair};
 ghost use Rattle.sigv4.specs.HeadMap.{HoldsHeads, appended, pair_line, separator_before, signed_values, texts, value_at};
 ghost use Rattle.sigv4.specs.Settings.{settings_of};
 ghost use Rattle.sigv4.specs.Trim.{trim_all};
@@ -54,6 +55,7 @@ fn names_excluded_token(settings: &SigningSettings, name: &str) -> bool
 }
 
 /// The headers that a signature adds.
+#[derive(Clone, Copy)]
 pub(crate) struct AddedHeads<'a> {
     pub(crate) host: Option<&'a str>,
     pub(crate) stamp: &'a str,

@@ -8,10 +8,15 @@
 //! is missing (`specs/Params.antt`).
 #![tactic(auto)]
 
+mod apply;
+mod authorization;
 mod body;
+mod canonical;
 mod canonical_query;
+mod credentials;
 mod error;
 pub mod event_stream;
+mod header;
 mod heads;
 mod host;
 mod instructions;
@@ -21,6 +26,7 @@ mod modes;
 mod output;
 mod params;
 mod path;
+mod prepared;
 mod refusal;
 mod request;
 mod settings;
@@ -34,8 +40,9 @@ pub mod v4;
 
 pub use crate::body::SignableBody;
 pub use crate::error::{SigningError, ValuePlace};
-pub use crate::instructions::{Header, SigningInstructions};
-pub use crate::laws::{normal_paths_stay, trimmed_texts_stay};
+pub use crate::header::{Header, HeaderPairs};
+pub use crate::instructions::SigningInstructions;
+pub use crate::laws::{normal_paths_stay, signed_names_ascend, trimmed_texts_stay};
 pub use crate::modes::{PercentEncodingMode, UriPathNormalizationMode};
 pub use crate::output::SigningOutput;
 pub use crate::path::normalize_uri_path;

@@ -10,8 +10,8 @@ pub struct SigningParams<'a, S> {
     identity: &'a Identity,
     region: &'a str,
     name: &'a str,
-    time: Moment,
-    settings: S,
+    pub(crate) time: Moment,
+    pub(crate) settings: S,
 }
 
 impl<'a, S> SigningParams<'a, S> {

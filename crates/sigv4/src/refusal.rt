@@ -2,16 +2,33 @@ ghost use Rattle.std.specs.Prelude.{◌≡◌, bytes_eq, codes, is_some, option_
 ghost use Rattle.smithy_core.specs.Pairs.{lower};
 ghost use Rattle.smithy_http.specs.Target.{target_of};
 ghost use Rattle.sigv4.specs.Canonical.{has_host};
-ghost use Rattle.sigv4.specs.Refusal.{AddsHost, Tests, is_name, is_value, unfit_header, unfit_headers, unfit_host, unfit_optional, unfit_value};
+ghost use Rattle.sigv4.specs.Refusal.{AddsHost, FindsHost, Tests, is_name, is_value, unfit_header, unfit_headers, unfit_host, unfit_optional, unfit_value};
 
 use crate::error::{SigningError, ValuePlace};
 use crate::host::host_text;
+use crate::request::SignableRequest;
 use http_uri::Uri;
 use smithy_core::Headers;
 use smithy_http::{is_header_name, is_header_value};
 
-/// Tests the headers in order, each by its name and then by its value.
-pub(crate) fn test_headers(headers: &Headers) -> Result<(), SigningError>
+/// Tests the headers, the host, the token and the payload's text, where these go into headers. The answer is the host
+/// that is added to the headers.
+pub(crate) fn test_parts<'a>(
+    request: &'a SignableRequest<'_>,
+    token: Option<&str>,
+    payload: Option<&str>,
+) -> Result<Option<&'a str>, SigningError>
+    ensures { FindsHost (target_of request.now.uri) request.now.headers.now (option_copied token.entry) (option_copied payload.entry) result }
+{
+    test_headers(request.headers)?;
+    let host = added_host(&request.uri, request.headers)?;
+    test_optional(ValuePlace::Token, token)?;
+    test_optional(ValuePlace::PayloadHash, payload)?;
+    Ok(host)
+}
+
+// Tests the headers in order, each by its name and then by its value.
+fn test_headers(headers: &Headers) -> Result<(), SigningError>
     ensures { Tests (unfit_headers 1 headers.now) result }
 {
     let count = headers.len();
@@ -42,8 +59,8 @@ pub(crate) fn test_value(place: ValuePlace, value: &str) -> Result<(), SigningEr
     }
 }
 
-/// The same, where there is a text.
-pub(crate) fn test_optional(place: ValuePlace, value: Option<&str>) -> Result<(), SigningError>
+// The same, where there is a text.
+fn test_optional(place: ValuePlace, value: Option<&str>) -> Result<(), SigningError>
     ensures { Tests (unfit_optional place (option_copied value.entry)) result }
 {
     match value {
@@ -52,11 +69,8 @@ pub(crate) fn test_optional(place: ValuePlace, value: Option<&str>) -> Result<()
     }
 }
 
-/// The host that is added to the headers, where none of them is `host`.
-pub(crate) fn added_host<'a>(
-    uri: &'a Uri,
-    headers: &Headers,
-) -> Result<Option<&'a str>, SigningError>
+// The host that is added to the headers, where none of them is `host`.
+fn added_host<'a>(uri: &'a Uri, headers: &Headers) -> Result<Option<&'a str>, SigningError>
     ensures { AddsHost (target_of uri.now) headers.now result }
 {
     if has_host(headers) {

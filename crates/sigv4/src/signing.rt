@@ -1,12 +1,20 @@
-ghost use Rattle.sigv4.specs.Case.{case_of, identity_of, params_settings};
-ghost use Rattle.sigv4.specs.RequestSigning.{SignsRequest, TellsCanonical};
+ghost use Rattle.smithy_core.specs.Civil.{IsInYears};
+ghost use Rattle.sigv4.specs.Case.{HasKeys, case_of, case_under, identity_of, params_settings};
+ghost use Rattle.sigv4.specs.Refusal.{unfit};
+ghost use Rattle.sigv4.specs.RequestSigning.{Signs, SignsRequest, TellsCanonical};
 ghost use Rattle.sigv4.specs.Settings.{IsHeaderForm};
 
+use crate::credentials::credentials_for;
 use crate::error::SigningError;
-use crate::instructions::SigningInstructions;
+use crate::instructions::{SigningInstructions, header_instructions};
 use crate::output::SigningOutput;
+use crate::prepared::Prepared;
 use crate::request::SignableRequest;
+use crate::settings::SigningSettings;
+use crate::signature::request_signature;
 use crate::signing_params::SigningParams;
+use crate::v4;
+use smithy_core::Credentials;
 use std::alloc::Global;
 
 /// Signs a request: what the signature adds to it, and the signature.
@@ -29,10 +37,41 @@ pub fn sign(
     requires { IsHeaderForm (params_settings params.now) }
     ensures { SignsRequest (identity_of params.now) (case_of request.entry params.now) result }
 {
-    let _ = alloc;
-    let _ = request;
-    let _ = params;
-    Err(SigningError::NoMemory)
+    let SigningParams::V4(params) = params;
+    let credentials = credentials_for(params.identity(), params.time())?;
+    sign_prepared(alloc, &request, params, credentials)
+}
+
+// The signed request of the credentials.
+#[tactic(auto, unfolding(crate::specs::Signed::instructions, crate::specs::Signed::authorization, crate::specs::Signed::signature_of))]
+fn sign_prepared(
+    alloc: Global,
+    request: &SignableRequest<'_>,
+    params: &v4::SigningParams<'_, SigningSettings>,
+    credentials: &Credentials,
+) -> Result<SigningOutput<SigningInstructions>, SigningError>
+    requires years { IsInYears params.now.time }
+    requires keys { HasKeys params.now.identity.now credentials.now }
+    ensures { Signs (unfit (case_under request.now params.now)) (case_under request.now params.now) result }
+{
+    let prepared = Prepared::new(alloc, request, params, credentials)?;
+    let signature = request_signature(
+        alloc,
+        prepared.text.as_bytes(),
+        credentials.secret_access_key(),
+        params.time(),
+        params.region(),
+        params.name(),
+    )?;
+    let headers = header_instructions(
+        alloc,
+        params.settings(),
+        credentials.session_token(),
+        prepared,
+        signature.as_str(),
+    )?;
+    let instructions = SigningInstructions::of_headers(alloc, headers);
+    Ok(SigningOutput::new(instructions, signature))
 }
 
 /// The canonical text of a request.
@@ -50,8 +89,7 @@ pub fn canonical_text(
     requires { IsHeaderForm (params_settings params.now) }
     ensures { TellsCanonical (identity_of params.now) (case_of request.now params.now) result }
 {
-    let _ = alloc;
-    let _ = request;
-    let _ = params;
-    Err(SigningError::NoMemory)
+    let SigningParams::V4(params) = params;
+    let credentials = credentials_for(params.identity(), params.time())?;
+    Ok(Prepared::new(alloc, request, params, credentials)?.into_text())
 }

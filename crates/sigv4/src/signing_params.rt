@@ -1,4 +1,6 @@
-ghost use Rattle.std.specs.Prelude.{◌≡◌};
+ghost use Rattle.std.specs.Prelude.{◌≡◌, Some, codes, option_copied};
+ghost use Rattle.sigv4.specs.RequestParams.{name_of, region_of, settings_in, time_of};
+ghost use Rattle.sigv4.specs.declared.signing_params.SignatureVersion.TheVariants.{V4};
 
 use crate::settings::SigningSettings;
 use crate::v4;
@@ -39,5 +41,70 @@ impl<'a> From<v4::SigningParams<'a, SigningSettings>> for SigningParams<'a> {
 
     fn from(inner: v4::SigningParams<'a, SigningSettings>) -> SigningParams<'a> {
         SigningParams::V4(inner)
+    }
+}
+
+impl SigningParams<'_> {
+    /// The region that the signature is for, where the version has one.
+    pub fn region(&self) -> Option<&str>
+        ensures { option_copied result ≡ Some (region_of self.now) }
+    {
+        match self {
+            SigningParams::V4(params) => Some(params.region()),
+        }
+    }
+
+    /// The settings.
+    pub fn settings(&self) -> &SigningSettings
+        ensures { result.now ≡ settings_in self.now }
+    {
+        match self {
+            SigningParams::V4(params) => params.settings(),
+        }
+    }
+
+    /// The settings, to be changed.
+    pub fn settings_mut(&mut self) -> &mut SigningSettings
+        ensures { result.now ≡ settings_in self.old }
+    {
+        match self {
+            SigningParams::V4(params) => &mut params.settings,
+        }
+    }
+
+    /// The moment of the signature.
+    pub fn time(&self) -> &Moment
+        ensures { result.now ≡ time_of self.now }
+    {
+        match self {
+            SigningParams::V4(params) => &params.time,
+        }
+    }
+
+    /// The name of the service that the signature is for.
+    pub fn name(&self) -> &str
+        ensures { result.now ≡ name_of self.now }
+    {
+        match self {
+            SigningParams::V4(params) => params.name(),
+        }
+    }
+
+    /// The name of the algorithm.
+    pub fn algorithm(&self) -> &'static str
+        ensures { result.now ≡ codes "AWS4-HMAC-SHA256" }
+    {
+        match self {
+            SigningParams::V4(params) => params.algorithm(),
+        }
+    }
+
+    /// The version.
+    pub fn signature_version(&self) -> SignatureVersion
+        ensures { result ≡ V4 }
+    {
+        match self {
+            SigningParams::V4(_) => SignatureVersion::V4,
+        }
     }
 }

@@ -3,6 +3,7 @@ ghost use Rattle.std.specs.Prelude.{◌≡◌};
 mod canonical_texts;
 mod messages;
 mod parameters;
+mod request_parts;
 
 use crate::event_stream::{SigningParams as MessageParams, sign_empty_message, sign_message};
 use crate::v4::{SigningParams, calculate_signature, credential_scope, request_signature};

@@ -1,6 +1,7 @@
 use Rattle.std.proofs.Common.{◌≡◌, ◌++◌, map}
 use Rattle.std.specs.Prelude.{string_bytes}
-use Rattle.sigv4.specs.Canonical.{Pair, joined_names}
+use Rattle.sigv4.specs.Canonical.{joined_names}
+use Rattle.sigv4.specs.Query.{Pair}
 use Rattle.sigv4.specs.HeadMap.{separator_before, texts}
 use Rattle.sigv4.proofs.HeadLemmas.{names_behind}
 use Rattle.sigv4.proofs.heads.joined_names.Given as goal

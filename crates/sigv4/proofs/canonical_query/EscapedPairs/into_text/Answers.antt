@@ -1,11 +1,9 @@
 use Rattle.std.proofs.Common.{◌≡◌, map, ap, ◌∙◌}
 use Rattle.sigv4.specs.Query.{sorted, string_pair}
-use Rattle.sigv4.proofs.SortLemmas.{sorted_pairs}
 use Rattle.sigv4.proofs.canonical_query.EscapedPairs.into_text.Goals as goal
 
 pub returns : goal.returns
 returns c =
     let same : map string_pair c.deref.result.now ≡ sorted c.args.self =
-    ap (map string_pair) c.deref.ensures.value
-    ∙ sorted_pairs c.self.inside.pairs.items c.sort.new.self.items c.in_ok-sort.ensures.permutation c.in_ok-sort.ensures.sorted ∙ ap sorted c.self.view_is in
+    ap (map string_pair) c.deref.ensures.value ∙ c.in_ok-sort_pairs.ensures ∙ ap sorted c.self.view_is in
     rw (← same) c.join_pairs.ensures

@@ -1,0 +1,23 @@
+-- What a signature adds to its request.
+use Rattle.std.specs.Prelude.{ℕ, Bool, List, fold}
+use Rattle.smithy_core.specs.Pairs.{inserted, lower}
+use Rattle.sigv4.specs.Query.{Pair}
+
+-- a header that goes out: its name, its value, and whether that is to be kept out of logs
+pub record Instruction : Type 0 where
+  pub name : List ℕ
+  pub value : List ℕ
+  pub sensitive : Bool
+
+-- headers and parameters
+pub record Instructions : Type 0 where
+  pub headers : List Instruction
+  pub params : List Pair
+
+-- the name and the value
+abbrev pub told_pair : Instruction → Pair
+told_pair header = (header.name, header.value)
+
+-- the headers after inserting these, in order
+abbrev pub with_instructions : List Pair → List Instruction → List Pair
+with_instructions headers instructions = fold (λ all i. inserted all (lower i.name) i.value) headers instructions
