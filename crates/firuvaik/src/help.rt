@@ -5,21 +5,22 @@ ghost use Rattle.firuvaik.specs.Asked.{asks_text, is_asking};
 const HELP: &str = "\
 firuvaik signs a request and streams its events as a chain of signed frames.
 
-usage: firuvaik stream --name NAME --at N    (the options in either order)
-       firuvaik --help | --version
+usage: firuvaik stream --name NAME --at N [--sha256] [--single-encode]
+                [--no-normalize] [--unsigned] | firuvaik --help | --version
 
-NAME is the signing name of the service: letters, digits and `-`. N is the
-moment: seconds since 1970-01-01T00:00:00Z, in the years 0 to 9999.
-Standard input is the job, in these lines, and standard output gets the signed
-head and a line of hexadecimal for each frame.
+NAME is the signing name of the service. N is the moment in seconds since
+1970-01-01T00:00:00Z. Standard input is the job, in these lines, and standard
+output gets the signed head and a line of hexadecimal for each frame.
 
   method METHOD              once
-  target https://HOST/PATH   once
+  target TARGET              once
   header NAME: VALUE         any number
+  body HEX                   at most once
   credentials [default]      once, and then these; the last one of a key counts:
-  credentials KEY = VALUE    aws_access_key_id, aws_secret_access_key, region
+  credentials KEY = VALUE    aws_access_key_id, aws_secret_access_key,
+                             aws_session_token, region
   event                      begins an event; the lines above stand before all
-  h NAME text TEXT           a header of the event
+  h NAME KIND VALUE          a header of the event
   payload HEX                at most once an event
 
 Exit status, and its line on standard error; N counts words or lines from 1:

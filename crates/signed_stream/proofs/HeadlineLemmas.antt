@@ -1,90 +1,146 @@
--- A run that is done has streamed.
-use Rattle.std.proofs.Common.{◌≡◌, ℕ, inl, inr, Bool, true, false, List, Option, Some, None, option_map, nat_lt, length, refl, sym}
+-- A run that is done has streamed, and what is valid is done.
+use Rattle.std.proofs.Common.{◌≡◌, ℕ, ◌≤◌, ◌⊎◌, inl, inr, Bool, true, false, List, Option, Some, None, option_map, nat_lt, length, refl, sym, ap, arith}
 use Rattle.std.specs.Prelude.{if◌then◌else◌}
-use Rattle.smithy_core.specs.Civil.{IsInYears}
-use Rattle.smithy_core.specs.Instant.{Instant}
-use Rattle.signed_stream.specs.Command.{Command, bad_word, unbuilt_word, stream, command}
+use Rattle.std.proofs.lemmas.Bool.Decides.{nat_tests}
+use Rattle.smithy_core.specs.Civil.{IsInYears, is_in_years}
+use Rattle.smithy_core.specs.Outside.{Gains}
+use Rattle.smithy_http.specs.Target.{Target}
+use Rattle.sigv4.specs.Refusal.{unfit}
+use Rattle.sigv4.specs.Signed.{signature_of}
+use Rattle.sigv4.specs.declared.error.SigningError.{SigningError}
+use Rattle.signed_stream.specs.Command.{Command, Wanted, bad_word, unbuilt_word, stream, command}
 use Rattle.signed_stream.specs.Job.{PlainJob, Reading, plain_job, bad_line, unbuilt_line, job}
-use Rattle.signed_stream.specs.Plan.{ends, streams, stops, writes, ask, ask_plan, case_of, command_ask, has_later_variable, input_plan, job_plan, most_input, settings_plan}
+use Rattle.signed_stream.specs.Plan.{Plan, ReadsTargetOf, ends, streams, stops, writes, ask, ask_plan, case_plan, command_ask, has_later_variable, input_plan, job_plan, most_input, settings_plan, target_plan}
 use Rattle.signed_stream.specs.Refusal.{Refusal, fault_of}
-use Rattle.signed_stream.specs.Run.{AsksInYears, EndsAsPlanned, GainsAsPlanned, Streams}
-use Rattle.signed_stream.specs.Signed.{signature_of}
-use Rattle.signed_stream.specs.Written.{refusal_of, written_until}
-use Rattle.signed_stream.proofs.StreamLemmas.{unrefused_frames}
+use Rattle.signed_stream.specs.Run.{Completes, EndsAsPlanned, Fits, FitsTarget, IsStreamable, IsValid, Streams, StreamsInput, streamed}
+use Rattle.signed_stream.specs.Signing.{Selected, case_of}
+use Rattle.signed_stream.specs.Targets.{ReadsTarget}
+use Rattle.signed_stream.specs.Written.{refusal_of, written, written_until}
+use Rattle.signed_stream.proofs.StreamLemmas.{frames_unrefused, unrefused_frames}
+use Rattle.signed_stream.proofs.YearLemmas.{in_years, years_in}
 use Rattle.signed_stream.specs.declared.status.Status.{Status}
-use Rattle.signed_stream.specs.declared.status.Status.TheVariants.{Done, JobTooLarge, NotBuilt}
+use Rattle.signed_stream.specs.declared.status.Status.TheVariants.{Done, NoMemory, NotBuilt, Refused}
+use Rattle.signed_stream.specs.declared.status.StreamFault.TheVariants.{InvalidUri, MomentOutOfRange}
 
--- a run that is to stop isn't done, but where its end says so
-stops_undone : (status : Status) → (status ≡ Done → ⊥) → EndsAsPlanned (stops status) Done → ⊥
-stops_undone status other (inl is) = other (sym is)
-stops_undone status other (inr (inl is)) = cc
-stops_undone status other (inr (inr is)) = cc
+-- ## Done
 
--- a run that is done has refused no event
-done_unrefused : (text : List ℕ) (refusal : Option Refusal) → EndsAsPlanned (writes text (option_map fault_of refusal)) Done → refusal ≡ None
-done_unrefused text None fits = refl
-done_unrefused text (Some refusal) (inl is) = cc
-done_unrefused text (Some refusal) (inr (inl is)) = cc
-done_unrefused text (Some refusal) (inr (inr (inl is))) = cc
-done_unrefused text (Some refusal) (inr (inr (inr is))) = cc
-
-by_settings : (words : List (List ℕ)) (bytes : List ℕ) (before now : Option (List ℕ)) (name : List ℕ) (at : Instant) (j : PlainJob) (key_id secret region : Option (List ℕ))
-    → IsInYears at → command words ≡ stream name at → job bytes ≡ plain_job j → j.settings ≡ record { key_id = key_id; secret = secret; region = region }
-    → EndsAsPlanned (settings_plan j name at key_id secret region) Done → GainsAsPlanned (settings_plan j name at key_id secret region) Done before now
-    → Streams words bytes before now
-by_settings words bytes before now name at j (Some key_id) (Some secret) (Some region) years asked spelled selected fits gains =
-    let c = case_of j key_id secret region name at in
-    let unrefused = done_unrefused (written_until (refusal_of c j.events) c j.events) (refusal_of c j.events) fits in
-    record {
-      name = name;
-      at = at;
-      read = j;
-      key_id = key_id;
-      secret = secret;
-      region = region;
-      asked = asked;
-      spelled = spelled;
-      selected = selected;
-      framed = unrefused_frames c.signer 1 j.events at (signature_of c) years unrefused;
-      gained = rw unrefused at gains;
-    }
-by_settings words bytes before now name at j (Some key_id) (Some secret) None years asked spelled selected fits gains = absurd (stops_undone _ (λ e. cc) fits)
-by_settings words bytes before now name at j (Some key_id) None region years asked spelled selected fits gains = absurd (stops_undone _ (λ e. cc) fits)
-by_settings words bytes before now name at j None secret region years asked spelled selected fits gains = absurd (stops_undone _ (λ e. cc) fits)
-
-by_job : (words : List (List ℕ)) (bytes : List ℕ) (before now : Option (List ℕ)) (name : List ℕ) (at : Instant) (reading : Reading)
-    → IsInYears at → command words ≡ stream name at → job bytes ≡ reading → EndsAsPlanned (job_plan name at reading) Done → GainsAsPlanned (job_plan name at reading) Done before now
-    → Streams words bytes before now
-by_job words bytes before now name at (plain_job j) years asked spelled fits gains =
-    by_settings words bytes before now name at j j.settings.key_id j.settings.secret j.settings.region years asked spelled refl fits gains
-by_job words bytes before now name at (bad_line place) years asked spelled fits gains = absurd (stops_undone _ (λ e. cc) fits)
-by_job words bytes before now name at (unbuilt_line place) years asked spelled fits gains = absurd (stops_undone _ (λ e. cc) fits)
-
-by_input : (words : List (List ℕ)) (bytes : List ℕ) (before now : Option (List ℕ)) (name : List ℕ) (at : Instant)
-    → IsInYears at → command words ≡ stream name at → EndsAsPlanned (input_plan name at bytes) Done → GainsAsPlanned (input_plan name at bytes) Done before now
-    → Streams words bytes before now
-unfolding input_plan
-by_input words bytes before now name at years asked = by_length (nat_lt most_input (length bytes))
+-- a plan to stop isn't done, but where its end says so
+stops_undone : (status : Status) (before now : Option (List ℕ)) → (status ≡ Done → ⊥) → Fits (stops status) Done before now → ⊥
+stops_undone status before now other fits = by_answer fits.0
   where
-    by_length : (b : Bool) → EndsAsPlanned (if b then stops JobTooLarge else job_plan name at (job bytes)) Done → GainsAsPlanned (if b then stops JobTooLarge else job_plan name at (job bytes)) Done before now → Streams words bytes before now
-    by_length true fits gains = absurd (stops_undone _ (λ e. cc) fits)
-    by_length false fits gains = by_job words bytes before now name at (job bytes) years asked refl fits gains
+    by_answer : (Done ≡ status) ⊎ (Done ≡ NoMemory) → ⊥
+    by_answer (inl is) = other (sym is)
+    by_answer (inr is) = cc
 
-by_command : (words : List (List ℕ)) (env : List (List ℕ × List ℕ)) (bytes : List ℕ) (before now : Option (List ℕ)) (asked : Command)
-    → AsksInYears (command_ask env asked) → command words ≡ asked
-    → EndsAsPlanned (ask_plan (command_ask env asked) bytes) Done → GainsAsPlanned (ask_plan (command_ask env asked) bytes) Done before now
-    → Streams words bytes before now
-by_command words env bytes before now (bad_word place) years is fits gains = absurd (stops_undone _ (λ e. cc) fits)
-by_command words env bytes before now (unbuilt_word place) years is fits gains = absurd (stops_undone _ (λ e. cc) fits)
-by_command words env bytes before now (stream name at) years is fits gains = by_variable (has_later_variable env) years fits gains
+none_refused : (refusal : Option Refusal) → option_map fault_of refusal ≡ None → refusal ≡ None
+none_refused None none = refl
+none_refused (Some refusal) none = cc
+
+-- a job whose target spells none isn't done
+done_reads : (wanted : Wanted) (j : PlainJob) (before now : Option (List ℕ)) (key_id secret region : Option (List ℕ))
+    → Fits (settings_plan j wanted None j.settings key_id secret region) Done before now → ⊥
+done_reads wanted j before now (Some key_id) (Some secret) (Some region) = by_years (is_in_years wanted.at)
   where
-    by_variable : (b : Bool) → AsksInYears (if b then ends (NotBuilt 0) else streams name at)
-        → EndsAsPlanned (ask_plan (if b then ends (NotBuilt 0) else streams name at) bytes) Done → GainsAsPlanned (ask_plan (if b then ends (NotBuilt 0) else streams name at) bytes) Done before now → Streams words bytes before now
-    by_variable true years fits gains = absurd (stops_undone _ (λ e. cc) fits)
-    by_variable false years fits gains = by_input words bytes before now name at years is fits gains
+    by_years : (years : Bool) → Fits (if years then stops (Refused InvalidUri) else stops (Refused (MomentOutOfRange wanted.at))) Done before now → ⊥
+    by_years true fits = stops_undone _ before now (λ e. cc) fits
+    by_years false fits = stops_undone _ before now (λ e. cc) fits
+done_reads wanted j before now (Some key_id) (Some secret) None = stops_undone _ before now (λ e. cc)
+done_reads wanted j before now (Some key_id) None region = stops_undone _ before now (λ e. cc)
+done_reads wanted j before now None secret region = stops_undone _ before now (λ e. cc)
 
--- a run that is done has streamed
-pub streams_when_done : (words : List (List ℕ)) (env : List (List ℕ × List ℕ)) (bytes : List ℕ) (before now : Option (List ℕ)) → AsksInYears (ask words env)
-    → EndsAsPlanned (ask_plan (ask words env) bytes) Done → GainsAsPlanned (ask_plan (ask words env) bytes) Done before now → Streams words bytes before now
+-- a job whose target spells this is done
+done_job : (wanted : Wanted) (bytes : List ℕ) (j : PlainJob) (target : Target) (before now : Option (List ℕ)) (key_id secret region : Option (List ℕ))
+    → length bytes ≤ most_input → job bytes ≡ plain_job j → ReadsTarget j.target (Some target)
+    → j.settings ≡ record { key_id = key_id; secret = secret; token = j.settings.token; region = region }
+    → Fits (settings_plan j wanted (Some target) j.settings key_id secret region) Done before now → StreamsInput wanted bytes before now
+done_job wanted bytes j target before now (Some key_id) (Some secret) (Some region) short spelled accepted settled fits = by_years (is_in_years wanted.at) refl fits
+  where
+    selected : Selected
+    selected = record { key_id = key_id; secret = secret; token = j.settings.token; region = region }
+
+    by_fit : IsInYears wanted.at → (error : Option SigningError) → unfit (case_of j wanted selected target) ≡ error
+        → Fits (case_plan j.target (case_of j wanted selected target) j.events error) Done before now → StreamsInput wanted bytes before now
+    by_fit years (Some error) is fits = absurd (stops_undone _ before now (λ e. cc) fits)
+    by_fit years None fit fits =
+        let c = case_of j wanted selected target in
+        let unrefused = none_refused (refusal_of c j.events) fits.0 in
+        let input : IsStreamable wanted bytes = record {
+          read = j;
+          selected = selected;
+          target = target;
+          short = short;
+          spelled = spelled;
+          settled = settled;
+          years = years;
+          accepted = accepted;
+          fit = fit;
+          framed = unrefused_frames c.signer 1 j.events wanted.at (signature_of c) years unrefused;
+        } in
+        (input, rw unrefused at fits.1)
+
+    by_years : (years : Bool) → is_in_years wanted.at ≡ years
+        → Fits (if years then target_plan j.target (case_of j wanted selected) j.events (Some target) else stops (Refused (MomentOutOfRange wanted.at))) Done before now → StreamsInput wanted bytes before now
+    by_years true within fits = by_fit (in_years wanted.at within) (unfit (case_of j wanted selected target)) refl fits
+    by_years false within fits = absurd (stops_undone _ before now (λ e. cc) fits)
+done_job wanted bytes j target before now (Some key_id) (Some secret) None short spelled accepted settled fits = absurd (stops_undone _ before now (λ e. cc) fits)
+done_job wanted bytes j target before now (Some key_id) None region short spelled accepted settled fits = absurd (stops_undone _ before now (λ e. cc) fits)
+done_job wanted bytes j target before now None secret region short spelled accepted settled fits = absurd (stops_undone _ before now (λ e. cc) fits)
+
+-- an input that is done has streamed
+pub done_streams : (wanted : Wanted) (bytes : List ℕ) (reading : Reading) (before now : Option (List ℕ)) → length bytes ≤ most_input → job bytes ≡ reading
+    → FitsTarget (ReadsTargetOf reading) (λ target. job_plan wanted target reading) Done before now → StreamsInput wanted bytes before now
+done_streams wanted bytes (bad_line place) before now short spelled (inl fits) = absurd (stops_undone _ before now (λ e. cc) (fits None))
+done_streams wanted bytes (bad_line place) before now short spelled (inr found) = absurd (stops_undone _ before now (λ e. cc) found.2)
+done_streams wanted bytes (unbuilt_line place) before now short spelled (inl fits) = absurd (stops_undone _ before now (λ e. cc) (fits None))
+done_streams wanted bytes (unbuilt_line place) before now short spelled (inr found) = absurd (stops_undone _ before now (λ e. cc) found.2)
+done_streams wanted bytes (plain_job j) before now short spelled (inl fits) =
+    absurd (done_reads wanted j before now j.settings.key_id j.settings.secret j.settings.region (fits None))
+done_streams wanted bytes (plain_job j) before now short spelled (inr found) = by_target found.0 found.1 found.2
+  where
+    by_target : (target : Option Target) → ReadsTarget j.target target → Fits (job_plan wanted target (plain_job j)) Done before now → StreamsInput wanted bytes before now
+    by_target None reads fits = absurd (done_reads wanted j before now j.settings.key_id j.settings.secret j.settings.region fits)
+    by_target (Some target) reads fits =
+        done_job wanted bytes j target before now j.settings.key_id j.settings.secret j.settings.region short spelled reads refl fits
+
+-- the words and the variables ask to stream
+asked_stream : (words : List (List ℕ)) (env : List (List ℕ × List ℕ)) (wanted : Wanted) → streams wanted ≡ ask words env → (command words ≡ stream wanted) × (has_later_variable env ≡ false)
 unfolding ask
-streams_when_done words env bytes before now years = by_command words env bytes before now (command words) years refl
+asked_stream words env wanted = by_command (command words)
+  where
+    by_variable : (given : Wanted) (later : Bool) → streams wanted ≡ (if later then ends (NotBuilt 0) else streams given) → (stream given ≡ stream wanted) × (later ≡ false)
+    by_variable given true is = cc
+    by_variable given false is = let same : wanted ≡ given = cc in (rw same refl, refl)
+
+    by_command : (asked : Command) → streams wanted ≡ command_ask env asked → (asked ≡ stream wanted) × (has_later_variable env ≡ false)
+    by_command (bad_word place) is = cc
+    by_command (unbuilt_word place) is = cc
+    by_command (stream given) is = by_variable given (has_later_variable env) is
+
+-- words that ask to stream an input that has streamed
+pub asked_streams : (words : List (List ℕ)) (env : List (List ℕ × List ℕ)) (bytes : List ℕ) (wanted : Wanted) (before now : Option (List ℕ))
+    → streams wanted ≡ ask words env → StreamsInput wanted bytes before now → Streams words env bytes before now
+asked_streams words env bytes wanted before now asks did =
+    let asked = asked_stream words env wanted asks in
+    (record { wanted = wanted; asked = asked.0; built = asked.1; input = did.0 }, did.1)
+
+-- ## Valid
+
+-- the plan of a valid input is to write all
+valid_plan : (words : List (List ℕ)) (env : List (List ℕ × List ℕ)) (bytes : List ℕ) (valid : IsValid words env bytes)
+    → ask_plan (ask words env) bytes (Some valid.input.target) ≡ writes (streamed valid.wanted bytes valid.input) None
+unfolding ask input_plan
+valid_plan words env bytes valid =
+    let input = valid.input in
+    let c = case_of input.read valid.wanted input.selected input.target in
+    let large : nat_lt most_input (length bytes) ≡ false = (let short = input.short in grind (arith, nat_tests)) in
+    let years = years_in valid.wanted.at input.years in
+    let unrefused = frames_unrefused c.signer 1 input.read.events valid.wanted.at (signature_of c) input.framed in
+    rw (valid.asked, valid.built, large, input.spelled, input.settled, years, input.fit, unrefused) refl
+
+-- what is valid completes
+pub completes : (words : List (List ℕ)) (env : List (List ℕ × List ℕ)) (bytes : List ℕ) (answer : Status) (valid : IsValid words env bytes)
+    → ((target : Option Target) → ReadsTargetOf (job bytes) target → EndsAsPlanned (ask_plan (ask words env) bytes target) answer) → Completes answer
+completes words env bytes answer valid planned =
+    let input = valid.input in
+    let reads : ReadsTargetOf (job bytes) (Some input.target) = rw input.spelled input.accepted in
+    rw (valid_plan words env bytes valid) at (planned (Some input.target) reads)

@@ -1,14 +1,20 @@
 -- Lines and words, as `split_once` cuts them.
-use Rattle.std.proofs.Common.{◌≡◌, ◌≢◌, get_or, ℕ, ◌+◌, ◌<◌, Bool, true, false, cond, eqb, not, List, [], ◌∷◌, length, take, drop, suc, refl, ap, ◌∙◌, arith, add-one}
-use Rattle.std.specs.Prelude.{Option, Some, None, MatchOption}
+use Rattle.std.proofs.Common.{◌≡◌, ◌≢◌, get_or, ℕ, ◌+◌, ◌<◌, ◌≤◌, Bool, true, false, ◌&&◌, cond, eqb, not, List, [], ◌∷◌, length, take, drop, zero, suc, refl, sym, ap, ◌∙◌, arith, add-one, option_map}
+use Rattle.std.specs.Prelude.{Option, Some, None, Err, MatchOption}
 use Rattle.std.specs.Borrow.{Bor}
 use Rattle.std.specs.List.{position_or_len, before_first, after_first}
 use Rattle.std.specs.Str.{IsUtf8}
+use Rattle.std.specs.Str.Pattern.{FindsText}
 use Rattle.std.specs.Str.Lossy.{utf8_valid_len}
-use Rattle.std.proofs.lemmas.Bool.{eq-eqb}
+use Rattle.std.proofs.lemmas.Bool.{and_parts, eq-eqb, eqb-true}
 use Rattle.std.proofs.lemmas.Str.{utf8_valid_len-IsUtf8}
-use Rattle.signed_stream.specs.Job.{Draft, job, lines_from, no_draft}
-use Rattle.signed_stream.specs.Lines.{lines_of, onto_first}
+use Rattle.signed_stream.specs.Fault.{placed}
+use Rattle.signed_stream.specs.Job.{Draft, Reading, job, line_step, lines_from, no_draft}
+use Rattle.signed_stream.specs.Lines.{lines_of, onto_first, pair_of}
+use Rattle.signed_stream.specs.Reading.{ReadsJob, Steps, texts_of_pair}
+use Rattle.signed_stream.specs.declared.job.draft.Draft.{Draft as JobDraft}
+use Rattle.signed_stream.specs.declared.job.fault.LineFault.{LineFault}
+use Rattle.signed_stream.specs.declared.job.fault.LineFault.TheVariants.{Bad, NotBuilt, NoMemory}
 
 abbrev is_lf : ℕ → Bool
 is_lf b = eqb b 10
@@ -58,6 +64,13 @@ pub ruleset lines = (lines_first, lines_last)
 pub lines_over : (place : ℕ) (draft : Draft) (rest : List ℕ) → length rest ≡ 0 → lines_from place draft [] ≡ lines_from place draft (lines_of rest)
 lines_over place draft rest none = rw (lines_end rest none) refl
 
+-- a line that doesn't move the draft decides
+pub faulty_line : (place : ℕ) (draft : Draft) (line : List ℕ) (lines : List (List ℕ)) (whole : Reading) (now : JobDraft) (fault : LineFault)
+    → lines_from place draft (line ∷ lines) ≡ whole → Steps (line_step draft line) now (Err fault) → ReadsJob whole (Err (placed place fault))
+faulty_line place draft line lines whole now Bad is step = rw (← is, step) refl
+faulty_line place draft line lines whole now NotBuilt is step = rw (← is, step) refl
+faulty_line place draft line lines whole now NoMemory is step = tt
+
 -- a text is read line by line
 pub job_text : (bytes : List ℕ) → IsUtf8 bytes → job bytes ≡ lines_from 1 no_draft (lines_of bytes)
 unfolding job
@@ -65,9 +78,48 @@ job_text bytes is =
     let all : eqb (utf8_valid_len bytes) (length bytes) ≡ true = eq-eqb (utf8_valid_len bytes) (length bytes) (utf8_valid_len-IsUtf8 bytes is) in
     rw all refl
 
--- what stands after a space, as `strip_prefix` gives it
-pub after_space : (text : List ℕ) (r : Option (Bor (List ℕ))) → MatchOption r ((rest : List ℕ) → text ≢ 32 ∷ rest) (λ rest. text ≡ 32 ∷ rest.now)
-    → MatchOption r (get_or text 0 0 ≢ 32) (λ rest. (get_or text 0 0 ≡ 32) × (rest.now ≡ drop 1 text))
-after_space [] None other = λ e. omega arith
-after_space (b ∷ text) None other = λ e. other text (ap (λ (x : ℕ). x ∷ text) e)
-after_space text (Some rest) is = rw is (refl, refl)
+-- ## Pairs
+
+-- where the test says so, `: ` stands first
+begins_pair : (b : ℕ) (bytes : List ℕ) → (eqb b 58 && eqb (get_or bytes 0 0) 32) ≡ true → (rest : List ℕ) × (b ∷ bytes ≡ 58 ∷ 32 ∷ rest)
+begins_pair b [] is = let parts = and_parts (eqb b 58) false is in cc
+begins_pair b (c ∷ bytes) is = let parts = and_parts (eqb b 58) (eqb c 32) is in (bytes, rw (eqb-true b 58 parts.0, eqb-true c 32 parts.1) refl)
+
+-- where `: ` stands nowhere, there is no pair
+pair_none : (bs : List ℕ) → ((i : ℕ) → i ≤ length bs → (rest : List ℕ) → drop i bs ≢ 58 ∷ 32 ∷ rest) → pair_of bs ≡ None
+unfolding pair_of
+pair_none [] lacks = refl
+pair_none (b ∷ bytes) lacks = by_test (eqb b 58 && eqb (get_or bytes 0 0) 32) refl (pair_none bytes (λ i within rest. lacks (suc i) (omega arith) rest))
+  where
+    by_test : (v : Bool) → (eqb b 58 && eqb (get_or bytes 0 0) 32) ≡ v → pair_of bytes ≡ None
+        → cond {A = Option (List ℕ × List ℕ)} v (Some ([], drop 1 bytes)) (option_map (λ (pair : List ℕ × List ℕ). (b ∷ pair.0, pair.1)) (pair_of bytes)) ≡ None
+    by_test true is again = let first = begins_pair b bytes is in absurd (lacks 0 (omega arith) first.0 first.1)
+    by_test false is again = rw again refl
+
+-- where it stands first at a place, the pair is what stands before and what stands after
+pair_some : (bs : List ℕ) (i : ℕ) (tail : List ℕ) → drop i bs ≡ 58 ∷ 32 ∷ tail → ((k : ℕ) → k < i → (rest : List ℕ) → drop k bs ≢ 58 ∷ 32 ∷ rest)
+    → pair_of bs ≡ Some (take i bs, tail)
+unfolding pair_of
+pair_some [] zero tail here lacks = cc
+pair_some [] (suc i) tail here lacks = cc
+pair_some (b ∷ bytes) zero tail here lacks =
+    let whole : b ∷ bytes ≡ 58 ∷ 32 ∷ tail = here in
+    let first : b ≡ 58 = cc in
+    let others : bytes ≡ 32 ∷ tail = cc in
+    rw (first, others) refl
+pair_some (b ∷ bytes) (suc i) tail here lacks =
+    by_test (eqb b 58 && eqb (get_or bytes 0 0) 32) refl (pair_some bytes i tail here (λ k before rest. lacks (suc k) (omega arith) rest))
+  where
+    by_test : (v : Bool) → (eqb b 58 && eqb (get_or bytes 0 0) 32) ≡ v → pair_of bytes ≡ Some (take i bytes, tail)
+        → cond {A = Option (List ℕ × List ℕ)} v (Some ([], drop 1 bytes)) (option_map (λ (pair : List ℕ × List ℕ). (b ∷ pair.0, pair.1)) (pair_of bytes)) ≡ Some (b ∷ take i bytes, tail)
+    by_test true is again = let first = begins_pair b bytes is in absurd (lacks 0 (omega arith) first.0 first.1)
+    by_test false is again = rw again refl
+
+-- what `split_once` gives at `: `
+pub pair_cut : (bs : List ℕ) (r : Option (Bor (List ℕ) × Bor (List ℕ))) → MatchOption r (FindsText (58 ∷ 32 ∷ []) bs None)
+    (λ x. (i : ℕ) × (j : ℕ) × FindsText (58 ∷ 32 ∷ []) bs (Some (i, j)) × (x.0.now ≡ take i bs) × (x.1.now ≡ drop j bs) × (i ≤ j) × (length x.0.now ≡ i) × (length x.1.now + j ≡ length bs))
+    → texts_of_pair r ≡ pair_of bs
+pair_cut bs None found = sym (pair_none bs (λ i within rest. found i within rest))
+pair_cut bs (Some x) found =
+    let place = found.2 in
+    rw (found.3, found.4) (sym (pair_some bs found.0 (drop found.1 bs) place.1.split (λ k before rest. place.0 k before rest)))

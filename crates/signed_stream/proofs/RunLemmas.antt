@@ -1,21 +1,29 @@
 -- How a run ends, and what it writes.
-use Rattle.std.proofs.Common.{◌≡◌, ℕ, ◌<◌, ◌≤◌, ◌⊎◌, inl, inr, true, false, nat_lt, List, length, Option, Some, None, option_map, refl, ◌∙◌, arith}
+use Rattle.std.proofs.Common.{◌≡◌, ℕ, ◌<◌, ◌≤◌, ◌⊎◌, inl, inr, Bool, true, false, nat_lt, List, length, Option, Some, None, option_map, refl, ◌∙◌, arith}
+use Rattle.std.specs.Prelude.{if◌then◌else◌}
 use Rattle.std.proofs.lemmas.Bool.Decides.{nat_tests}
-use Rattle.smithy_core.specs.Civil.{IsInYears}
-use Rattle.smithy_core.specs.Instant.{Instant}
+use Rattle.smithy_core.specs.Civil.{is_in_years}
 use Rattle.smithy_core.specs.Outside.{IsAllOf, IsLongerThan}
+use Rattle.smithy_core.specs.Parts.{Parts}
 use Rattle.smithy_core.proofs.GainLemmas.{prefix_at_start}
+use Rattle.smithy_http.specs.Target.{Target}
 use Rattle.eventstream.specs.declared.error.ErrorKind.{ErrorKind}
 use Rattle.eventstream.specs.declared.error.ErrorKind.TheVariants as reasons
+use Rattle.sigv4.specs.Case.{Case}
+use Rattle.sigv4.specs.Refusal.{unfit}
+use Rattle.sigv4.specs.declared.error.SigningError.{SigningError}
+use Rattle.signed_stream.specs.Command.{Wanted}
 use Rattle.signed_stream.specs.Job.{Reading, plain_job, bad_line, unbuilt_line, job}
-use Rattle.signed_stream.specs.Plan.{Ask, ask_plan, ends, streams, Plan, stops, writes, case_of, input_plan, job_plan, most_input, settings_plan}
+use Rattle.signed_stream.specs.Plan.{Ask, ReadsTargetOf, ask_plan, ends, streams, Plan, stops, writes, case_plan, input_plan, job_plan, most_input, settings_plan, target_plan}
 use Rattle.signed_stream.specs.Refusal.{Refusal, fault_at, fault_of}
-use Rattle.signed_stream.specs.Run.{AsksInYears, EndsAsAsked, EndsAsPlanned, Fits, GainsAsPlanned, Keeps}
+use Rattle.signed_stream.specs.Run.{EndsAsAsked, EndsAsPlanned, Fits, FitsTarget, GainsAsPlanned, Keeps}
+use Rattle.signed_stream.specs.Signing.{Selected, case_of}
 use Rattle.signed_stream.specs.Written.{refusal_of, written_until}
+use Rattle.signed_stream.proofs.TargetLemmas.{reads_one}
 use Rattle.signed_stream.specs.declared.status.Status.{Status}
 use Rattle.signed_stream.specs.declared.status.Status.TheVariants.{Done, BadWords, JobTooLarge, BadJob, ReadFault, Refused, OutputFault, NoMemory, NotBuilt}
 use Rattle.signed_stream.specs.declared.status.StreamFault.{StreamFault}
-use Rattle.signed_stream.specs.declared.status.StreamFault.TheVariants.{MissingCredentials, MissingSigningRegion}
+use Rattle.signed_stream.specs.declared.status.StreamFault.TheVariants.{MissingCredentials, MissingSigningRegion, MomentOutOfRange, InvalidUri, InvalidHeaderName, InvalidHeaderValue, MissingHost}
 
 -- an answer that fits the plan is one of its answers
 pub fits_ends : (plan : Plan) (answer : Status) (before now : Option (List ℕ)) → Fits plan answer before now → EndsAsPlanned plan answer
@@ -60,71 +68,109 @@ keeps_same (Refused fault) before now same = by_fault fault
     by_fault : (fault : StreamFault) → Keeps (Refused fault) before now
     by_fault MissingCredentials = same
     by_fault MissingSigningRegion = same
+    by_fault (MomentOutOfRange moment) = same
+    by_fault InvalidUri = same
+    by_fault (InvalidHeaderName place) = same
+    by_fault (InvalidHeaderValue place) = same
+    by_fault MissingHost = same
     by_fault fault = tt
 keeps_same (NotBuilt place) before now same = same
 
--- an answer that fits the plan of a job keeps the output, but where it is done, tells the fault of an event or was cut short
-pub fits_keeps : (name : List ℕ) (at : Instant) (reading : Reading) (answer : Status) (before now : Option (List ℕ)) → Fits (job_plan name at reading) answer before now → Keeps answer before now
-fits_keeps name at (bad_line place) answer before now fits = keeps_same answer before now fits.1
-fits_keeps name at (unbuilt_line place) answer before now fits = keeps_same answer before now fits.1
-fits_keeps name at (plain_job j) answer before now fits = by_settings j.settings.key_id j.settings.secret j.settings.region fits
+-- a refused event keeps nothing
+keeps_event : (refusal : Option Refusal) (fault : StreamFault) (before now : Option (List ℕ)) → option_map fault_of refusal ≡ Some fault → Keeps (Refused fault) before now
+keeps_event None fault before now is = cc
+keeps_event (Some refusal) fault before now is = let same : fault_of refusal ≡ fault = cc in rw (← same) (by_reason refusal.reason)
   where
-    of_event : (refusal : Option Refusal) (fault : StreamFault) → option_map fault_of refusal ≡ Some fault → Keeps (Refused fault) before now
-    of_event None fault is = cc
-    of_event (Some refusal) fault is = let same : fault_of refusal ≡ fault = cc in rw (← same) (by_reason refusal.reason)
-      where
-        by_reason : (reason : ErrorKind) → Keeps (Refused (fault_at refusal.place reason)) before now
-        by_reason reasons.InvalidHeaderNameLength = tt
-        by_reason reasons.HeaderValueTooLong = tt
-        by_reason (reasons.TimestampValueTooLarge moment) = tt
-        by_reason reasons.HeadersTooLong = tt
-        by_reason reasons.PayloadTooLong = tt
-        by_reason reason = tt
+    by_reason : (reason : ErrorKind) → Keeps (Refused (fault_at refusal.place reason)) before now
+    by_reason reasons.InvalidHeaderNameLength = tt
+    by_reason reasons.HeaderValueTooLong = tt
+    by_reason (reasons.TimestampValueTooLarge moment) = tt
+    by_reason reasons.HeadersTooLong = tt
+    by_reason reasons.PayloadTooLong = tt
+    by_reason reason = tt
 
-    by_writing : (text : List ℕ) (refusal : Option Refusal) (answer : Status) → Fits (writes text (option_map fault_of refusal)) answer before now → Keeps answer before now
-    by_writing text refusal (Refused fault) fits = of_event refusal fault fits.0
-    by_writing text refusal Done fits = tt
-    by_writing text refusal OutputFault fits = tt
-    by_writing text refusal NoMemory fits = tt
-    by_writing text refusal (BadWords place) fits = absurd fits
-    by_writing text refusal JobTooLarge fits = absurd fits
-    by_writing text refusal (BadJob place) fits = absurd fits
-    by_writing text refusal ReadFault fits = absurd fits
-    by_writing text refusal (NotBuilt place) fits = absurd fits
+keeps_writing : (text : List ℕ) (refusal : Option Refusal) (answer : Status) (before now : Option (List ℕ)) → Fits (writes text (option_map fault_of refusal)) answer before now → Keeps answer before now
+keeps_writing text refusal (Refused fault) before now fits = keeps_event refusal fault before now fits.0
+keeps_writing text refusal Done before now fits = tt
+keeps_writing text refusal OutputFault before now fits = tt
+keeps_writing text refusal NoMemory before now fits = tt
+keeps_writing text refusal (BadWords place) before now fits = absurd fits
+keeps_writing text refusal JobTooLarge before now fits = absurd fits
+keeps_writing text refusal (BadJob place) before now fits = absurd fits
+keeps_writing text refusal ReadFault before now fits = absurd fits
+keeps_writing text refusal (NotBuilt place) before now fits = absurd fits
 
-    by_settings : (key_id secret region : Option (List ℕ)) → Fits (settings_plan j name at key_id secret region) answer before now → Keeps answer before now
+-- an answer that fits the plan of a request keeps the output, but where it is done, tells the fault of an event or was cut short
+keeps_case : (text : List ℕ) (c : Case) (events : List Parts) (error : Option SigningError) (answer : Status) (before now : Option (List ℕ)) → Fits (case_plan text c events error) answer before now → Keeps answer before now
+keeps_case text c events (Some error) answer before now fits = keeps_same answer before now fits.1
+keeps_case text c events None answer before now fits = keeps_writing (written_until (refusal_of c events) text c events) (refusal_of c events) answer before now fits
+
+keeps_target : (text : List ℕ) (case : Target → Case) (events : List Parts) (target : Option Target) (answer : Status) (before now : Option (List ℕ)) → Fits (target_plan text case events target) answer before now → Keeps answer before now
+keeps_target text case events None answer before now fits = keeps_same answer before now fits.1
+keeps_target text case events (Some target) answer before now fits = keeps_case text (case target) events (unfit (case target)) answer before now fits
+
+-- the same of the plan of a job
+pub fits_keeps : (wanted : Wanted) (target : Option Target) (reading : Reading) (answer : Status) (before now : Option (List ℕ)) → Fits (job_plan wanted target reading) answer before now → Keeps answer before now
+fits_keeps wanted target (bad_line place) answer before now fits = keeps_same answer before now fits.1
+fits_keeps wanted target (unbuilt_line place) answer before now fits = keeps_same answer before now fits.1
+fits_keeps wanted target (plain_job j) answer before now fits = by_settings j.settings.key_id j.settings.secret j.settings.region fits
+  where
+    by_years : (selected : Selected) (years : Bool)
+        → Fits (if years then target_plan j.target (case_of j wanted selected) j.events target else stops (Refused (MomentOutOfRange wanted.at))) answer before now → Keeps answer before now
+    by_years selected true fits = keeps_target j.target (case_of j wanted selected) j.events target answer before now fits
+    by_years selected false fits = keeps_same answer before now fits.1
+
+    by_settings : (key_id secret region : Option (List ℕ)) → Fits (settings_plan j wanted target j.settings key_id secret region) answer before now → Keeps answer before now
     by_settings (Some key_id) (Some secret) (Some region) fits =
-        let c = case_of j key_id secret region name at in by_writing (written_until (refusal_of c j.events) c j.events) (refusal_of c j.events) answer fits
+        by_years (record { key_id = key_id; secret = secret; token = j.settings.token; region = region }) (is_in_years wanted.at) fits
     by_settings (Some key_id) (Some secret) None fits = keeps_same answer before now fits.1
     by_settings (Some key_id) None region fits = keeps_same answer before now fits.1
     by_settings None secret region fits = keeps_same answer before now fits.1
+
+-- ## What the target spells
+
+-- an answer that fits does so for whatever the target is said to spell
+pub fits_read : (wanted : Wanted) (reading : Reading) (answer : Status) (before now : Option (List ℕ)) (target : Option Target)
+    → FitsTarget (ReadsTargetOf reading) (λ target. job_plan wanted target reading) answer before now → ReadsTargetOf reading target → Fits (job_plan wanted target reading) answer before now
+fits_read wanted reading answer before now target (inl fits) reads = fits target
+fits_read wanted (plain_job j) answer before now target (inr found) reads = let same = reads_one j.target target found.0 reads found.1 in rw same found.2
+fits_read wanted (bad_line place) answer before now target (inr found) reads = found.2
+fits_read wanted (unbuilt_line place) answer before now target (inr found) reads = found.2
+
+pub read_keeps : (wanted : Wanted) (reading : Reading) (answer : Status) (before now : Option (List ℕ))
+    → FitsTarget (ReadsTargetOf reading) (λ target. job_plan wanted target reading) answer before now → Keeps answer before now
+read_keeps wanted reading answer before now (inl fits) = fits_keeps wanted None reading answer before now (fits None)
+read_keeps wanted reading answer before now (inr found) = fits_keeps wanted found.0 reading answer before now found.2
 
 -- want of memory before any write fits every plan
 pub fits_no_memory : (plan : Plan) (held : Option (List ℕ)) → Fits plan NoMemory held held
 fits_no_memory (stops status) held = (inr refl, refl)
 fits_no_memory (writes text fault) held = prefix_at_start held text
 
--- the plan of an input that was read to its end
-pub plan_of_read : (name : List ℕ) (at : Instant) (left : Option (List ℕ)) (read bytes : List ℕ)
-    → IsAllOf left read → length read ≤ most_input → left ≡ Some bytes → input_plan name at bytes ≡ job_plan name at (job read)
+-- an input that tells its bytes was read to its end
+pub all_read : (left : Option (List ℕ)) (read bytes : List ℕ) → IsAllOf left read → left ≡ Some bytes → read ≡ bytes
+all_read None read bytes all told = cc
+all_read (Some told_bytes) read bytes all told = all ∙ (let e : Some told_bytes ≡ Some bytes = told in cc)
+
+-- its plan
+pub plan_of_read : (wanted : Wanted) (read bytes : List ℕ) (target : Option Target) → length read ≤ most_input → read ≡ bytes → input_plan wanted bytes target ≡ job_plan wanted target (job read)
 unfolding input_plan
-plan_of_read name at None read bytes all short told = cc
-plan_of_read name at (Some told_bytes) read bytes all short told =
-    let same : read ≡ bytes = all ∙ (let e : Some told_bytes ≡ Some bytes = told in cc) in
+plan_of_read wanted read bytes target short same =
     let test : nat_lt most_input (length bytes) ≡ false = (let within : length bytes ≤ most_input = rw (← same) short in grind (arith, nat_tests)) in
     rw (test, same) refl
 
 -- the plan of an input that is too large
-pub plan_too_large : (name : List ℕ) (at : Instant) (left : Option (List ℕ)) (bytes : List ℕ)
-    → IsLongerThan left most_input → left ≡ Some bytes → input_plan name at bytes ≡ stops JobTooLarge
+pub plan_too_large : (wanted : Wanted) (left : Option (List ℕ)) (bytes : List ℕ) (target : Option Target)
+    → IsLongerThan left most_input → left ≡ Some bytes → input_plan wanted bytes target ≡ stops JobTooLarge
 unfolding input_plan
-plan_too_large name at None bytes long told = cc
-plan_too_large name at (Some told_bytes) bytes long told =
+plan_too_large wanted None bytes target long told = cc
+plan_too_large wanted (Some told_bytes) bytes target long told =
     let same : told_bytes ≡ bytes = (let e : Some told_bytes ≡ Some bytes = told in cc) in
     let test : nat_lt most_input (length bytes) ≡ true = (let past : most_input < length bytes = rw (← same) long in grind (arith, nat_tests)) in
     rw test refl
 
--- what each answer before a plan is known leaves
+-- ## Before a plan is known
+
 pub ends_read_fault : (plan : Plan) → EndsAsPlanned plan ReadFault
 ends_read_fault (stops status) = inr (inl refl)
 ends_read_fault (writes text fault) = inr (inl refl)
@@ -145,20 +191,17 @@ gains_no_memory (writes text fault) held = prefix_at_start held text
 pub early_asked : (asked : Ask) (status : Status) → ends status ≡ asked → EndsAsAsked asked status
 early_asked asked status is = rw (← is) (inl refl)
 
-pub early_planned : (asked : Ask) (status : Status) (bytes : List ℕ) → ends status ≡ asked → EndsAsPlanned (ask_plan asked bytes) status
-early_planned asked status bytes is = rw (← is) (inl refl)
+pub early_planned : (asked : Ask) (status : Status) (bytes : List ℕ) (target : Option Target) → ends status ≡ asked → EndsAsPlanned (ask_plan asked bytes target) status
+early_planned asked status bytes target is = rw (← is) (inl refl)
 
-pub early_gains : (asked : Ask) (status : Status) (bytes : List ℕ) (held : Option (List ℕ)) → ends status ≡ asked → GainsAsPlanned (ask_plan asked bytes) status held held
-early_gains asked status bytes held is = rw (← is) refl
-
-pub early_years : (asked : Ask) (status : Status) → ends status ≡ asked → AsksInYears asked
-early_years asked status is = rw (← is) tt
+pub early_gains : (asked : Ask) (status : Status) (bytes : List ℕ) (target : Option Target) (held : Option (List ℕ)) → ends status ≡ asked → GainsAsPlanned (ask_plan asked bytes target) status held held
+early_gains asked status bytes target held is = rw (← is) refl
 
 -- an end once the input is asked
-pub later_asked : (asked : Ask) (name : List ℕ) (at : Instant) (status : Status) → streams name at ≡ asked → ((place : ℕ) → status ≡ BadWords place → ⊥) → EndsAsAsked asked status
-later_asked asked name at status is never = rw (← is) (by_status status never)
+pub later_asked : (asked : Ask) (wanted : Wanted) (status : Status) → streams wanted ≡ asked → ((place : ℕ) → status ≡ BadWords place → ⊥) → EndsAsAsked asked status
+later_asked asked wanted status is never = rw (← is) (by_status status never)
   where
-    by_status : (status : Status) → ((place : ℕ) → status ≡ BadWords place → ⊥) → EndsAsAsked (streams name at) status
+    by_status : (status : Status) → ((place : ℕ) → status ≡ BadWords place → ⊥) → EndsAsAsked (streams wanted) status
     by_status (BadWords place) never = absurd (never place refl)
     by_status Done never = tt
     by_status JobTooLarge never = tt
@@ -169,15 +212,12 @@ later_asked asked name at status is never = rw (← is) (by_status status never)
     by_status NoMemory never = tt
     by_status (NotBuilt place) never = tt
 
-pub later_years : (asked : Ask) (name : List ℕ) (at : Instant) → streams name at ≡ asked → IsInYears at → AsksInYears asked
-later_years asked name at is years = rw (← is) years
+pub later_planned : (asked : Ask) (wanted : Wanted) (status : Status) (bytes : List ℕ) (target : Option Target) → streams wanted ≡ asked
+    → EndsAsPlanned (input_plan wanted bytes target) status → EndsAsPlanned (ask_plan asked bytes target) status
+later_planned asked wanted status bytes target is fits = rw (← is) fits
 
-pub later_planned : (asked : Ask) (name : List ℕ) (at : Instant) (status : Status) (bytes : List ℕ) → streams name at ≡ asked
-    → EndsAsPlanned (input_plan name at bytes) status → EndsAsPlanned (ask_plan asked bytes) status
-later_planned asked name at status bytes is fits = rw (← is) fits
+pub later_gains : (asked : Ask) (wanted : Wanted) (status : Status) (bytes : List ℕ) (target : Option Target) (before now : Option (List ℕ)) → streams wanted ≡ asked
+    → GainsAsPlanned (input_plan wanted bytes target) status before now → GainsAsPlanned (ask_plan asked bytes target) status before now
+later_gains asked wanted status bytes target before now is gains = rw (← is) gains
 
-pub later_gains : (asked : Ask) (name : List ℕ) (at : Instant) (status : Status) (bytes : List ℕ) (before now : Option (List ℕ)) → streams name at ≡ asked
-    → GainsAsPlanned (input_plan name at bytes) status before now → GainsAsPlanned (ask_plan asked bytes) status before now
-later_gains asked name at status bytes before now is gains = rw (← is) gains
-
-pub ruleset ends_of_runs = (keeps_same, early_asked, early_planned, early_gains, early_years, later_asked, later_planned, later_gains, later_years)
+pub ruleset ends_of_runs = (keeps_same, early_asked, early_planned, early_gains, later_asked, later_planned, later_gains)

@@ -14,7 +14,7 @@ IsSaid status answer = (answer ≡ status) ⊎ (answer ≡ NoMemory)
 pub said_asked : (asked : Ask) (status answer : Status) → EndsAsAsked asked status → IsSaid status answer → EndsAsAsked asked answer
 said_asked asked status answer fits (inl is) = rw is fits
 said_asked (ends end) status answer fits (inr is) = inr is
-said_asked (streams name at) status answer fits (inr is) = rw is tt
+said_asked (streams wanted) status answer fits (inr is) = rw is tt
 
 pub said_planned : (plan : Plan) (status answer : Status) → EndsAsPlanned plan status → IsSaid status answer → EndsAsPlanned plan answer
 said_planned plan status answer fits (inl is) = rw is fits

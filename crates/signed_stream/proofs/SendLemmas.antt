@@ -4,10 +4,12 @@ use Rattle.std.specs.Prelude.{Result, Ok, Err}
 use Rattle.smithy_core.specs.Outside.{Gains}
 use Rattle.smithy_core.specs.Parts.{Parts}
 use Rattle.smithy_core.proofs.GainLemmas.{gains_front, gains_join, prefix_join, prefix_within}
-use Rattle.signed_stream.specs.Canonical.{Case}
+use Rattle.sigv4.specs.Case.{Case}
+use Rattle.sigv4.specs.Signed.{signature_of}
+use Rattle.signed_stream.specs.Plan.{writes}
 use Rattle.signed_stream.specs.Refusal.{Refusal}
-use Rattle.signed_stream.specs.Sending.{Halts, Sends}
-use Rattle.signed_stream.specs.Signed.{signature_of}
+use Rattle.signed_stream.specs.Run.{Fits}
+use Rattle.signed_stream.specs.Sending.{Halts, Sends, ended}
 use Rattle.signed_stream.specs.Stream.{streamed_lines}
 use Rattle.signed_stream.specs.Written.{signed_head, written, written_before, written_until}
 use Rattle.signed_stream.specs.declared.halt.Halt.{Halt}
@@ -15,11 +17,11 @@ use Rattle.signed_stream.specs.declared.halt.Halt.TheVariants.{Refused, OutputFa
 use Rattle.signed_stream.specs.declared.status.StreamFault.{StreamFault}
 
 -- the text that is written is the head, and then the lines that are streamed
-pub written_lines : (refusal : Option Refusal) (c : Case) (events : List Parts)
-    → written_until refusal c events ≡ signed_head c ++ streamed_lines c.signer events c.at (signature_of c) refusal
+pub written_lines : (refusal : Option Refusal) (target : List ℕ) (c : Case) (events : List Parts)
+    → written_until refusal target c events ≡ signed_head target c ++ streamed_lines c.signer events c.at (signature_of c) refusal
 unfolding written written_before
-written_lines None c events = refl
-written_lines (Some refusal) c events = refl
+written_lines None target c events = refl
+written_lines (Some refusal) target c events = refl
 
 -- a back is sent after its front
 pub back_sent : {T : Type 0} (a b c : Option (List ℕ)) (front back : List ℕ) (fault : Option StreamFault) (answer : Result T Halt)
@@ -36,4 +38,12 @@ front_halted a b front back fault (Refused told) halts = let wrong : None ≡ So
 front_halted a b front back fault OutputFault halts = prefix_within a b front back halts
 front_halted a b front back fault NoMemory halts = prefix_within a b front back halts
 
-pub ruleset sent_after = (written_lines, back_sent, front_halted)
+pub ruleset sent_after = (back_sent, front_halted)
+
+-- an answer that sends a text fits the plan to write it
+pub sends_fits : {T : Type 0} (fault : Option StreamFault) (text : List ℕ) (before now : Option (List ℕ)) (answer : Result T Halt)
+    → Sends fault text before now answer → Fits (writes text fault) (ended answer) before now
+sends_fits fault text before now (Ok x) sends = sends
+sends_fits fault text before now (Err (Refused told)) sends = sends
+sends_fits fault text before now (Err OutputFault) sends = sends
+sends_fits fault text before now (Err NoMemory) sends = sends

@@ -245,3 +245,12 @@ unrefused_frames signer place (event ∷ events) at signature years none =
         let frames = linked_frames signer signature event at linked in
         (frames.0, frames.1, others none)
     by_reason (Some reason) refused others none = cc
+
+-- where each frame is defined no event is refused
+pub frames_unrefused : (signer : Signer) (place : ℕ) (events : List Parts) (at : Instant) (signature : List ℕ)
+    → HasFrames signer events at signature → first_refusal signer place events at signature ≡ None
+unfolding unlinked
+frames_unrefused signer place [] at signature frames = refl
+frames_unrefused signer place (event ∷ events) at signature frames =
+    let others = frames_unrefused signer (place + 1) events at (link_signature signer signature (frame event) at) frames.2 in
+    rw (frames.0, frames.1, others) refl

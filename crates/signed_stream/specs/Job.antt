@@ -3,83 +3,15 @@ use Rattle.std.specs.Prelude.{ℕ, ◌+◌, ◌-◌, ◌==◌, nat_eq, Bool, tru
 use Rattle.std.specs.Option.{option_to_list}
 use Rattle.std.specs.List.{list_all, list_any, starts_with, before_first, after_first}
 use Rattle.std.specs.Str.Lossy.{utf8_valid_len}
+use Rattle.smithy_core.specs.Pairs.{lower}
 use Rattle.smithy_core.specs.Parts.{Parts}
 use Rattle.smithy_core.specs.declared.header.Header.{Header}
 use Rattle.signed_stream.specs.EventHeader.{bytes_of, event_header}
-use Rattle.signed_stream.specs.Lines.{lines_of, rest_of, word_of}
+use Rattle.signed_stream.specs.Lines.{lines_of, pair_of, rest_of, word_of}
 use Rattle.signed_stream.specs.Numbers.{is_digit}
 
 abbrev pub is_lower : ℕ → Bool
 is_lower b = nat_le 97 b && nat_le b 122
-
-abbrev pub is_upper : ℕ → Bool
-is_upper b = nat_le 65 b && nat_le b 90
-
--- the separator doesn't stand twice in a row, nor first where it stood before
-abbrev pub is_single : ℕ → Bool → List ℕ → Bool
-is_single separator after [] = true
-is_single separator after (b ∷ bytes) =
-    if b == separator then not after && is_single separator true bytes else is_single separator false bytes
-
--- ## Targets
-
-abbrev pub is_host_byte : ℕ → Bool
-is_host_byte b = is_lower b || is_digit b || b == 45 || b == 46
-
-abbrev pub is_path_byte : ℕ → Bool
-is_path_byte b = is_lower b || is_upper b || is_digit b || b == 45 || b == 95 || b == 126 || b == 47
-
--- what stands after `https://`
-abbrev pub after_scheme : List ℕ → List ℕ
-after_scheme target = drop 8 target
-
--- the host of a plain target
-unfoldable pub host_of : List ℕ → List ℕ
-host_of target = before_first (λ b. b == 47) (after_scheme target)
-
--- the path of a plain target, with its slash
-unfoldable pub path_of : List ℕ → List ℕ
-path_of target = drop (length (host_of target)) (after_scheme target)
-
--- `https://HOST/PATH`, with single slashes, in at most 65534 bytes
-unfoldable pub is_plain_target : List ℕ → Bool
-is_plain_target target =
-    starts_with nat_eq target (codes "https://") && nat_lt 0 (length (host_of target)) && list_all is_host_byte (host_of target)
-    && nat_lt 0 (length (path_of target)) && list_all is_path_byte (path_of target) && is_single 47 false (path_of target) && nat_le (length target) 65534
-
--- ## Headers of the request
-
-abbrev pub is_name_byte : ℕ → Bool
-is_name_byte b = is_lower b || is_digit b || b == 45
-
--- a name that the signing sets or leaves out
-abbrev pub is_reserved_name : List ℕ → Bool
-is_reserved_name name = list_any (bytes_eq name)
-    (codes "host" ∷ codes "x-amz-date" ∷ codes "authorization" ∷ codes "user-agent" ∷ codes "x-amzn-trace-id" ∷ codes "transfer-encoding"
-    ∷ codes "x-amz-security-token" ∷ codes "x-amz-content-sha256" ∷ [])
-
--- a name that is neither reserved nor there before
-unfoldable pub is_plain_name : List (List ℕ × List ℕ) → List ℕ → Bool
-is_plain_name headers name =
-    nat_lt 0 (length name) && nat_le (length name) 255 && list_all is_name_byte name && not (is_reserved_name name)
-    && not (list_any (λ header. bytes_eq header.0 name) headers)
-
-abbrev pub is_value_byte : ℕ → Bool
-is_value_byte b = nat_le 32 b && nat_le b 126
-
--- visible bytes with single spaces between them
-unfoldable pub is_plain_value : List ℕ → Bool
-is_plain_value value =
-    nat_lt 0 (length value) && list_all is_value_byte value && is_single 32 true value
-    && not (slice_index value (length value - 1) == 32)
-
--- the name and the value of `NAME: VALUE`, after the headers before
-unfoldable pub plain_header : List (List ℕ × List ℕ) → List ℕ → Option (List ℕ × List ℕ)
-plain_header headers rest =
-    let name = before_first (λ b. b == 58) rest in
-    let tail = after_first (λ b. b == 58) rest in
-    let value = drop 1 tail in
-    if is_plain_name headers name && slice_index tail 0 == 32 && is_plain_value value then Some (name, value) else None
 
 -- ## Credentials
 
@@ -87,25 +19,27 @@ plain_header headers rest =
 pub record Settings : Type 0 where
   pub key_id : Option (List ℕ)
   pub secret : Option (List ℕ)
+  pub token : Option (List ℕ)
   pub region : Option (List ℕ)
 
 abbrev pub no_settings : Settings
-no_settings = record { key_id = None; secret = None; region = None }
+no_settings = record { key_id = None; secret = None; token = None; region = None }
 
 -- a property more: the later value of a key wins, and other keys give nothing
 unfoldable pub with_property : Settings → List ℕ → List ℕ → Settings
 with_property settings key value =
     if bytes_eq key (codes "aws_access_key_id") then record settings { key_id = Some value }
     else if bytes_eq key (codes "aws_secret_access_key") then record settings { secret = Some value }
+    else if bytes_eq key (codes "aws_session_token") then record settings { token = Some value }
     else if bytes_eq key (codes "region") then record settings { region = Some value }
     else settings
 
 abbrev pub is_key_byte : ℕ → Bool
 is_key_byte b = is_lower b || is_digit b || b == 95
 
--- a key other than the token's
+-- lower-case letters, digits and `_`
 unfoldable pub is_plain_key : List ℕ → Bool
-is_plain_key key = nat_lt 0 (length key) && list_all is_key_byte key && not (bytes_eq key (codes "aws_session_token"))
+is_plain_key key = nat_lt 0 (length key) && list_all is_key_byte key
 
 abbrev pub is_property_byte : ℕ → Bool
 is_property_byte b = nat_le 33 b && nat_le b 126
@@ -141,12 +75,13 @@ pub record Draft : Type 0 where
   pub method : Option (List ℕ)
   pub target : Option (List ℕ)
   pub headers : List (List ℕ × List ℕ)
+  pub body : Option (List ℕ)
   pub settings : Option Settings
   pub events : List Parts
   pub event : Option Event
 
 abbrev pub no_draft : Draft
-no_draft = record { method = None; target = None; headers = []; settings = None; events = []; event = None }
+no_draft = record { method = None; target = None; headers = []; body = None; settings = None; events = []; event = None }
 
 -- the events, with the one that is open
 abbrev pub events_of : Draft → List Parts
@@ -175,15 +110,18 @@ method_step draft rest =
 
 -- `target T`: once
 unfoldable pub target_step : Draft → List ℕ → LineStep
-target_step draft rest =
-    if is_some draft.target then bad
-    else if is_plain_target rest then moves_to (record draft { target = Some rest })
-    else unbuilt
+target_step draft rest = if is_some draft.target then bad else moves_to (record draft { target = Some rest })
 
--- `header NAME: VALUE`
+-- `header NAME: VALUE`: the name goes in lower case
 unfoldable pub header_step : Draft → List ℕ → LineStep
 header_step draft rest =
-    plain_or_unbuilt (option_map (λ header. record draft { headers = draft.headers ++ header ∷ [] }) (plain_header draft.headers rest))
+    whole_or_bad (option_map (λ header. record draft { headers = draft.headers ++ (lower header.0, header.1) ∷ [] }) (pair_of rest))
+
+-- `body HEX`: once, an even number of digits in either case
+unfoldable pub body_step : Draft → List ℕ → LineStep
+body_step draft rest =
+    if is_some draft.body then bad
+    else whole_or_bad (option_map (λ body. record draft { body = Some body }) (bytes_of rest))
 
 -- `credentials TEXT`
 unfoldable pub credentials_step : Draft → List ℕ → LineStep
@@ -207,22 +145,23 @@ payload_step draft event rest =
     if is_some event.payload then bad
     else whole_or_bad (option_map (λ payload. record draft { event = Some (record event { payload = Some payload }) }) (bytes_of rest))
 
--- a line that stands after an `event`
-abbrev pub body_step : Option Event → (Event → LineStep) → LineStep
-body_step None step = bad
-body_step (Some event) step = step event
+-- a line of the event that is open
+abbrev pub in_event : Option Event → (Event → LineStep) → LineStep
+in_event None step = bad
+in_event (Some event) step = step event
 
 -- what a line of this word and this rest does; lines of the request stand before the first `event`
 unfoldable pub word_step : Draft → List ℕ → List ℕ → LineStep
 word_step draft word rest =
     if bytes_eq word (codes "event") then event_step draft rest
-    else if bytes_eq word (codes "h") then body_step draft.event (λ event. event_header_step draft event rest)
-    else if bytes_eq word (codes "payload") then body_step draft.event (λ event. payload_step draft event rest)
+    else if bytes_eq word (codes "h") then in_event draft.event (λ event. event_header_step draft event rest)
+    else if bytes_eq word (codes "payload") then in_event draft.event (λ event. payload_step draft event rest)
     else if is_some draft.event then bad
     else if bytes_eq word (codes "method") then method_step draft rest
     else if bytes_eq word (codes "target") then target_step draft rest
     else if bytes_eq word (codes "header") then header_step draft rest
-    else if bytes_eq word (codes "body") || bytes_eq word (codes "config") then unbuilt
+    else if bytes_eq word (codes "body") then body_step draft rest
+    else if bytes_eq word (codes "config") then unbuilt
     else if bytes_eq word (codes "credentials") then credentials_step draft rest
     else bad
 
@@ -232,11 +171,12 @@ line_step draft line = if length line == 0 then moves_to draft else word_step dr
 
 -- ## The job
 
--- a plain job
+-- a job; without a line of its own the body is empty
 pub record PlainJob : Type 0 where
   pub method : List ℕ
   pub target : List ℕ
   pub headers : List (List ℕ × List ℕ)
+  pub body : List ℕ
   pub settings : Settings
   pub events : List Parts
 
@@ -251,7 +191,7 @@ pub data Reading : Type 0 where
 -- the lines are over: the job, or the place after the last line
 abbrev pub job_of : ℕ → Draft → Option (List ℕ) → Option (List ℕ) → Option Settings → Reading
 job_of place draft (Some method) (Some target) (Some settings) =
-    plain_job (record { method = method; target = target; headers = draft.headers; settings = settings; events = events_of draft })
+    plain_job (record { method = method; target = target; headers = draft.headers; body = unwrap_or draft.body []; settings = settings; events = events_of draft })
 job_of place draft (Some method) (Some target) None = unbuilt_line place
 job_of place draft (Some method) None settings = bad_line place
 job_of place draft None target settings = bad_line place

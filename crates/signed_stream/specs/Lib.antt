@@ -1,8 +1,6 @@
-pub mod Canonical
 pub mod Command
 pub mod EventHeader
 pub mod Fault
-pub mod Heads
 pub mod Job
 pub mod Lines
 pub mod Numbers
@@ -11,9 +9,10 @@ pub mod Reading
 pub mod Refusal
 pub mod Run
 pub mod Sending
-pub mod Signed
 pub mod Signing
+pub mod Signs
 pub mod Status
 pub mod Stream
+pub mod Targets
 pub mod Words
 pub mod Written

@@ -1,5 +1,5 @@
 -- Lines, and the words in them.
-use Rattle.std.specs.Prelude.{ℕ, ◌==◌, if◌then◌else◌, List, [], ◌∷◌}
+use Rattle.std.specs.Prelude.{ℕ, ◌==◌, ◌&&◌, if◌then◌else◌, List, [], ◌∷◌, drop, slice_index, Option, Some, None, option_map}
 use Rattle.std.specs.List.{before_first, after_first}
 
 -- the byte joins the first line
@@ -19,3 +19,10 @@ word_of line = before_first (λ b. b == 32) line
 -- what stands after the first space, or nothing
 abbrev pub rest_of : List ℕ → List ℕ
 rest_of line = after_first (λ b. b == 32) line
+
+-- what stands before the first `: `, and what stands after it
+unfoldable pub pair_of : List ℕ → Option (List ℕ × List ℕ)
+pair_of [] = None
+pair_of (b ∷ bytes) =
+    if b == 58 && slice_index bytes 0 == 32 then Some ([], drop 1 bytes)
+    else option_map (λ pair. (b ∷ pair.0, pair.1)) (pair_of bytes)

@@ -1,5 +1,5 @@
 -- What the reader of a job promises.
-use Rattle.std.specs.Prelude.{◌≡◌, ℕ, List, [], Result, Ok, Err, Option, Some, None, option_map, string_bytes}
+use Rattle.std.specs.Prelude.{◌≡◌, ℕ, List, Result, Ok, Err, Option, Some, None, option_map, string_bytes}
 use Rattle.std.specs.Borrow.{Bor}
 use Rattle.signed_stream.specs.Job.{Settings, Event, Draft, LineStep, moves_to, bad, unbuilt, PlainJob, Reading, plain_job, bad_line, unbuilt_line}
 use Rattle.signed_stream.specs.declared.job.credentials.PlainSettings.{PlainSettings}
@@ -14,7 +14,12 @@ use Rattle.signed_stream.specs.declared.job.fault.LineFault.TheVariants.{Bad, No
 -- the texts of settings
 abbrev pub settings_of : PlainSettings → Settings
 settings_of settings =
-    record { key_id = option_map string_bytes settings.key_id; secret = option_map string_bytes settings.secret; region = option_map string_bytes settings.region }
+    record {
+      key_id = option_map string_bytes settings.key_id;
+      secret = option_map string_bytes settings.secret;
+      token = option_map string_bytes settings.token;
+      region = option_map string_bytes settings.region;
+    }
 
 -- the lists of an event
 abbrev pub event_of : OpenEvent → Event
@@ -27,6 +32,7 @@ draft_of draft =
       method = option_map string_bytes draft.method;
       target = option_map string_bytes draft.target;
       headers = draft.headers;
+      body = draft.body;
       settings = option_map settings_of draft.settings;
       events = draft.events.items;
       event = option_map event_of draft.event;
@@ -53,26 +59,24 @@ Gives spelled (Err Bad) = spelled ≡ None
 Gives spelled (Err NotBuilt) = ⊥
 Gives spelled (Err NoMemory) = Unit {0}
 
--- the pair is the one that the text spells
-abbrev pub GivesPair : Option (List ℕ × List ℕ) → Result (Bor (List ℕ) × Bor (List ℕ)) LineFault → Type 0
-GivesPair pair (Ok given) = pair ≡ Some (given.0.now, given.1.now)
-GivesPair pair (Err Bad) = ⊥
-GivesPair pair (Err NotBuilt) = pair ≡ None
-GivesPair pair (Err NoMemory) = ⊥
-
 -- the texts and lists of a job
 abbrev pub plain_of : Job → PlainJob
 plain_of job = record {
   method = string_bytes job.request.method;
   target = string_bytes job.request.target;
   headers = job.request.headers;
+  body = job.request.body;
   settings = settings_of job.settings;
   events = job.events.items;
 }
 
--- the job is the one that is read, and its request has no body; or a line at this place is bad or not built; or memory ran out
+-- the job is the one that is read; or a line at this place is bad or not built; or memory ran out
 abbrev pub ReadsJob : Reading → Result Job JobFault → Type 0
-ReadsJob reading (Ok job) = (reading ≡ plain_job (plain_of job)) × (job.request.body ≡ [])
+ReadsJob reading (Ok job) = reading ≡ plain_job (plain_of job)
 ReadsJob reading (Err (BadLine place)) = reading ≡ bad_line place
 ReadsJob reading (Err (JobNotBuilt place)) = reading ≡ unbuilt_line place
 ReadsJob reading (Err JobNoMemory) = Unit {0}
+
+-- the texts of a pair
+abbrev pub texts_of_pair : Option (Bor (List ℕ) × Bor (List ℕ)) → Option (List ℕ × List ℕ)
+texts_of_pair pair = option_map (λ parts. (parts.0.now, parts.1.now)) pair

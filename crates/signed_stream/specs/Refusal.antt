@@ -1,4 +1,4 @@
--- Events that are refused: they have no frame, or their signed messages have none.
+-- What is refused: requests that can't be signed, and events that have no frame, or whose signed messages have none.
 use Rattle.std.specs.Prelude.{ℕ, ◌+◌, List, [], ◌∷◌, Option, None, option_map}
 use Rattle.std.specs.Option.{option_or}
 use Rattle.smithy_core.specs.Instant.{Instant}
@@ -8,8 +8,18 @@ use Rattle.eventstream.specs.Key.{Signer}
 use Rattle.eventstream.specs.Link.{link_message, link_signature}
 use Rattle.eventstream.specs.declared.error.ErrorKind.{ErrorKind}
 use Rattle.eventstream.specs.declared.error.ErrorKind.TheVariants as reasons
+use Rattle.sigv4.specs.declared.error.SigningError.{SigningError}
+use Rattle.sigv4.specs.declared.error.SigningError.TheVariants as errors
 use Rattle.signed_stream.specs.declared.status.StreamFault.{StreamFault}
-use Rattle.signed_stream.specs.declared.status.StreamFault.TheVariants.{InvalidHeaderNameLength, HeaderValueTooLong, TimestampValueTooLarge, HeadersTooLong, PayloadTooLong, MessageTooLong}
+use Rattle.signed_stream.specs.declared.status.StreamFault.TheVariants.{MomentOutOfRange, InvalidUri, InvalidHeaderName, InvalidHeaderValue, MissingHost, InvalidHeaderNameLength, HeaderValueTooLong, TimestampValueTooLarge, HeadersTooLong, PayloadTooLong, MessageTooLong}
+
+-- the fault that tells why a request isn't signed; the last reason is that its target isn't accepted
+abbrev pub fault_for : SigningError → StreamFault
+fault_for (errors.InvalidHeaderName place) = InvalidHeaderName place
+fault_for (errors.InvalidHeaderValue place) = InvalidHeaderValue place
+fault_for errors.MissingHost = MissingHost
+fault_for (errors.MomentOutOfRange moment) = MomentOutOfRange moment
+fault_for error = InvalidUri
 
 -- why an event can't be streamed over the signature before it: it has no frame, or else its signed message has none
 unfoldable pub unlinked : Signer → List ℕ → Parts → Instant → Option ErrorKind

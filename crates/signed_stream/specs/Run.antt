@@ -1,23 +1,27 @@
 -- What a run promises.
-use Rattle.std.specs.Prelude.{◌≡◌, ℕ, ◌⊎◌, List, Option, Some, None, Result, Ok, Err}
+use Rattle.std.specs.Prelude.{◌≡◌, ℕ, ◌≤◌, ◌⊎◌, false, List, length, Option, Some, None, Result, Ok, Err}
 use Rattle.smithy_core.specs.Civil.{IsInYears}
 use Rattle.smithy_core.specs.Outside.{Gains, GainsPrefix, GainsProperPrefix, Rose}
-use Rattle.smithy_core.specs.Instant.{Instant}
-use Rattle.signed_stream.specs.Command.{command, stream}
+use Rattle.smithy_http.specs.Target.{Target}
+use Rattle.sigv4.specs.Refusal.{unfit}
+use Rattle.signed_stream.specs.Command.{Wanted, command, stream}
 use Rattle.signed_stream.specs.Job.{PlainJob, job, plain_job}
-use Rattle.signed_stream.specs.Plan.{Ask, ends, streams, Plan, stops, writes, case_of}
-use Rattle.signed_stream.specs.Written.{IsChained, written}
+use Rattle.signed_stream.specs.Plan.{Ask, ends, streams, Plan, stops, writes, has_later_variable, most_input}
+use Rattle.signed_stream.specs.Signing.{Selected, case_of, profile_of}
 use Rattle.signed_stream.specs.Status.{end_with, status_line}
+use Rattle.signed_stream.specs.Targets.{ReadsTarget}
+use Rattle.signed_stream.specs.Words.{wanted_of}
+use Rattle.signed_stream.specs.Written.{IsChained, written}
 use Rattle.signed_stream.specs.declared.words.options.StreamWords.{StreamWords}
 use Rattle.signed_stream.specs.declared.status.Status.{Status}
 use Rattle.signed_stream.specs.declared.status.Status.TheVariants.{Done, BadWords, ReadFault, Refused, OutputFault, NoMemory, NotBuilt}
-use Rattle.signed_stream.specs.declared.status.StreamFault.TheVariants.{MissingCredentials, MissingSigningRegion}
+use Rattle.signed_stream.specs.declared.status.StreamFault.TheVariants.{InvalidHeaderNameLength, HeaderValueTooLong, TimestampValueTooLarge, HeadersTooLong, PayloadTooLong, MessageTooLong}
 
 -- where the words or the variables end the run, it ends so, or for want of memory
 abbrev pub EndsAsAsked : Ask → Status → Type 0
 EndsAsAsked (ends status) answer = (answer ≡ status) ⊎ (answer ≡ NoMemory)
-EndsAsAsked (streams name at) (BadWords place) = ⊥
-EndsAsAsked (streams name at) answer = Unit {0}
+EndsAsAsked (streams wanted) (BadWords place) = ⊥
+EndsAsAsked (streams wanted) answer = Unit {0}
 
 -- a run that is to stop does so, and one that is to write is done or refused; a fault of the outside or want of memory may come in between
 abbrev pub EndsAsPlanned : Plan → Status → Type 0
@@ -42,30 +46,55 @@ Says NoMemory before now faults_before faults_now = (status : Status) × GainsPr
 Says answer before now faults_before faults_now =
     Gains before now (status_line answer) ⊎ (GainsProperPrefix before now (status_line answer) × Rose faults_before faults_now)
 
--- the answers that leave the output as it was, whether or not the input tells its bytes
+-- the answers that leave the output as it was, whether or not the input tells its bytes: of the refusals those of the profile and of the request
 abbrev pub Keeps : Status → Option (List ℕ) → Option (List ℕ) → Type 0
 Keeps Done before now = Unit {0}
-Keeps (Refused MissingCredentials) before now = now ≡ before
-Keeps (Refused MissingSigningRegion) before now = now ≡ before
-Keeps (Refused fault) before now = Unit {0}
+Keeps (Refused (InvalidHeaderNameLength place)) before now = Unit {0}
+Keeps (Refused (HeaderValueTooLong place)) before now = Unit {0}
+Keeps (Refused (TimestampValueTooLarge place)) before now = Unit {0}
+Keeps (Refused (HeadersTooLong place)) before now = Unit {0}
+Keeps (Refused (PayloadTooLong place)) before now = Unit {0}
+Keeps (Refused (MessageTooLong place)) before now = Unit {0}
 Keeps OutputFault before now = Unit {0}
 Keeps NoMemory before now = Unit {0}
 Keeps answer before now = now ≡ before
 
--- The headline: the words ask to stream for a name at a moment; the bytes are a plain job, whose profile gives a key id, a secret and a
--- region; the chain of the events is defined; and the output gained exactly the head of the signed request and then this chain.
-pub record Streams (words : List (List ℕ)) (bytes : List ℕ) (before now : Option (List ℕ)) : Type 0 where
-  pub name : List ℕ
-  pub at : Instant
+-- The input can be streamed: it isn't too large, and is a job whose profile gives a key id, a secret and a region; the moment lies in the years; the
+-- target is accepted, no test of the request fails, and the chain of the events is defined.
+pub record IsStreamable (wanted : Wanted) (bytes : List ℕ) : Type 0 where
   pub read : PlainJob
-  pub key_id : List ℕ
-  pub secret : List ℕ
-  pub region : List ℕ
-  pub asked : command words ≡ stream name at
+  pub selected : Selected
+  pub target : Target
+  pub short : length bytes ≤ most_input
   pub spelled : job bytes ≡ plain_job read
-  pub selected : read.settings ≡ record { key_id = Some key_id; secret = Some secret; region = Some region }
-  pub framed : IsChained (case_of read key_id secret region name at) read.events
-  pub gained : Gains before now (written (case_of read key_id secret region name at) read.events)
+  pub settled : read.settings ≡ profile_of selected
+  pub years : IsInYears wanted.at
+  pub accepted : ReadsTarget read.target (Some target)
+  pub fit : unfit (case_of read wanted selected target) ≡ None
+  pub framed : IsChained (case_of read wanted selected target) read.events
+
+-- What is asked is valid: the words ask to stream, the variables are built, and the input can be streamed.
+pub record IsValid (words : List (List ℕ)) (env : List (List ℕ × List ℕ)) (bytes : List ℕ) : Type 0 where
+  pub wanted : Wanted
+  pub asked : command words ≡ stream wanted
+  pub built : has_later_variable env ≡ false
+  pub input : IsStreamable wanted bytes
+
+-- the head of the signed request, and then the chain of the events
+abbrev pub streamed : (wanted : Wanted) (bytes : List ℕ) → IsStreamable wanted bytes → List ℕ
+streamed wanted bytes input = written input.read.target (case_of input.read wanted input.selected input.target) input.read.events
+
+-- the input can be streamed, and the output gained exactly the head of the signed request and then the chain of the events
+abbrev pub StreamsInput : Wanted → List ℕ → Option (List ℕ) → Option (List ℕ) → Type 0
+StreamsInput wanted bytes before now = (input : IsStreamable wanted bytes) × Gains before now (streamed wanted bytes input)
+
+-- The headline: what is asked is valid, and the output gained exactly the head of the signed request and then the chain of the events.
+abbrev pub Streams : List (List ℕ) → List (List ℕ × List ℕ) → List ℕ → Option (List ℕ) → Option (List ℕ) → Type 0
+Streams words env bytes before now = (valid : IsValid words env bytes) × Gains before now (streamed valid.wanted bytes valid.input)
+
+-- the run is done; a fault of the outside or want of memory may come in between
+abbrev pub Completes : Status → Type 0
+Completes answer = (answer ≡ Done) ⊎ (answer ≡ ReadFault) ⊎ (answer ≡ OutputFault) ⊎ (answer ≡ NoMemory)
 
 -- an answer once the input is read, and what the output gained: as planned, unless the output's faults or want of memory come in between
 abbrev pub Fits : Plan → Status → Option (List ℕ) → Option (List ℕ) → Type 0
@@ -76,15 +105,16 @@ Fits (writes text fault) OutputFault before now = GainsPrefix before now text
 Fits (writes text fault) NoMemory before now = GainsPrefix before now text
 Fits (writes text fault) answer before now = ⊥
 
+-- an answer that fits whatever the target spells, or fits for what it spells
+abbrev pub FitsTarget : (Option Target → Type 0) → (Option Target → Plan) → Status → Option (List ℕ) → Option (List ℕ) → Type 0
+FitsTarget Reads plan answer before now =
+    ((target : Option Target) → Fits (plan target) answer before now)
+    ⊎ ((target : Option Target) × Reads target × Fits (plan target) answer before now)
+
 -- what a reader of words and variables answers
 abbrev pub ask_told : Result StreamWords Status → Ask
-ask_told (Ok words) = streams words.name.now words.at
+ask_told (Ok words) = streams (wanted_of words)
 ask_told (Err status) = ends status
-
--- a moment that is asked for lies in the years
-abbrev pub AsksInYears : Ask → Type 0
-AsksInYears (ends status) = Unit {0}
-AsksInYears (streams name at) = IsInYears at
 
 -- the ends that words and variables alone can bring
 abbrev pub IsEarly : Status → Type 0

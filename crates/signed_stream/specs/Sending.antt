@@ -4,7 +4,20 @@ use Rattle.smithy_core.specs.Outside.{Gains, GainsPrefix}
 use Rattle.eventstream.specs.declared.error.ErrorKind.{ErrorKind}
 use Rattle.signed_stream.specs.declared.halt.Halt.{Halt}
 use Rattle.signed_stream.specs.declared.halt.Halt.TheVariants.{Refused, OutputFault, NoMemory}
+use Rattle.signed_stream.specs.declared.status.Status.{Status}
+use Rattle.signed_stream.specs.declared.status.Status.TheVariants as statuses
 use Rattle.signed_stream.specs.declared.status.StreamFault.{StreamFault}
+
+-- how a run ends that halts
+abbrev pub halted : Halt → Status
+halted (Refused fault) = statuses.Refused fault
+halted OutputFault = statuses.OutputFault
+halted NoMemory = statuses.NoMemory
+
+-- how a run ends with this answer
+abbrev pub ended : {T : Type 0} → Result T Halt → Status
+ended (Ok _) = statuses.Done
+ended (Err halt) = halted halt
 
 -- how it ends early: where the text is written the answer is the fault; where the output fails or memory runs out a front of the text is
 abbrev pub Halts : Option StreamFault → List ℕ → Option (List ℕ) → Option (List ℕ) → Halt → Type 0

@@ -5,7 +5,7 @@ use Rattle.smithy_core.specs.Text.{line}
 use Rattle.signed_stream.specs.declared.status.Status.{Status}
 use Rattle.signed_stream.specs.declared.status.Status.TheVariants.{Done, BadWords, JobTooLarge, BadJob, ReadFault, Refused, OutputFault, NoMemory, NotBuilt}
 use Rattle.signed_stream.specs.declared.status.StreamFault.{StreamFault}
-use Rattle.signed_stream.specs.declared.status.StreamFault.TheVariants.{MissingCredentials, MissingSigningRegion, InvalidHeaderNameLength, HeaderValueTooLong, TimestampValueTooLarge, HeadersTooLong, PayloadTooLong, MessageTooLong}
+use Rattle.signed_stream.specs.declared.status.StreamFault.TheVariants.{MissingCredentials, MissingSigningRegion, MomentOutOfRange, InvalidUri, InvalidHeaderName, InvalidHeaderValue, MissingHost, InvalidHeaderNameLength, HeaderValueTooLong, TimestampValueTooLarge, HeadersTooLong, PayloadTooLong, MessageTooLong}
 
 -- the number that the process ends with
 abbrev pub exit_code : Status → ℕ
@@ -28,6 +28,11 @@ end_with (Some fault) = Refused fault
 abbrev pub refusal_text : StreamFault → List ℕ
 refusal_text MissingCredentials = codes "2 MissingCredentials"
 refusal_text MissingSigningRegion = codes "3 MissingSigningRegion"
+refusal_text (MomentOutOfRange moment) = codes "4 MomentOutOfRange"
+refusal_text InvalidUri = codes "5 InvalidUri"
+refusal_text (InvalidHeaderName place) = codes "6 InvalidHeaderName"
+refusal_text (InvalidHeaderValue place) = codes "7 InvalidHeaderValue"
+refusal_text MissingHost = codes "8 MissingHost"
 refusal_text (InvalidHeaderNameLength place) = codes "11 InvalidHeaderNameLength"
 refusal_text (HeaderValueTooLong place) = codes "12 HeaderValueTooLong"
 refusal_text (TimestampValueTooLarge place) = codes "13 TimestampValueTooLarge"

@@ -1,10 +1,14 @@
 -- What the readers of the words answer.
 use Rattle.std.specs.Prelude.{Result, Ok, Err, option_copied}
-use Rattle.signed_stream.specs.Command.{Command, bad_word, unbuilt_word, stream, Options, OptionStep, options, ends}
+use Rattle.signed_stream.specs.Command.{Command, bad_word, unbuilt_word, stream, Options, OptionStep, Wanted, options, ends}
 use Rattle.signed_stream.specs.declared.words.WordsFault.{WordsFault}
 use Rattle.signed_stream.specs.declared.words.WordsFault.TheVariants.{BadWord, NotBuilt}
 use Rattle.signed_stream.specs.declared.words.options.StreamWords.{StreamWords}
-use Rattle.signed_stream.specs.declared.words.options.StreamOptions.{StreamOptions}
+use Rattle.signed_stream.specs.declared.words.options.GivenOptions.{GivenOptions}
+
+-- what the words ask `stream` for
+abbrev pub wanted_of : StreamWords → Wanted
+wanted_of words = record { name = words.name.now; at = words.at; signing = words.signing }
 
 -- the command that a fault tells
 abbrev pub fault_told : WordsFault → Command
@@ -13,14 +17,14 @@ fault_told (NotBuilt place) = unbuilt_word place
 
 -- the command that an answer tells
 abbrev pub command_told : Result StreamWords WordsFault → Command
-command_told (Ok words) = stream words.name.now words.at
+command_told (Ok words) = stream (wanted_of words)
 command_told (Err fault) = fault_told fault
 
--- what the options so far gave
-abbrev pub options_of : StreamOptions → Options
-options_of given = record { name = option_copied given.name; at = given.at }
+-- what the words so far gave
+abbrev pub options_of : GivenOptions → Options
+options_of given = record { name = option_copied given.name; at = given.at; signing = given.signing; awaited = given.awaited }
 
--- the step that an answer tells, with the options after it
+-- the step that an answer tells, with what the words gave after it
 abbrev pub step_told : Result (Unit {0}) WordsFault → Options → OptionStep
 step_told (Ok _) given = options given
 step_told (Err fault) given = ends (fault_told fault)

@@ -3,9 +3,9 @@ use Rattle.std.specs.Prelude.{ℕ, List, [], ◌++◌, codes, Option, Some, None
 use Rattle.std.specs.List.{flat_map}
 use Rattle.smithy_core.specs.Parts.{Parts}
 use Rattle.smithy_core.specs.Text.{line}
-use Rattle.signed_stream.specs.Canonical.{Case}
+use Rattle.sigv4.specs.Case.{Case}
+use Rattle.sigv4.specs.Signed.{signature_of, signed_headers}
 use Rattle.signed_stream.specs.Refusal.{Refusal, first_refusal}
-use Rattle.signed_stream.specs.Signed.{signature_of, signed_headers}
 use Rattle.signed_stream.specs.Stream.{HasFrames, chain_lines, lines_before}
 
 -- `name: value`, as a line
@@ -16,27 +16,27 @@ header_line header = line (header.0 ++ codes ": " ++ header.1)
 unfoldable pub head : List ℕ → List ℕ → List (List ℕ × List ℕ) → List ℕ
 head method target headers = line (method ++ codes " " ++ target) ++ flat_map header_line headers ++ line []
 
--- the head of the signed request
-abbrev pub signed_head : Case → List ℕ
-signed_head c = head c.method c.target (signed_headers c)
+-- the head of the signed request, whose target is this text
+abbrev pub signed_head : List ℕ → Case → List ℕ
+signed_head target c = head c.method target (signed_headers c)
 
 -- the head of the signed request, and then the chain of the events, all at the moment of the request
-unfoldable pub written : Case → List Parts → List ℕ
-written c events = signed_head c ++ chain_lines c.signer events c.at (signature_of c)
+unfoldable pub written : List ℕ → Case → List Parts → List ℕ
+written target c events = signed_head target c ++ chain_lines c.signer events c.at (signature_of c)
 
 -- each frame of the chain of the events is defined
 abbrev pub IsChained : Case → List Parts → Type 0
 IsChained c events = HasFrames c.signer events c.at (signature_of c)
 
 -- the head of the signed request, and then the frames of the events before the one at a place
-unfoldable pub written_before : ℕ → Case → List Parts → List ℕ
-written_before place c events = signed_head c ++ lines_before c.signer place events c.at (signature_of c)
+unfoldable pub written_before : ℕ → List ℕ → Case → List Parts → List ℕ
+written_before place target c events = signed_head target c ++ lines_before c.signer place events c.at (signature_of c)
 
 -- the first event that is refused; places count from 1
 abbrev pub refusal_of : Case → List Parts → Option Refusal
 refusal_of c events = first_refusal c.signer 1 events c.at (signature_of c)
 
 -- what is written: all, and where an event is refused what stands before it
-abbrev pub written_until : Option Refusal → Case → List Parts → List ℕ
-written_until None c events = written c events
-written_until (Some refusal) c events = written_before refusal.place c events
+abbrev pub written_until : Option Refusal → List ℕ → Case → List Parts → List ℕ
+written_until None target c events = written target c events
+written_until (Some refusal) target c events = written_before refusal.place target c events

@@ -1,15 +1,32 @@
-use crate::status::StreamFault;
+use crate::status::{Status, StreamFault};
+use sigv4::SigningError;
 use std::alloc::AllocError;
 
 /// Why an output isn't whole.
 #[derive(Clone, Copy, Debug, PartialEq, Eq)]
 pub enum Halt {
-    /// An event is refused.
+    /// The request or an event is refused.
     Refused(StreamFault),
     /// The output failed.
     OutputFault,
     /// Memory ran out.
     NoMemory,
+}
+
+impl Halt {
+    ghost use Rattle.std.specs.Prelude.{◌≡◌};
+    ghost use Rattle.signed_stream.specs.Sending.{halted};
+
+    /// How a run ends that halts so.
+    pub fn status(self) -> Status
+        ensures { result ≡ halted self }
+    {
+        match self {
+            Halt::Refused(fault) => Status::Refused(fault),
+            Halt::OutputFault => Status::OutputFault,
+            Halt::NoMemory => Status::NoMemory,
+        }
+    }
 }
 
 impl From<AllocError> for Halt {
@@ -20,5 +37,32 @@ impl From<AllocError> for Halt {
 
     fn from(_e: AllocError) -> Halt {
         Halt::NoMemory
+    }
+}
+
+impl From<SigningError> for Halt {
+    ghost use Rattle.std.specs.Prelude.{◌≡◌};
+    ghost use Rattle.signed_stream.specs.Signs.{halt_for};
+
+    ghost from_gives = { λ error halt. halt ≡ halt_for error };
+
+    // A request of credentials has an identity that signs, and no message.
+    fn from(error: SigningError) -> Halt {
+        match error {
+            SigningError::MomentOutOfRange(moment) => {
+                Halt::Refused(StreamFault::MomentOutOfRange(moment))
+            }
+            SigningError::InvalidUri
+            | SigningError::UnsupportedIdentityType
+            | SigningError::FailedToEncodeMessage(_) => Halt::Refused(StreamFault::InvalidUri),
+            SigningError::InvalidHeaderName(place) => {
+                Halt::Refused(StreamFault::InvalidHeaderName(place))
+            }
+            SigningError::InvalidHeaderValue(place) => {
+                Halt::Refused(StreamFault::InvalidHeaderValue(place))
+            }
+            SigningError::MissingHost => Halt::Refused(StreamFault::MissingHost),
+            SigningError::NoMemory => Halt::NoMemory,
+        }
     }
 }

@@ -8,9 +8,7 @@ mod draft;
 mod event;
 mod event_header;
 mod fault;
-mod header;
 mod lines;
-mod target;
 #[cfg(test)]
 mod tests;
 
@@ -22,10 +20,10 @@ use bytes::Bytes;
 use smithy_core::{HttpRequest, Message};
 use std::alloc::Global;
 
-/// A plain job.
+/// A job whose credentials are plain.
 #[derive(Drop)]
 pub struct Job {
-    /// The request, with no body.
+    /// The request; without a line of its own its body is empty.
     pub request: HttpRequest,
     /// What the profile gives.
     pub settings: PlainSettings,
@@ -84,7 +82,7 @@ fn into_job(mut draft: Draft, place: usize) -> Result<Job, JobFault>
                 method,
                 target,
                 headers: draft.headers,
-                body: Bytes::new(),
+                body: draft.body.unwrap_or(Bytes::new()),
             },
             settings,
             events: draft.events,

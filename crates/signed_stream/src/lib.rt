@@ -6,7 +6,6 @@
 //! gained after each (`specs/Run.antt`, `specs/Plan.antt`).
 #![tactic(auto)]
 
-mod canonical;
 mod halt;
 mod job;
 mod job_stream;
@@ -14,7 +13,7 @@ mod numbers;
 mod running;
 mod saying;
 mod sign;
-mod signing;
+mod signing_options;
 mod status;
 mod stream;
 #[cfg(test)]

@@ -1,8 +1,10 @@
-ghost use Rattle.std.specs.Prelude.{◌≡◌, ◌≤◌, ℕ, List, Some, map, IfErr};
+ghost use Rattle.std.specs.Prelude.{◌≡◌, ◌≤◌, ℕ, List, Option, Some, map, IfErr};
 ghost use Rattle.std.specs.String.{string_bytes};
 ghost use Rattle.smithy_core.specs.Outside.{IsAtEnd, Rose};
-ghost use Rattle.signed_stream.specs.Plan.{ask, ask_plan, has_later_variable};
-ghost use Rattle.signed_stream.specs.Run.{AsksInYears, IsEarly, ask_told, EndsAsAsked, EndsAsPlanned, GainsAsPlanned, Keeps, Says, Streams};
+ghost use Rattle.smithy_http.specs.Target.{Target};
+ghost use Rattle.signed_stream.specs.Job.{job};
+ghost use Rattle.signed_stream.specs.Plan.{ReadsTargetOf, ask, ask_plan, has_later_variable};
+ghost use Rattle.signed_stream.specs.Run.{Completes, EndsAsAsked, EndsAsPlanned, GainsAsPlanned, IsEarly, IsValid, Keeps, Says, Streams, ask_told};
 
 use crate::job_stream::stream_input;
 use crate::saying::say;
@@ -14,7 +16,7 @@ use std::alloc::Global;
 /// Does what the words ask for, on the objects of the outside, and says on `err` how it ended.
 ///
 /// The words are those after the program's name. `stream --name NAME --at N` reads a job from `input`, signs its
-/// request by AWS Signature Version 4, and writes to `out` the head of the signed request and a chain of event
+/// request by AWS Signature Version 4, as `--sha256`, `--single-encode`, `--no-normalize` and `--unsigned` ask, and writes to `out` the head of the signed request and a chain of event
 /// stream frames: one for each event in order and an empty one last, each signed over the signature before it.
 /// The first event that has no frame, or whose signed message has none, ends the run with its fault, after the head
 /// and the frames of the events before it.
@@ -30,17 +32,21 @@ pub fn run<S: ByteSource, D: Disk, C: Clock, K: ByteSink, E: ByteSink>(
 ) -> Status
     // Where the run is done, the output gained exactly the head of the signed request and then the chain of the events read.
     ensures headline { result ≡ Status.Done → (bytes : List ℕ) → S.left input.old ≡ Some bytes
-        → Streams (map string_bytes words.now) bytes (K.held out.old) (K.held out.new) }
+        → Streams (map string_bytes words.now) env.now bytes (K.held out.old) (K.held out.new) }
 
-    // It ends as words, variables and input ask; a fault of the outside and want of memory may come in between.
+    // Where what is asked is valid, it is done; a fault of the outside and want of memory may come in between.
+    ensures complete { (bytes : List ℕ) → S.left input.old ≡ Some bytes → IsValid (map string_bytes words.now) env.now bytes → Completes result }
+
+    // It ends as words, variables and input ask, and what the target in it spells; a fault of the outside and want of memory may come in between.
     ensures asked { EndsAsAsked (ask (map string_bytes words.now) env.now) result }
-    ensures planned { (bytes : List ℕ) → S.left input.old ≡ Some bytes → EndsAsPlanned (ask_plan (ask (map string_bytes words.now) env.now) bytes) result }
+    ensures planned { (bytes : List ℕ) (target : Option Target) → S.left input.old ≡ Some bytes → ReadsTargetOf (job bytes) target
+        → EndsAsPlanned (ask_plan (ask (map string_bytes words.now) env.now) bytes target) result }
     ensures faults { (result ≡ Status.ReadFault → Rose (S.faults input.old) (S.faults input.new))
         × (result ≡ Status.OutputFault → Rose (K.faults out.old) (K.faults out.new)) }
 
     // What the output and `err` gained, whatever the end.
-    ensures output { (bytes : List ℕ) → S.left input.old ≡ Some bytes
-        → GainsAsPlanned (ask_plan (ask (map string_bytes words.now) env.now) bytes) result (K.held out.old) (K.held out.new) }
+    ensures output { (bytes : List ℕ) (target : Option Target) → S.left input.old ≡ Some bytes → ReadsTargetOf (job bytes) target
+        → GainsAsPlanned (ask_plan (ask (map string_bytes words.now) env.now) bytes target) result (K.held out.old) (K.held out.new) }
     ensures kept { Keeps result (K.held out.old) (K.held out.new) }
     ensures said { Says result (E.held err.old) (E.held err.new) (E.faults err.old) (E.faults err.new) }
 
@@ -62,11 +68,13 @@ fn answer<S: ByteSource, K: ByteSink>(
     input: &mut S,
     out: &mut K,
 ) -> Status
-    ensures years { AsksInYears (ask (map string_bytes words.now) env.now) }
+    ensures streamed { result ≡ Status.Done → (bytes : List ℕ) → S.left input.old ≡ Some bytes
+        → Streams (map string_bytes words.now) env.now bytes (K.held out.old) (K.held out.new) }
     ensures asked { EndsAsAsked (ask (map string_bytes words.now) env.now) result }
-    ensures planned { (bytes : List ℕ) → S.left input.old ≡ Some bytes → EndsAsPlanned (ask_plan (ask (map string_bytes words.now) env.now) bytes) result }
-    ensures output { (bytes : List ℕ) → S.left input.old ≡ Some bytes
-        → GainsAsPlanned (ask_plan (ask (map string_bytes words.now) env.now) bytes) result (K.held out.old) (K.held out.new) }
+    ensures planned { (bytes : List ℕ) (target : Option Target) → S.left input.old ≡ Some bytes → ReadsTargetOf (job bytes) target
+        → EndsAsPlanned (ask_plan (ask (map string_bytes words.now) env.now) bytes target) result }
+    ensures output { (bytes : List ℕ) (target : Option Target) → S.left input.old ≡ Some bytes → ReadsTargetOf (job bytes) target
+        → GainsAsPlanned (ask_plan (ask (map string_bytes words.now) env.now) bytes target) result (K.held out.old) (K.held out.new) }
     ensures kept { Keeps result (K.held out.old) (K.held out.new) }
     ensures read_fault { result ≡ Status.ReadFault → Rose (S.faults input.old) (S.faults input.new) }
     ensures output_fault { result ≡ Status.OutputFault → Rose (K.faults out.old) (K.faults out.new) }
@@ -74,7 +82,7 @@ fn answer<S: ByteSource, K: ByteSink>(
         × (S.faults input.old ≤ S.faults input.new) × (K.faults out.old ≤ K.faults out.new) }
 {
     match read_ask(words, env) {
-        Ok(words) => stream_input(alloc, words.name, words.at, input, out),
+        Ok(words) => stream_input(alloc, &words, input, out),
         Err(status) => status,
     }
 }

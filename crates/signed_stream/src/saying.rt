@@ -61,6 +61,17 @@ fn refusal_line(alloc: Global, fault: StreamFault) -> Mem<String>
         StreamFault::MissingSigningRegion => {
             String::from_str(alloc, "refused 3 MissingSigningRegion\n")
         }
+        StreamFault::MomentOutOfRange(_) => {
+            String::from_str(alloc, "refused 4 MomentOutOfRange\n")
+        }
+        StreamFault::InvalidUri => String::from_str(alloc, "refused 5 InvalidUri\n"),
+        StreamFault::InvalidHeaderName(_) => {
+            String::from_str(alloc, "refused 6 InvalidHeaderName\n")
+        }
+        StreamFault::InvalidHeaderValue(_) => {
+            String::from_str(alloc, "refused 7 InvalidHeaderValue\n")
+        }
+        StreamFault::MissingHost => String::from_str(alloc, "refused 8 MissingHost\n"),
         StreamFault::InvalidHeaderNameLength(_) => {
             String::from_str(alloc, "refused 11 InvalidHeaderNameLength\n")
         }

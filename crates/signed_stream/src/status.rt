@@ -1,6 +1,9 @@
 ghost use Rattle.std.specs.Prelude.{◌≡◌, IfOk};
 ghost use Rattle.std.specs.String.{string_bytes};
 
+use sigv4::ValuePlace;
+use smithy_core::Moment;
+
 /// Why a stream was refused.
 #[derive(Clone, Copy, Debug, PartialEq, Eq)]
 pub enum StreamFault {
@@ -8,6 +11,16 @@ pub enum StreamFault {
     MissingCredentials,
     /// No place gives a region.
     MissingSigningRegion,
+    /// The moment of the request lies outside the years 0 to 9999.
+    MomentOutOfRange(Moment),
+    /// The target isn't accepted, or has an authority without a scheme.
+    InvalidUri,
+    /// The name of the request's header at this place is outside the grammar of header names; places count from 1.
+    InvalidHeaderName(usize),
+    /// The text at this place is outside the grammar of header values.
+    InvalidHeaderValue(ValuePlace),
+    /// Neither the target nor a header has a host.
+    MissingHost,
     /// The event at this place has a header name over 255 bytes; places count from 1.
     InvalidHeaderNameLength(usize),
     /// The event at this place has a byte array or a text over 32,767 bytes.

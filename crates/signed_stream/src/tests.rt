@@ -1,12 +1,15 @@
 //! Runs on the objects in memory: the answers, and what the output and `err` hold after each.
 mod refused_events;
 mod refused_runs;
+mod signed_requests;
 
 use crate::{Status, StreamFault, run};
+use sigv4::ValuePlace;
 use smithy_core::{
     ByteSink, CalmDisk, CalmSink, CalmSource, Env, FaultySink, FaultySource, FixedClock, Moment,
 };
 use std::alloc::{AllocError, Global};
+use std::process::Abort;
 use std::test::Fail;
 
 /// A job with one event.
@@ -65,54 +68,102 @@ fn input_of(alloc: Global, bytes: &[u8], fails: &[u64]) -> Result<FaultySource, 
     ))
 }
 
+/// The lines of a profile that gives a key id, a secret and a region.
+const PROFILE: &str =
+    "credentials [default]\ncredentials aws_access_key_id = AKIDEXAMPLE\ncredentials aws_secret_access_key = wJalrXUtnFEMI/K7MDENG+bPxRfiCYEXAMPLEKEY\ncredentials region = us-east-1\n";
+
 #[test]
 fn answers(rt: HostRuntime) -> Result<(), Fail> {
     let alloc = rt.alloc();
     let lacks_region = JOB.replace(alloc, "credentials region = us-east-1\n", "")?;
     let lacks_secret = JOB.replace(alloc, "aws_secret_access_key", "aws_other_key")?;
     let number_header = JOB.replace(alloc, "h :message-type text event", "h n i32 1")?;
-    let later_line = JOB.replace(alloc, "header content", "header Content")?;
-    let short: &[&str] = &["stream", "--name", "a", "--at", "1440938160"];
+    let later_line = JOB.replace(alloc, "header content", "config content")?;
     let cases = [
-        (WORDS, JOB, Status::Done, ""),
+        (JOB, Status::Done, ""),
         (
-            WORDS,
             lacks_region.as_str(),
             Status::Refused(StreamFault::MissingSigningRegion),
             "refused 3 MissingSigningRegion\n",
         ),
         (
-            WORDS,
             lacks_secret.as_str(),
             Status::Refused(StreamFault::MissingCredentials),
             "refused 2 MissingCredentials\n",
         ),
-        (WORDS, number_header.as_str(), Status::Done, ""),
+        (number_header.as_str(), Status::Done, ""),
         (
-            WORDS,
             later_line.as_str(),
             Status::NotBuilt(3),
             "not built 3\n",
         ),
-        (short, "", Status::BadJob(1), "bad line 1\n"),
+        ("", Status::BadJob(1), "bad line 1\n"),
         (
-            short,
             "method GET\nfoo bar\n",
             Status::BadJob(2),
             "bad line 2\n",
         ),
-        (&["stream"], JOB, Status::BadWords(2), "bad word 2\n"),
-        (&["check"], JOB, Status::NotBuilt(1), "not built 1\n"),
     ];
-    for (words, job, status, line) in cases {
-        let mut input = input_of(alloc, job.as_bytes(), &[])?;
-        let mut out = FaultySink::new(alloc, Vec::new(alloc));
-        let mut err = FaultySink::new(alloc, Vec::new(alloc));
-        let answer = run_on(alloc, words, &mut input, &mut out, &mut err)?;
-        assert_eq!(rt; answer, status, "of {line:?}");
-        assert_eq!(rt; err.held(), line.as_bytes());
-        assert_eq!(rt; out.held().is_empty(), status != Status::Done);
+    for (job, status, line) in cases {
+        assert_ends(&rt, WORDS, job, status, line)?;
     }
+    assert_ends(&rt, &["stream"], JOB, Status::BadWords(2), "bad word 2\n")?;
+    assert_ends(&rt, &["check"], JOB, Status::NotBuilt(1), "not built 1\n")
+}
+
+// The first test of the request that fails decides.
+#[test]
+fn refused_requests(rt: HostRuntime) -> Result<(), Fail> {
+    let alloc = rt.alloc();
+    let cases = [
+        (
+            "target /x",
+            StreamFault::MissingHost,
+            "refused 8 MissingHost\n",
+        ),
+        (
+            "target h.example",
+            StreamFault::InvalidUri,
+            "refused 5 InvalidUri\n",
+        ),
+        (
+            "target https://h.example/\nheader a: a\x07\nheader b c: d",
+            StreamFault::InvalidHeaderValue(ValuePlace::Header(1)),
+            "refused 7 InvalidHeaderValue\n",
+        ),
+        (
+            "target https://h.example/\nheader a: b\nheader b c: d\x07",
+            StreamFault::InvalidHeaderName(2),
+            "refused 6 InvalidHeaderName\n",
+        ),
+    ];
+    for (lines, fault, line) in cases {
+        let job = format!(in alloc; "method GET\n{lines}\n{PROFILE}")?;
+        assert_ends(&rt, WORDS, job.as_str(), Status::Refused(fault), line)?;
+    }
+    let late: &[&str] = &["stream", "--name", "a", "--at", "253402300800"];
+    let fault = StreamFault::MomentOutOfRange(Moment::new(253_402_300_800, 0));
+    let job = format!(in alloc; "method GET\ntarget h.example\n{PROFILE}")?;
+    let line = "refused 4 MomentOutOfRange\n";
+    assert_ends(&rt, late, job.as_str(), Status::Refused(fault), line)
+}
+
+// A run on these words and a job gives this answer and this line, and writes where it is done.
+fn assert_ends(
+    rt: &(impl Abort + AllocGlobal),
+    words: &[&str],
+    job: &str,
+    status: Status,
+    line: &str,
+) -> Result<(), Fail> {
+    let alloc = rt.alloc();
+    let mut input = input_of(alloc, job.as_bytes(), &[])?;
+    let mut out = FaultySink::new(alloc, Vec::new(alloc));
+    let mut err = FaultySink::new(alloc, Vec::new(alloc));
+    let answer = run_on(alloc, words, &mut input, &mut out, &mut err)?;
+    assert_eq!(rt; answer, status, "of {line:?}");
+    assert_eq!(rt; err.held(), line.as_bytes());
+    assert_eq!(rt; out.held().is_empty(), status != Status::Done);
     Ok(())
 }
 

@@ -7,7 +7,7 @@ mod options;
 #[cfg(test)]
 mod tests;
 
-use crate::words::options::StreamOptions;
+use crate::words::options::GivenOptions;
 pub use crate::words::options::StreamWords;
 
 /// Why words spell no command that is built.
@@ -42,11 +42,11 @@ pub fn read_words<'a>(words: &'a [String]) -> Result<StreamWords<'a>, WordsFault
 fn read_options<'a>(words: &'a [String]) -> Result<StreamWords<'a>, WordsFault>
     ensures { command_told result ≡ options_from 2 no_options (map string_bytes words.now) }
 {
-    let mut given = StreamOptions::new();
-    let mut index = 0;
-    while let Some(word) = words.get(index) {
-        given.take(index + 2, word.as_str(), words.get(index + 1))?;
-        index += 2;
+    let mut given = GivenOptions::new();
+    let mut place = 2;
+    for word in words {
+        given.take(place, word.as_str())?;
+        place += 1;
     }
-    given.finish(index + 2)
+    given.finish(place)
 }

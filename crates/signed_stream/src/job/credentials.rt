@@ -15,6 +15,8 @@ pub struct PlainSettings {
     pub key_id: Option<String>,
     /// `aws_secret_access_key`.
     pub secret: Option<String>,
+    /// `aws_session_token`.
+    pub token: Option<String>,
     /// `region`.
     pub region: Option<String>,
 }
@@ -27,6 +29,7 @@ impl PlainSettings {
         PlainSettings {
             key_id: None,
             secret: None,
+            token: None,
             region: None,
         }
     }
@@ -53,6 +56,7 @@ impl PlainSettings {
         match key {
             "aws_access_key_id" => self.key_id = Some(String::from_str(alloc, value)?),
             "aws_secret_access_key" => self.secret = Some(String::from_str(alloc, value)?),
+            "aws_session_token" => self.token = Some(String::from_str(alloc, value)?),
             "region" => self.region = Some(String::from_str(alloc, value)?),
             _ => {}
         }
@@ -60,12 +64,12 @@ impl PlainSettings {
     }
 }
 
-// Whether the key has lower-case letters, digits and `_` alone, and isn't the token's.
+// Whether the key has lower-case letters, digits and `_` alone.
 #[tactic(auto, unfolding(crate::specs::Job::is_plain_key))]
 fn is_plain_key(key: &str) -> bool
     ensures { result ≡ is_plain_key key.now }
 {
-    !key.is_empty() && has_key_bytes(key.as_bytes()) && key != "aws_session_token"
+    !key.is_empty() && has_key_bytes(key.as_bytes())
 }
 
 fn has_key_bytes(key: &[u8]) -> bool

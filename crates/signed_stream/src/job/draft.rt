@@ -2,9 +2,8 @@ use crate::job::credentials::PlainSettings;
 use crate::job::event::OpenEvent;
 use crate::job::event_header::{bytes_of, header_of};
 use crate::job::fault::LineFault;
-use crate::job::header::pair_of;
-use crate::job::lines::cut_word;
-use crate::job::target::is_plain_target;
+use crate::job::lines::{cut_pair, cut_word};
+use bytes::Bytes;
 use smithy_core::{Headers, Mem, Message};
 use std::alloc::Global;
 
@@ -14,6 +13,7 @@ pub struct Draft {
     pub method: Option<String>,
     pub target: Option<String>,
     pub headers: Headers,
+    pub body: Option<Bytes>,
     pub settings: Option<PlainSettings>,
     pub events: Vec<Message>,
     pub event: Option<OpenEvent>,
@@ -21,7 +21,7 @@ pub struct Draft {
 
 impl Draft {
     ghost use Rattle.std.specs.Prelude.{◌≡◌, None, OnOk};
-    ghost use Rattle.signed_stream.specs.Job.{body_step, credentials_step, event_header_step, event_step, events_of, header_step, line_step, method_step, no_draft, payload_step, target_step, word_step};
+    ghost use Rattle.signed_stream.specs.Job.{body_step, credentials_step, event_header_step, event_step, events_of, header_step, in_event, line_step, method_step, no_draft, payload_step, target_step, word_step};
     ghost use Rattle.signed_stream.specs.Reading.{Steps, draft_of};
 
     /// Nothing yet.
@@ -33,6 +33,7 @@ impl Draft {
             method: None,
             target: None,
             headers: Headers::new(alloc),
+            body: None,
             settings: None,
             events: Vec::new(alloc),
             event: None,
@@ -64,7 +65,8 @@ impl Draft {
             "method" => self.take_method(alloc, rest),
             "target" => self.take_target(alloc, rest),
             "header" => self.take_header(rest),
-            "body" | "config" => Err(LineFault::NotBuilt),
+            "body" => self.take_body(alloc, rest),
+            "config" => Err(LineFault::NotBuilt),
             "credentials" => self.take_credentials(alloc, rest),
             _ => Err(LineFault::Bad),
         }
@@ -90,20 +92,29 @@ impl Draft {
         if self.target.is_some() {
             return Err(LineFault::Bad);
         }
-        if !is_plain_target(rest) {
-            return Err(LineFault::NotBuilt);
-        }
         self.target = Some(String::from_str(alloc, rest)?);
         Ok(())
     }
 
     // `header NAME: VALUE`.
-    #[tactic(auto, using(crate::proofs::JobLemmas::lower_plain), unfolding(crate::specs::Reading::draft_of, crate::specs::Job::header_step))]
+    #[tactic(auto, unfolding(crate::specs::Reading::draft_of, crate::specs::Job::header_step))]
     fn take_header(&mut self, rest: &str) -> Result<(), LineFault>
         ensures { Steps (header_step (draft_of self.old) rest.now) self.new result }
     {
-        let (name, value) = pair_of(&self.headers, rest)?;
+        let (name, value) = cut_pair(rest).ok_or(LineFault::Bad)?;
         self.headers.append(name, value)?;
+        Ok(())
+    }
+
+    // `body HEX`.
+    #[tactic(auto, unfolding(crate::specs::Reading::draft_of, crate::specs::Job::body_step))]
+    fn take_body(&mut self, alloc: Global, rest: &str) -> Result<(), LineFault>
+        ensures { Steps (body_step (draft_of self.old) rest.now) self.new result }
+    {
+        if self.body.is_some() {
+            return Err(LineFault::Bad);
+        }
+        self.body = Some(bytes_of(alloc, rest)?);
         Ok(())
     }
 
@@ -152,7 +163,7 @@ impl Draft {
     // `h NAME KIND VALUE`.
     #[tactic(auto, unfolding(crate::specs::Reading::draft_of, crate::specs::Job::event_header_step))]
     fn take_event_header(&mut self, alloc: Global, rest: &str) -> Result<(), LineFault>
-        ensures { Steps (body_step (draft_of self.old).event (λ event. event_header_step (draft_of self.old) event rest.now)) self.new result }
+        ensures { Steps (in_event (draft_of self.old).event (λ event. event_header_step (draft_of self.old) event rest.now)) self.new result }
     {
         match &mut self.event {
             Some(event) => {
@@ -167,7 +178,7 @@ impl Draft {
     // `payload HEX`.
     #[tactic(auto, unfolding(crate::specs::Reading::draft_of, crate::specs::Job::payload_step))]
     fn take_payload(&mut self, alloc: Global, rest: &str) -> Result<(), LineFault>
-        ensures { Steps (body_step (draft_of self.old).event (λ event. payload_step (draft_of self.old) event rest.now)) self.new result }
+        ensures { Steps (in_event (draft_of self.old).event (λ event. payload_step (draft_of self.old) event rest.now)) self.new result }
     {
         match &mut self.event {
             Some(event) if event.payload.is_none() => {

@@ -1,5 +1,6 @@
 ghost use Rattle.std.specs.Prelude.{◌≡◌, ◌<◌, ◌∷◌, length};
-ghost use Rattle.signed_stream.specs.Lines.{lines_of, rest_of, word_of};
+ghost use Rattle.signed_stream.specs.Lines.{lines_of, pair_of, rest_of, word_of};
+ghost use Rattle.signed_stream.specs.Reading.{texts_of_pair};
 
 /// The first line, and what stands after it.
 #[tactic(auto, using(crate::proofs::LineLemmas::lines))]
@@ -23,4 +24,11 @@ pub fn cut_word(line: &str) -> (&str, &str)
         Some(parts) => parts,
         None => (line, ""),
     }
+}
+
+/// What stands before the first `: `, and what stands after it.
+pub fn cut_pair(text: &str) -> Option<(&str, &str)>
+    ensures { texts_of_pair result ≡ pair_of text.now }
+{
+    text.split_once(": ")
 }

@@ -16,10 +16,10 @@ fn first_faults(rt: HostRuntime) -> Result<(), Fail> {
         (b"method GET\nevent\n", JobFault::BadLine(2)),
         (b"h a text b\n", JobFault::BadLine(1)),
         (b"config [default]\n", JobFault::NotBuilt(1)),
-        (b"target https://h.example//a\n", JobFault::NotBuilt(1)),
-        (b"target http://h.example/a\n", JobFault::NotBuilt(1)),
-        (b"header a: b\nheader a: c\n", JobFault::NotBuilt(2)),
-        (b"header a: b  c\n", JobFault::NotBuilt(1)),
+        (b"target a\ntarget a\n", JobFault::BadLine(2)),
+        (b"header : \nheader a:b\n", JobFault::BadLine(2)),
+        (b"body\nbody 00\n", JobFault::BadLine(2)),
+        (b"body 0g\n", JobFault::BadLine(1)),
         (b"credentials region = a\n", JobFault::NotBuilt(1)),
         (
             b"method GET\ntarget https://h.example/\nevent\npayload 00\npayload 00",
@@ -47,10 +47,12 @@ fn first_faults(rt: HostRuntime) -> Result<(), Fail> {
 const WHOLE: &[u8] = b"method POST
 
 credentials [default]
-target https://h.example/stream
+target a b
 credentials region = eu-west-1
 credentials aws_access_key_id = AKIDEXAMPLE
-header x-a: b c
+header X-A::  b: c 
+body 0aFF
+credentials aws_session_token = TOKEN
 credentials region = us-east-1
 credentials aws_secret_access_key = SECRET
 event \nh a text
@@ -64,11 +66,13 @@ payload 0aFF
 fn a_whole_job(rt: HostRuntime) -> Result<(), Fail> {
     let job = read_job(rt.alloc(), WHOLE).ok().ok_or("the job is plain")?;
     assert_eq!(rt; job.request.method.as_str(), "POST");
-    assert_eq!(rt; job.request.target.as_str(), "https://h.example/stream");
+    assert_eq!(rt; job.request.target.as_str(), "a b");
     assert_eq!(rt; job.request.headers.len(), 1);
-    assert_eq!(rt; job.request.headers.get("x-a"), Some("b c"));
+    assert_eq!(rt; job.request.headers.get("x-a:"), Some(" b: c "));
+    assert_eq!(rt; job.request.body.as_slice(), b"\x0a\xff".as_slice());
     assert_eq!(rt; job.settings.key_id.as_deref(), Some("AKIDEXAMPLE"));
     assert_eq!(rt; job.settings.secret.as_deref(), Some("SECRET"));
+    assert_eq!(rt; job.settings.token.as_deref(), Some("TOKEN"));
     assert_eq!(rt; job.settings.region.as_deref(), Some("us-east-1"));
     assert_eq!(rt; job.events.len(), 2);
     assert_eq!(rt;

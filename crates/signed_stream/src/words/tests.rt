@@ -1,4 +1,5 @@
 use super::{WordsFault, read_words};
+use crate::signing_options::SigningOptions;
 use std::alloc::Global;
 use std::test::Fail;
 
@@ -13,23 +14,31 @@ fn words_of(alloc: Global, text: &str) -> Result<Vec<String>, Fail> {
 
 #[test]
 fn words_that_spell_a_stream(rt: HostRuntime) -> Result<(), Fail> {
+    let plain = SigningOptions::default();
+    let other = SigningOptions {
+        double_uri_encode: false,
+        content_sha256_header: true,
+        normalize_uri_path: false,
+        unsigned_payload: true,
+    };
     let cases = [
-        ("stream --name a --at 1", "a", 1),
-        ("stream --at 0 --name Z-9", "Z-9", 0),
+        ("stream --name a --at 1", "a", 1, plain),
+        ("stream --at 0 --name Z-9/_", "Z-9/_", 0, plain),
         (
-            "stream --at -62167219200 --name transcribe",
-            "transcribe",
-            -62_167_219_200,
+            "stream --single-encode --at -9223372036854775808 --unsigned --sha256 --name --at --no-normalize",
+            "--at",
+            i64::MIN,
+            other,
         ),
-        ("stream --name a --at 253402300799", "a", 253_402_300_799),
     ];
-    for (text, name, secs) in cases {
+    for (text, name, secs, signing) in cases {
         let words = words_of(rt.alloc(), text)?;
         match read_words(words.as_slice()) {
             Ok(asked) => {
                 assert_eq!(rt; asked.name, name);
                 assert_eq!(rt; asked.at.secs(), secs);
                 assert_eq!(rt; asked.at.subsec_nanos(), 0);
+                assert_eq!(rt; asked.signing, signing);
             }
             Err(fault) => assert_eq!(rt; Some(fault), None, "at {text}"),
         }
@@ -47,9 +56,7 @@ fn words_that_spell_none(rt: HostRuntime) -> Result<(), Fail> {
         ("stream --nope", WordsFault::BadWord(2)),
         ("stream --raw", WordsFault::NotBuilt(2)),
         ("stream --name", WordsFault::BadWord(3)),
-        ("stream --name a/b --at 1", WordsFault::NotBuilt(3)),
         ("stream --at 01 --name a", WordsFault::BadWord(3)),
-        ("stream --at 253402300800 --name a", WordsFault::NotBuilt(3)),
         (
             "stream --at 9223372036854775808 --name a",
             WordsFault::BadWord(3),
@@ -58,6 +65,16 @@ fn words_that_spell_none(rt: HostRuntime) -> Result<(), Fail> {
         ("stream --name a", WordsFault::NotBuilt(4)),
         ("stream --name a --name b", WordsFault::BadWord(4)),
         ("stream --name a --at 1 x", WordsFault::BadWord(6)),
+        ("stream --sha256 --sha256", WordsFault::BadWord(3)),
+        (
+            "stream --single-encode --single-encode",
+            WordsFault::BadWord(3),
+        ),
+        (
+            "stream --no-normalize --no-normalize",
+            WordsFault::BadWord(3),
+        ),
+        ("stream --unsigned --at --unsigned", WordsFault::BadWord(4)),
     ];
     for (text, fault) in cases {
         let words = words_of(rt.alloc(), text)?;
