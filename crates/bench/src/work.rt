@@ -3,9 +3,9 @@ use bytes::Bytes;
 use eventstream::write_message_to;
 use mac_core::crc32;
 use sha2::{Digest as _, Sha256};
-use sigv4::SigningError;
-use sigv4::event_stream::{SigningParams, sign_empty_message, sign_message};
-use smithy_core::{Credentials, DateTime, Identity, Message, Moment};
+use sigv4::event_stream::{sign_empty_message, sign_message};
+use sigv4::{SignableBody, SignableRequest, SigningError, SigningSettings, sign, v4};
+use smithy_core::{Credentials, Headers, Identity, Message, Moment};
 use std::alloc::{AllocError, Global};
 
 /// A kind of work, with its count and the size of each piece in bytes.
@@ -41,7 +41,7 @@ impl Work {
     /// Does the work, and gives the digest of the answers.
     pub fn answers(self, alloc: Global) -> Result<Digest, SigningError> {
         match self {
-            Work::Sign { count } => Ok(Digest::new()),
+            Work::Sign { count } => signatures(alloc, count),
             Work::Chain { count, size } => chain(alloc, count, size),
             Work::Checksum { count, size } => Ok(checksums(alloc, count, size)?),
             Work::Hash { count, size } => Ok(hashes(alloc, count, size)?),
@@ -49,10 +49,34 @@ impl Work {
     }
 }
 
+// Signs a small request so many times, each a second after the last one.
+fn signatures(alloc: Global, count: u32) -> Result<Digest, SigningError> {
+    let identity = example_identity(alloc)?;
+    let headers = example_headers(alloc)?;
+    let mut digest = Digest::new();
+    for number in 0..count {
+        let at = Moment::new(1_440_938_160 + i64::from(number), 0);
+        let params = sigv4::SigningParams::from(params_at(&identity, at, SigningSettings::new(alloc)?));
+        let target = "https://service.us-east-1.amazonaws.com/path";
+        let request = SignableRequest::new(alloc, "GET", target, &headers, SignableBody::empty())?;
+        let signed = sign(alloc, request, &params)?;
+        digest = digest.with(signed.signature().as_bytes());
+    }
+    Ok(digest)
+}
+
+fn example_headers(alloc: Global) -> Result<Headers, AllocError> {
+    let mut headers = Headers::new(alloc);
+    headers.insert("host", "service.us-east-1.amazonaws.com")?;
+    headers.insert("content-type", "application/json")?;
+    headers.insert("x-amz-target", "Service.Operation")?;
+    Ok(headers)
+}
+
 // Signs so many events with payloads of so many bytes, one over the other, and the empty message; writes their frames.
 fn chain(alloc: Global, count: u32, size: usize) -> Result<Digest, SigningError> {
     let identity = example_identity(alloc)?;
-    let params = example_params(&identity);
+    let params = params_at(&identity, Moment::new(1_440_938_160, 0), ());
     let payload = vec![in alloc; 7; size]?;
     let event = Message::new(alloc, Bytes::copy_from_slice(alloc, payload.as_slice())?);
     let mut frame = Vec::new(alloc);
@@ -110,13 +134,12 @@ fn example_identity(alloc: Global) -> Result<Identity, AllocError> {
     )))
 }
 
-fn example_params(identity: &Identity) -> SigningParams<'_> {
-    SigningParams::builder()
+fn params_at<S: Drop>(identity: &Identity, at: Moment, settings: S) -> v4::SigningParams<'_, S> {
+    let builder = v4::SigningParams::builder()
         .identity(identity)
         .region("us-east-1")
         .name("service")
-        .time(Moment::new(1_440_938_160, 0))
-        .settings(())
-        .build()
-        .unwrap()
+        .time(at)
+        .settings(settings);
+    builder.build().unwrap()
 }
