@@ -56,7 +56,11 @@ fn signatures(alloc: Global, count: u32) -> Result<Digest, SigningError> {
     let mut digest = Digest::new();
     for number in 0..count {
         let at = Moment::new(1_440_938_160 + i64::from(number), 0);
-        let params = sigv4::SigningParams::from(params_at(&identity, at, SigningSettings::new(alloc)?));
+        let params = sigv4::SigningParams::from(params_at(
+            &identity,
+            at,
+            SigningSettings::new(alloc)?,
+        ));
         let target = "https://service.us-east-1.amazonaws.com/path";
         let request = SignableRequest::new(alloc, "GET", target, &headers, SignableBody::empty())?;
         let signed = sign(alloc, request, &params)?;
