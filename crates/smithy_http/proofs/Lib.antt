@@ -1,5 +1,5 @@
-mod EscapeLemmas
-mod SlashLemmas
-mod QueryLemmas
-mod FitLemmas
-mod TargetLemmas
+pub mod EscapeLemmas
+pub mod SlashLemmas
+pub mod QueryLemmas
+pub mod FitLemmas
+pub mod TargetLemmas
