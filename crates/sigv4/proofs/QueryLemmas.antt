@@ -1,5 +1,5 @@
 -- Queries, pair by pair.
-use Rattle.std.proofs.Common.{◌≡◌, ℕ, zero, suc, ◌+◌, ◌<◌, ◌==◌, Bool, Bor, List, [], ◌∷◌, ◌++◌, cond, codes, length, map, take, get_or, Option, Some, None, unwrap_or, refl, sym, ap, ◌∙◌, append_assoc, arith}
+use Rattle.std.proofs.Common.{◌≡◌, ℕ, zero, suc, ◌+◌, ◌<◌, ◌==◌, Bool, Bor, List, [], ◌∷◌, ◌++◌, length, map, take, get_or, Option, Some, None, unwrap_or, refl, sym, ap, ◌∙◌, arith}
 use Rattle.std.specs.declared.alloc.Global.{Global}
 use Rattle.std.specs.declared.string.String.{String}
 use Rattle.std.specs.List.{join_with_byte}
@@ -7,7 +7,7 @@ use Rattle.std.specs.Option.{option_copied}
 use Rattle.std.proofs.Math.Dec.{eqb-suc-zero}
 use Rattle.std.proofs.lemmas.List.{map_more, map_push}
 use Rattle.smithy_http.specs.Query.{ampersand, pair_text}
-use Rattle.sigv4.specs.Query.{Pair, joined, mark, string_pair}
+use Rattle.sigv4.specs.Query.{joined, mark, string_pair}
 use Rattle.sigv4.proofs.JoinLemmas.{is_none, join_more}
 
 -- the first `i` are none exactly where `i` is 0

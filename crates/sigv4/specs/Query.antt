@@ -35,7 +35,7 @@ decoded target = decoded_pairs (unwrap_or target.query [])
 abbrev pub pair_cmp : Pair → Pair → Ordering
 pair_cmp p q = ordering_then (slice_cmp nat_cmp p.0 q.0) (slice_cmp nat_cmp p.1 q.1)
 
--- the pair before the first one that is greater
+-- the pair before the first one that isn't less
 abbrev pub inserted : Pair → List Pair → List Pair
 inserted p [] = p ∷ []
 inserted p (q ∷ pairs) = if is_gt (pair_cmp p q) then q ∷ inserted p pairs else p ∷ q ∷ pairs

@@ -83,18 +83,17 @@ impl EscapedPairs {
     fn into_text(mut self) -> Mem<String>
         ensures { IfOk result (λ text. string_bytes text ≡ joined (sorted self)) }
     {
-        sort_pairs(&mut self.pairs)?;
+        sort_pairs(&mut self.pairs);
         join_pairs(*self.pairs.allocator(), &self.pairs)
     }
 }
 
 // Puts the pairs in the order of their keys, and then of their values.
 #[tactic(auto, using(crate::proofs::SortLemmas::sorted_pairs))]
-fn sort_pairs(pairs: &mut Vec<(String, String)>) -> Mem<()>
-    ensures { OnOk result (map string_pair pairs.new.items ≡ sorted (map string_pair pairs.old.items)) }
+fn sort_pairs(pairs: &mut Vec<(String, String)>)
+    ensures { map string_pair pairs.new.items ≡ sorted (map string_pair pairs.old.items) }
 {
-    pairs.sort()?;
-    Ok(())
+    pairs.sort_unstable();
 }
 
 // The pairs as `key=value` with `&` between.

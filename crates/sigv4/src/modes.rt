@@ -1,5 +1,3 @@
-ghost use Rattle.std.specs.Prelude.{◌≡◌, if◌then◌else◌};
-
 /// How often the path of a request is escaped before it is signed.
 #[derive(Clone, Copy, Debug, PartialEq, Eq)]
 pub enum PercentEncodingMode {

@@ -1,4 +1,4 @@
-use Rattle.std.proofs.Common.{◌≡◌, ◌++◌, ◌==◌, ℕ, List, sym, ap, ◌∙◌}
+use Rattle.std.proofs.Common.{◌++◌, ◌==◌, ℕ, List, sym, ap, ◌∙◌}
 use Rattle.smithy_http.specs.Query.{pair_text}
 use Rattle.sigv4.specs.Query.{mark, string_pair}
 use Rattle.sigv4.proofs.QueryLemmas.{joined_more}

@@ -1,11 +1,8 @@
-use Rattle.std.proofs.Common.{◌≡◌, ◌==◌, ◌++◌, [], ◌∷◌, Bool, false, List, ℕ, Bor, filter, length, map, sym, ap, ◌∙◌, lit<, rules}
-use Rattle.std.proofs.lemmas.Bool.Decides.{nat_tests}
+use Rattle.std.proofs.Common.{◌≡◌, ◌==◌, false, List, ℕ, Bor, length, map, sym, lit<, rules}
 use Rattle.std.proofs.lemmas.Iterator.Consumers.{YieldsList-end}
 use Rattle.std.proofs.lemmas.Iterator.Splits.{YieldsList-from_str_split}
 use Rattle.std.proofs.lemmas.List.{map_push}
-use Rattle.std.specs.List.{join_with_byte}
-use Rattle.std.specs.String.{string_bytes}
-use Rattle.sigv4.specs.Trim.{is_word, space, trim_all}
+use Rattle.sigv4.specs.Trim.{trim_all}
 use Rattle.sigv4.proofs.TrimLemmas.{joined_more, not_first}
 use Rattle.sigv4.proofs.trim.push_trimmed.Goals as goal
 
