@@ -1,21 +1,20 @@
 -- A run that is done has streamed, and what is valid is done.
-use Rattle.std.proofs.Common.{◌≡◌, ℕ, ◌≤◌, ◌⊎◌, inl, inr, Bool, true, false, List, Option, Some, None, option_map, nat_lt, length, refl, sym, ap, arith}
+use Rattle.std.proofs.Common.{◌≡◌, ℕ, ◌≤◌, ◌⊎◌, inl, inr, Bool, true, false, List, Option, Some, None, option_map, nat_lt, length, refl, sym, arith}
 use Rattle.std.specs.Prelude.{if◌then◌else◌}
 use Rattle.std.proofs.lemmas.Bool.Decides.{nat_tests}
 use Rattle.smithy_core.specs.Civil.{IsInYears, is_in_years}
-use Rattle.smithy_core.specs.Outside.{Gains}
 use Rattle.smithy_http.specs.Target.{Target}
 use Rattle.sigv4.specs.Refusal.{unfit}
 use Rattle.sigv4.specs.Signed.{signature_of}
 use Rattle.sigv4.specs.declared.error.SigningError.{SigningError}
 use Rattle.signed_stream.specs.Command.{Command, Wanted, bad_word, unbuilt_word, stream, command}
 use Rattle.signed_stream.specs.Job.{PlainJob, Reading, plain_job, bad_line, unbuilt_line, job}
-use Rattle.signed_stream.specs.Plan.{Plan, ReadsTargetOf, ends, streams, stops, writes, ask, ask_plan, case_plan, command_ask, has_later_variable, input_plan, job_plan, most_input, settings_plan, target_plan}
+use Rattle.signed_stream.specs.Plan.{ReadsTargetOf, ends, streams, stops, writes, ask, ask_plan, case_plan, command_ask, has_later_variable, input_plan, job_plan, most_input, settings_plan, target_plan}
 use Rattle.signed_stream.specs.Refusal.{Refusal, fault_of}
 use Rattle.signed_stream.specs.Run.{Completes, EndsAsPlanned, Fits, FitsTarget, IsStreamable, IsValid, Streams, StreamsInput, streamed}
 use Rattle.signed_stream.specs.Signing.{Selected, case_of}
-use Rattle.signed_stream.specs.Targets.{ReadsTarget}
-use Rattle.signed_stream.specs.Written.{refusal_of, written, written_until}
+use Rattle.signed_stream.specs.Targets.{SpellsAs}
+use Rattle.signed_stream.specs.Written.{refusal_of}
 use Rattle.signed_stream.proofs.StreamLemmas.{frames_unrefused, unrefused_frames}
 use Rattle.signed_stream.proofs.YearLemmas.{in_years, years_in}
 use Rattle.signed_stream.specs.declared.status.Status.{Status}
@@ -50,7 +49,7 @@ done_reads wanted j before now None secret region = stops_undone _ before now (�
 
 -- a job whose target spells this is done
 done_job : (wanted : Wanted) (bytes : List ℕ) (j : PlainJob) (target : Target) (before now : Option (List ℕ)) (key_id secret region : Option (List ℕ))
-    → length bytes ≤ most_input → job bytes ≡ plain_job j → ReadsTarget j.target (Some target)
+    → length bytes ≤ most_input → job bytes ≡ plain_job j → SpellsAs j.target (Some target)
     → j.settings ≡ record { key_id = key_id; secret = secret; token = j.settings.token; region = region }
     → Fits (settings_plan j wanted (Some target) j.settings key_id secret region) Done before now → StreamsInput wanted bytes before now
 done_job wanted bytes j target before now (Some key_id) (Some secret) (Some region) short spelled accepted settled fits = by_years (is_in_years wanted.at) refl fits
@@ -97,7 +96,7 @@ done_streams wanted bytes (plain_job j) before now short spelled (inl fits) =
     absurd (done_reads wanted j before now j.settings.key_id j.settings.secret j.settings.region (fits None))
 done_streams wanted bytes (plain_job j) before now short spelled (inr found) = by_target found.0 found.1 found.2
   where
-    by_target : (target : Option Target) → ReadsTarget j.target target → Fits (job_plan wanted target (plain_job j)) Done before now → StreamsInput wanted bytes before now
+    by_target : (target : Option Target) → SpellsAs j.target target → Fits (job_plan wanted target (plain_job j)) Done before now → StreamsInput wanted bytes before now
     by_target None reads fits = absurd (done_reads wanted j before now j.settings.key_id j.settings.secret j.settings.region fits)
     by_target (Some target) reads fits =
         done_job wanted bytes j target before now j.settings.key_id j.settings.secret j.settings.region short spelled reads refl fits

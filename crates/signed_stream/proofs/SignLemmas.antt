@@ -1,7 +1,6 @@
 -- A request that is signed for what its target spells.
-use Rattle.std.proofs.Common.{◌≡◌, ℕ, ◌⊎◌, inl, inr, List, Option, Some, None, option_map, Bor, refl, sym, ap, ◌∙◌}
+use Rattle.std.proofs.Common.{◌≡◌, ℕ, ◌⊎◌, inl, inr, List, [], ◌∷◌, Some, None, Bor, refl, sym, ap}
 use Rattle.std.specs.Prelude.{Result, Ok, Err, string_bytes}
-use Rattle.std.specs.Option.{option_or}
 use Rattle.http_uri.specs.declared.uri.Uri.{Uri}
 use Rattle.smithy_core.specs.declared.identity.Identity.{Identity}
 use Rattle.smithy_core.specs.declared.request.HttpRequest.{HttpRequest}
@@ -9,10 +8,12 @@ use Rattle.smithy_http.specs.Building.{SpellsNoTarget, SpellsTarget}
 use Rattle.smithy_http.specs.Target.{Target, target_of}
 use Rattle.sigv4.specs.Case.{Case, case_of, payload_text}
 use Rattle.sigv4.specs.Refusal.{unfit}
-use Rattle.sigv4.specs.RequestSigning.{SignsRequest as SignsCase, instructions_of}
+use Rattle.sigv4.specs.RequestSigning.{SignsRequest as SignsCase}
 use Rattle.sigv4.specs.Settings.{settings_of}
-use Rattle.sigv4.specs.Signed.{Instruction, instructions, signed_headers, with_instructions}
+use Rattle.sigv4.specs.Instructions.{Instruction, with_instructions}
+use Rattle.sigv4.specs.Signed.{instructions, signed_headers}
 use Rattle.sigv4.specs.Signing.{unsignable}
+use Rattle.sigv4.specs.Targets.{IsRetargeted, IsUntargeted}
 use Rattle.sigv4.specs.declared.body.SignableBody.{SignableBody}
 use Rattle.sigv4.specs.declared.error.SigningError.{SigningError}
 use Rattle.sigv4.specs.declared.error.SigningError.TheVariants.{InvalidUri, InvalidHeaderName, InvalidHeaderValue, MissingHost, UnsupportedIdentityType, FailedToEncodeMessage, MomentOutOfRange, NoMemory}
@@ -21,10 +22,8 @@ use Rattle.sigv4.specs.declared.output.SigningOutput.{SigningOutput}
 use Rattle.sigv4.specs.declared.request.SignableRequest.{SignableRequest}
 use Rattle.sigv4.specs.declared.settings.SigningSettings.{SigningSettings}
 use Rattle.sigv4.specs.declared.signing_params.SigningParams.TheVariants.{V4}
-use Rattle.signed_stream.specs.Plan.{unsigned}
 use Rattle.signed_stream.specs.Signing.{case_under, payload_with, settings_with}
 use Rattle.signed_stream.specs.Signs.{SignsRequest, SignsText, Unsigned, halt_for}
-use Rattle.signed_stream.specs.Targets.{ReadsTarget}
 use Rattle.signed_stream.specs.declared.words.options.StreamWords.{StreamWords}
 
 -- the case that is signed is that of the request
@@ -46,31 +45,18 @@ pub signs_text : (text : List ℕ) (case : Target → Case) (identity : Identity
     → SpellsTarget text uri → c ≡ case (target_of uri) → unsignable identity c.at ≡ None → SignsCase identity c answer → SignsText text case answer
 signs_text text case identity c uri (Ok output) spells same able signs =
     let fit : unfit c ≡ None = rw able at signs.0 in
-    (target_of uri, (uri, spells, refl), rw (← same) fit, rw (← same) signs.1, signs.2, rw (← same) signs.3)
+    (target_of uri, (uri, spells, refl), rw (← same) fit, rw (← same) signs.1)
 signs_text text case identity c uri (Err error) spells same able (inl refused) =
     let refusal : unfit c ≡ Some error = rw able at refused in
     inl (Some (target_of uri), (uri, spells, refl), rw (← same) refusal)
 signs_text text case identity c uri (Err error) spells same able (inr is) = inr is
 
--- a request that isn't signed halts the stream
-pub unsigned_halts : (text : List ℕ) (case : Target → Case) (headers : List (List ℕ × List ℕ)) (error : SigningError) → Unsigned text case error → SignsRequest text case headers (Err (halt_for error))
-unsigned_halts text case headers NoMemory refused = tt
-unsigned_halts text case headers InvalidUri (inl found) = (found.0, found.1, rw found.2 refl)
-unsigned_halts text case headers InvalidUri (inr is) = cc
-unsigned_halts text case headers (InvalidHeaderName place) (inl found) = (found.0, found.1, rw found.2 refl)
-unsigned_halts text case headers (InvalidHeaderName place) (inr is) = cc
-unsigned_halts text case headers (InvalidHeaderValue place) (inl found) = (found.0, found.1, rw found.2 refl)
-unsigned_halts text case headers (InvalidHeaderValue place) (inr is) = cc
-unsigned_halts text case headers MissingHost (inl found) = (found.0, found.1, rw found.2 refl)
-unsigned_halts text case headers MissingHost (inr is) = cc
-unsigned_halts text case headers UnsupportedIdentityType (inl found) = (found.0, found.1, rw found.2 refl)
-unsigned_halts text case headers UnsupportedIdentityType (inr is) = cc
-unsigned_halts text case headers (FailedToEncodeMessage inner) (inl found) = (found.0, found.1, rw found.2 refl)
-unsigned_halts text case headers (FailedToEncodeMessage inner) (inr is) = cc
-unsigned_halts text case headers (MomentOutOfRange moment) (inl found) = (found.0, found.1, rw found.2 refl)
-unsigned_halts text case headers (MomentOutOfRange moment) (inr is) = cc
-
 -- the headers that go out are those of the signed request
 pub headers_signed : (c : Case) (before now : List (List ℕ × List ℕ)) (made : List Instruction) → before ≡ c.headers → made ≡ instructions c → now ≡ with_instructions before made → now ≡ signed_headers c
 unfolding signed_headers
 headers_signed c before now made given is applied = rw (applied, given, is) refl
+
+-- where there are no parameters the target stays
+pub target_stays : (params : List (List ℕ × List ℕ)) (old new : List ℕ) → params ≡ [] → IsRetargeted params old new → new ≡ old
+target_stays [] old new none is = is.1
+target_stays (param ∷ params) old new none is = cc

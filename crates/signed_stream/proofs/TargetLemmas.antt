@@ -1,13 +1,13 @@
 -- A text spells one target, or none.
-use Rattle.std.proofs.Common.{◌≡◌, ◌==◌, ℕ, ◌⊎◌, inl, inr, not, List, [], length, Option, Some, None, refl, sym, ap, ◌∙◌, subst}
+use Rattle.std.proofs.Common.{◌≡◌, ◌==◌, ℕ, inl, inr, not, List, [], length, Option, Some, None, refl, sym, ap, ◌∙◌, subst}
 use Rattle.std.specs.Prelude.{if◌then◌else◌, ◌||◌, is_some}
 use Rattle.http_uri.specs.Grammar.{path_of, query_of}
-use Rattle.http_uri.specs.Uri.{Spells, SpellsNone, uri_authority, uri_data, uri_scheme}
+use Rattle.http_uri.specs.Uri.{Spells, uri_authority, uri_data, uri_scheme}
 use Rattle.http_uri.specs.declared.uri.Uri.{Uri}
 use Rattle.http_uri.proofs.Theorems.{Spells_unique}
 use Rattle.smithy_http.specs.Building.{SpellsNoTarget, SpellsTarget}
 use Rattle.smithy_http.specs.Target.{IsAuthorityAlone, Target, target_of}
-use Rattle.signed_stream.specs.Targets.{ReadsTarget}
+use Rattle.signed_stream.specs.Targets.{SpellsAs}
 
 -- the target of a scheme, an authority and a path with its query
 target_with : Option (List ℕ) → Option (List ℕ) → List ℕ → Target
@@ -35,7 +35,7 @@ spells_one_way text uri (inl none) spells = none _ _ _ spells.0
 spells_one_way text uri (inr other) spells = spells.1 (subst IsAuthorityAlone (one_target text other.0 uri other.1 spells.0) other.2)
 
 -- what a text spells is determined
-pub reads_one : (text : List ℕ) (a b : Option Target) → ReadsTarget text a → ReadsTarget text b → a ≡ b
+pub reads_one : (text : List ℕ) (a b : Option Target) → SpellsAs text a → SpellsAs text b → a ≡ b
 reads_one text None None first second = refl
 reads_one text None (Some t) first second = absurd (spells_one_way text second.0 first second.1)
 reads_one text (Some t) None first second = absurd (spells_one_way text first.0 second first.1)

@@ -1,7 +1,7 @@
 -- The job: lines, each a word, or a word, one space and a rest. Each line moves the draft of the job on, or is bad, or is of a form that isn't built.
-use Rattle.std.specs.Prelude.{ℕ, ◌+◌, ◌-◌, ◌==◌, nat_eq, Bool, true, false, ◌&&◌, ◌||◌, not, nat_le, nat_lt, if◌then◌else◌, List, [], ◌∷◌, ◌++◌, length, take, drop, codes, bytes_eq, slice_index, count_by, Option, Some, None, is_some, is_none, option_map, unwrap_or}
+use Rattle.std.specs.Prelude.{ℕ, ◌+◌, ◌==◌, Bool, ◌&&◌, ◌||◌, not, nat_le, nat_lt, if◌then◌else◌, List, [], ◌∷◌, ◌++◌, length, take, codes, bytes_eq, slice_index, count_by, Option, Some, None, is_some, is_none, option_map, unwrap_or}
 use Rattle.std.specs.Option.{option_to_list}
-use Rattle.std.specs.List.{list_all, list_any, starts_with, before_first, after_first}
+use Rattle.std.specs.List.{list_all, list_any}
 use Rattle.std.specs.Str.Lossy.{utf8_valid_len}
 use Rattle.smithy_core.specs.Pairs.{lower}
 use Rattle.smithy_core.specs.Parts.{Parts}

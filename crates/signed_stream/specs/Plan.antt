@@ -12,7 +12,7 @@ use Rattle.signed_stream.specs.Command.{Command, bad_word, unbuilt_word, stream,
 use Rattle.signed_stream.specs.Job.{PlainJob, Reading, Settings, plain_job, bad_line, unbuilt_line, job}
 use Rattle.signed_stream.specs.Refusal.{fault_for, fault_of}
 use Rattle.signed_stream.specs.Signing.{Selected, case_of}
-use Rattle.signed_stream.specs.Targets.{ReadsTarget}
+use Rattle.signed_stream.specs.Targets.{SpellsAs}
 use Rattle.signed_stream.specs.Written.{refusal_of, written_until}
 use Rattle.signed_stream.specs.declared.status.Status.{Status}
 use Rattle.signed_stream.specs.declared.status.Status.TheVariants.{BadWords, JobTooLarge, BadJob, Refused, NotBuilt}
@@ -71,7 +71,7 @@ input_plan wanted bytes target = if nat_lt most_input (length bytes) then stops 
 
 -- the target of the job that was read spells this
 abbrev pub ReadsTargetOf : Reading → Option Target → Type 0
-ReadsTargetOf (plain_job j) target = ReadsTarget j.target target
+ReadsTargetOf (plain_job j) target = SpellsAs j.target target
 ReadsTargetOf (bad_line place) target = Unit {0}
 ReadsTargetOf (unbuilt_line place) target = Unit {0}
 

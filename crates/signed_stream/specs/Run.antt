@@ -9,7 +9,7 @@ use Rattle.signed_stream.specs.Job.{PlainJob, job, plain_job}
 use Rattle.signed_stream.specs.Plan.{Ask, ends, streams, Plan, stops, writes, has_later_variable, most_input}
 use Rattle.signed_stream.specs.Signing.{Selected, case_of, profile_of}
 use Rattle.signed_stream.specs.Status.{end_with, status_line}
-use Rattle.signed_stream.specs.Targets.{ReadsTarget}
+use Rattle.signed_stream.specs.Targets.{SpellsAs}
 use Rattle.signed_stream.specs.Words.{wanted_of}
 use Rattle.signed_stream.specs.Written.{IsChained, written}
 use Rattle.signed_stream.specs.declared.words.options.StreamWords.{StreamWords}
@@ -69,7 +69,7 @@ pub record IsStreamable (wanted : Wanted) (bytes : List ℕ) : Type 0 where
   pub spelled : job bytes ≡ plain_job read
   pub settled : read.settings ≡ profile_of selected
   pub years : IsInYears wanted.at
-  pub accepted : ReadsTarget read.target (Some target)
+  pub accepted : SpellsAs read.target (Some target)
   pub fit : unfit (case_of read wanted selected target) ≡ None
   pub framed : IsChained (case_of read wanted selected target) read.events
 

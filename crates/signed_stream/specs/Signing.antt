@@ -1,5 +1,5 @@
 -- The case of a job's request: what is signed, and with what.
-use Rattle.std.specs.Prelude.{ℕ, Bool, if◌then◌else◌, List, codes, Option, Some, string_bytes}
+use Rattle.std.specs.Prelude.{ℕ, if◌then◌else◌, List, codes, Option, Some, string_bytes}
 use Rattle.sha2.specs.Sha256.{sha256}
 use Rattle.hex.specs.Hex.{encode_lower}
 use Rattle.smithy_core.specs.declared.identity.Identity.{Identity}

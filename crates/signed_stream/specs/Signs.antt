@@ -1,18 +1,18 @@
 -- What signing a job's request promises.
-use Rattle.std.specs.Prelude.{◌≡◌, ◌⊎◌, ℕ, List, [], Result, Ok, Err, Option, Some, None, option_map, String, string_bytes}
+use Rattle.std.specs.Prelude.{◌≡◌, ◌⊎◌, ℕ, List, Result, Ok, Err, Option, Some, None, option_map, String, string_bytes}
 use Rattle.std.specs.declared.alloc.Global.{Global}
 use Rattle.smithy_http.specs.Target.{Target}
 use Rattle.sigv4.specs.Case.{Case}
 use Rattle.sigv4.specs.Refusal.{unfit}
-use Rattle.sigv4.specs.RequestSigning.{instructions_of}
-use Rattle.sigv4.specs.Signed.{instructions, signature_of, signed_headers}
+use Rattle.sigv4.specs.RequestSigning.{IsSigned}
+use Rattle.sigv4.specs.Signed.{signature_of, signed_headers}
 use Rattle.sigv4.specs.declared.error.SigningError.{SigningError}
 use Rattle.sigv4.specs.declared.error.SigningError.TheVariants as errors
 use Rattle.sigv4.specs.declared.instructions.SigningInstructions.{SigningInstructions}
 use Rattle.sigv4.specs.declared.output.SigningOutput.{SigningOutput}
 use Rattle.signed_stream.specs.Plan.{unsigned}
 use Rattle.signed_stream.specs.Refusal.{fault_for}
-use Rattle.signed_stream.specs.Targets.{ReadsTarget}
+use Rattle.signed_stream.specs.Targets.{SpellsAs}
 use Rattle.signed_stream.specs.declared.halt.Halt.{Halt}
 use Rattle.signed_stream.specs.declared.halt.Halt.TheVariants.{Refused, OutputFault, NoMemory}
 
@@ -23,22 +23,20 @@ halt_for error = Refused (fault_for error)
 
 -- the request of a target's text isn't signed for the first test that fails, or for want of memory
 abbrev pub Unsigned : List ℕ → (Target → Case) → SigningError → Type 0
-Unsigned text case error = ((target : Option Target) × ReadsTarget text target × (unsigned case target ≡ Some error)) ⊎ (error ≡ errors.NoMemory)
+Unsigned text case error = ((target : Option Target) × SpellsAs text target × (unsigned case target ≡ Some error)) ⊎ (error ≡ errors.NoMemory)
 
--- where no test fails the answer is the headers that go out, no parameters, and the signature
+-- where no test fails the answer is what the signature adds to the request, and the signature
 abbrev pub SignsText : List ℕ → (Target → Case) → Result (SigningOutput SigningInstructions) SigningError → Type 0
-SignsText text case (Ok output) =
-    (target : Target) × ReadsTarget text (Some target) × (unfit (case target) ≡ None) × (instructions_of output.output ≡ instructions (case target))
-    × (output.output.params.items ≡ []) × (string_bytes output.signature ≡ signature_of (case target))
+SignsText text case (Ok output) = (target : Target) × SpellsAs text (Some target) × (unfit (case target) ≡ None) × IsSigned (case target) output
 SignsText text case (Err error) = Unsigned text case error
 
 -- where no test fails the headers are those of the signed request, and the answer is the signature; else it is the fault of the first test that fails, or
 -- want of memory
 abbrev pub SignsRequest : List ℕ → (Target → Case) → List (List ℕ × List ℕ) → Result (String Global) Halt → Type 0
 SignsRequest text case headers (Ok signature) =
-    (target : Target) × ReadsTarget text (Some target) × (unfit (case target) ≡ None) × (headers ≡ signed_headers (case target))
+    (target : Target) × SpellsAs text (Some target) × (unfit (case target) ≡ None) × (headers ≡ signed_headers (case target))
     × (string_bytes signature ≡ signature_of (case target))
 SignsRequest text case headers (Err (Refused fault)) =
-    (target : Option Target) × ReadsTarget text target × (option_map fault_for (unsigned case target) ≡ Some fault)
+    (target : Option Target) × SpellsAs text target × (option_map fault_for (unsigned case target) ≡ Some fault)
 SignsRequest text case headers (Err OutputFault) = ⊥
 SignsRequest text case headers (Err NoMemory) = Unit {0}

@@ -5,6 +5,6 @@ use Rattle.smithy_http.specs.Building.{SpellsNoTarget, SpellsTarget}
 use Rattle.smithy_http.specs.Target.{Target, target_of}
 
 -- the text spells a target of these parts, or none: then it isn't accepted, or has an authority without a scheme
-abbrev pub ReadsTarget : List ℕ → Option Target → Type 0
-ReadsTarget text None = SpellsNoTarget text
-ReadsTarget text (Some target) = (uri : Uri) × SpellsTarget text uri × (target ≡ target_of uri)
+abbrev pub SpellsAs : List ℕ → Option Target → Type 0
+SpellsAs text None = SpellsNoTarget text
+SpellsAs text (Some target) = (uri : Uri) × SpellsTarget text uri × (target ≡ target_of uri)

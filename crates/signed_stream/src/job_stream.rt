@@ -12,7 +12,7 @@ ghost use Rattle.signed_stream.specs.Run.{EndsAsPlanned, FitsTarget, GainsAsPlan
 ghost use Rattle.signed_stream.specs.Sending.{Sends, ended};
 ghost use Rattle.signed_stream.specs.Signing.{case_under, signer_under};
 ghost use Rattle.signed_stream.specs.Stream.{streamed_lines};
-ghost use Rattle.signed_stream.specs.Targets.{ReadsTarget};
+ghost use Rattle.signed_stream.specs.Targets.{SpellsAs};
 ghost use Rattle.signed_stream.specs.Words.{wanted_of};
 ghost use Rattle.signed_stream.specs.Written.{head};
 
@@ -91,7 +91,7 @@ fn stream_job<K: ByteSink>(
 ) -> Status
     ensures never_bad_words { (place : ℕ) → result ≡ Status.BadWords place → ⊥ }
     ensures never_read_fault { result ≡ Status.ReadFault → ⊥ }
-    ensures planned { FitsTarget (ReadsTarget (string_bytes job.request.target)) (λ target. job_plan (wanted_of words.now) target (plain_job (plain_of job)))
+    ensures planned { FitsTarget (SpellsAs (string_bytes job.request.target)) (λ target. job_plan (wanted_of words.now) target (plain_job (plain_of job)))
         result (K.held out.old) (K.held out.new) }
     ensures output_fault { result ≡ Status.OutputFault → Rose (K.faults out.old) (K.faults out.new) }
     ensures count { K.faults out.old ≤ K.faults out.new }
@@ -147,7 +147,7 @@ fn stream_request<K: ByteSink>(
     requires signs { unsignable identity.now words.now.at ≡ None }
     requires years { IsInYears words.now.at }
     ensures count { K.faults out.old ≤ K.faults out.new }
-    ensures planned { FitsTarget (ReadsTarget (string_bytes request.target))
+    ensures planned { FitsTarget (SpellsAs (string_bytes request.target))
         (target_plan (string_bytes request.target) (case_under request identity.now region.now words.now) events.now)
         (ended result) (K.held out.old) (K.held out.new) }
     ensures failed { IsErrOf result Halt.OutputFault → Rose (K.faults out.old) (K.faults out.new) }

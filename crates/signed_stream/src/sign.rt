@@ -33,7 +33,7 @@ pub fn sign_request(
 ) -> Result<String, Halt>
     requires { unsignable identity.now words.now.at ≡ None }
     ensures method { request.new.method ≡ request.old.method }
-    ensures target { request.new.target ≡ request.old.target }
+    ensures target { string_bytes request.new.target ≡ string_bytes request.old.target }
     ensures signs { SignsRequest (string_bytes request.old.target) (case_under request.old identity.now region.now words.now) request.new.headers result }
 {
     let signed = sign_text(alloc, request, identity, region, words)?;

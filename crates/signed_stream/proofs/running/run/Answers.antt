@@ -1,4 +1,4 @@
-use Rattle.std.proofs.Common.{◌≡◌, map, refl}
+use Rattle.std.proofs.Common.{map, refl}
 use Rattle.std.specs.Prelude.{string_bytes}
 use Rattle.signed_stream.proofs.HeadlineLemmas.{completes}
 use Rattle.signed_stream.proofs.SaidLemmas.{said_asked, said_gains, said_is, said_keeps, said_planned}

@@ -1,6 +1,4 @@
 use Rattle.std.proofs.lemmas.Result.{err_from_is_err_and}
-use Rattle.std.proofs.Common.{refl}
-use Rattle.std.specs.Prelude.{string_bytes}
 use Rattle.signed_stream.specs.Signing.{case_under}
 use Rattle.signed_stream.proofs.SignLemmas.{case_made, signs_text, unread}
 use Rattle.signed_stream.proofs.sign.sign_text.Goals as goal
