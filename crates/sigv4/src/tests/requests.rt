@@ -12,6 +12,7 @@ use crate::{
 use bytes::Bytes;
 use smithy_core::{Credentials, Headers, HttpRequest, Identity, Mem, Moment};
 use std::alloc::Global;
+use std::process::Abort;
 use std::test::Fail;
 
 // The value of the word `key=value`.
@@ -266,8 +267,22 @@ fn copies(rt: HostRuntime) -> Result<(), Fail> {
     Ok(())
 }
 
+// Each request, under its words, has this canonical text and this signature.
+fn check(
+    rt: &impl Abort,
+    alloc: Global,
+    case: (&str, &str, &str, &str),
+) -> Result<(), SigningError> {
+    let (request, words, canonical, signature) = case;
+    let answer = signed(alloc, request, words)?;
+    assert_eq!(rt; answer.0.as_str(), canonical, "at {request}");
+    assert_eq!(rt; answer.1.as_str(), signature, "at {request}");
+    Ok(())
+}
+
+// Ports, repeated headers, and the payload's header.
 #[test]
-fn canonical_texts_and_signatures(rt: HostRuntime) -> Result<(), Fail> {
+fn ports_and_repeated_headers(rt: HostRuntime) -> Result<(), Fail> {
     let cases = [
         (
             "GET https://example.amazonaws.com/?Param2=value2&Param1=value1\n\
@@ -355,6 +370,17 @@ fn canonical_texts_and_signatures(rt: HostRuntime) -> Result<(), Fail> {
              e3b0c44298fc1c149afbf4c8996fb92427ae41e4649b934ca495991b7852b855",
             "4d69bc633c55a3969679c432ea97e07fb4532db026d71984b2fa553b4f25a2ff",
         ),
+    ];
+    for case in cases {
+        check(&rt, rt.alloc(), case)?;
+    }
+    Ok(())
+}
+
+// The AWS signing test suite.
+#[test]
+fn suite_of_queries_and_paths(rt: HostRuntime) -> Result<(), Fail> {
+    let cases = [
         (
             "GET https://example.amazonaws.com/",
             "",
@@ -459,6 +485,17 @@ fn canonical_texts_and_signatures(rt: HostRuntime) -> Result<(), Fail> {
              e3b0c44298fc1c149afbf4c8996fb92427ae41e4649b934ca495991b7852b855",
             "ef75d96142cf21edca26f06005da7988e4f8dc83a165a80865db7089db637ec5",
         ),
+    ];
+    for case in cases {
+        check(&rt, rt.alloc(), case)?;
+    }
+    Ok(())
+}
+
+// The AWS signing test suite.
+#[test]
+fn suite_of_headers_and_bodies(rt: HostRuntime) -> Result<(), Fail> {
+    let cases = [
         (
             "GET https://example.amazonaws.com/\n\
              My-Header1: value2\n\
@@ -598,6 +635,17 @@ fn canonical_texts_and_signatures(rt: HostRuntime) -> Result<(), Fail> {
              e3b0c44298fc1c149afbf4c8996fb92427ae41e4649b934ca495991b7852b855",
             "5da7c1a2acd57cee7505fc6676e4e544621c30862966e37dddb68e92efbe5d6b",
         ),
+    ];
+    for case in cases {
+        check(&rt, rt.alloc(), case)?;
+    }
+    Ok(())
+}
+
+// Payloads, headers that are left out, and headers that are replaced.
+#[test]
+fn payloads_and_unsigned_headers(rt: HostRuntime) -> Result<(), Fail> {
+    let cases = [
         (
             "GET https://iam.amazonaws.com/?Action=ListUsers&Version=2010-05-08\n\
              content-type: application/x-www-form-urlencoded; charset=utf-8",
@@ -752,10 +800,8 @@ fn canonical_texts_and_signatures(rt: HostRuntime) -> Result<(), Fail> {
             "60dc7294072ee17db19aa41d87583a292b6e4e68056e770506eb6dd208162dc5",
         ),
     ];
-    for (request, words, canonical, signature) in cases {
-        let answer = signed(rt.alloc(), request, words)?;
-        assert_eq!(rt; answer.0.as_str(), canonical, "at {request}");
-        assert_eq!(rt; answer.1.as_str(), signature, "at {request}");
+    for case in cases {
+        check(&rt, rt.alloc(), case)?;
     }
     Ok(())
 }
