@@ -1,0 +1,6 @@
+pub mod CommentLemmas
+pub mod LineLemmas
+pub mod RawLemmas
+pub mod SignLemmas
+pub mod TextsLemmas
+pub mod TrimLemmas
