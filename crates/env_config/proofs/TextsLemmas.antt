@@ -1,37 +1,43 @@
 -- A map of strings as a map of texts, and what it has after a value was put.
-use Rattle.std.proofs.Common.{◌≡◌, ℕ, Bool, true, false, cond, List, [], ◌∷◌, ◌++◌, map, String, string_bytes, string_cmp, refl, sym, ap, ap₂, ◌∙◌, Ordering, Less, Equal, Greater, nat_cmp, is_eq}
+use Rattle.std.proofs.Common.{◌≡◌, ℕ, Bool, true, false, cond, List, [], ◌∷◌, ◌++◌, map, String, string_bytes, string_cmp, Global, bytes_eq, refl, sym, ap, ap₂, ◌∙◌, Ordering, Less, Equal, Greater, nat_cmp, is_eq}
 use Rattle.std.specs.Prelude.{Option, Some, None, option_map, is_some}
 use Rattle.std.specs.Ordering.{match_ordering}
 use Rattle.std.specs.BTreeMap.{insert_entry, is_at}
 use Rattle.std.specs.Cmp.{tied_itself}
-use Rattle.std.specs.Cmp.Lexicographic.{slice_cmp, nat_list_cmp_total}
+use Rattle.std.specs.Cmp.Lexicographic.{slice_cmp, nat_list_cmp_total, nat_list_eq_equiv}
 use Rattle.std.specs.Map.{lookup}
 use Rattle.std.proofs.lemmas.List.{map-append}
+use Rattle.std.proofs.lemmas.Map.Text.{is_eq-slice_cmp}
+use Rattle.env_config.specs.declared.property.Property.{Property}
 use Rattle.env_config.specs.Texts.{Named, put, put_named, text_cmp, value_at}
+use Rattle.env_config.specs.Words.{named_as, values_of}
 
-module _ {Z X Y : Type 0} (f : X → Y) where
-  -- an entry as a text and what f sees
-  abbrev pub entry_of : String Z × X → List ℕ × Y
-  entry_of e = (string_bytes e.0, f e.1)
+module _ {K J X Y : Type 0} (test : K → K → Ordering) (R : J → J → Ordering) (g : K → J) (f : X → Y) (same : (a b : K) → test a b ≡ R (g a) (g b)) where
+  -- an entry as g and f see it
+  abbrev pub seen : K × X → J × Y
+  seen e = (g e.0, f e.1)
 
-  pub entries_put : (es : List (String Z × X)) (key : String Z) (value : X) → map entry_of (insert_entry string_cmp es key value) ≡ put (map entry_of es) (string_bytes key) (f value)
+  pub entries_put : (es : List (K × X)) (key : K) (value : X) → map seen (insert_entry test es key value) ≡ insert_entry R (map seen es) (g key) (f value)
   entries_put [] key value = refl
   entries_put (e ∷ es) key value =
-      elim (text_cmp (string_bytes key) (string_bytes e.0)) as (λ (o : Ordering).
-      map entry_of (match_ordering o ((key, value) ∷ e ∷ es) ((e.0, value) ∷ es) (e ∷ insert_entry string_cmp es key value))
-      ≡ match_ordering o ((string_bytes key, f value) ∷ entry_of e ∷ map entry_of es) ((string_bytes e.0, f value) ∷ map entry_of es) (entry_of e ∷ put (map entry_of es) (string_bytes key) (f value))) [
+      ap (λ (o : Ordering). map seen (match_ordering o ((key, value) ∷ e ∷ es) ((e.0, value) ∷ es) (e ∷ insert_entry test es key value))) (same key e.0)
+      ∙ elim (R (g key) (g e.0)) as (λ (o : Ordering).
+      map seen (match_ordering o ((key, value) ∷ e ∷ es) ((e.0, value) ∷ es) (e ∷ insert_entry test es key value))
+      ≡ match_ordering o ((g key, f value) ∷ seen e ∷ map seen es) ((g e.0, f value) ∷ map seen es) (seen e ∷ insert_entry R (map seen es) (g key) (f value))) [
         | Less ↦ refl
         | Equal ↦ refl
-        | Greater ↦ ap (λ xs. entry_of e ∷ xs) (entries_put es key value)
+        | Greater ↦ ap (λ xs. seen e ∷ xs) (entries_put es key value)
       ]
 
-  pub entries_at : (es : List (String Z × X)) (key : List ℕ) → option_map f (lookup (λ k. is_eq (text_cmp key (string_bytes k))) es) ≡ value_at (map entry_of es) key
-  entries_at [] key = refl
-  entries_at (e ∷ es) key =
-      elim (is_eq (text_cmp key (string_bytes e.0))) as (λ (b : Bool).
-      option_map f (cond b (Some e.1) (lookup (λ k. is_eq (text_cmp key (string_bytes k))) es)) ≡ cond b (Some (f e.1)) (value_at (map entry_of es) key)) [
+module _ {K J X Y : Type 0} (query : K → Ordering) (R : J → J → Ordering) (g : K → J) (f : X → Y) (key : J) (same : (k : K) → query k ≡ R key (g k)) where
+  pub entries_at : (es : List (K × X)) → option_map f (lookup (is_at query) es) ≡ lookup (is_at (R key)) (map (λ e. (g e.0, f e.1)) es)
+  entries_at [] = refl
+  entries_at (e ∷ es) =
+      ap (λ (o : Ordering). option_map f (cond (is_eq o) (Some e.1) (lookup (is_at query) es))) (same e.0)
+      ∙ elim (is_eq (R key (g e.0))) as (λ (b : Bool).
+      option_map f (cond b (Some e.1) (lookup (is_at query) es)) ≡ cond b (Some (f e.1)) (lookup (is_at (R key)) (map (λ e. (g e.0, f e.1)) es))) [
         | true ↦ refl
-        | false ↦ entries_at es key
+        | false ↦ entries_at es
       ]
 
 -- a text is tied with itself
@@ -75,14 +81,14 @@ module _ {Z X : Type 0} (names : List (String Z)) (es now : List (String Z × X)
     (is : string_bytes key ≡ name) (puts : now ≡ insert_entry string_cmp es key value) (had : before ≡ lookup (is_at (string_cmp key)) es) where
   -- the value before
   pub value_before : before ≡ value_at (named_of names es).values name
-  value_before = sym (same before) ∙ ap (option_map (λ (x : X). x)) had ∙ entries_at (λ (x : X). x) es (string_bytes key) ∙ ap (value_at (named_of names es).values) is
+  value_before = sym (same before) ∙ ap (option_map (λ (x : X). x)) had ∙ entries_at (string_cmp key) text_cmp string_bytes (λ (x : X). x) (string_bytes key) (λ _. refl) es ∙ ap (value_at (named_of names es).values) is
     where
       same : (o : Option X) → option_map (λ (x : X). x) o ≡ o
       same None = refl
       same (Some x) = refl
 
   values_now : (named_of names now).values ≡ put (named_of names es).values name value
-  values_now = ap (map (λ (e : String Z × X). (string_bytes e.0, e.1))) puts ∙ entries_put (λ (x : X). x) es key value ∙ ap (λ (k : List ℕ). put (named_of names es).values k value) is
+  values_now = ap (map (λ (e : String Z × X). (string_bytes e.0, e.1))) puts ∙ entries_put string_cmp text_cmp string_bytes (λ (x : X). x) (λ _ _. refl) es key value ∙ ap (λ (k : List ℕ). put (named_of names es).values k value) is
 
   with_names : (kept : List (List ℕ)) → (known : Bool) → is_some before ≡ known → kept ≡ cond known (map string_bytes names) (map string_bytes names ++ name ∷ [])
       → record { names = kept; values = (named_of names now).values } ≡ put_named (named_of names es) name value
@@ -98,3 +104,36 @@ module _ {Z X : Type 0} (names : List (String Z)) (es now : List (String Z × X)
   pub named_new : (new : String Z) → string_bytes new ≡ name → is_some before ≡ false → named_of (names ++ new ∷ []) now ≡ put_named (named_of names es) name value
   named_new new new_is known =
       with_names (map string_bytes (names ++ new ∷ [])) false known (map-append string_bytes names (new ∷ []) ∙ ap (λ (n : List ℕ). map string_bytes names ++ n ∷ []) new_is)
+
+-- ## Values as a function sees them
+
+option_same : {X : Type 0} (o : Option X) → option_map (λ (x : X). x) o ≡ o
+option_same None = refl
+option_same (Some x) = refl
+
+-- a look-up by a text among strings
+pub text_found : {Z X : Type 0} (es : List (String Z × X)) (key : List ℕ) → lookup (is_at (λ k. text_cmp key (string_bytes k))) es ≡ value_at (map (λ e. (string_bytes e.0, e.1)) es) key
+text_found {Z} {X} es key =
+    sym (option_same (lookup (is_at (λ k. text_cmp key (string_bytes k))) es))
+    ∙ entries_at (λ k. text_cmp key (string_bytes k)) text_cmp string_bytes (λ (x : X). x) key (λ _. refl) es
+
+module _ {X Y : Type 0} (f : X → Y) where
+  pub seen_at : (named : Named X) (name : List ℕ) → option_map f (value_at named.values name) ≡ value_at (named_as f named).values name
+  seen_at named name = entries_at (text_cmp name) text_cmp (λ (k : List ℕ). k) f name (λ _. refl) named.values
+
+  some_seen : (o : Option X) → is_some o ≡ is_some (option_map f o)
+  some_seen None = refl
+  some_seen (Some x) = refl
+
+  pub seen_put : (named : Named X) (name : List ℕ) (value : X) → named_as f (put_named named name value) ≡ put_named (named_as f named) name (f value)
+  seen_put named name value =
+      let make : List (List ℕ) → List (List ℕ × Y) → Named Y = λ names values. record { names = names; values = values } in
+      ap₂ make (ap (λ (b : Bool). cond b named.names (named.names ++ name ∷ [])) (some_seen (value_at named.values name) ∙ ap is_some (seen_at named name)))
+        (entries_put text_cmp text_cmp (λ (k : List ℕ). k) f (λ _ _. refl) named.values name value)
+
+-- one step of a look-up by a text in lower case
+pub lower_step : (s t : List (String Global × Property)) (key : String Global) (property : Property) (q : List ℕ) (found : Bool) → s ≡ (key, property) ∷ t → found ≡ bytes_eq (string_bytes key) q
+    → value_at (values_of s) q ≡ cond found (Some (string_bytes property.value)) (value_at (values_of t) q)
+lower_step s t key property q found is found_is =
+    ap (λ (es : List (String Global × Property)). value_at (values_of es) q) is
+    ∙ ap (λ (b : Bool). cond b (Some (string_bytes property.value)) (value_at (values_of t) q)) (is_eq-slice_cmp q (string_bytes key) ∙ nat_list_eq_equiv.symm q (string_bytes key) ∙ sym found_is)

@@ -1,5 +1,6 @@
 -- What the code's draft of the sections stands for, and what its steps answer.
-use Rattle.std.specs.Prelude.{◌≡◌, ℕ, Bool, List, Option, Some, None, string_bytes, option_map, Result, Ok, Err}
+use Rattle.std.specs.Prelude.{◌≡◌, ℕ, Bool, List, map, Option, Some, None, String, string_bytes, option_map, Result, Ok, Err}
+use Rattle.std.specs.declared.alloc.Global.{Global}
 use Rattle.env_config.specs.declared.fault.LineFault.{LineFault}
 use Rattle.env_config.specs.declared.fault.LineFault.TheVariants as line
 use Rattle.env_config.specs.declared.fault.RawFault.{RawFault}
@@ -10,6 +11,10 @@ use Rattle.env_config.specs.declared.draft.OpenSection.{OpenSection}
 use Rattle.env_config.specs.declared.draft.Draft.{Draft}
 use Rattle.env_config.specs.Texts.{Named, put, put_named}
 use Rattle.env_config.specs.Raw.{Last, Open, State, sub_checked}
+
+-- the texts of pairs
+abbrev pub pairs_of : List (String Global × String Global) → List (List ℕ × List ℕ)
+pairs_of entries = map (λ e. (string_bytes e.0, string_bytes e.1)) entries
 
 abbrev pub last_of : LastProperty → Last
 last_of last = record { key = string_bytes last.key; value = string_bytes last.value; is_parent = last.is_parent }

@@ -4,3 +4,7 @@ pub mod Faults
 pub mod Line
 pub mod Raw
 pub mod Texts
+pub mod Sections
+pub mod Words
+pub mod Headings
+pub mod Pieces

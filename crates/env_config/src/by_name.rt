@@ -1,4 +1,5 @@
-ghost use Rattle.std.specs.Prelude.{◌≡◌, IfOk, OnOk, option_copied};
+ghost use Rattle.std.specs.Prelude.{◌≡◌, ◌==◌, IfOk, OnOk, length, map, option_copied};
+ghost use Rattle.std.specs.String.{string_bytes};
 ghost use Rattle.env_config.specs.Texts.{nothing_named, put_named, value_at};
 
 use smithy_core::Mem;
@@ -46,5 +47,26 @@ impl<V: Drop> ByName<V> {
         }
         self.names.push(String::from_str(alloc, name)?)?;
         Ok(before)
+    }
+
+    /// The names in the order of their first appearance.
+    pub fn names(&self) -> &[String]
+        ensures { map string_bytes result.now ≡ self.now.names }
+    {
+        self.names.as_slice()
+    }
+
+    /// The value under the name.
+    pub fn get(&self, name: &str) -> Option<&V>
+        ensures { option_copied result ≡ value_at self.now.values name.now }
+    {
+        self.values.get(name)
+    }
+
+    /// Whether there are no names.
+    pub fn is_empty(&self) -> bool
+        ensures { result ≡ (length self.now.names == 0) }
+    {
+        self.names.is_empty()
     }
 }

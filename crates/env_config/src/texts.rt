@@ -1,6 +1,7 @@
 ghost use Rattle.std.specs.Prelude.{◌≡◌, [], OnOk};
 ghost use Rattle.std.specs.String.{string_bytes};
 ghost use Rattle.env_config.specs.Texts.{put};
+ghost use Rattle.env_config.specs.Drafting.{pairs_of};
 
 use smithy_core::Mem;
 use std::alloc::Global;
@@ -40,5 +41,12 @@ impl Texts {
     {
         self.pairs.insert(key, value)?;
         Ok(())
+    }
+
+    /// The pairs.
+    pub fn pairs(&self) -> &BTreeMap<String, String>
+        ensures { pairs_of result.now.entries ≡ self.now }
+    {
+        &self.pairs
     }
 }
