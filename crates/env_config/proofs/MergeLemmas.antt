@@ -35,8 +35,8 @@ property_put es now key property k v puts key_is value_is =
 abbrev pub own_cmp : PropertiesKey → PropertiesKey → Ordering
 own_cmp a b =
     ordering_then (string_cmp a.section_key b.section_key)
-      (ordering_then (string_cmp a.section_name b.section_name)
-        (ordering_then (string_cmp a.property_name b.property_name) (option_cmp string_cmp a.sub_property_name b.sub_property_name)))
+    (ordering_then (string_cmp a.section_name b.section_name)
+    (ordering_then (string_cmp a.property_name b.property_name) (option_cmp string_cmp a.sub_property_name b.sub_property_name)))
 
 option_alike : (x y : Option (String Global)) → option_cmp string_cmp x y ≡ option_cmp text_cmp (option_map string_bytes x) (option_map string_bytes y)
 option_alike None None = refl
@@ -47,7 +47,7 @@ option_alike (Some x) (Some y) = refl
 alike : (a b : PropertiesKey) → own_cmp a b ≡ key_cmp (key_of a) (key_of b)
 alike a b =
     ap (λ (o : Ordering). ordering_then (string_cmp a.section_key b.section_key) (ordering_then (string_cmp a.section_name b.section_name) (ordering_then (string_cmp a.property_name b.property_name) o)))
-      (option_alike a.sub_property_name b.sub_property_name)
+    (option_alike a.sub_property_name b.sub_property_name)
 
 abbrev pub keys_of : List (PropertiesKey × String Global) → List (Key × List ℕ)
 keys_of es = map (λ e. (key_of e.0, string_bytes e.1)) es

@@ -34,12 +34,13 @@ module _ (signs : List ℕ) (small : (c : ℕ) → char_set_contains signs c ≡
       let under = small has.0 has.1 in
       let at : drop i text ≡ has.0 ∷ drop j text = drop_at_char has.0 text i j has.2 under in
       let inside : i < length text = omega (arith, length-drop i text, ap length at) in
-      let byte : get_or text i 0 ≡ has.0 = has.2.byte under in
-      (position_or_len_is (char_set_contains signs) text i 0 within
-        (λ k below. ap (char_set_contains signs) (sym (get_or-take i text k 0 below)) ∙ no_sign (take i text) k found.0 (omega (arith, length-take-le i text within)))
-        (λ _. ap (char_set_contains signs) byte ∙ has.1),
-       inside,
-       has.2.ends ∙ ap (λ n. i + n) (len_utf8_ascii has.0 under))
+      let byte : get_or text i 0 ≡ has.0 = has.2.byte under in (
+        position_or_len_is (char_set_contains signs) text i 0 within
+            (λ k below. ap (char_set_contains signs) (sym (get_or-take i text k 0 below)) ∙ no_sign (take i text) k found.0 (omega (arith, length-take-le i text within)))
+            (λ _. ap (char_set_contains signs) byte ∙ has.1),
+        inside,
+        has.2.ends ∙ ap (λ n. i + n) (len_utf8_ascii has.0 under),
+      )
 
   pub sign_found : (text : List ℕ) (i j : ℕ) → Finds text (Some (i, j)) → i ≤ length text → take i text ≡ before_first (char_set_contains signs) text
   sign_found text i j finds within = ap (λ n. take n text) (sym (found_at text i j finds within).0)

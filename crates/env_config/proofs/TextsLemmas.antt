@@ -129,7 +129,7 @@ module _ {X Y : Type 0} (f : X → Y) where
   seen_put named name value =
       let make : List (List ℕ) → List (List ℕ × Y) → Named Y = λ names values. record { names = names; values = values } in
       ap₂ make (ap (λ (b : Bool). cond b named.names (named.names ++ name ∷ [])) (some_seen (value_at named.values name) ∙ ap is_some (seen_at named name)))
-        (entries_put text_cmp text_cmp (λ (k : List ℕ). k) f (λ _ _. refl) named.values name value)
+      (entries_put text_cmp text_cmp (λ (k : List ℕ). k) f (λ _ _. refl) named.values name value)
 
 -- one step of a look-up by a text in lower case
 pub lower_step : (s t : List (String Global × Property)) (key : String Global) (property : Property) (q : List ℕ) (found : Bool) → s ≡ (key, property) ∷ t → found ≡ bytes_eq (string_bytes key) q

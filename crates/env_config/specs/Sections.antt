@@ -88,8 +88,8 @@ pub record Key : Type 0 where
 abbrev pub key_cmp : Key → Key → Ordering
 key_cmp a b =
     ordering_then (text_cmp a.section_key b.section_key)
-      (ordering_then (text_cmp a.section_name b.section_name)
-        (ordering_then (text_cmp a.property_name b.property_name) (option_cmp text_cmp a.sub_property_name b.sub_property_name)))
+    (ordering_then (text_cmp a.section_name b.section_name)
+    (ordering_then (text_cmp a.property_name b.property_name) (option_cmp text_cmp a.sub_property_name b.sub_property_name)))
 
 -- a finite map from keys: the value at a key, and the map with one
 abbrev pub value_at_key : List (Key × List ℕ) → Key → Option (List ℕ)

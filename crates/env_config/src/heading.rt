@@ -85,6 +85,5 @@ fn has_identifier_bytes(bytes: &[u8]) -> bool
 fn is_identifier_byte(b: u8) -> bool
     ensures { result ≡ is_identifier_byte b }
 {
-    b.is_ascii_alphanumeric()
-        || matches!(b, b'_' | b'-' | b'/' | b'.' | b'%' | b'@' | b':' | b'+')
+    b.is_ascii_alphanumeric() || matches!(b, b'_' | b'-' | b'/' | b'.' | b'%' | b'@' | b':' | b'+')
 }

@@ -22,7 +22,10 @@ impl fmt::Display for EnvConfigParseError {
         let path = self.path.as_str();
         let line_number = self.line_number;
         let message = self.message.as_str();
-        write!(f, "error parsing {path} on line {line_number}:\n  {message}")
+        write!(
+            f,
+            "error parsing {path} on line {line_number}:\n  {message}"
+        )
     }
 }
 

@@ -9,13 +9,13 @@ ghost use Rattle.env_config.specs.Texts.{value_at};
 ghost use Rattle.env_config.specs.Words.{MergesText, Parses, TellsLine, fault_of, file_of, others_of, profile_of, sections_of, selected_of, session_of};
 
 use crate::by_name::ByName;
+use crate::fault::RawFault;
 use crate::heading::{Heading, has_profile_default};
 use crate::merge::{merge_others, merge_profile, merge_session};
-use crate::fault::RawFault;
 use crate::parse_fault::{EnvConfigParseError, ParseFault};
 use crate::profile::{Profile, SsoSession};
-use crate::raw::read_raw;
 use crate::properties::Properties;
+use crate::raw::read_raw;
 use crate::source::{EnvConfigFileKind, File, Source};
 use crate::texts::Texts;
 use smithy_core::Mem;
@@ -36,10 +36,7 @@ impl EnvConfigSections {
         ensures sections { IfOk result (λ sections. sections_of sections ≡ no_sections) }
         ensures selected { IfOk result (λ sections. selected_of sections ≡ codes "default") }
     {
-        Ok(EnvConfigSections::with_selected(
-            alloc,
-            String::from_str(alloc, "default")?,
-        ))
+        Ok(EnvConfigSections::with_selected(alloc, String::from_str(alloc, "default")?))
     }
 
     // No sections, with this profile selected.
@@ -145,12 +142,7 @@ impl EnvConfigSections {
 
     // Merges the raw sections of a file.
     #[tactic(auto, unfolding(crate::specs::Sections::with_file))]
-    fn merge_file(
-        &mut self,
-        alloc: Global,
-        kind: EnvConfigFileKind,
-        raw: &ByName<Texts>,
-    ) -> Mem<()>
+    fn merge_file(&mut self, alloc: Global, kind: EnvConfigFileKind, raw: &ByName<Texts>) -> Mem<()>
         ensures sections { OnOk result (sections_of self.new ≡ with_file (sections_of self.old) kind raw.now) }
         ensures selected { selected_of self.new ≡ selected_of self.old }
     {

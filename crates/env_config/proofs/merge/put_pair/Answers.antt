@@ -10,5 +10,5 @@ returns c =
     let key = c.args.key.now in
     let value = c.args.value.now in
     property_put es c.insert.new.self.entries c.in_ok-from_str-3.field-0 c.new-property.result key value c.in_ok-insert.ensures.entries c.in_ok-from_str-3.ensures.ok
-      (ap string_bytes c.new-property.ensures.value ∙ c.in_ok-from_str-2.ensures.ok)
+    (ap string_bytes c.new-property.ensures.value ∙ c.in_ok-from_str-2.ensures.ok)
     ∙ sym (ap (λ (b : Bool). cond b (put (values_of es) key value) (values_of es)) (sym c.is_identifier.ensures ∙ c.if-not-is_identifier.false))

@@ -12,8 +12,8 @@ returns-then-is_lower_of c =
     let property = c.in-Some.property.now in
     ap (λ (xs : List ℕ). Some xs) c.value.ensures
     ∙ sym (c.loop-key.invariant
-           ∙ lower_step c.loop-key.key-iterator rest c.in-Some.key.now property q c.is_lower_of.result c.in-Some.ensures.steps (c.is_lower_of.ensures ∙ ap (λ (xs : List ℕ). bytes_eq xs q) c.as_str.ensures.value)
-           ∙ ap (λ (b : Bool). cond b (Some (string_bytes property.value)) (value_at (values_of rest) q)) c.if-is_lower_of.true)
+    ∙ lower_step c.loop-key.key-iterator rest c.in-Some.key.now property q c.is_lower_of.result c.in-Some.ensures.steps (c.is_lower_of.ensures ∙ ap (λ (xs : List ℕ). bytes_eq xs q) c.as_str.ensures.value)
+    ∙ ap (λ (b : Bool). cond b (Some (string_bytes property.value)) (value_at (values_of rest) q)) c.if-is_lower_of.true)
 
 pub loop-key-preserved : goal.loop-key-preserved
 loop-key-preserved c =
