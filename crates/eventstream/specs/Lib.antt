@@ -11,4 +11,5 @@ pub mod Reads
 pub mod ResponseHeaders
 pub mod SizeHint
 pub mod Texts
+pub mod Then
 pub mod Writing

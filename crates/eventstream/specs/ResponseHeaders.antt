@@ -5,6 +5,7 @@ use Rattle.smithy_core.specs.Values.{string_of}
 use Rattle.smithy_core.specs.declared.header.Header.{Header}
 use Rattle.smithy_core.specs.declared.header.HeaderValue.{HeaderValue}
 use Rattle.eventstream.specs.Texts.{missing_text, no_text, unrecognized_text}
+use Rattle.eventstream.specs.Then.{◌>>=◌}
 use Rattle.eventstream.specs.declared.response_headers.ResponseHeaders.{ResponseHeaders}
 
 -- the texts of the headers of a response
@@ -20,12 +21,6 @@ response_in headers = record {
   message_type = headers.message_type.now;
   smithy_type = headers.smithy_type.now;
 }
-
--- what comes after a part that is there; the first text in the place of a part decides
-infixl 10 ◌>>=◌
-abbrev pub ◌>>=◌ : {A B : Type 0} → Result A (List ℕ) → (A → Result B (List ℕ)) → Result B (List ℕ)
-(Ok x) >>= f = f x
-(Err text) >>= f = Err text
 
 -- the value of the last header of the name
 abbrev pub last_named : List ℕ → List Header → Option HeaderValue

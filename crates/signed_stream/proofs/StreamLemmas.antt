@@ -39,7 +39,7 @@ signed_framed m identity t = by_reason (unframed m)
     by_reason None none = refl
     by_reason (Some kind) none = cc
 
--- a message that an identity doesn't sign, though it can, has no frame
+-- where the identity signs, the message itself is why it isn't signed
 refused_by : (reason : Option ErrorKind) (identity : Identity) (t : Instant) (error : SigningError) → unsignable identity t ≡ None
     → option_or (option_map failed_encoding reason) (unsignable identity t) ≡ Some error → option_map failed_encoding reason ≡ Some error
 refused_by None identity t error signs is = let none : None ≡ Some error = rw signs at is in none
@@ -112,11 +112,11 @@ later signer place (event ∷ events) at signature refused is =
     by_reason (Some reason) others is = let same : place ≡ refused.place = cc in omega arith
 
 -- the first event is linked: the others decide
-pub linked_refusal : (signer : Signer) (place : ℕ) (event : Parts) (events : List Parts) (at : Instant) (signature : List ℕ) → unlinked signer signature event at ≡ None
+linked_refusal : (signer : Signer) (place : ℕ) (event : Parts) (events : List Parts) (at : Instant) (signature : List ℕ) → unlinked signer signature event at ≡ None
     → first_refusal signer place (event ∷ events) at signature ≡ first_refusal signer (place + 1) events at (link_signature signer signature (frame event) at)
 linked_refusal signer place event events at signature linked = rw linked refl
 
-pub linked_lines : (signer : Signer) (place : ℕ) (event : Parts) (events : List Parts) (at : Instant) (signature : List ℕ) → unlinked signer signature event at ≡ None
+linked_lines : (signer : Signer) (place : ℕ) (event : Parts) (events : List Parts) (at : Instant) (signature : List ℕ) → unlinked signer signature event at ≡ None
     → streamed_from signer place (event ∷ events) at signature
     ≡ link_line signer signature (frame event) at ++ streamed_from signer (place + 1) events at (link_signature signer signature (frame event) at)
 unfolding link_line
@@ -134,11 +134,11 @@ linked_lines signer place event events at signature linked =
         let one_more : refused.place - place ≡ suc (refused.place - (place + 1)) = omega (arith, after refused refl) in rw one_more refl
 
 -- the first event isn't linked: it is refused, and nothing is written
-pub unlinked_refusal : (signer : Signer) (place : ℕ) (event : Parts) (events : List Parts) (at : Instant) (signature : List ℕ) (reason : ErrorKind)
+unlinked_refusal : (signer : Signer) (place : ℕ) (event : Parts) (events : List Parts) (at : Instant) (signature : List ℕ) (reason : ErrorKind)
     → unlinked signer signature event at ≡ Some reason → first_refusal signer place (event ∷ events) at signature ≡ Some (record { place = place; reason = reason })
 unlinked_refusal signer place event events at signature reason is = rw is refl
 
-pub unlinked_lines : (signer : Signer) (place : ℕ) (event : Parts) (events : List Parts) (at : Instant) (signature : List ℕ) (reason : ErrorKind)
+unlinked_lines : (signer : Signer) (place : ℕ) (event : Parts) (events : List Parts) (at : Instant) (signature : List ℕ) (reason : ErrorKind)
     → unlinked signer signature event at ≡ Some reason → streamed_from signer place (event ∷ events) at signature ≡ []
 unlinked_lines signer place event events at signature reason is =
     let none : place - place ≡ 0 = omega arith in

@@ -16,6 +16,8 @@ use std::alloc::Global;
 /// The words are those after the program's name. `stream --name NAME --at N` reads a job from `input`, signs its
 /// request by AWS Signature Version 4, and writes to `out` the head of the signed request and a chain of event
 /// stream frames: one for each event in order and an empty one last, each signed over the signature before it.
+/// The first event that has no frame, or whose signed message has none, ends the run with its fault, after the head
+/// and the frames of the events before it.
 pub fn run<S: ByteSource, D: Disk, C: Clock, K: ByteSink, E: ByteSink>(
     alloc: Global,
     words: &[String],

@@ -1,4 +1,5 @@
-use Rattle.std.proofs.Common.{◌≡◌, ℕ, zero, suc, ◌+◌, ◌<◌, ◌≤◌, inl, inr, refl, arith, ℤ, pos, ◌+ℤ◌, true, false, Bool, cond, nat_lt}
+use Rattle.std.proofs.Common.{◌≡◌, ℕ, zero, suc, ◌+◌, ◌/◌, ◌<◌, ◌≤◌, inl, inr, refl, arith, ℤ, pos, ◌+ℤ◌, true, false, Bool, cond, nat_lt}
+use Rattle.std.specs.Prelude.{negsuc, unsigned_abs, ◌≤ℤ◌}
 use Rattle.std.proofs.lemmas.Bool.{cases_order, ltb-false, ltb-true}
 use Rattle.jiff_core.specs.declared.civil.date.Date.{Date}
 use Rattle.jiff_core.specs.Calendar.{days_from_civil, days_in_month, day_count, days_of_years, days_of_months}
@@ -6,7 +7,9 @@ use Rattle.jiff_core.specs.Date.{epoch_day}
 use Rattle.jiff_core.proofs.SignedLemmas.{signed_arith}
 use Rattle.jiff_core.proofs.CalendarLemmas.{days_from_civil-day_count, day_count-lt_year, days_in_month_bounds}
 use Rattle.jiff_core.proofs.DateLemmas.{days_from_civil-day, days_from_civil-next_month, days_from_civil-next_year, epoch_day_injective}
-use Rattle.smithy_core.specs.Civil.{Day, day_after, next_day}
+use Rattle.smithy_core.specs.Civil.{Day, IsInYears, civil_after, civil_of, day_after, next_day, year_seconds}
+use Rattle.smithy_core.specs.CivilText.{FitsDigits}
+use Rattle.smithy_core.specs.Instant.{Instant}
 
 -- the calendar has the day
 pub record IsDay (d : Day) : Type 0 where
@@ -126,3 +129,26 @@ date_is n small d e =
     let begun = days_from_civil-day_count (pos 0) 1 1 in
     let same : epoch_day (date_of n small) ≡ number (day_after n) = refl in
     epoch_day_injective d (date_of n small) (omega (arith, signed_arith, e, after.number_is, begun, count_is, same))
+
+natural : (z : ℤ) → pos 0 ≤ℤ z → pos (unsigned_abs z) ≡ z
+natural (pos n) low = refl
+natural (negsuc n) low = absurd (omega (arith, signed_arith, low))
+
+-- the numbers of a moment in the years
+pub civil_fits : (t : Instant) → IsInYears t → FitsDigits (civil_of t)
+unfolding civil_of civil_after
+civil_fits t is =
+    let days = year_seconds t / 86400 in
+    let since : pos (year_seconds t) ≡ t.secs +ℤ pos 62167219200 = natural (t.secs +ℤ pos 62167219200) (omega (arith, signed_arith, is.0)) in
+    let small : days ≤ 3652424 = omega (arith, signed_arith, since, is.1) in
+    let day = (day_after_is days).is_day in
+    let long = days_in_month_bounds (pos (day_after days).year) (day_after days).month in
+    record {
+      year = omega (arith, year_bound days small);
+      month_low = day.month_low;
+      month_high = day.month_high;
+      day = omega (arith, day.day_high, long.0);
+      hour = omega arith;
+      minute = omega arith;
+      second = omega arith;
+    }

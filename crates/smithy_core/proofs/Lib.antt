@@ -1,7 +1,9 @@
 pub mod CivilTextLemmas
 pub mod CutLemmas
+pub mod FormatLemmas
 pub mod GainLemmas
 pub mod InstantLemmas
 pub mod PairLemmas
 pub mod TextLemmas
+pub mod ZeroLemmas
 pub mod DayLemmas

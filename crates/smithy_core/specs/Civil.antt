@@ -34,6 +34,10 @@ IsInYears t = (negsuc 62167219199 ≤ℤ t.secs) × (t.secs ≤ℤ pos 253402300
 abbrev pub year_seconds : Instant → ℕ
 year_seconds t = unsigned_abs (t.secs +ℤ pos 62167219200)
 
+-- the day of the week of a moment in the years, from 0 for Saturday, which 1 January of the year 0 was
+abbrev pub weekday : Instant → ℕ
+weekday t = year_seconds t / 86400 % 7
+
 -- the date and the time of day so many seconds after the begin of the year 0
 unfoldable pub civil_after : ℕ → Civil
 civil_after seconds =

@@ -15,6 +15,10 @@ floor_secs t = record { secs = t.secs; nanos = 0 }
 abbrev pub floor_ms : Instant → ℤ
 floor_ms t = t.secs *ℤ pos 1000 +ℤ pos (t.nanos / 1000000)
 
+-- the nanoseconds since 1970-01-01T00:00:00Z
+abbrev pub total_nanos : Instant → ℤ
+total_nanos t = t.secs *ℤ pos 1000000000 +ℤ pos t.nanos
+
 -- the moment of so many whole milliseconds
 abbrev pub at_ms : ℤ → Instant
 at_ms ms = record { secs = int_div_euclid ms (pos 1000); nanos = unsigned_abs (int_rem_euclid ms (pos 1000)) * 1000000 }

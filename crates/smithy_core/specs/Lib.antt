@@ -1,5 +1,6 @@
 pub mod Civil
 pub mod CivilText
+pub mod Format
 pub mod Given
 pub mod Instant
 pub mod Outside

@@ -1,5 +1,5 @@
 ghost use Rattle.std.specs.Prelude.{◌≡◌, ◌+◌, ◌*◌, ◌/◌, ◌%◌, ◌<◌, ◌≤◌, MatchOption};
-ghost use Rattle.smithy_core.specs.Civil.{IsInYears, civil_after, civil_of};
+ghost use Rattle.smithy_core.specs.Civil.{IsInYears, civil_after, civil_of, weekday};
 
 use crate::civil_text::Civil;
 use crate::moment::Moment;
@@ -25,6 +25,15 @@ pub fn civil(moment: Moment) -> Option<Civil>
     }
     let since = (secs - FIRST_SECOND) as u64;
     Some(civil_at(since))
+}
+
+// The day of the week of a moment in the years, from 0 for Saturday.
+pub(crate) fn weekday(moment: Moment) -> u8
+    requires { IsInYears moment }
+    ensures { result ≡ weekday moment }
+{
+    let since = (moment.secs() - FIRST_SECOND) as u64;
+    (since / 86400 % 7) as u8
 }
 
 // The date and the time of day so many seconds after the begin of the year 0.

@@ -1,12 +1,19 @@
+ghost use Rattle.std.specs.Prelude.{◌≤◌, IfOk, length};
+
 use crate::{
     ByteSink, ByteSource, CalmDisk, CalmSink, CalmSource, Clock, Credentials, DateTime, Disk,
-    DiskError, Env, Failed, FaultySink, FaultySource, FixedClock, Header, HeaderValue, Headers,
-    HttpRequest, Identity, ListClock, Mem, Message, ReadFault, SinkError, StdSink, StdSource,
-    StrBytes, SystemClock, TimeOutOfRange, civil, push_line, read_all, write_all,
+    DiskError, Env, ErrorMetadata, Failed, FaultyDisk, FaultySink, FaultySource, FixedClock,
+    Format, FormatFault, Header, HeaderValue, Headers, HostDisk, HttpRequest, HttpResponse,
+    Identity, ListClock, Mem, Message, ReadFault, SinkError, StdSink, StdSource, StrBytes,
+    SystemClock, TimeOutOfRange, civil, push_line, read_all, write_all,
 };
 use bytes::Bytes;
 use std::alloc::Global;
+use std::env::FillError;
+use std::fs::File;
+use std::process::Abort;
 use std::test::Fail;
+use std::{env, fs, process};
 
 // The stamps are those of Python's `datetime`.
 #[test]
@@ -49,6 +56,68 @@ fn whole_milliseconds(rt: HostRuntime) {
     for (secs, nanos, millis) in cases {
         assert_eq!(rt; DateTime::new(secs, nanos).to_millis(), millis);
     }
+}
+
+// The dates are those of Python's `datetime`, and the numbers those of its `decimal`.
+#[test]
+fn dates_and_times(rt: HostRuntime) {
+    let form = Format::DateTime;
+    let row = DateTime::new(1_440_938_160, 500_000_000);
+    shows(&rt, row, form, "2015-08-30T12:36:00.5Z");
+    let whole = DateTime::new(1_576_540_098, 0);
+    shows(&rt, whole, form, "2019-12-16T23:48:18Z");
+    let before = DateTime::new(-1, 1);
+    shows(&rt, before, form, "1969-12-31T23:59:59.000000001Z");
+    let first = DateTime::new(-62_167_219_200, 120_000_000);
+    shows(&rt, first, form, "0000-01-01T00:00:00.12Z");
+    let last = DateTime::new(253_402_300_799, 999_999_999);
+    shows(&rt, last, form, "9999-12-31T23:59:59.999999999Z");
+    shows_nothing(&rt, DateTime::new(253_402_300_800, 0), form);
+    shows_nothing(&rt, DateTime::new(-62_167_219_201, 999_999_999), form);
+}
+
+#[test]
+fn http_dates(rt: HostRuntime) {
+    let form = Format::HttpDate;
+    let row = DateTime::new(1_440_938_160, 500_000_000);
+    shows(&rt, row, form, "Sun, 30 Aug 2015 12:36:00 GMT");
+    let winter = DateTime::new(1_576_540_098, 0);
+    shows(&rt, winter, form, "Mon, 16 Dec 2019 23:48:18 GMT");
+    let leap_day = DateTime::new(951_782_400, 0);
+    shows(&rt, leap_day, form, "Tue, 29 Feb 2000 00:00:00 GMT");
+    let first = DateTime::new(-62_167_219_200, 0);
+    shows(&rt, first, form, "Sat, 01 Jan 0000 00:00:00 GMT");
+    let last = DateTime::new(253_402_300_799, 999_999_999);
+    shows(&rt, last, form, "Fri, 31 Dec 9999 23:59:59 GMT");
+    shows_nothing(&rt, DateTime::new(253_402_300_800, 0), form);
+    shows_nothing(&rt, DateTime::new(-62_167_219_201, 999_999_999), form);
+}
+
+#[test]
+fn seconds(rt: HostRuntime) {
+    let form = Format::EpochSeconds;
+    let row = DateTime::new(1_440_938_160, 500_000_000);
+    shows(&rt, row, form, "1440938160.5");
+    shows(&rt, DateTime::new(-1, 500_000_000), form, "-0.5");
+    shows(&rt, DateTime::new(-2, 0), form, "-2");
+    shows(&rt, DateTime::new(0, 0), form, "0");
+    shows(&rt, DateTime::new(0, 1), form, "0.000000001");
+    let least = DateTime::new(i64::MIN, 1);
+    shows(&rt, least, form, "-9223372036854775807.999999999");
+    let greatest = DateTime::new(i64::MAX, 999_999_990);
+    shows(&rt, greatest, form, "9223372036854775807.99999999");
+}
+
+fn shows(rt: &(impl Abort + AllocGlobal), moment: DateTime, format: Format, text: &str) {
+    match moment.fmt(rt.alloc(), format) {
+        Ok(shown) => assert_eq!(rt; shown.as_str(), text),
+        Err(_) => assert!(rt; false, "{text}"),
+    }
+}
+
+fn shows_nothing(rt: &(impl Abort + AllocGlobal), moment: DateTime, format: Format) {
+    let shown = moment.fmt(rt.alloc(), format);
+    assert!(rt; matches!(shown, Err(FormatFault::OutOfRange)));
 }
 
 #[test]
@@ -99,6 +168,18 @@ fn faulty_sink(rt: HostRuntime) -> Result<(), Fail> {
     assert_eq!(rt; write_all(&mut sink, b"ef"), Ok(()));
     assert_eq!(rt; write_all(&mut sink, b"gh"), Err(SinkError::Failed));
     assert_eq!(rt; sink.held(), b"abef".as_slice());
+    Ok(())
+}
+
+#[test]
+fn faulty_disk(rt: HostRuntime) -> Result<(), Fail> {
+    let fails = Vec::from_slice(rt.alloc(), &[2, 4])?;
+    let mut disk = FaultyDisk::new(two_at_one_path(rt.alloc())?, fails);
+    assert!(rt; holds(&disk.read("/a"), b"2"));
+    assert!(rt; matches!(disk.read("/a"), Err(DiskError::Failed)));
+    assert!(rt; matches!(disk.read("/b"), Err(DiskError::NotFound)));
+    assert!(rt; matches!(disk.read("/b"), Err(DiskError::Failed)));
+    assert!(rt; holds(&disk.read("/a"), b"2"));
     Ok(())
 }
 
@@ -156,6 +237,78 @@ fn adapters_of_the_host(rt: HostRuntime) -> Result<(), Fail> {
     Ok(())
 }
 
+#[test]
+fn files_of_the_host(rt: HostRuntime) -> Result<(), Fail> {
+    let path = format!(in rt.alloc(); "/tmp/smithy_core-{}", process::id(rt.process()))?;
+    let mut disk = HostDisk::new(rt.alloc(), &rt);
+    assert!(rt; matches!(disk.read(path.as_str()), Err(DiskError::NotFound)));
+    fs::write(&rt, path.as_str(), "abc")?;
+    assert!(rt; holds(&disk.read(path.as_str()), b"abc"));
+    let file = File::create(&rt, path.as_str())?;
+    file.set_len(16_777_216)?;
+    assert!(rt; matches!(disk.read(path.as_str()), Ok(bytes) if bytes.len() == 16_777_216));
+    file.set_len(16_777_217)?;
+    assert!(rt; matches!(disk.read(path.as_str()), Err(DiskError::Failed)));
+    fs::remove_file(&rt, path.as_str())?;
+    assert!(rt; matches!(disk.read("/"), Err(DiskError::Failed)));
+    Ok(())
+}
+
+// Variables as a system may give them, and last a long one.
+#[derive(Drop)]
+struct Listed([&'static [u8]; 7]);
+
+impl env::Env for Listed {
+    fn arg(&self, _i: usize, _buf: &mut [u8]) -> Result<usize, FillError> {
+        Err(FillError::NotPresent)
+    }
+
+    fn var(&self, _name: &str, _buf: &mut [u8]) -> Result<usize, FillError> {
+        Err(FillError::NotPresent)
+    }
+
+    fn var_at(&self, i: usize, buf: &mut [u8]) -> Result<usize, FillError> {
+        if i < 7 {
+            copy_entry(self.0[i], buf)
+        } else if i == 7 {
+            let mut long = [b'='; 600];
+            long[0] = b'G';
+            copy_entry(&long, buf)
+        } else {
+            Err(FillError::NotPresent)
+        }
+    }
+}
+
+fn copy_entry(entry: &[u8], buf: &mut [u8]) -> Result<usize, FillError>
+    ensures { IfOk result (λ n. n ≤ length buf.new) }
+{
+    if entry.len() > buf.len() {
+        return Err(FillError::TooLong);
+    }
+    buf[..entry.len()].copy_from_slice(entry);
+    Ok(entry.len())
+}
+
+#[test]
+fn variables(rt: HostRuntime) -> Result<(), Fail> {
+    let listed = Listed([b"A=1", b"B=\xFF", b"=C", b"D", b"A=2", b"E=a=b", b"F="]);
+    let env = Env::real(rt.alloc(), &listed)?;
+    assert_eq!(rt; env.get("A"), Some("1"));
+    assert_eq!(rt; env.get("B"), None);
+    assert_eq!(rt; env.get(""), None);
+    assert_eq!(rt; env.get("D"), None);
+    assert_eq!(rt; env.get("E"), Some("a=b"));
+    assert_eq!(rt; env.get("F"), Some(""));
+    assert!(rt; matches!(env.get("G"), Some(value) if value.len() == 598));
+    let host = Env::real(rt.alloc(), &rt)?;
+    match env::var(&rt, "PATH") {
+        Ok(path) => assert_eq!(rt; host.get("PATH"), Some(path.as_str())),
+        Err(_) => assert_eq!(rt; host.get("PATH"), None),
+    }
+    Ok(())
+}
+
 // Each call that can want memory gives its answer where there is enough.
 #[test]
 fn surface(rt: HostRuntime) -> Result<(), Fail> {
@@ -165,12 +318,16 @@ fn surface(rt: HostRuntime) -> Result<(), Fail> {
         ("Header", header_holds(alloc)?),
         ("Message", message_holds(alloc)?),
         ("Headers and HttpRequest", request_holds(alloc)?),
+        ("HttpResponse", response_holds(alloc)?),
+        ("ErrorMetadata", metadata_holds(alloc)?),
         ("Credentials", credentials_hold(alloc)?),
         ("Identity", identity_holds(alloc)?),
         ("Env", env_holds(alloc)?),
         ("Civil", civil_holds(alloc)?),
+        ("DateTime", moment_holds(alloc)),
         ("push_line", line_holds(alloc)?),
         ("CalmDisk", disk_holds(alloc)?),
+        ("FaultyDisk", faulty_disk_holds(alloc)?),
         ("CalmSink", sink_holds(alloc)?),
     ];
     for (call, holds) in cases {
@@ -220,6 +377,27 @@ fn request_holds(alloc: Global) -> Mem<bool> {
     )
 }
 
+fn response_holds(alloc: Global) -> Mem<bool> {
+    let mut headers = Headers::new(alloc);
+    headers.append("A", "1")?;
+    let response = HttpResponse {
+        status: 200,
+        headers,
+        skew: Some(-5),
+    };
+    let copy = response.try_clone()?;
+    Ok(copy.status == 200 && copy.headers.get("a") == Some("1") && copy.skew == Some(-5))
+}
+
+fn metadata_holds(alloc: Global) -> Mem<bool> {
+    let error = ErrorMetadata {
+        code: Some(String::from_str(alloc, "AuthFailure")?),
+        message: None,
+    };
+    let copy = error.try_clone()?;
+    Ok(matches!(&copy.code, Some(code) if code.as_str() == "AuthFailure") && copy.message.is_none())
+}
+
 fn some_credentials(alloc: Global) -> Mem<Credentials> {
     let key_id = String::from_str(alloc, "AKID")?;
     let secret = String::from_str(alloc, "SECRET")?;
@@ -262,13 +440,18 @@ fn civil_holds(alloc: Global) -> Mem<bool> {
     }
 }
 
+fn moment_holds(alloc: Global) -> bool {
+    let shown = DateTime::new(0, 0).fmt(alloc, Format::EpochSeconds);
+    matches!(&shown, Ok(shown) if shown.as_str() == "0")
+}
+
 fn line_holds(alloc: Global) -> Mem<bool> {
     let mut buffer = Vec::from_slice(alloc, b"a")?;
     push_line(&mut buffer, b"b")?;
     Ok(buffer.as_slice() == b"ab\n".as_slice())
 }
 
-fn disk_holds(alloc: Global) -> Mem<bool> {
+fn two_at_one_path(alloc: Global) -> Mem<Vec<(String, Vec<u8>)>> {
     let mut files = Vec::new(alloc);
     files.push((
         String::from_str(alloc, "/a")?,
@@ -278,11 +461,21 @@ fn disk_holds(alloc: Global) -> Mem<bool> {
         String::from_str(alloc, "/a")?,
         Vec::from_slice(alloc, b"2")?,
     ))?;
-    let mut disk = CalmDisk::new(files);
-    Ok(
-        matches!(disk.read("/a"), Ok(bytes) if bytes.as_slice() == b"2".as_slice())
-            && matches!(disk.read("/b"), Err(DiskError::NotFound)),
-    )
+    Ok(files)
+}
+
+fn holds(read: &Result<Vec<u8>, DiskError>, bytes: &[u8]) -> bool {
+    matches!(read, Ok(read) if read.as_slice() == bytes)
+}
+
+fn disk_holds(alloc: Global) -> Mem<bool> {
+    let mut disk = CalmDisk::new(two_at_one_path(alloc)?);
+    Ok(holds(&disk.read("/a"), b"2") && matches!(disk.read("/b"), Err(DiskError::NotFound)))
+}
+
+fn faulty_disk_holds(alloc: Global) -> Mem<bool> {
+    let mut disk = FaultyDisk::new(two_at_one_path(alloc)?, Vec::new(alloc));
+    Ok(holds(&disk.read("/a"), b"2"))
 }
 
 fn sink_holds(alloc: Global) -> Mem<bool> {

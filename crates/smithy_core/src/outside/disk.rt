@@ -1,7 +1,7 @@
 ghost use Rattle.std.specs.Prelude.{◌≡◌, ℕ, ◌≤◌, List, map, Option, Some, None, IfOk, IsErrOf, option_map, option_copied};
 ghost use Rattle.std.specs.Option.{option_or};
 ghost use Rattle.std.specs.String.{string_bytes};
-ghost use Rattle.smithy_core.specs.Outside.{HasFile, LacksFile, Rose};
+ghost use Rattle.smithy_core.specs.Outside.{FailsAsListed, HasFile, LacksFile, Rose};
 ghost use Rattle.smithy_core.specs.Pairs.{last_value, value_if};
 
 /// Why a file wasn't read.
@@ -59,13 +59,71 @@ impl Disk for CalmDisk {
     ghost faults = { λ _. 0 };
 
     fn read(&mut self, path: &str) -> Result<Vec<u8>, DiskError> {
-        match last_file(self.files.as_slice(), path) {
-            None => Err(DiskError::NotFound),
-            Some(bytes) => match bytes.clone() {
-                Ok(copy) => Ok(copy),
-                Err(_) => Err(DiskError::NoMemory),
-            },
+        copied_file(self.files.as_slice(), path)
+    }
+}
+
+/// Files in memory, with the calls of `read` that are to fail, counted from 1.
+#[derive(Debug, Drop)]
+pub struct FaultyDisk {
+    files: Vec<(String, Vec<u8>)>,
+    calls: u64,
+    fails: Vec<u64>,
+    faults: u64,
+}
+
+impl FaultyDisk {
+    /// These paths with their bytes, and no call was made. Of equal paths the last pair counts.
+    pub fn new(files: Vec<(String, Vec<u8>)>, fails: Vec<u64>) -> FaultyDisk
+        ensures files { ⟦<FaultyDisk as Disk>⟧.files result ≡ Some (map (λ file. (string_bytes file.0, file.1.items)) files.items) }
+        ensures faults { ⟦<FaultyDisk as Disk>⟧.faults result ≡ 0 }
+        ensures fails { result.fails ≡ fails }
+        ensures calls { result.calls ≡ 0 }
+    {
+        FaultyDisk {
+            files,
+            calls: 0,
+            fails,
+            faults: 0,
         }
+    }
+}
+
+impl Disk for FaultyDisk {
+    ghost files = { λ disk. Some (map (λ file. (string_bytes file.0, file.1.items)) disk.files.items) };
+
+    ghost faults = { λ disk. disk.faults };
+
+    fn read(&mut self, path: &str) -> Result<Vec<u8>, DiskError>
+        ensures count { self.old.faults ≤ self.new.faults }
+        ensures cause { IsErrOf result DiskError.Failed → Rose self.old.faults self.new.faults }
+        ensures steady { (IsErrOf result DiskError.Failed → ⊥) → self.new.faults ≡ self.old.faults }
+        ensures same { self.new.files ≡ self.old.files }
+        ensures bytes { IfOk result (λ bytes. HasFile (Some (map (λ file. (string_bytes file.0, file.1.items)) self.old.files.items)) path.now bytes.items) }
+        ensures lacks { IsErrOf result DiskError.NotFound → LacksFile (Some (map (λ file. (string_bytes file.0, file.1.items)) self.old.files.items)) path.now }
+        ensures listed { FailsAsListed (IsErrOf result DiskError.Failed) self.old.fails.items self.old.calls self.new.fails.items self.new.calls }
+    {
+        self.calls = self.calls.saturating_add(1);
+        if self.fails.contains(&self.calls) {
+            self.faults = self.faults.saturating_add(1);
+            return Err(DiskError::Failed);
+        }
+        copied_file(self.files.as_slice(), path)
+    }
+}
+
+// A copy of the last file at the path.
+fn copied_file(files: &[(String, Vec<u8>)], path: &str) -> Result<Vec<u8>, DiskError>
+    ensures never_fails { IsErrOf result DiskError.Failed → ⊥ }
+    ensures bytes { IfOk result (λ bytes. HasFile (Some (map (λ file. (string_bytes file.0, file.1.items)) files.now)) path.now bytes.items) }
+    ensures lacks { IsErrOf result DiskError.NotFound → LacksFile (Some (map (λ file. (string_bytes file.0, file.1.items)) files.now)) path.now }
+{
+    match last_file(files, path) {
+        None => Err(DiskError::NotFound),
+        Some(bytes) => match bytes.clone() {
+            Ok(copy) => Ok(copy),
+            Err(_) => Err(DiskError::NoMemory),
+        },
     }
 }
 

@@ -2,9 +2,13 @@ ghost use Rattle.std.specs.Prelude.{◌≡◌, None};
 
 use crate::moment::Moment;
 use crate::outside::clock::Clock;
+use crate::outside::disk::{Disk, DiskError};
+use crate::outside::read_all::{ReadFault, read_all};
 use crate::outside::sink::{ByteSink, SinkError};
 use crate::outside::source::{ByteSource, Failed};
-use std::io::{Read, Write};
+use std::alloc::Global;
+use std::fs::{File, Files};
+use std::io::{ErrorKind, Read, Write};
 use std::rt;
 use std::time::{SystemTime, UNIX_EPOCH};
 
@@ -73,6 +77,59 @@ impl<W: Write> ByteSink for StdSink<W> {
                 Err(SinkError::Failed)
             }
         }
+    }
+}
+
+/// The most bytes of a file that a [`HostDisk`] reads.
+const FILE_LIMIT: usize = 16_777_216;
+
+/// The files of the system, of which nothing is told. A file over 16,777,216 bytes counts as a fault.
+#[derive(Drop)]
+pub struct HostDisk<R> {
+    alloc: Global,
+    runtime: R,
+    faults: u64,
+}
+
+impl<R: Files> HostDisk<R> {
+    /// The disk of a runtime.
+    pub fn new(alloc: Global, runtime: R) -> HostDisk<R>
+        ensures files { ⟦<HostDisk<R> as Disk>⟧.files result ≡ None }
+        ensures faults { ⟦<HostDisk<R> as Disk>⟧.faults result ≡ 0 }
+    {
+        HostDisk {
+            alloc,
+            runtime,
+            faults: 0,
+        }
+    }
+}
+
+impl<R: Files> Disk for HostDisk<R> {
+    ghost files = { λ _. None };
+
+    ghost faults = { λ disk. disk.faults };
+
+    fn read(&mut self, path: &str) -> Result<Vec<u8>, DiskError> {
+        let result = read_file(self.alloc, &self.runtime, path);
+        if matches!(result, Err(DiskError::Failed)) {
+            self.faults = self.faults.saturating_add(1);
+        }
+        result
+    }
+}
+
+// The bytes of a file that isn't too long.
+fn read_file<R: Files>(alloc: Global, runtime: &R, path: &str) -> Result<Vec<u8>, DiskError> {
+    let file = match File::open(runtime, path) {
+        Ok(file) => file,
+        Err(e) if e.kind() == ErrorKind::NotFound => return Err(DiskError::NotFound),
+        Err(_) => return Err(DiskError::Failed),
+    };
+    match read_all(alloc, &mut StdSource::new(file), FILE_LIMIT) {
+        Ok(bytes) => Ok(bytes),
+        Err(ReadFault::NoMemory) => Err(DiskError::NoMemory),
+        Err(ReadFault::Failed | ReadFault::TooLarge) => Err(DiskError::Failed),
     }
 }
 

@@ -1,0 +1,49 @@
+use crate::env::Env;
+use crate::memory::Mem;
+use std::alloc::{AllocError, Global};
+use std::env::{Env as Variables, FillError};
+use std::str;
+
+impl Env {
+    /// The variables of the system, of which nothing is told. Those that aren't UTF-8 are left out, and of equal names
+    /// the first one counts, as it does for the system.
+    pub fn real<R: Variables>(alloc: Global, runtime: &R) -> Mem<Env> {
+        let mut env = Env::new(alloc);
+        for at in 0..usize::MAX {
+            match variable_at(alloc, runtime, at)? {
+                Some(bytes) => set_new(&mut env, bytes.as_slice())?,
+                None => break,
+            }
+        }
+        Ok(env)
+    }
+}
+
+// Sets a variable, given as `NAME=VALUE`, where it is text and its name is new.
+fn set_new(env: &mut Env, bytes: &[u8]) -> Mem<()> {
+    let Ok(text) = str::from_utf8(bytes) else {
+        return Ok(());
+    };
+    match text.split_once('=') {
+        Some((name, value)) if !name.is_empty() && env.get(name).is_none() => env.set(name, value),
+        _ => Ok(()),
+    }
+}
+
+// The variable at a place, as `NAME=VALUE`, and `None` after the last one.
+fn variable_at<R: Variables>(alloc: Global, runtime: &R, at: usize) -> Mem<Option<Vec<u8>>> {
+    let mut buffer = Vec::new(alloc);
+    let mut room = 256usize;
+    for _ in 0..usize::BITS {
+        buffer.resize(room, 0)?;
+        match runtime.var_at(at, buffer.as_mut_slice()) {
+            Ok(n) => {
+                buffer.truncate(n);
+                return Ok(Some(buffer));
+            }
+            Err(FillError::TooLong) => room = room.saturating_mul(2),
+            Err(FillError::NotPresent) => return Ok(None),
+        }
+    }
+    Err(AllocError)
+}
