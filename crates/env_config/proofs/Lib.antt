@@ -5,3 +5,6 @@ pub mod RawLemmas
 pub mod SignLemmas
 pub mod TextsLemmas
 pub mod TrimLemmas
+pub mod LoadLemmas
+pub mod ServiceLemmas
+pub mod CloneLemmas

@@ -8,3 +8,7 @@ pub mod Sections
 pub mod Words
 pub mod Headings
 pub mod Pieces
+pub mod Files
+pub mod Home
+pub mod Value
+pub mod Values

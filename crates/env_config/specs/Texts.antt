@@ -1,8 +1,8 @@
 -- Finite maps from texts, and values by their names.
-use Rattle.std.specs.Prelude.{ℕ, List, [], ◌∷◌, ◌++◌, Option, is_some, if◌then◌else◌}
+use Rattle.std.specs.Prelude.{◌≡◌, ◌&&◌, ℕ, Bool, List, [], ◌∷◌, ◌++◌, Option, is_some, if◌then◌else◌, bytes_eq}
 use Rattle.std.specs.declared.cmp.Ordering.{Ordering}
 use Rattle.std.specs.Ordering.{nat_cmp}
-use Rattle.std.specs.Cmp.Lexicographic.{slice_cmp}
+use Rattle.std.specs.Cmp.Lexicographic.{pointwise, slice_cmp}
 use Rattle.std.specs.BTreeMap.{insert_entry, is_at}
 use Rattle.std.specs.Map.{lookup}
 
@@ -32,3 +32,11 @@ put_named named name value = record {
   names = if is_some (value_at named.values name) then named.names else named.names ++ name ∷ [];
   values = put named.values name value;
 }
+
+-- a copy of the value, under the same name
+abbrev pub CopiedUnder : {X : Type 0} → (X → X → Type 0) → List ℕ × X → List ℕ × X → Type 0
+CopiedUnder IsCopy entry copy = (copy.0 ≡ entry.0) × IsCopy entry.1 copy.1
+
+-- equal values under equal names, by a test of values
+abbrev pub same_values : {X : Type 0} → (X → X → Bool) → List (List ℕ × X) → List (List ℕ × X) → Bool
+same_values same entries others = pointwise (λ e d. bytes_eq e.0 d.0 && same e.1 d.1) entries others

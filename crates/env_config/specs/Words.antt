@@ -19,6 +19,14 @@ use Rattle.env_config.specs.Raw.{raw}
 use Rattle.env_config.specs.Sections.{Fault, FileText, Key, Section, Sections, after_file, with_file}
 use Rattle.env_config.specs.Texts.{Named}
 
+-- key and value
+abbrev pub pair_of : Property → List ℕ × List ℕ
+pair_of property = (string_bytes property.key, string_bytes property.value)
+
+-- all that the properties hold, under their keys
+abbrev pub contents_of : List (String Global × Property) → List (List ℕ × (List ℕ × List ℕ))
+contents_of entries = map (λ e. (string_bytes e.0, pair_of e.1)) entries
+
 -- the value of each key
 abbrev pub values_of : List (String Global × Property) → List (List ℕ × List ℕ)
 values_of entries = map (λ e. (string_bytes e.0, string_bytes e.1.value)) entries
@@ -47,6 +55,11 @@ others_of properties = map (λ e. (key_of e.0, string_bytes e.1)) properties.ent
 abbrev pub sections_of : EnvConfigSections → Sections
 sections_of sections = record { profiles = named_as profile_of sections.profiles; sessions = named_as session_of sections.sessions; others = others_of sections.others }
 
+-- the parts of a builder
+abbrev pub parts_of : PropertiesKeyBuilder → Option (List ℕ) × (Option (List ℕ) × (Option (List ℕ) × Option (List ℕ)))
+parts_of builder =
+    (option_map string_bytes builder.section_key, (option_map string_bytes builder.section_name, (option_map string_bytes builder.property_name, option_map string_bytes builder.sub_property_name)))
+
 -- the name of the selected profile
 abbrev pub selected_of : EnvConfigSections → List ℕ
 selected_of sections = string_bytes sections.selected
@@ -56,6 +69,13 @@ file_of file = record { kind = file.kind; path = option_map string_bytes file.pa
 
 abbrev pub fault_of : EnvConfigParseError → Fault
 fault_of error = record { path = string_bytes error.path; line_number = error.line_number; message = string_bytes error.message }
+
+-- the same name with the same properties
+abbrev pub SameProfile : Profile → Profile → Type 0
+SameProfile profile copy = (string_bytes copy.name ≡ string_bytes profile.name) × (contents_of copy.properties.entries ≡ contents_of profile.properties.entries)
+
+abbrev pub SameSession : SsoSession → SsoSession → Type 0
+SameSession session copy = (string_bytes copy.name ≡ string_bytes session.name) × (contents_of copy.properties.entries ≡ contents_of session.properties.entries)
 
 -- ## Answers
 
@@ -79,6 +99,13 @@ abbrev pub TellsLine : FileText → ℕ → List ℕ → ParseFault → Type 0
 TellsLine file number message (Parse error) = fault_of error ≡ record { path = unwrap_or file.path []; line_number = number; message = message }
 TellsLine file number message NoMemory = Unit {0}
 
+-- the same fault, with the same texts
+abbrev pub IsSameFault : ParseFault → ParseFault → Type 0
+IsSameFault (Parse error) (Parse copy) = fault_of copy ≡ fault_of error
+IsSameFault NoMemory NoMemory = Unit {0}
+IsSameFault (Parse error) NoMemory = ⊥
+IsSameFault NoMemory (Parse copy) = ⊥
+
 -- the sections of the files under the profile's name, or the first faulty line
 abbrev pub Parses : Result Sections Fault → List ℕ → Result EnvConfigSections ParseFault → Type 0
 Parses read profile (Ok sections) = (read ≡ Ok (sections_of sections)) × (selected_of sections ≡ profile)
@@ -97,6 +124,15 @@ abbrev pub sub_text : Option (String Global) → List ℕ
 sub_text None = []
 sub_text (Some name) = codes "." ++ string_bytes name
 
+-- a key as it is printed
+abbrev pub key_text : PropertiesKey → List ℕ
+key_text key =
+    codes "[" ++ (string_bytes key.section_key ++ (codes " " ++ (string_bytes key.section_name ++ (codes "]." ++ (string_bytes key.property_name ++ sub_text key.sub_property_name)))))
+
 abbrev pub parse_error_text : EnvConfigParseError → List ℕ
 parse_error_text error =
     codes "error parsing " ++ (string_bytes error.path ++ (codes " on line " ++ (decimal error.line_number ++ ((58 ∷ 10 ∷ 32 ∷ 32 ∷ []) ++ string_bytes error.message))))
+
+abbrev pub parse_fault_text : ParseFault → List ℕ
+parse_fault_text (Parse error) = parse_error_text error
+parse_fault_text NoMemory = codes "no memory"

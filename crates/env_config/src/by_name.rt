@@ -1,6 +1,7 @@
 ghost use Rattle.std.specs.Prelude.{◌≡◌, ◌==◌, IfOk, OnOk, length, map, option_copied};
 ghost use Rattle.std.specs.String.{string_bytes};
-ghost use Rattle.env_config.specs.Texts.{nothing_named, put_named, value_at};
+ghost use Rattle.env_config.specs.Texts.{CopiedUnder, nothing_named, put_named, value_at};
+ghost use Rattle.std.specs.List.{AllZip};
 
 use smithy_core::Mem;
 use std::alloc::Global;
@@ -22,6 +23,43 @@ impl<V> Model for ByName<V> {
     ghost Value = { Named V };
 
     ghost view = { λ b. record { names = map string_bytes b.names.items; values = map (λ e. (string_bytes e.0, e.1)) b.values.entries } };
+}
+
+impl<V: Clone + Drop> ByName<V> {
+    /// The same names with copies of the values.
+    pub fn try_clone(&self) -> Mem<ByName<V>>
+        ensures names { IfOk result (λ copy. copy.names ≡ self.now.names) }
+        ensures values { IfOk result (λ copy. AllZip (CopiedUnder V.is_clone) self.now.values copy.values) }
+    {
+        Ok(ByName {
+            names: self.names.clone()?,
+            values: self.values.clone()?,
+        })
+    }
+}
+
+// Names with equal values are equal, in whatever order they came.
+impl<V: PartialEq> PartialEq for ByName<V> {
+    ghost use Rattle.std.specs.Prelude.{◌&&◌, bytes_eq};
+    ghost use Rattle.std.proofs.Common.{rules};
+    ghost use Rattle.std.specs.Cmp.{and_per, on_per, partial_equiv_from_equiv};
+    ghost use Rattle.std.specs.Cmp.Lexicographic.{lists_per, nat_list_eq_equiv};
+    ghost use Rattle.env_config.specs.Texts.{same_values};
+
+    ghost eq = { λ a b. same_values V.eq a.values b.values };
+
+    ghost laws = { on_per (λ named. named.values) (lists_per (and_per (on_per (λ e. e.0) (partial_equiv_from_equiv nat_list_eq_equiv)) (on_per (λ e. e.1) V.laws))) };
+
+    fn eq(&self, other: &ByName<V>) -> bool {
+        self.values == other.values
+    }
+}
+
+impl<V: Eq> Eq for ByName<V> {
+    ghost use Rattle.std.specs.Cmp.{and_equiv, on_equiv};
+    ghost use Rattle.std.specs.Cmp.Lexicographic.{lists_equiv, nat_list_eq_equiv};
+
+    ghost laws = { on_equiv (λ named. named.values) (lists_equiv (and_equiv (on_equiv (λ e. e.0) nat_list_eq_equiv) (on_equiv (λ e. e.1) V.Eq.laws))) };
 }
 
 impl<V: Drop> ByName<V> {

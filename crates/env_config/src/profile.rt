@@ -1,10 +1,11 @@
-ghost use Rattle.std.specs.Prelude.{◌≡◌, bytes_eq, option_copied};
+ghost use Rattle.std.specs.Prelude.{◌≡◌, IfOk, bytes_eq, option_copied};
 ghost use Rattle.std.specs.String.{string_bytes};
 ghost use Rattle.smithy_core.specs.Pairs.{lower};
 ghost use Rattle.env_config.specs.Texts.{value_at};
-ghost use Rattle.env_config.specs.Words.{profile_of, session_of, values_of};
+ghost use Rattle.env_config.specs.Words.{SameProfile, SameSession, contents_of, profile_of, session_of, values_of};
 
 use crate::property::Property;
+use smithy_core::Mem;
 use std::collections::BTreeMap;
 
 /// A profile.
@@ -37,11 +38,31 @@ impl Profile {
         value_of(&self.properties, name)
     }
 
+    /// An equal profile.
+    pub fn try_clone(&self) -> Mem<Profile>
+        ensures { IfOk result (SameProfile self.now) }
+    {
+        Ok(Profile {
+            name: self.name.clone()?,
+            properties: copied_properties(&self.properties)?,
+        })
+    }
+
     // The properties by their keys.
     pub(crate) fn into_properties(self) -> BTreeMap<String, Property>
         ensures { result ≡ self.properties }
     {
         self.properties
+    }
+}
+
+impl Clone for Profile {
+    ghost use Rattle.env_config.specs.Words.{SameProfile};
+
+    ghost is_clone = { SameProfile };
+
+    fn clone(&self) -> Mem<Profile> {
+        self.try_clone()
     }
 }
 
@@ -68,12 +89,40 @@ impl SsoSession {
         value_of(&self.properties, name)
     }
 
+    /// An equal session.
+    pub fn try_clone(&self) -> Mem<SsoSession>
+        ensures { IfOk result (SameSession self.now) }
+    {
+        Ok(SsoSession {
+            name: self.name.clone()?,
+            properties: copied_properties(&self.properties)?,
+        })
+    }
+
     // The properties by their keys.
     pub(crate) fn into_properties(self) -> BTreeMap<String, Property>
         ensures { result ≡ self.properties }
     {
         self.properties
     }
+}
+
+impl Clone for SsoSession {
+    ghost use Rattle.env_config.specs.Words.{SameSession};
+
+    ghost is_clone = { SameSession };
+
+    fn clone(&self) -> Mem<SsoSession> {
+        self.try_clone()
+    }
+}
+
+// Equal properties under equal keys.
+fn copied_properties(properties: &BTreeMap<String, Property>) -> Mem<BTreeMap<String, Property>>
+    ensures { IfOk result (λ copy. contents_of copy.entries ≡ contents_of properties.now.entries) }
+{
+    let copy = properties.clone()?;
+    Ok(copy)
 }
 
 // The value at the name in ASCII lower case.

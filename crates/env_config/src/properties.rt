@@ -1,4 +1,4 @@
-ghost use Rattle.std.specs.Prelude.{◌≡◌, [], OnOk, option_copied};
+ghost use Rattle.std.specs.Prelude.{◌≡◌, [], IfOk, OnOk, option_copied};
 ghost use Rattle.std.specs.String.{string_bytes};
 ghost use Rattle.env_config.specs.Sections.{put_at_key, value_at_key};
 ghost use Rattle.env_config.specs.Words.{key_of, others_of};
@@ -30,6 +30,15 @@ impl Properties {
     {
         self.entries.insert(key, value)?;
         Ok(())
+    }
+
+    /// Equal properties.
+    pub fn try_clone(&self) -> Mem<Properties>
+        ensures { IfOk result (λ copy. others_of copy ≡ others_of self.now) }
+    {
+        Ok(Properties {
+            entries: self.entries.clone()?,
+        })
     }
 
     /// The value at the key.

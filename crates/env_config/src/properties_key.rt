@@ -1,6 +1,8 @@
-ghost use Rattle.std.specs.Prelude.{◌≡◌, Some, None};
-ghost use Rattle.env_config.specs.Words.{Builds};
+ghost use Rattle.std.specs.Prelude.{◌≡◌, IfOk};
+ghost use Rattle.env_config.specs.Words.{Builds, key_of, parts_of};
 
+use crate::text::copied;
+use smithy_core::Mem;
 use std::fmt;
 
 /// Where a property of a section that is neither profile nor session stands.
@@ -38,6 +40,45 @@ impl PropertiesKey {
             section_name: None,
             property_name: None,
             sub_property_name: None,
+        }
+    }
+
+    /// An equal key.
+    pub fn try_clone(&self) -> Mem<PropertiesKey>
+        ensures { IfOk result (λ copy. key_of copy ≡ key_of self.now) }
+    {
+        Ok(PropertiesKey {
+            section_key: self.section_key.clone()?,
+            section_name: self.section_name.clone()?,
+            property_name: self.property_name.clone()?,
+            sub_property_name: copied(&self.sub_property_name)?,
+        })
+    }
+}
+
+impl Clone for PropertiesKey {
+    ghost use Rattle.std.specs.Prelude.{◌≡◌};
+    ghost use Rattle.env_config.specs.Words.{key_of};
+
+    ghost is_clone = { λ key copy. key_of copy ≡ key_of key };
+
+    fn clone(&self) -> Mem<PropertiesKey> {
+        self.try_clone()
+    }
+}
+
+impl fmt::Display for PropertiesKey {
+    ghost use Rattle.std.specs.Prelude.{Some};
+    ghost use Rattle.env_config.specs.Words.{key_text};
+
+    ghost output = { λ key. Some (key_text key) };
+
+    fn fmt<W: fmt::Write>(&self, f: &mut fmt::Formatter<W>) -> fmt::Result {
+        let (prefix, name) = (self.section_key.as_str(), self.section_name.as_str());
+        let property = self.property_name.as_str();
+        match &self.sub_property_name {
+            Some(sub) => write!(f, "[{prefix} {name}].{property}.{sub}"),
+            None => write!(f, "[{prefix} {name}].{property}"),
         }
     }
 }
@@ -82,6 +123,18 @@ impl PropertiesKeyBuilder {
     {
         self.sub_property_name = Some(sub_property_name);
         self
+    }
+
+    /// An equal builder.
+    pub fn try_clone(&self) -> Mem<PropertiesKeyBuilder>
+        ensures { IfOk result (λ copy. parts_of copy ≡ parts_of self.now) }
+    {
+        Ok(PropertiesKeyBuilder {
+            section_key: copied(&self.section_key)?,
+            section_name: copied(&self.section_name)?,
+            property_name: copied(&self.property_name)?,
+            sub_property_name: copied(&self.sub_property_name)?,
+        })
     }
 
     /// The key.

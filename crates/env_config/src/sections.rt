@@ -1,11 +1,11 @@
 ghost use Rattle.std.specs.Prelude.{◌≡◌, ◌==◌, [], IfOk, OnOk, codes, length, map, option_copied, option_map, unwrap_or};
-ghost use Rattle.std.specs.Option.{option_and_then};
 ghost use Rattle.std.specs.String.{string_bytes};
-ghost use Rattle.smithy_core.specs.Pairs.{lower};
 ghost use Rattle.env_config.specs.Headings.{heading_seen};
 ghost use Rattle.env_config.specs.Sections.{heading_of, no_sections, sections, with_file, with_raw, with_section};
 ghost use Rattle.env_config.specs.Raw.{properties_of};
 ghost use Rattle.env_config.specs.Texts.{value_at};
+ghost use Rattle.env_config.specs.Value.{selected_value};
+ghost use Rattle.env_config.specs.Values.{chosen_of};
 ghost use Rattle.env_config.specs.Words.{MergesText, Parses, TellsLine, fault_of, file_of, others_of, profile_of, sections_of, selected_of, session_of};
 
 use crate::by_name::ByName;
@@ -22,7 +22,9 @@ use smithy_core::Mem;
 use std::alloc::Global;
 
 /// Profiles, sessions and other sections, and the name of the selected profile.
-#[derive(Debug, Drop)]
+///
+/// Sections are equal where they select the same profile and hold equal ones, in whatever order the names came.
+#[derive(Debug, PartialEq, Eq, Drop)]
 pub struct EnvConfigSections {
     selected: String,
     profiles: ByName<Profile>,
@@ -71,7 +73,7 @@ impl EnvConfigSections {
 
     /// The value of a key of the selected profile, in whatever case the key is given.
     pub fn get(&self, key: &str) -> Option<&str>
-        ensures { option_copied result ≡ option_and_then (λ profile. value_at profile.properties (lower key.now)) (value_at (sections_of self.now).profiles.values (selected_of self.now)) }
+        ensures { option_copied result ≡ selected_value (chosen_of self.now) key.now }
     {
         match self.get_profile(self.selected.as_str()) {
             Some(profile) => profile.get(key),
@@ -126,6 +128,19 @@ impl EnvConfigSections {
         ensures { others_of result.now ≡ (sections_of self.now).others }
     {
         &self.others
+    }
+
+    /// Equal sections.
+    pub fn try_clone(&self) -> Mem<EnvConfigSections>
+        ensures sections { IfOk result (λ copy. sections_of copy ≡ sections_of self.now) }
+        ensures selected { IfOk result (λ copy. selected_of copy ≡ selected_of self.now) }
+    {
+        Ok(EnvConfigSections {
+            selected: self.selected.clone()?,
+            profiles: self.profiles.try_clone()?,
+            sessions: self.sessions.try_clone()?,
+            others: self.others.try_clone()?,
+        })
     }
 
     // Merges the text of a file.
