@@ -8,3 +8,5 @@ pub mod TrimLemmas
 pub mod LoadLemmas
 pub mod ServiceLemmas
 pub mod CloneLemmas
+pub mod LaterLemmas
+pub mod LowerLemmas

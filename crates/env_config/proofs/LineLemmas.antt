@@ -1,9 +1,9 @@
 -- Lines, and what stands around one byte, as `split_once`, `strip_prefix` and `strip_suffix` cut them.
-use Rattle.std.proofs.Common.{◌≡◌, ◌≢◌, ℕ, zero, suc, ◌+◌, ◌<◌, Bool, true, false, cond, eqb, ◌&&◌, List, [], ◌∷◌, ◌++◌, length, take, get_or, ◌-◌, slice_range, refl, sym, ap, ◌∙◌, arith}
+use Rattle.std.proofs.Common.{◌≡◌, ◌≢◌, ℕ, suc, ◌<◌, Bool, true, false, cond, eqb, ◌&&◌, List, [], ◌∷◌, ◌++◌, length, take, get_or, ◌-◌, slice_range, refl, sym, ap, ◌∙◌, arith}
 use Rattle.std.specs.Prelude.{Option, Some, None, MatchOption, option_map, option_copied, unwrap_or}
 use Rattle.std.specs.Borrow.{Bor}
 use Rattle.std.proofs.lemmas.Bool.{eqb-true, eq-eqb, ne_eqb, false_from_ne_true}
-use Rattle.env_config.specs.Line.{after_byte, before_last, begins_with_lf, onto_first, lines_of, without_cr}
+use Rattle.env_config.specs.Line.{after_byte, before_last, onto_first, lines_of, without_cr}
 
 -- ## One byte
 

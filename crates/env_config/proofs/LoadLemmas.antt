@@ -1,6 +1,6 @@
 -- The texts of files, read one after the other, and paths with the home directory in them.
-use Rattle.std.proofs.Common.{◌≡◌, ◌≢◌, ◌≤◌, ℕ, Bool, true, false, cond, List, [], ◌∷◌, ◌++◌, refl, sym, ap, subst, append_assoc, append-nil, arith, inr}
-use Rattle.std.specs.Prelude.{IsUtf8, Option, Some, None}
+use Rattle.std.proofs.Common.{◌≡◌, ℕ, Bool, cond, List, [], ◌∷◌, ◌++◌, refl, sym, ap, subst, append_assoc, append-nil, arith, inr}
+use Rattle.std.specs.Prelude.{IsUtf8, Option}
 use Rattle.smithy_core.proofs.TextLemmas.{is_text, no_text}
 use Rattle.env_config.specs.Files.{Loaded, Place, Reads, StopsAt, text_of}
 use Rattle.env_config.specs.Sections.{FileText}

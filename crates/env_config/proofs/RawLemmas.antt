@@ -1,5 +1,5 @@
 -- Steps of the section that is open are steps of the whole state.
-use Rattle.std.proofs.Common.{◌≡◌, ℕ, Bool, true, false, cond, ◌+◌, List, [], ◌∷◌, length, refl, sym, ap, subst, ◌∙◌, arith}
+use Rattle.std.proofs.Common.{◌≡◌, ℕ, Bool, true, false, cond, ◌+◌, List, [], ◌∷◌, length, refl, sym, ap, subst, ◌∙◌}
 use Rattle.std.specs.Prelude.{Option, Some, None, option_map, unwrap_or, Result, Ok, Err}
 use Rattle.env_config.specs.declared.fault.LineFault.{LineFault}
 use Rattle.env_config.specs.declared.fault.LineFault.TheVariants as line
@@ -10,7 +10,7 @@ use Rattle.env_config.specs.declared.line.PropertyFault.TheVariants.{NoEquals, N
 use Rattle.env_config.specs.Drafting.{Gives, ReadsRaw, Section, open_of, section_of, state_of, taken, with_open}
 use Rattle.env_config.specs.Faults.{numbered}
 use Rattle.env_config.specs.Line.{lines_of, property_of}
-use Rattle.env_config.specs.Raw.{Last, Open, State, after_line, continued, grown, last_step, line_step, opened, properties_of, raw_from, sub_checked, with_last, within_section}
+use Rattle.env_config.specs.Raw.{Last, Open, State, after_line, continued, grown, last_step, line_step, opened, properties_of, raw_from, sub_checked, within_section}
 use Rattle.env_config.specs.Texts.{Named, put, put_named, value_at}
 use Rattle.env_config.proofs.LineLemmas.{lines_over}
 use Rattle.env_config.proofs.TextsLemmas.{named_twice, put_twice, value_put}

@@ -1,5 +1,5 @@
 -- What the code's draft of the sections stands for, and what its steps answer.
-use Rattle.std.specs.Prelude.{◌≡◌, ℕ, Bool, List, map, Option, Some, None, String, string_bytes, option_map, Result, Ok, Err}
+use Rattle.std.specs.Prelude.{◌≡◌, ℕ, List, map, Option, Some, None, String, string_bytes, option_map, Result, Ok, Err}
 use Rattle.std.specs.declared.alloc.Global.{Global}
 use Rattle.env_config.specs.declared.fault.LineFault.{LineFault}
 use Rattle.env_config.specs.declared.fault.LineFault.TheVariants as line

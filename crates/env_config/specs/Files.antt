@@ -1,7 +1,6 @@
 -- Which files are loaded, and what the texts of files are.
-use Rattle.std.specs.Prelude.{◌≡◌, ◌≤◌, ◌<◌, ◌⊎◌, ◌==◌, ◌||◌, ℕ, Bool, List, [], ◌∷◌, ◌++◌, codes, map, Option, Some, None, unwrap_or, bytes_eq, if◌then◌else◌, String, string_bytes, Result, Ok, Err, length, slice_index}
+use Rattle.std.specs.Prelude.{◌≡◌, ◌≤◌, ◌<◌, ◌⊎◌, ◌==◌, ◌||◌, ℕ, Bool, List, [], ◌∷◌, ◌++◌, codes, map, Option, Some, None, unwrap_or, if◌then◌else◌, string_bytes, Result, Ok, Err, length, slice_index}
 use Rattle.std.specs.Str.{is_utf8}
-use Rattle.std.specs.declared.alloc.Global.{Global}
 use Rattle.smithy_core.specs.Outside.{HasFile, LacksFile, Rose}
 use Rattle.smithy_core.specs.Pairs.{last_value}
 use Rattle.env_config.specs.Home.{home}

@@ -12,3 +12,4 @@ pub mod Files
 pub mod Home
 pub mod Value
 pub mod Values
+pub mod Laws

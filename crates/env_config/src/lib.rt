@@ -8,6 +8,7 @@ mod fault;
 mod files;
 mod heading;
 mod home;
+mod laws;
 mod line;
 mod load_fault;
 mod loading;
@@ -22,6 +23,8 @@ mod sections;
 mod service_config;
 mod service_id;
 mod source;
+#[cfg(test)]
+mod tests;
 mod text;
 mod texts;
 mod value;
@@ -30,6 +33,7 @@ mod value_source;
 
 pub use crate::files::{BuildFault, Builder, EnvConfigFiles};
 pub use crate::home::{Os, home_dir};
+pub use crate::laws::{found_in_any_case, later_file_wins};
 pub use crate::load_fault::{CouldNotReadConfigFile, EnvConfigFileLoadError};
 pub use crate::loading::load;
 pub use crate::parse_fault::{EnvConfigParseError, ParseFault};

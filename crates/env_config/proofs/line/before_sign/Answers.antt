@@ -1,4 +1,4 @@
-use Rattle.std.proofs.Common.{◌≡◌, ◌∙◌, ◌∷◌, []}
+use Rattle.std.proofs.Common.{◌∙◌, ◌∷◌, []}
 use Rattle.env_config.proofs.LineLemmas.{front_range}
 use Rattle.env_config.proofs.SignLemmas.{comment_small, sign_absent, sign_found}
 use Rattle.env_config.proofs.line.before_sign.Goals as goal

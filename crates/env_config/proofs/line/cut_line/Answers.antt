@@ -1,4 +1,4 @@
-use Rattle.std.proofs.Common.{◌≡◌, ◌∙◌, ◌++◌, ◌∷◌, ap, sym, lit<, Some, None, List, ℕ}
+use Rattle.std.proofs.Common.{◌∙◌, ◌∷◌, ap, sym, lit<, Some, None, List, ℕ}
 use Rattle.std.proofs.lemmas.Str.Pattern.{split_parts}
 use Rattle.env_config.specs.Line.{lines_of}
 use Rattle.env_config.proofs.LineLemmas.{lines_first, lines_last}

@@ -1,4 +1,4 @@
-use Rattle.std.proofs.Common.{◌≡◌, ◌∙◌, ap, sym, lit<, List, ℕ, Some, None, option_copied}
+use Rattle.std.proofs.Common.{◌≡◌, ◌∙◌, ap, lit<, List, ℕ, Some, None, option_copied}
 use Rattle.std.specs.List.{before_first}
 use Rattle.std.proofs.lemmas.Str.Pattern.{strip_prefix_char, strip_suffix_char}
 use Rattle.env_config.specs.Line.{after_byte, before_bracket, is_comment_sign, section_name, trimmed}

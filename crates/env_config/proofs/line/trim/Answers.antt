@@ -1,4 +1,4 @@
-use Rattle.std.proofs.Common.{◌≡◌, ◌∙◌, ap}
+use Rattle.std.proofs.Common.{◌∙◌, ap}
 use Rattle.env_config.specs.Line.{trimmed, trimmed_back}
 use Rattle.env_config.proofs.TrimLemmas.{front_trimmed, back_trimmed}
 use Rattle.env_config.proofs.line.trim.Goals as goal

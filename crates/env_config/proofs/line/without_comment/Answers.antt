@@ -1,4 +1,4 @@
-use Rattle.std.proofs.Common.{◌≡◌, ◌∙◌, ap, sym, subst, Bool, take, rules, List, ℕ}
+use Rattle.std.proofs.Common.{◌∙◌, ap, sym, subst, Bool, take, rules}
 use Rattle.std.specs.Str.Iter.{char_indices_offset, char_indices_rest}
 use Rattle.env_config.proofs.CommentLemmas.{Walks, walk_begins, walk_more, walk_stops, walk_ends}
 use Rattle.env_config.proofs.LineLemmas.{front_range}

@@ -1,4 +1,4 @@
-use Rattle.std.proofs.Common.{◌≡◌, ◌∙◌, ap, lit<, List, ℕ}
+use Rattle.std.proofs.Common.{◌∙◌, ap, lit<, List, ℕ}
 use Rattle.std.specs.Prelude.{Option, unwrap_or}
 use Rattle.std.specs.Borrow.{Bor}
 use Rattle.std.proofs.lemmas.Str.Pattern.{strip_suffix_char}

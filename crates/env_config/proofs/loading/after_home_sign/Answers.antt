@@ -1,4 +1,4 @@
-use Rattle.std.proofs.Common.{◌≡◌, ◌∙◌, ap, sym, lit<, List, ℕ, Bool, Some, None, cond, Option, option_copied}
+use Rattle.std.proofs.Common.{◌∙◌, ap, sym, lit<, Bool, Some, None, cond, option_copied}
 use Rattle.std.proofs.lemmas.Str.Pattern.{strip_prefix_char}
 use Rattle.env_config.specs.Files.{below_home}
 use Rattle.env_config.proofs.LineLemmas.{after_is}

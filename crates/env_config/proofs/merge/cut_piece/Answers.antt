@@ -1,4 +1,4 @@
-use Rattle.std.proofs.Common.{◌≡◌, ◌∙◌, ◌∷◌, ap₂, sym, lit<, Some, None, List, ℕ, eqb}
+use Rattle.std.proofs.Common.{◌∙◌, ◌∷◌, ap₂, sym, lit<, Some, None, List, ℕ, eqb}
 use Rattle.std.specs.List.{slice_split}
 use Rattle.std.proofs.lemmas.List.Splits.{slice_split_first}
 use Rattle.std.proofs.lemmas.Str.Pattern.{split_once_first, split_parts}

@@ -1,4 +1,4 @@
-use Rattle.std.proofs.Common.{◌≡◌, ◌∙◌, ap, ap₂, List, ℕ, String, string_bytes, Global, BTreeMap}
+use Rattle.std.proofs.Common.{◌∙◌, ap, ap₂, List, ℕ, String, string_bytes, Global, BTreeMap}
 use Rattle.env_config.specs.declared.property.Property.{Property}
 use Rattle.env_config.specs.Sections.{Section, put_identifiers}
 use Rattle.env_config.specs.Words.{session_of, values_of}

@@ -1,4 +1,4 @@
-use Rattle.std.proofs.Common.{◌≡◌, ◌∙◌, ap, sym, Bool, cond, string_bytes}
+use Rattle.std.proofs.Common.{◌∙◌, ap, sym, Bool, cond, string_bytes}
 use Rattle.env_config.specs.Texts.{put}
 use Rattle.env_config.specs.Words.{values_of}
 use Rattle.env_config.proofs.MergeLemmas.{property_put}

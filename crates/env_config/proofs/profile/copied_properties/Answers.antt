@@ -1,4 +1,4 @@
-use Rattle.std.proofs.Common.{◌≡◌, ap₂, List, ℕ, String, Global, string_bytes}
+use Rattle.std.proofs.Common.{ap₂, List, ℕ, String, Global, string_bytes}
 use Rattle.env_config.specs.Words.{pair_of}
 use Rattle.env_config.specs.declared.property.Property.{Property}
 use Rattle.env_config.proofs.CloneLemmas.{map_alike}

@@ -1,5 +1,5 @@
-use Rattle.std.proofs.Common.{◌≡◌, ◌∙◌, ap, sym, Result, Ok, List, ℕ, length, eqb-true}
-use Rattle.env_config.specs.Drafting.{ReadsRaw, state_of}
+use Rattle.std.proofs.Common.{◌≡◌, ◌∙◌, ap, sym, Ok, List, ℕ, length, eqb-true}
+use Rattle.env_config.specs.Drafting.{state_of}
 use Rattle.env_config.specs.Line.{lines_of}
 use Rattle.env_config.specs.Raw.{raw, raw_from}
 use Rattle.env_config.specs.Texts.{Named}

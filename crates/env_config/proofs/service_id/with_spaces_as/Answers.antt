@@ -1,4 +1,4 @@
-use Rattle.std.proofs.Common.{◌≡◌, ◌∙◌, ◌++◌, ap, sym, lit<, Some, None, List, ℕ, string_bytes, rules}
+use Rattle.std.proofs.Common.{◌∙◌, ◌++◌, ap, sym, lit<, Some, None, List, ℕ, string_bytes, rules}
 use Rattle.std.proofs.lemmas.Str.Pattern.{split_parts}
 use Rattle.env_config.proofs.ServiceLemmas.{spaces_more, spaces_none}
 use Rattle.env_config.proofs.service_id.with_spaces_as.Goals as goal

@@ -1,4 +1,4 @@
-use Rattle.std.proofs.Common.{◌≡◌, ◌∙◌, ap}
+use Rattle.std.proofs.Common.{◌∙◌, ap}
 use Rattle.env_config.specs.Texts.{Named, value_at}
 use Rattle.env_config.proofs.TextsLemmas.{text_found}
 use Rattle.env_config.proofs.by_name.ByName.get.Goals as goal

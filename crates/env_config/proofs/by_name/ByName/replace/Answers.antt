@@ -1,4 +1,4 @@
-use Rattle.std.proofs.Common.{◌≡◌, ◌∙◌, ap, sym, map, List, ℕ, String, string_bytes, Global}
+use Rattle.std.proofs.Common.{◌∙◌, ap, sym, List, String, Global}
 use Rattle.env_config.specs.Texts.{Named, put_named, value_at}
 use Rattle.env_config.proofs.TextsLemmas.{named_known, named_new, named_of, value_before}
 use Rattle.env_config.proofs.by_name.ByName.replace.Goals as goal

@@ -1,4 +1,4 @@
-use Rattle.std.proofs.Common.{◌≡◌, ◌∙◌, ap, subst, List, map, ℕ, String, Global, string_bytes}
+use Rattle.std.proofs.Common.{◌∙◌, ap, subst, List, map, ℕ, String, Global, string_bytes}
 use Rattle.std.specs.List.{AllZip}
 use Rattle.env_config.specs.Texts.{CopiedUnder, Named}
 use Rattle.env_config.proofs.CloneLemmas.{map_alike, zip_seen}

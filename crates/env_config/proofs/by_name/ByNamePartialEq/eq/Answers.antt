@@ -1,4 +1,4 @@
-use Rattle.std.proofs.Common.{◌≡◌, ◌∙◌, ap₂}
+use Rattle.std.proofs.Common.{◌∙◌, ap₂}
 use Rattle.env_config.specs.Texts.{Named, same_values}
 use Rattle.env_config.proofs.CloneLemmas.{same_seen}
 use Rattle.env_config.proofs.by_name.ByNamePartialEq.eq.Goals as goal

@@ -1,4 +1,4 @@
-use Rattle.std.proofs.Common.{◌≡◌, ◌∙◌, ap, sym, Some, List, ℕ, string_bytes, rules}
+use Rattle.std.proofs.Common.{◌≡◌, ◌∙◌, ap, Some, List, ℕ, string_bytes, rules}
 use Rattle.std.specs.Prelude.{option_map}
 use Rattle.env_config.proofs.MergeLemmas.{key_found}
 use Rattle.env_config.proofs.properties.Properties.get.Goals as goal

@@ -1,4 +1,4 @@
-use Rattle.std.proofs.Common.{◌≡◌, ap₂, List, ℕ, String, Global, string_bytes}
+use Rattle.std.proofs.Common.{ap₂, List, ℕ, String, Global, string_bytes}
 use Rattle.env_config.specs.Sections.{Key}
 use Rattle.env_config.specs.Words.{key_of}
 use Rattle.env_config.specs.declared.properties_key.PropertiesKey.{PropertiesKey}

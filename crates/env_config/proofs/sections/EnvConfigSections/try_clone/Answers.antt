@@ -1,4 +1,4 @@
-use Rattle.std.proofs.Common.{◌≡◌, ◌∙◌, ap, List, ℕ}
+use Rattle.std.proofs.Common.{◌∙◌, ap, List, ℕ}
 use Rattle.env_config.specs.Sections.{Key, Section, Sections}
 use Rattle.env_config.specs.Texts.{Named}
 use Rattle.env_config.specs.Words.{SameProfile, SameSession, named_as, others_of, profile_of, session_of}

@@ -1,4 +1,4 @@
-use Rattle.std.proofs.Common.{◌≡◌, ◌∙◌, ap, map, List, ℕ, String, string_bytes, string_cmp, refl, Global}
+use Rattle.std.proofs.Common.{◌∙◌, ap, map, List, ℕ, String, string_bytes, string_cmp, refl, Global}
 use Rattle.env_config.specs.Texts.{put, text_cmp}
 use Rattle.env_config.proofs.TextsLemmas.{entries_put}
 use Rattle.env_config.proofs.texts.Texts.put.Goals as goal
