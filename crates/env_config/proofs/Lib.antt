@@ -1,0 +1,12 @@
+pub mod CommentLemmas
+pub mod LineLemmas
+pub mod MergeLemmas
+pub mod RawLemmas
+pub mod SignLemmas
+pub mod TextsLemmas
+pub mod TrimLemmas
+pub mod LoadLemmas
+pub mod ServiceLemmas
+pub mod CloneLemmas
+pub mod LaterLemmas
+pub mod LowerLemmas

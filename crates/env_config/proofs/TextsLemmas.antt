@@ -1,0 +1,139 @@
+-- A map of strings as a map of texts, and what it has after a value was put.
+use Rattle.std.proofs.Common.{◌≡◌, ℕ, Bool, true, false, cond, List, [], ◌∷◌, ◌++◌, map, String, string_bytes, string_cmp, Global, bytes_eq, refl, sym, ap, ap₂, ◌∙◌, Ordering, Less, Equal, Greater, is_eq}
+use Rattle.std.specs.Prelude.{Option, Some, None, option_map, is_some}
+use Rattle.std.specs.Ordering.{match_ordering}
+use Rattle.std.specs.BTreeMap.{insert_entry, is_at}
+use Rattle.std.specs.Cmp.{tied_itself}
+use Rattle.std.specs.Cmp.Lexicographic.{nat_list_cmp_total, nat_list_eq_equiv}
+use Rattle.std.specs.Map.{lookup}
+use Rattle.std.proofs.lemmas.List.{map-append}
+use Rattle.std.proofs.lemmas.Map.Text.{is_eq-slice_cmp}
+use Rattle.env_config.specs.declared.property.Property.{Property}
+use Rattle.env_config.specs.Texts.{Named, put, put_named, text_cmp, value_at}
+use Rattle.env_config.specs.Words.{named_as, values_of}
+
+module _ {K J X Y : Type 0} (test : K → K → Ordering) (R : J → J → Ordering) (g : K → J) (f : X → Y) (same : (a b : K) → test a b ≡ R (g a) (g b)) where
+  -- an entry as g and f see it
+  abbrev pub seen : K × X → J × Y
+  seen e = (g e.0, f e.1)
+
+  pub entries_put : (es : List (K × X)) (key : K) (value : X) → map seen (insert_entry test es key value) ≡ insert_entry R (map seen es) (g key) (f value)
+  entries_put [] key value = refl
+  entries_put (e ∷ es) key value =
+      ap (λ (o : Ordering). map seen (match_ordering o ((key, value) ∷ e ∷ es) ((e.0, value) ∷ es) (e ∷ insert_entry test es key value))) (same key e.0)
+      ∙ elim (R (g key) (g e.0)) as (λ (o : Ordering).
+      map seen (match_ordering o ((key, value) ∷ e ∷ es) ((e.0, value) ∷ es) (e ∷ insert_entry test es key value))
+      ≡ match_ordering o ((g key, f value) ∷ seen e ∷ map seen es) ((g e.0, f value) ∷ map seen es) (seen e ∷ insert_entry R (map seen es) (g key) (f value))) [
+        | Less ↦ refl
+        | Equal ↦ refl
+        | Greater ↦ ap (λ xs. seen e ∷ xs) (entries_put es key value)
+      ]
+
+module _ {K J X Y : Type 0} (query : K → Ordering) (R : J → J → Ordering) (g : K → J) (f : X → Y) (key : J) (same : (k : K) → query k ≡ R key (g k)) where
+  pub entries_at : (es : List (K × X)) → option_map f (lookup (is_at query) es) ≡ lookup (is_at (R key)) (map (λ e. (g e.0, f e.1)) es)
+  entries_at [] = refl
+  entries_at (e ∷ es) =
+      ap (λ (o : Ordering). option_map f (cond (is_eq o) (Some e.1) (lookup (is_at query) es))) (same e.0)
+      ∙ elim (is_eq (R key (g e.0))) as (λ (b : Bool).
+      option_map f (cond b (Some e.1) (lookup (is_at query) es)) ≡ cond b (Some (f e.1)) (lookup (is_at (R key)) (map (λ e. (g e.0, f e.1)) es))) [
+        | true ↦ refl
+        | false ↦ entries_at es
+      ]
+
+-- a text is tied with itself
+itself : (key : List ℕ) → text_cmp key key ≡ Equal
+itself key = tied_itself nat_list_cmp_total key
+
+module _ {X : Type 0} where
+  -- the value that was put
+  pub value_put : (es : List (List ℕ × X)) (key : List ℕ) (value : X) → value_at (put es key value) key ≡ Some value
+  value_put [] key value = ap (λ (o : Ordering). cond (is_eq o) (Some value) None) (itself key)
+  value_put (e ∷ es) key value = by (value_put es key value) (text_cmp key e.0) refl
+    where
+      by : value_at (put es key value) key ≡ Some value → (o : Ordering) → text_cmp key e.0 ≡ o → value_at (match_ordering o ((key, value) ∷ e ∷ es) ((e.0, value) ∷ es) (e ∷ put es key value)) key ≡ Some value
+      by again Less is = ap (λ (o : Ordering). cond (is_eq o) (Some value) (value_at (e ∷ es) key)) (itself key)
+      by again Equal is = ap (λ (o : Ordering). cond (is_eq o) (Some value) (value_at es key)) is
+      by again Greater is = ap (λ (o : Ordering). cond (is_eq o) (Some e.1) (value_at (put es key value) key)) is ∙ again
+
+  -- the later value stands alone
+  pub put_twice : (es : List (List ℕ × X)) (key : List ℕ) (value later : X) → put (put es key value) key later ≡ put es key later
+  put_twice [] key value later = ap (λ (o : Ordering). match_ordering o ((key, later) ∷ (key, value) ∷ []) ((key, later) ∷ []) ((key, value) ∷ (key, later) ∷ [])) (itself key)
+  put_twice (e ∷ es) key value later = by (put_twice es key value later) (text_cmp key e.0) refl
+    where
+      by : put (put es key value) key later ≡ put es key later → (o : Ordering) → text_cmp key e.0 ≡ o → put (match_ordering o ((key, value) ∷ e ∷ es) ((e.0, value) ∷ es) (e ∷ put es key value)) key later
+          ≡ match_ordering o ((key, later) ∷ e ∷ es) ((e.0, later) ∷ es) (e ∷ put es key later)
+      by again Less is = ap (λ (o : Ordering). match_ordering o ((key, later) ∷ (key, value) ∷ e ∷ es) ((key, later) ∷ e ∷ es) ((key, value) ∷ put (e ∷ es) key later)) (itself key)
+      by again Equal is = ap (λ (o : Ordering). match_ordering o ((key, later) ∷ (e.0, value) ∷ es) ((e.0, later) ∷ es) ((e.0, value) ∷ put es key later)) is
+      by again Greater is = ap (λ (o : Ordering). match_ordering o ((key, later) ∷ e ∷ put es key value) ((e.0, later) ∷ put es key value) (e ∷ put (put es key value) key later)) is ∙ ap (λ xs. e ∷ xs) again
+
+  -- of two values under one name the later one stays
+  pub named_twice : (named : Named X) (name : List ℕ) (value later : X) → put_named (put_named named name value) name later ≡ put_named named name later
+  named_twice named name value later =
+      let make : List (List ℕ) → List (List ℕ × X) → Named X = λ names values. record { names = names; values = values } in
+      let names = cond (is_some (value_at named.values name)) named.names (named.names ++ name ∷ []) in
+      ap₂ make (ap (λ (o : Option X). cond (is_some o) names (names ++ name ∷ [])) (value_put named.values name value)) (put_twice named.values name value later)
+
+-- values by their names, as the code keeps them
+abbrev pub named_of : {Z X : Type 0} → List (String Z) → List (String Z × X) → Named X
+named_of names es = record { names = map string_bytes names; values = map (λ e. (string_bytes e.0, e.1)) es }
+
+module _ {Z X : Type 0} (names : List (String Z)) (es now : List (String Z × X)) (key : String Z) (name : List ℕ) (value : X) (before : Option X)
+    (is : string_bytes key ≡ name) (puts : now ≡ insert_entry string_cmp es key value) (had : before ≡ lookup (is_at (string_cmp key)) es) where
+  -- the value before
+  pub value_before : before ≡ value_at (named_of names es).values name
+  value_before = sym (same before) ∙ ap (option_map (λ (x : X). x)) had ∙ entries_at (string_cmp key) text_cmp string_bytes (λ (x : X). x) (string_bytes key) (λ _. refl) es ∙ ap (value_at (named_of names es).values) is
+    where
+      same : (o : Option X) → option_map (λ (x : X). x) o ≡ o
+      same None = refl
+      same (Some x) = refl
+
+  values_now : (named_of names now).values ≡ put (named_of names es).values name value
+  values_now = ap (map (λ (e : String Z × X). (string_bytes e.0, e.1))) puts ∙ entries_put string_cmp text_cmp string_bytes (λ (x : X). x) (λ _ _. refl) es key value ∙ ap (λ (k : List ℕ). put (named_of names es).values k value) is
+
+  with_names : (kept : List (List ℕ)) → (known : Bool) → is_some before ≡ known → kept ≡ cond known (map string_bytes names) (map string_bytes names ++ name ∷ [])
+      → record { names = kept; values = (named_of names now).values } ≡ put_named (named_of names es) name value
+  with_names kept known known_is kept_is =
+      let make : List (List ℕ) → List (List ℕ × X) → Named X = λ names values. record { names = names; values = values } in
+      ap₂ make (kept_is ∙ ap (λ (b : Bool). cond b (map string_bytes names) (map string_bytes names ++ name ∷ [])) (sym known_is ∙ ap is_some value_before)) values_now
+
+  -- a name that was there stays where it is
+  pub named_known : is_some before ≡ true → named_of names now ≡ put_named (named_of names es) name value
+  named_known known = with_names (map string_bytes names) true known refl
+
+  -- a new name comes last
+  pub named_new : (new : String Z) → string_bytes new ≡ name → is_some before ≡ false → named_of (names ++ new ∷ []) now ≡ put_named (named_of names es) name value
+  named_new new new_is known =
+      with_names (map string_bytes (names ++ new ∷ [])) false known (map-append string_bytes names (new ∷ []) ∙ ap (λ (n : List ℕ). map string_bytes names ++ n ∷ []) new_is)
+
+-- ## Values as a function sees them
+
+option_same : {X : Type 0} (o : Option X) → option_map (λ (x : X). x) o ≡ o
+option_same None = refl
+option_same (Some x) = refl
+
+-- a look-up by a text among strings
+pub text_found : {Z X : Type 0} (es : List (String Z × X)) (key : List ℕ) → lookup (is_at (λ k. text_cmp key (string_bytes k))) es ≡ value_at (map (λ e. (string_bytes e.0, e.1)) es) key
+text_found {Z} {X} es key =
+    sym (option_same (lookup (is_at (λ k. text_cmp key (string_bytes k))) es))
+    ∙ entries_at (λ k. text_cmp key (string_bytes k)) text_cmp string_bytes (λ (x : X). x) key (λ _. refl) es
+
+module _ {X Y : Type 0} (f : X → Y) where
+  pub seen_at : (named : Named X) (name : List ℕ) → option_map f (value_at named.values name) ≡ value_at (named_as f named).values name
+  seen_at named name = entries_at (text_cmp name) text_cmp (λ (k : List ℕ). k) f name (λ _. refl) named.values
+
+  some_seen : (o : Option X) → is_some o ≡ is_some (option_map f o)
+  some_seen None = refl
+  some_seen (Some x) = refl
+
+  pub seen_put : (named : Named X) (name : List ℕ) (value : X) → named_as f (put_named named name value) ≡ put_named (named_as f named) name (f value)
+  seen_put named name value =
+      let make : List (List ℕ) → List (List ℕ × Y) → Named Y = λ names values. record { names = names; values = values } in
+      ap₂ make (ap (λ (b : Bool). cond b named.names (named.names ++ name ∷ [])) (some_seen (value_at named.values name) ∙ ap is_some (seen_at named name)))
+      (entries_put text_cmp text_cmp (λ (k : List ℕ). k) f (λ _ _. refl) named.values name value)
+
+-- one step of a look-up by a text in lower case
+pub lower_step : (s t : List (String Global × Property)) (key : String Global) (property : Property) (q : List ℕ) (found : Bool) → s ≡ (key, property) ∷ t → found ≡ bytes_eq (string_bytes key) q
+    → value_at (values_of s) q ≡ cond found (Some (string_bytes property.value)) (value_at (values_of t) q)
+lower_step s t key property q found is found_is =
+    ap (λ (es : List (String Global × Property)). value_at (values_of es) q) is
+    ∙ ap (λ (b : Bool). cond b (Some (string_bytes property.value)) (value_at (values_of t) q)) (is_eq-slice_cmp q (string_bytes key) ∙ nat_list_eq_equiv.symm q (string_bytes key) ∙ sym found_is)

@@ -1,0 +1,9 @@
+use Rattle.std.proofs.Common.{◌≡◌}
+use Rattle.env_config.specs.Drafting.{pairs_of}
+use Rattle.env_config.specs.Sections.{put_others}
+use Rattle.env_config.specs.Words.{others_of}
+use Rattle.env_config.proofs.merge.merge_others.Given as goal
+
+-- the pairs to come give what all pairs give
+abbrev pub invariant-loop-key : goal.invariant-loop-key
+invariant-loop-key l = put_others (others_of l.others) l.prefix l.name (pairs_of l.key-iterator) ≡ put_others (others_of l.fn.others) l.prefix l.name (pairs_of l.pairs.entries)

@@ -1,0 +1,15 @@
+pub mod Cut
+pub mod Drafting
+pub mod Faults
+pub mod Line
+pub mod Raw
+pub mod Texts
+pub mod Sections
+pub mod Words
+pub mod Headings
+pub mod Pieces
+pub mod Files
+pub mod Home
+pub mod Value
+pub mod Values
+pub mod Laws

@@ -1,0 +1,111 @@
+-- The raw sections of a profile file: each line moves a state on, or is refused with a message.
+use Rattle.std.specs.Prelude.{ℕ, ◌+◌, ◌==◌, Bool, List, [], ◌∷◌, ◌++◌, length, codes, slice_index, Option, Some, None, unwrap_or, Result, Ok, Err, if◌then◌else◌}
+use Rattle.smithy_core.specs.Pairs.{lower}
+use Rattle.env_config.specs.declared.line.PropertyFault.{PropertyFault}
+use Rattle.env_config.specs.declared.line.PropertyFault.TheVariants.{NoEquals, NoName}
+use Rattle.env_config.specs.Line.{is_blank, is_skipped, lines_of, property_of, section_name, trimmed}
+use Rattle.env_config.specs.Texts.{Named, nothing_named, put, put_named, value_at}
+
+-- the property that was begun last: its value so far, and whether its first value was empty
+pub record Last : Type 0 where
+  pub key : List ℕ
+  pub value : List ℕ
+  pub is_parent : Bool
+
+-- the section that is open
+pub record Open : Type 0 where
+  pub name : List ℕ
+  pub last : Option Last
+
+-- the sections so far, each a map from keys to values
+pub record State : Type 0 where
+  pub sections : Named (List (List ℕ × List ℕ))
+  pub open_section : Option Open
+
+abbrev pub start : State
+start = record { sections = nothing_named; open_section = None }
+
+-- the properties of a section so far
+abbrev pub properties_of : Named (List (List ℕ × List ℕ)) → List ℕ → List (List ℕ × List ℕ)
+properties_of sections name = unwrap_or (value_at sections.values name) []
+
+-- ## Section lines
+
+-- the section is opened, or gone on with
+abbrev pub opened : State → List ℕ → State
+opened state name = record {
+  sections = put_named state.sections name (properties_of state.sections name);
+  open_section = Some (record { name = name; last = None });
+}
+
+abbrev pub section_step : State → Option (List ℕ) → Result State (List ℕ)
+section_step state None = Err (codes "Profile definition must end with ']'")
+section_step state (Some name) = Ok (opened state name)
+
+-- ## Property lines
+
+-- the property stands in the open section, in place of the key's value before
+abbrev pub with_last : State → List ℕ → Last → State
+with_last state name last = record {
+  sections = put_named state.sections name (put (properties_of state.sections name) last.key last.value);
+  open_section = Some (record { name = name; last = Some last });
+}
+
+-- the key is in lower case
+abbrev pub begun : Result (List ℕ × List ℕ) PropertyFault → Result Last (List ℕ)
+begun (Ok pair) = Ok (record { key = lower pair.0; value = pair.1; is_parent = length pair.1 == 0 })
+begun (Err NoEquals) = Err (codes "Expected an '=' sign defining a property")
+begun (Err NoName) = Err (codes "Property did not have a name")
+
+-- ## Continuations
+
+-- an LF and the trimmed line, its comment kept, are appended
+abbrev pub grown : Last → List ℕ → Last
+grown last line = record last { value = last.value ++ 10 ∷ trimmed line }
+
+-- below an empty first value each line is a property itself
+abbrev pub sub_checked : Result (List ℕ × List ℕ) PropertyFault → Last → Result Last (List ℕ)
+sub_checked (Ok pair) last = Ok last
+sub_checked (Err NoEquals) last = Err (codes "Expected an '=' sign defining a sub-property")
+sub_checked (Err NoName) last = Err (codes "Sub-property did not have a name")
+
+unfoldable pub continued : Last → List ℕ → Result Last (List ℕ)
+continued last line = if last.is_parent then sub_checked (property_of line) (grown last line) else Ok (grown last line)
+
+abbrev pub continued_or : Option Last → List ℕ → Result Last (List ℕ)
+continued_or None line = Err (codes "Expected a property definition, found continuation")
+continued_or (Some last) line = continued last line
+
+-- ## Lines
+
+-- the last property of the section that is open, or the message
+abbrev pub last_step : State → List ℕ → Result Last (List ℕ) → Result State (List ℕ)
+last_step state name (Ok last) = Ok (with_last state name last)
+last_step state name (Err message) = Err message
+
+-- a property and a continuation need a section
+abbrev pub within_section : State → Option Open → (Open → Result Last (List ℕ)) → Result State (List ℕ)
+within_section state None step = Err (codes "Expected a profile definition")
+within_section state (Some at) step = last_step state at.name (step at)
+
+-- what a line does
+unfoldable pub line_step : State → List ℕ → Result State (List ℕ)
+line_step state line =
+    if is_skipped line then Ok state
+    else if slice_index line 0 == 91 then section_step state (section_name line)
+    else if is_blank (slice_index line 0) then within_section state state.open_section (λ at. continued_or at.last line)
+    else within_section state state.open_section (λ _. begun (property_of line))
+
+-- goes on where the line was taken, or tells its number and message
+abbrev pub after_line : ℕ → (State → Result (Named (List (List ℕ × List ℕ))) (ℕ × List ℕ)) → Result State (List ℕ) → Result (Named (List (List ℕ × List ℕ))) (ℕ × List ℕ)
+after_line number others (Ok state) = others state
+after_line number others (Err message) = Err (number, message)
+
+-- what the lines from a number on give, after those that gave the state
+abbrev pub raw_from : ℕ → State → List (List ℕ) → Result (Named (List (List ℕ × List ℕ))) (ℕ × List ℕ)
+raw_from number state [] = Ok state.sections
+raw_from number state (line ∷ lines) = after_line number (λ next. raw_from (number + 1) next lines) (line_step state line)
+
+-- the raw sections of a text, or the number of its first faulty line and the message
+unfoldable pub raw : List ℕ → Result (Named (List (List ℕ × List ℕ))) (ℕ × List ℕ)
+raw text = raw_from 1 start (lines_of text)

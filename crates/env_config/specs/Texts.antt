@@ -1,0 +1,42 @@
+-- Finite maps from texts, and values by their names.
+use Rattle.std.specs.Prelude.{◌≡◌, ◌&&◌, ℕ, Bool, List, [], ◌∷◌, ◌++◌, Option, is_some, if◌then◌else◌, bytes_eq}
+use Rattle.std.specs.declared.cmp.Ordering.{Ordering}
+use Rattle.std.specs.Ordering.{nat_cmp}
+use Rattle.std.specs.Cmp.Lexicographic.{pointwise, slice_cmp}
+use Rattle.std.specs.BTreeMap.{insert_entry, is_at}
+use Rattle.std.specs.Map.{lookup}
+
+-- texts are compared byte by byte
+abbrev pub text_cmp : List ℕ → List ℕ → Ordering
+text_cmp text other = slice_cmp nat_cmp text other
+
+-- the value at a key
+abbrev pub value_at : {X : Type 0} → List (List ℕ × X) → List ℕ → Option X
+value_at entries key = lookup (is_at (text_cmp key)) entries
+
+-- the entries, in the order of their keys, with the value at the key
+abbrev pub put : {X : Type 0} → List (List ℕ × X) → List ℕ → X → List (List ℕ × X)
+put entries key value = insert_entry text_cmp entries key value
+
+-- values by their names, and the names in the order of their first appearance
+pub record Named (X : Type 0) : Type 0 where
+  pub names : List (List ℕ)
+  pub values : List (List ℕ × X)
+
+abbrev pub nothing_named : {X : Type 0} → Named X
+nothing_named = record { names = []; values = [] }
+
+-- the value under the name; a new name comes last
+abbrev pub put_named : {X : Type 0} → Named X → List ℕ → X → Named X
+put_named named name value = record {
+  names = if is_some (value_at named.values name) then named.names else named.names ++ name ∷ [];
+  values = put named.values name value;
+}
+
+-- a copy of the value, under the same name
+abbrev pub CopiedUnder : {X : Type 0} → (X → X → Type 0) → List ℕ × X → List ℕ × X → Type 0
+CopiedUnder IsCopy entry copy = (copy.0 ≡ entry.0) × IsCopy entry.1 copy.1
+
+-- equal values under equal names, by a test of values
+abbrev pub same_values : {X : Type 0} → (X → X → Bool) → List (List ℕ × X) → List (List ℕ × X) → Bool
+same_values same entries others = pointwise (λ e d. bytes_eq e.0 d.0 && same e.1 d.1) entries others

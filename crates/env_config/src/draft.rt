@@ -1,0 +1,221 @@
+ghost use Rattle.std.specs.Prelude.{◌≡◌, None, OnOk, IfOk};
+ghost use Rattle.std.specs.String.{string_bytes};
+ghost use Rattle.env_config.specs.Drafting.{Gives, Makes, Tests, all_of, last_of, open_of, section_of, state_of, taken};
+ghost use Rattle.env_config.specs.Line.{property_of, section_name};
+ghost use Rattle.env_config.specs.Raw.{begun, continued, continued_or, line_step, opened, section_step, start, within_section};
+
+use crate::by_name::ByName;
+use crate::fault::LineFault;
+use crate::line::{PropertyFault, cut_property, is_skipped, section_name, trim};
+use crate::texts::Texts;
+use smithy_core::Mem;
+use std::alloc::Global;
+
+/// What the lines of a text gave so far.
+#[derive(Drop)]
+pub struct Draft {
+    sections: ByName<Texts>,
+    at: Option<OpenSection>,
+}
+
+/// The section that is open.
+#[derive(Drop)]
+struct OpenSection {
+    name: String,
+    properties: Texts,
+    last: Option<LastProperty>,
+}
+
+/// The property that was begun last, which later lines may go on with.
+#[derive(Drop)]
+struct LastProperty {
+    key: String,
+    value: String,
+    is_parent: bool,
+}
+
+impl Draft {
+    /// No lines yet.
+    #[tactic(auto, unfolding(crate::specs::Drafting::state_of))]
+    pub fn new(alloc: Global) -> Draft
+        ensures { state_of result ≡ start }
+    {
+        Draft {
+            sections: ByName::new(alloc),
+            at: None,
+        }
+    }
+
+    /// Takes a line.
+    ///
+    /// # Errors
+    ///
+    /// [`LineFault::Bad`] where the line is outside the grammar. Nothing is said of the draft then.
+    #[tactic(auto, unfolding(crate::specs::Raw::line_step))]
+    pub fn take_line(&mut self, alloc: Global, line: &str) -> Result<(), LineFault>
+        ensures { Gives (line_step (state_of self.old) line.now) (state_of self.new) result }
+    {
+        if is_skipped(line) {
+            return Ok(());
+        }
+        if line.starts_with('[') {
+            return self.open_section(alloc, line);
+        }
+        if line.starts_with(' ') || line.starts_with('\t') {
+            return self.continue_property(line);
+        }
+        self.begin_property(alloc, line)
+    }
+
+    /// The sections, where the lines are over.
+    #[tactic(auto, unfolding(crate::specs::Drafting::state_of))]
+    pub fn into_sections(mut self) -> Mem<ByName<Texts>>
+        ensures { IfOk result (λ sections. sections ≡ (state_of self).sections) }
+    {
+        self.close()?;
+        Ok(self.sections)
+    }
+
+    // The section that is open stands among the others.
+    #[tactic(auto, unfolding(crate::specs::Drafting::state_of))]
+    fn close(&mut self) -> Mem<()>
+        ensures sections { OnOk result (self.new.sections ≡ (state_of self.old).sections) }
+        ensures closed { OnOk result (self.new.at ≡ None) }
+    {
+        if let Some(at) = self.at.take() {
+            let (name, properties) = at.into_parts()?;
+            self.sections.replace(name.as_str(), properties)?;
+        }
+        Ok(())
+    }
+
+    fn open_section(&mut self, alloc: Global, line: &str) -> Result<(), LineFault>
+        ensures { Gives (section_step (state_of self.old) (section_name line.now)) (state_of self.new) result }
+    {
+        match section_name(line) {
+            Some(name) => Ok(self.open(alloc, name)?),
+            None => Err(LineFault::Bad("Profile definition must end with ']'")),
+        }
+    }
+
+    // The section is opened, or gone on with.
+    #[tactic(auto, unfolding(crate::specs::Drafting::state_of))]
+    fn open(&mut self, alloc: Global, name: &str) -> Mem<()>
+        ensures { OnOk result (state_of self.new ≡ opened (state_of self.old) name.now) }
+    {
+        self.close()?;
+        let before = self.sections.replace(name, Texts::new(alloc))?;
+        self.at = Some(OpenSection {
+            name: String::from_str(alloc, name)?,
+            properties: before.unwrap_or(Texts::new(alloc)),
+            last: None,
+        });
+        Ok(())
+    }
+
+    #[tactic(auto, unfolding(crate::specs::Drafting::state_of))]
+    fn begin_property(&mut self, alloc: Global, line: &str) -> Result<(), LineFault>
+        ensures { Gives (within_section (state_of self.old) (state_of self.old).open_section (λ _. begun (property_of line.now))) (state_of self.new) result }
+    {
+        match &mut self.at {
+            Some(at) => at.begin_property(alloc, line),
+            None => Err(LineFault::Bad("Expected a profile definition")),
+        }
+    }
+
+    #[tactic(auto, unfolding(crate::specs::Drafting::state_of))]
+    fn continue_property(&mut self, line: &str) -> Result<(), LineFault>
+        ensures { Gives (within_section (state_of self.old) (state_of self.old).open_section (λ at. continued_or at.last line.now)) (state_of self.new) result }
+    {
+        match &mut self.at {
+            Some(at) => at.continue_property(line),
+            None => Err(LineFault::Bad("Expected a profile definition")),
+        }
+    }
+}
+
+impl OpenSection {
+    // The last property stands among the others.
+    fn put_last(&mut self) -> Mem<()>
+        ensures properties { OnOk result (self.new.properties ≡ all_of self.old) }
+        ensures none { OnOk result (self.new.last ≡ None) }
+        ensures name { string_bytes self.new.name ≡ string_bytes self.old.name }
+    {
+        if let Some(last) = self.last.take() {
+            self.properties.put(last.key, last.value)?;
+        }
+        Ok(())
+    }
+
+    // The name, and all properties.
+    fn into_parts(mut self) -> Mem<(String, Texts)>
+        ensures name { IfOk result (λ parts. string_bytes parts.0 ≡ string_bytes self.name) }
+        ensures properties { IfOk result (λ parts. parts.1 ≡ all_of self) }
+    {
+        self.put_last()?;
+        Ok((self.name, self.properties))
+    }
+
+    fn begin_property(&mut self, alloc: Global, line: &str) -> Result<(), LineFault>
+        ensures { Gives (taken (section_of self.old) (begun (property_of line.now))) (section_of self.new) result }
+    {
+        let last = LastProperty::read(alloc, line)?;
+        self.put_last()?;
+        self.last = Some(last);
+        Ok(())
+    }
+
+    fn continue_property(&mut self, line: &str) -> Result<(), LineFault>
+        ensures { Gives (taken (section_of self.old) (continued_or (open_of self.old).last line.now)) (section_of self.new) result }
+    {
+        match &mut self.last {
+            Some(last) => last.go_on(line),
+            None => Err(LineFault::Bad("Expected a property definition, found continuation")),
+        }
+    }
+}
+
+impl LastProperty {
+    // The property that the line begins.
+    fn read(alloc: Global, line: &str) -> Result<LastProperty, LineFault>
+        ensures { Makes (begun (property_of line.now)) result }
+    {
+        match cut_property(line) {
+            Ok((key, value)) => Ok(LastProperty {
+                key: key.to_ascii_lowercase(alloc)?,
+                value: String::from_str(alloc, value)?,
+                is_parent: value.is_empty(),
+            }),
+            Err(PropertyFault::NoEquals) => Err(LineFault::Bad(
+                "Expected an '=' sign defining a property",
+            )),
+            Err(PropertyFault::NoName) => Err(LineFault::Bad("Property did not have a name")),
+        }
+    }
+
+    // The value goes on with the line.
+    #[tactic(auto, unfolding(crate::specs::Raw::continued))]
+    fn go_on(&mut self, line: &str) -> Result<(), LineFault>
+        ensures { Gives (continued (last_of self.old) line.now) (last_of self.new) result }
+    {
+        if self.is_parent {
+            test_sub_property(line)?;
+        }
+        self.value.push_str("\n")?;
+        self.value.push_str(trim(line))?;
+        Ok(())
+    }
+}
+
+// Whether the line could stand below an empty value.
+fn test_sub_property(line: &str) -> Result<(), LineFault>
+    ensures { Tests (property_of line.now) result }
+{
+    match cut_property(line) {
+        Ok(_) => Ok(()),
+        Err(PropertyFault::NoEquals) => Err(LineFault::Bad(
+            "Expected an '=' sign defining a sub-property",
+        )),
+        Err(PropertyFault::NoName) => Err(LineFault::Bad("Sub-property did not have a name")),
+    }
+}

@@ -1,0 +1,219 @@
+ghost use Rattle.std.specs.Prelude.{◌≡◌, [], ◌∷◌, ◌++◌, IfOk, false, map};
+ghost use Rattle.std.specs.String.{string_bytes};
+ghost use Rattle.env_config.specs.Files.{BuildsFiles, chosen, place_of, places_of};
+ghost use Rattle.env_config.specs.Files.Place.{At, Given, Usual};
+ghost use Rattle.env_config.specs.declared.source.EnvConfigFileKind.TheVariants.{Config, Credentials};
+
+use crate::source::EnvConfigFileKind;
+use smithy_core::Mem;
+use std::alloc::{AllocError, AllocFailed, Global};
+
+/// A file that is to be loaded.
+#[derive(Debug, Drop)]
+pub enum EnvConfigFile {
+    /// The default file of this kind.
+    Default(EnvConfigFileKind),
+    /// The file at a path.
+    FilePath {
+        kind: EnvConfigFileKind,
+        path: String,
+    },
+    /// A text that is given, in place of a file.
+    FileContents {
+        kind: EnvConfigFileKind,
+        contents: String,
+    },
+}
+
+impl EnvConfigFile {
+    fn try_clone(&self) -> Mem<EnvConfigFile>
+        ensures { IfOk result (λ copy. place_of copy ≡ place_of self.now) }
+    {
+        match self {
+            EnvConfigFile::Default(kind) => Ok(EnvConfigFile::Default(*kind)),
+            EnvConfigFile::FilePath { kind, path } => Ok(EnvConfigFile::FilePath {
+                kind: *kind,
+                path: path.clone()?,
+            }),
+            EnvConfigFile::FileContents { kind, contents } => Ok(EnvConfigFile::FileContents {
+                kind: *kind,
+                contents: contents.clone()?,
+            }),
+        }
+    }
+}
+
+// Equal files.
+fn copied_files(alloc: Global, files: &[EnvConfigFile]) -> Mem<Vec<EnvConfigFile>>
+    ensures { IfOk result (λ copies. map place_of copies.items ≡ map place_of files.now) }
+{
+    let mut copies = Vec::new(alloc);
+    for file in files {
+        copies.push(file.try_clone()?)?;
+    }
+    Ok(copies)
+}
+
+/// The files that are to be loaded, in order.
+#[derive(Debug, Drop)]
+pub struct EnvConfigFiles {
+    files: Vec<EnvConfigFile>,
+}
+
+impl EnvConfigFiles {
+    /// A builder with no files.
+    pub fn builder(alloc: Global) -> Builder
+        ensures { chosen result ≡ [] }
+    {
+        Builder::new(alloc)
+    }
+
+    /// The default config file and the default credentials file.
+    pub fn default_files(alloc: Global) -> Mem<EnvConfigFiles>
+        ensures { IfOk result (λ files. places_of files ≡ Usual Config ∷ Usual Credentials ∷ []) }
+    {
+        let mut files = Vec::new(alloc);
+        files.push(EnvConfigFile::Default(EnvConfigFileKind::Config))?;
+        files.push(EnvConfigFile::Default(EnvConfigFileKind::Credentials))?;
+        Ok(EnvConfigFiles { files })
+    }
+
+    /// Equal files.
+    pub fn try_clone(&self) -> Mem<EnvConfigFiles>
+        ensures { IfOk result (λ copy. places_of copy ≡ places_of self.now) }
+    {
+        Ok(EnvConfigFiles {
+            files: copied_files(*self.files.allocator(), self.files.as_slice())?,
+        })
+    }
+
+    // The files.
+    pub(crate) fn as_slice(&self) -> &[EnvConfigFile]
+        ensures { map place_of result.now ≡ places_of self.now }
+    {
+        self.files.as_slice()
+    }
+}
+
+/// The parts of an [`EnvConfigFiles`].
+#[derive(Debug, Drop)]
+pub struct Builder {
+    config: bool,
+    credentials: bool,
+    files: Vec<EnvConfigFile>,
+}
+
+impl Builder {
+    /// No files.
+    pub fn new(alloc: Global) -> Builder
+        ensures config { result.config ≡ false }
+        ensures credentials { result.credentials ≡ false }
+        ensures files { result.files.items ≡ [] }
+    {
+        Builder {
+            config: false,
+            credentials: false,
+            files: Vec::new(alloc),
+        }
+    }
+
+    /// Whether the default config file is loaded, before all others.
+    pub fn include_default_config_file(mut self, on: bool) -> Builder
+        ensures { result ≡ record self { config = on } }
+    {
+        self.config = on;
+        self
+    }
+
+    /// Whether the default credentials file is loaded, after the default config file and before the others.
+    pub fn include_default_credentials_file(mut self, on: bool) -> Builder
+        ensures { result ≡ record self { credentials = on } }
+    {
+        self.credentials = on;
+        self
+    }
+
+    /// Adds the file at a path, which is taken as it is written.
+    pub fn with_file(mut self, kind: EnvConfigFileKind, path: String) -> Mem<Builder>
+        ensures { IfOk result (λ builder. chosen builder ≡ chosen self ++ At kind (string_bytes path) ∷ []) }
+    {
+        self.files.push(EnvConfigFile::FilePath { kind, path })?;
+        Ok(self)
+    }
+
+    /// Adds a text that is given, in place of a file.
+    pub fn with_contents(mut self, kind: EnvConfigFileKind, contents: String) -> Mem<Builder>
+        ensures { IfOk result (λ builder. chosen builder ≡ chosen self ++ Given kind (string_bytes contents) ∷ []) }
+    {
+        self.files
+            .push(EnvConfigFile::FileContents { kind, contents })?;
+        Ok(self)
+    }
+
+    /// An equal builder.
+    pub fn try_clone(&self) -> Mem<Builder>
+        ensures { IfOk result (λ copy. chosen copy ≡ chosen self.now) }
+    {
+        Ok(Builder {
+            config: self.config,
+            credentials: self.credentials,
+            files: copied_files(*self.files.allocator(), self.files.as_slice())?,
+        })
+    }
+
+    /// The files: the default ones, config first, and then those that were added, in their order.
+    ///
+    /// # Errors
+    ///
+    /// [`BuildFault::NoFiles`] where there is none.
+    pub fn build(self) -> Result<EnvConfigFiles, BuildFault>
+        ensures { BuildsFiles (chosen self) result }
+    {
+        let Builder {
+            config,
+            credentials,
+            mut files,
+        } = self;
+        if credentials {
+            files.insert(0, EnvConfigFile::Default(EnvConfigFileKind::Credentials))?;
+        }
+        if config {
+            files.insert(0, EnvConfigFile::Default(EnvConfigFileKind::Config))?;
+        }
+        if files.is_empty() {
+            return Err(BuildFault::NoFiles);
+        }
+        Ok(EnvConfigFiles { files })
+    }
+}
+
+/// Why there are no files to load.
+#[derive(Clone, Copy, Debug, PartialEq, Eq)]
+pub enum BuildFault {
+    /// None was added.
+    NoFiles,
+    /// Memory ran out.
+    NoMemory,
+}
+
+impl From<AllocError> for BuildFault {
+    ghost use Rattle.std.specs.Prelude.{◌≡◌};
+    ghost use Rattle.env_config.specs.declared.files.BuildFault.TheVariants.{NoMemory};
+
+    ghost from_gives = { λ _ fault. fault ≡ NoMemory };
+
+    fn from(_e: AllocError) -> BuildFault {
+        BuildFault::NoMemory
+    }
+}
+
+impl<T: Drop> From<AllocFailed<T>> for BuildFault {
+    ghost use Rattle.std.specs.Prelude.{◌≡◌};
+    ghost use Rattle.env_config.specs.declared.files.BuildFault.TheVariants.{NoMemory};
+
+    ghost from_gives = { λ _ fault. fault ≡ NoMemory };
+
+    fn from(_e: AllocFailed<T>) -> BuildFault {
+        BuildFault::NoMemory
+    }
+}

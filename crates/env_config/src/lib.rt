@@ -1,0 +1,49 @@
+//! Settings from profile files and the environment: the config and credentials files of AWS, read
+//! line by line, their sections merged, and one order of precedence of variables and properties.
+#![tactic(auto)]
+
+mod by_name;
+mod draft;
+mod fault;
+mod files;
+mod heading;
+mod home;
+mod laws;
+mod line;
+mod load_fault;
+mod loading;
+mod merge;
+mod parse_fault;
+mod profile;
+mod properties;
+mod properties_key;
+mod property;
+mod raw;
+mod sections;
+mod service_config;
+mod service_id;
+mod source;
+#[cfg(test)]
+mod tests;
+mod text;
+mod texts;
+mod value;
+mod value_fault;
+mod value_source;
+
+pub use crate::files::{BuildFault, Builder, EnvConfigFiles};
+pub use crate::home::{Os, home_dir};
+pub use crate::laws::{found_in_any_case, later_file_wins};
+pub use crate::load_fault::{CouldNotReadConfigFile, EnvConfigFileLoadError};
+pub use crate::loading::load;
+pub use crate::parse_fault::{EnvConfigParseError, ParseFault};
+pub use crate::profile::{Profile, SsoSession};
+pub use crate::properties::Properties;
+pub use crate::properties_key::{PropertiesKey, PropertiesKeyBuilder, PropertiesKeyFault};
+pub use crate::property::Property;
+pub use crate::sections::EnvConfigSections;
+pub use crate::service_config::{ServiceConfigKey, get_service_env_config};
+pub use crate::source::{EnvConfigFileKind, File, Source};
+pub use crate::value::EnvConfigValue;
+pub use crate::value_fault::{EnvConfigError, ValidateFault};
+pub use crate::value_source::{EnvConfigSource, Origin};

@@ -1,0 +1,192 @@
+ghost use Rattle.std.specs.Prelude.{◌≡◌, ◌≤◌, ◌∷◌, length, nat_eq, Option, option_map, OnOk, IfOk, map, if◌then◌else◌};
+ghost use Rattle.std.specs.List.{slice_split};
+ghost use Rattle.env_config.specs.Drafting.{pairs_of};
+ghost use Rattle.env_config.specs.Sections.{is_identifier, merged_into, put_identifiers, put_others, put_sub, put_subs, section_properties};
+ghost use Rattle.env_config.specs.Texts.{put};
+ghost use Rattle.env_config.specs.Words.{named_as, others_of, profile_of, session_of, values_of};
+ghost use Rattle.env_config.specs.Pieces.{pieces_of, pieces_len};
+
+use crate::by_name::ByName;
+use crate::heading::is_identifier;
+use crate::line::trim;
+use crate::profile::{Profile, SsoSession};
+use crate::properties::Properties;
+use crate::properties_key::PropertiesKey;
+use crate::property::Property;
+use crate::texts::Texts;
+use smithy_core::Mem;
+use std::alloc::Global;
+use std::collections::BTreeMap;
+
+/// Merges a raw section into the profile of this name.
+pub fn merge_profile(
+    alloc: Global,
+    profiles: &mut ByName<Profile>,
+    name: &str,
+    pairs: &Texts,
+) -> Mem<()>
+    ensures { OnOk result (named_as profile_of profiles.new ≡ merged_into (named_as profile_of profiles.old) name.now pairs.now) }
+{
+    let empty = Profile::new(String::from_str(alloc, name)?, BTreeMap::new(alloc));
+    let mut properties = profile_properties(alloc, profiles.replace(name, empty)?);
+    put_pairs(alloc, &mut properties, pairs.pairs())?;
+    profiles.replace(
+        name,
+        Profile::new(String::from_str(alloc, name)?, properties),
+    )?;
+    Ok(())
+}
+
+fn profile_properties(alloc: Global, before: Option<Profile>) -> BTreeMap<String, Property>
+    ensures { values_of result.entries ≡ section_properties (option_map profile_of before) }
+{
+    match before {
+        Some(profile) => profile.into_properties(),
+        None => BTreeMap::new(alloc),
+    }
+}
+
+/// Merges a raw section into the session of this name.
+pub fn merge_session(
+    alloc: Global,
+    sessions: &mut ByName<SsoSession>,
+    name: &str,
+    pairs: &Texts,
+) -> Mem<()>
+    ensures { OnOk result (named_as session_of sessions.new ≡ merged_into (named_as session_of sessions.old) name.now pairs.now) }
+{
+    let empty = SsoSession::new(String::from_str(alloc, name)?, BTreeMap::new(alloc));
+    let mut properties = session_properties(alloc, sessions.replace(name, empty)?);
+    put_pairs(alloc, &mut properties, pairs.pairs())?;
+    sessions.replace(
+        name,
+        SsoSession::new(String::from_str(alloc, name)?, properties),
+    )?;
+    Ok(())
+}
+
+fn session_properties(alloc: Global, before: Option<SsoSession>) -> BTreeMap<String, Property>
+    ensures { values_of result.entries ≡ section_properties (option_map session_of before) }
+{
+    match before {
+        Some(session) => session.into_properties(),
+        None => BTreeMap::new(alloc),
+    }
+}
+
+// Puts the pairs whose keys are identifiers.
+fn put_pairs(
+    alloc: Global,
+    properties: &mut BTreeMap<String, Property>,
+    pairs: &BTreeMap<String, String>,
+) -> Mem<()>
+    ensures { OnOk result (values_of properties.new.entries ≡ put_identifiers (values_of properties.old.entries) (pairs_of pairs.now.entries)) }
+{
+    for (key, value) in pairs {
+        put_pair(alloc, properties, key.as_str(), value.as_str())?;
+    }
+    Ok(())
+}
+
+fn put_pair(
+    alloc: Global,
+    properties: &mut BTreeMap<String, Property>,
+    key: &str,
+    value: &str,
+) -> Mem<()>
+    ensures { OnOk result (values_of properties.new.entries ≡ (if is_identifier key.now then put (values_of properties.old.entries) key.now value.now else values_of properties.old.entries)) }
+{
+    if !is_identifier(key) {
+        return Ok(());
+    }
+    let property = Property::new(
+        String::from_str(alloc, key)?,
+        String::from_str(alloc, value)?,
+    );
+    properties.insert(String::from_str(alloc, key)?, property)?;
+    Ok(())
+}
+
+/// Puts the sub-properties of a raw section with another prefix.
+pub fn merge_others(
+    alloc: Global,
+    others: &mut Properties,
+    prefix: &str,
+    name: &str,
+    pairs: &BTreeMap<String, String>,
+) -> Mem<()>
+    ensures { OnOk result (others_of others.new ≡ put_others (others_of others.old) prefix.now name.now (pairs_of pairs.now.entries)) }
+{
+    for (key, value) in pairs {
+        put_key(alloc, others, prefix, name, key.as_str(), value.as_str())?;
+    }
+    Ok(())
+}
+
+fn put_key(
+    alloc: Global,
+    others: &mut Properties,
+    prefix: &str,
+    name: &str,
+    key: &str,
+    value: &str,
+) -> Mem<()>
+    ensures { OnOk result (others_of others.new ≡ (if is_identifier key.now then put_subs (others_of others.old) prefix.now name.now key.now (slice_split (λ b. nat_eq b 10) value.now) else others_of others.old)) }
+{
+    if !is_identifier(key) {
+        return Ok(());
+    }
+    put_pieces(alloc, others, prefix, name, key, value)
+}
+
+fn put_pieces(
+    alloc: Global,
+    others: &mut Properties,
+    prefix: &str,
+    name: &str,
+    key: &str,
+    value: &str,
+) -> Mem<()>
+    ensures { OnOk result (others_of others.new ≡ put_subs (others_of others.old) prefix.now name.now key.now (slice_split (λ b. nat_eq b 10) value.now)) }
+{
+    let mut rest = Some(value);
+    while let Some(text) = rest {
+        let (piece, left) = cut_piece(text);
+        put_piece(alloc, others, prefix, name, key, piece)?;
+        rest = left;
+    }
+    Ok(())
+}
+
+// The first piece, and what stands after its LF.
+fn cut_piece(text: &str) -> (&str, Option<&str>)
+    ensures pieces { slice_split (λ b. nat_eq b 10) text.now ≡ result.0.now ∷ pieces_of result.1 }
+    ensures shorter { pieces_len result.1 ≤ length text.now }
+{
+    match text.split_once('\n') {
+        Some((piece, rest)) => (piece, Some(rest)),
+        None => (text, None),
+    }
+}
+
+fn put_piece(
+    alloc: Global,
+    others: &mut Properties,
+    prefix: &str,
+    name: &str,
+    key: &str,
+    piece: &str,
+) -> Mem<()>
+    ensures { OnOk result (others_of others.new ≡ put_sub (others_of others.old) prefix.now name.now key.now piece.now) }
+{
+    let Some((sub, value)) = piece.split_once('=') else {
+        return Ok(());
+    };
+    let at = PropertiesKey::new(
+        String::from_str(alloc, prefix)?,
+        String::from_str(alloc, name)?,
+        String::from_str(alloc, key)?,
+        Some(String::from_str(alloc, trim(sub))?),
+    );
+    others.insert(at, String::from_str(alloc, trim(value))?)
+}

@@ -1,0 +1,53 @@
+ghost use Rattle.std.specs.Prelude.{◌≡◌, [], IfOk, OnOk, option_copied};
+ghost use Rattle.std.specs.String.{string_bytes};
+ghost use Rattle.env_config.specs.Sections.{put_at_key, value_at_key};
+ghost use Rattle.env_config.specs.Words.{key_of, others_of};
+
+use crate::properties_key::PropertiesKey;
+use smithy_core::Mem;
+use std::alloc::Global;
+use std::collections::BTreeMap;
+
+/// The properties of sections that are neither profiles nor sessions.
+#[derive(Debug, PartialEq, Eq, Drop)]
+pub struct Properties {
+    entries: BTreeMap<PropertiesKey, String>,
+}
+
+impl Properties {
+    /// No properties.
+    pub fn new(alloc: Global) -> Properties
+        ensures { others_of result ≡ [] }
+    {
+        Properties {
+            entries: BTreeMap::new(alloc),
+        }
+    }
+
+    /// The value stands at the key, in place of the one before.
+    pub fn insert(&mut self, key: PropertiesKey, value: String) -> Mem<()>
+        ensures { OnOk result (others_of self.new ≡ put_at_key (others_of self.old) (key_of key) (string_bytes value)) }
+    {
+        self.entries.insert(key, value)?;
+        Ok(())
+    }
+
+    /// Equal properties.
+    pub fn try_clone(&self) -> Mem<Properties>
+        ensures { IfOk result (λ copy. others_of copy ≡ others_of self.now) }
+    {
+        Ok(Properties {
+            entries: self.entries.clone()?,
+        })
+    }
+
+    /// The value at the key.
+    pub fn get(&self, key: &PropertiesKey) -> Option<&str>
+        ensures { option_copied result ≡ value_at_key (others_of self.now) (key_of key.now) }
+    {
+        match self.entries.get(key) {
+            Some(value) => Some(value.as_str()),
+            None => None,
+        }
+    }
+}

@@ -1,0 +1,57 @@
+ghost use Rattle.std.specs.Prelude.{◌≡◌, IfOk};
+ghost use Rattle.std.specs.String.{string_bytes};
+ghost use Rattle.env_config.specs.Words.{pair_of};
+
+use smithy_core::Mem;
+
+/// A key and its value.
+#[derive(Debug, PartialEq, Eq, Drop)]
+pub struct Property {
+    key: String,
+    value: String,
+}
+
+impl Property {
+    /// This key with this value.
+    pub fn new(key: String, value: String) -> Property
+        ensures key { result.key ≡ key }
+        ensures value { result.value ≡ value }
+    {
+        Property { key, value }
+    }
+
+    /// The key.
+    pub fn key(&self) -> &str
+        ensures { result.now ≡ string_bytes self.now.key }
+    {
+        self.key.as_str()
+    }
+
+    /// The value.
+    pub fn value(&self) -> &str
+        ensures { result.now ≡ string_bytes self.now.value }
+    {
+        self.value.as_str()
+    }
+
+    /// An equal property.
+    pub fn try_clone(&self) -> Mem<Property>
+        ensures { IfOk result (λ copy. pair_of copy ≡ pair_of self.now) }
+    {
+        Ok(Property {
+            key: self.key.clone()?,
+            value: self.value.clone()?,
+        })
+    }
+}
+
+impl Clone for Property {
+    ghost use Rattle.std.specs.Prelude.{◌≡◌};
+    ghost use Rattle.env_config.specs.Words.{pair_of};
+
+    ghost is_clone = { λ property copy. pair_of copy ≡ pair_of property };
+
+    fn clone(&self) -> Mem<Property> {
+        self.try_clone()
+    }
+}

@@ -1,0 +1,35 @@
+ghost use Rattle.env_config.specs.Drafting.{ReadsRaw};
+ghost use Rattle.env_config.specs.Raw.{raw};
+
+use crate::by_name::ByName;
+use crate::draft::Draft;
+use crate::fault::RawFault;
+use crate::line::cut_line;
+use crate::texts::Texts;
+use std::alloc::Global;
+
+/// The raw sections of a profile text: each a map from keys to values, under the text between its brackets.
+///
+/// # Errors
+///
+/// [`RawFault::Line`] with the number of the first line outside the grammar, and the message.
+#[tactic(auto, unfolding(crate::specs::Raw::raw))]
+pub fn read_raw(alloc: Global, text: &str) -> Result<ByName<Texts>, RawFault>
+    ensures { ReadsRaw (raw text.now) result }
+{
+    let mut draft = Draft::new(alloc);
+    let mut number = 1;
+    let mut rest = text;
+    while !rest.is_empty() {
+        let (line, others) = cut_line(rest);
+        if let Err(fault) = draft.take_line(alloc, line) {
+            return Err(fault.at(number));
+        }
+        rest = others;
+        number += 1;
+    }
+    match draft.into_sections() {
+        Ok(sections) => Ok(sections),
+        Err(_) => Err(RawFault::NoMemory),
+    }
+}

@@ -1,0 +1,246 @@
+ghost use Rattle.std.specs.Prelude.{◌≡◌, ◌==◌, [], IfOk, OnOk, codes, length, map, option_copied, option_map, unwrap_or};
+ghost use Rattle.std.specs.String.{string_bytes};
+ghost use Rattle.env_config.specs.Headings.{heading_seen};
+ghost use Rattle.env_config.specs.Sections.{heading_of, no_sections, sections, with_file, with_raw, with_section};
+ghost use Rattle.env_config.specs.Raw.{properties_of};
+ghost use Rattle.env_config.specs.Texts.{value_at};
+ghost use Rattle.env_config.specs.Value.{selected_value};
+ghost use Rattle.env_config.specs.Values.{chosen_of};
+ghost use Rattle.env_config.specs.Words.{MergesText, Parses, TellsLine, fault_of, file_of, others_of, profile_of, sections_of, selected_of, session_of};
+
+use crate::by_name::ByName;
+use crate::fault::RawFault;
+use crate::heading::{Heading, has_profile_default};
+use crate::merge::{merge_others, merge_profile, merge_session};
+use crate::parse_fault::{EnvConfigParseError, ParseFault};
+use crate::profile::{Profile, SsoSession};
+use crate::properties::Properties;
+use crate::raw::read_raw;
+use crate::source::{EnvConfigFileKind, File, Source};
+use crate::texts::Texts;
+use smithy_core::Mem;
+use std::alloc::Global;
+
+/// Profiles, sessions and other sections, and the name of the selected profile.
+///
+/// Sections are equal where they select the same profile and hold equal ones, in whatever order the names came.
+#[derive(Debug, PartialEq, Eq, Drop)]
+pub struct EnvConfigSections {
+    selected: String,
+    profiles: ByName<Profile>,
+    sessions: ByName<SsoSession>,
+    others: Properties,
+}
+
+impl EnvConfigSections {
+    /// No sections, with the profile `default` selected.
+    pub fn new(alloc: Global) -> Mem<EnvConfigSections>
+        ensures sections { IfOk result (λ sections. sections_of sections ≡ no_sections) }
+        ensures selected { IfOk result (λ sections. selected_of sections ≡ codes "default") }
+    {
+        Ok(EnvConfigSections::with_selected(alloc, String::from_str(alloc, "default")?))
+    }
+
+    // No sections, with this profile selected.
+    fn with_selected(alloc: Global, selected: String) -> EnvConfigSections
+        ensures sections { sections_of result ≡ no_sections }
+        ensures selected { selected_of result ≡ string_bytes selected }
+    {
+        EnvConfigSections {
+            selected,
+            profiles: ByName::new(alloc),
+            sessions: ByName::new(alloc),
+            others: Properties::new(alloc),
+        }
+    }
+
+    /// The sections of the files, merged, with the profile of the source selected.
+    ///
+    /// # Errors
+    ///
+    /// [`ParseFault::Parse`] with the first line outside the grammar in the first faulty file.
+    #[tactic(auto, unfolding(crate::specs::Sections::sections))]
+    pub fn parse(alloc: Global, source: &Source) -> Result<EnvConfigSections, ParseFault>
+        ensures { Parses (sections (map file_of source.now.files.items)) (string_bytes source.now.profile) result }
+    {
+        let selected = String::from_str(alloc, source.profile.as_str())?;
+        let mut sections = EnvConfigSections::with_selected(alloc, selected);
+        for file in &source.files {
+            sections.merge_text(alloc, file)?;
+        }
+        Ok(sections)
+    }
+
+    /// The value of a key of the selected profile, in whatever case the key is given.
+    pub fn get(&self, key: &str) -> Option<&str>
+        ensures { option_copied result ≡ selected_value (chosen_of self.now) key.now }
+    {
+        match self.get_profile(self.selected.as_str()) {
+            Some(profile) => profile.get(key),
+            None => None,
+        }
+    }
+
+    /// The profile of this name.
+    pub fn get_profile(&self, name: &str) -> Option<&Profile>
+        ensures { option_map profile_of (option_copied result) ≡ value_at (sections_of self.now).profiles.values name.now }
+    {
+        self.profiles.get(name)
+    }
+
+    /// The name of the selected profile.
+    pub fn selected_profile(&self) -> &str
+        ensures { result.now ≡ selected_of self.now }
+    {
+        self.selected.as_str()
+    }
+
+    /// Whether there is no profile.
+    pub fn is_empty(&self) -> bool
+        ensures { result ≡ (length (sections_of self.now).profiles.names == 0) }
+    {
+        self.profiles.is_empty()
+    }
+
+    /// The names of the profiles in the order of their first appearance.
+    pub fn profiles(&self) -> &[String]
+        ensures { map string_bytes result.now ≡ (sections_of self.now).profiles.names }
+    {
+        self.profiles.names()
+    }
+
+    /// The names of the sessions in the order of their first appearance.
+    pub fn sso_sessions(&self) -> &[String]
+        ensures { map string_bytes result.now ≡ (sections_of self.now).sessions.names }
+    {
+        self.sessions.names()
+    }
+
+    /// The session of this name.
+    pub fn sso_session(&self, name: &str) -> Option<&SsoSession>
+        ensures { option_map session_of (option_copied result) ≡ value_at (sections_of self.now).sessions.values name.now }
+    {
+        self.sessions.get(name)
+    }
+
+    /// The properties of all other sections.
+    pub fn other_sections(&self) -> &Properties
+        ensures { others_of result.now ≡ (sections_of self.now).others }
+    {
+        &self.others
+    }
+
+    /// Equal sections.
+    pub fn try_clone(&self) -> Mem<EnvConfigSections>
+        ensures sections { IfOk result (λ copy. sections_of copy ≡ sections_of self.now) }
+        ensures selected { IfOk result (λ copy. selected_of copy ≡ selected_of self.now) }
+    {
+        Ok(EnvConfigSections {
+            selected: self.selected.clone()?,
+            profiles: self.profiles.try_clone()?,
+            sessions: self.sessions.try_clone()?,
+            others: self.others.try_clone()?,
+        })
+    }
+
+    // Merges the text of a file.
+    fn merge_text(&mut self, alloc: Global, file: &File) -> Result<(), ParseFault>
+        ensures sections { MergesText (sections_of self.old) (file_of file.now) (sections_of self.new) result }
+        ensures selected { selected_of self.new ≡ selected_of self.old }
+    {
+        match read_raw(alloc, file.contents.as_str()) {
+            Ok(raw) => Ok(self.merge_file(alloc, file.kind, &raw)?),
+            Err(RawFault::Line(number, message)) => Err(line_fault(alloc, file, number, message)),
+            Err(RawFault::NoMemory) => Err(ParseFault::NoMemory),
+        }
+    }
+
+    // Merges the raw sections of a file.
+    #[tactic(auto, unfolding(crate::specs::Sections::with_file))]
+    fn merge_file(&mut self, alloc: Global, kind: EnvConfigFileKind, raw: &ByName<Texts>) -> Mem<()>
+        ensures sections { OnOk result (sections_of self.new ≡ with_file (sections_of self.old) kind raw.now) }
+        ensures selected { selected_of self.new ≡ selected_of self.old }
+    {
+        let overridden = has_profile_default(raw.names());
+        for name in raw.names() {
+            self.merge_named(alloc, kind, overridden, raw, name.as_str())?;
+        }
+        Ok(())
+    }
+
+    fn merge_named(
+        &mut self,
+        alloc: Global,
+        kind: EnvConfigFileKind,
+        overridden: bool,
+        raw: &ByName<Texts>,
+        name: &str,
+    ) -> Mem<()>
+        ensures sections { OnOk result (sections_of self.new ≡ with_raw (sections_of self.old) kind overridden (heading_of name.now) (properties_of raw.now name.now)) }
+        ensures selected { selected_of self.new ≡ selected_of self.old }
+    {
+        let heading = Heading::of(name);
+        if !heading.is_taken_from(kind, overridden) {
+            return Ok(());
+        }
+        match raw.get(name) {
+            Some(pairs) => self.merge_section(alloc, heading, pairs),
+            None => self.merge_section(alloc, heading, &Texts::new(alloc)),
+        }
+    }
+
+    // Merges a raw section with this heading.
+    fn merge_section(&mut self, alloc: Global, heading: Heading<'_>, pairs: &Texts) -> Mem<()>
+        ensures sections { OnOk result (sections_of self.new ≡ with_section (sections_of self.old) (heading_seen heading.entry).prefix (heading_seen heading.entry).name pairs.now) }
+        ensures selected { selected_of self.new ≡ selected_of self.old }
+    {
+        match heading.prefix {
+            None | Some("profile") => {
+                merge_profile(alloc, &mut self.profiles, heading.name, pairs)
+            }
+            Some("sso-session") => merge_session(alloc, &mut self.sessions, heading.name, pairs),
+            Some(prefix) => merge_others(
+                alloc,
+                &mut self.others,
+                prefix,
+                heading.name,
+                pairs.pairs(),
+            ),
+        }
+    }
+}
+
+// The fault of this line of the file.
+fn line_fault(alloc: Global, file: &File, line_number: usize, message: &str) -> ParseFault
+    ensures { TellsLine (file_of file.now) line_number message.now result }
+{
+    match line_error(alloc, file, line_number, message) {
+        Ok(error) => ParseFault::Parse(error),
+        Err(_) => ParseFault::NoMemory,
+    }
+}
+
+fn line_error(
+    alloc: Global,
+    file: &File,
+    line_number: usize,
+    message: &str,
+) -> Mem<EnvConfigParseError>
+    ensures { IfOk result (λ error. fault_of error ≡ record { path = unwrap_or (file_of file.now).path []; line_number = line_number; message = message.now }) }
+{
+    Ok(EnvConfigParseError {
+        path: String::from_str(alloc, path_of(file))?,
+        line_number,
+        message: String::from_str(alloc, message)?,
+    })
+}
+
+// The path of the file, or the empty text.
+fn path_of(file: &File) -> &str
+    ensures { result.now ≡ unwrap_or (file_of file.now).path [] }
+{
+    match &file.path {
+        Some(path) => path.as_str(),
+        None => "",
+    }
+}

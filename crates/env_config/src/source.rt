@@ -1,0 +1,73 @@
+ghost use Rattle.std.specs.Prelude.{◌≡◌, IfOk, map};
+ghost use Rattle.std.specs.String.{string_bytes};
+ghost use Rattle.env_config.specs.Words.{file_of};
+
+use crate::text::copied;
+use smithy_core::Mem;
+use std::alloc::Global;
+
+/// Whether a file is read as config or as credentials.
+#[derive(Clone, Copy, Debug, PartialEq, Eq)]
+pub enum EnvConfigFileKind {
+    /// The config file, by default `~/.aws/config`.
+    Config,
+    /// The credentials file, by default `~/.aws/credentials`.
+    Credentials,
+}
+
+/// The texts of profile files, and the name of the selected profile.
+#[derive(Debug, Drop)]
+pub struct Source {
+    /// The files in order.
+    pub files: Vec<File>,
+    /// The selected profile.
+    pub profile: String,
+}
+
+impl Source {
+    /// An equal source.
+    pub fn try_clone(&self) -> Mem<Source>
+        ensures files { IfOk result (λ copy. map file_of copy.files.items ≡ map file_of self.now.files.items) }
+        ensures profile { IfOk result (λ copy. string_bytes copy.profile ≡ string_bytes self.now.profile) }
+    {
+        Ok(Source {
+            files: copied_files(*self.files.allocator(), self.files.as_slice())?,
+            profile: self.profile.clone()?,
+        })
+    }
+}
+
+// Equal files.
+fn copied_files(alloc: Global, files: &[File]) -> Mem<Vec<File>>
+    ensures { IfOk result (λ copies. map file_of copies.items ≡ map file_of files.now) }
+{
+    let mut copies = Vec::new(alloc);
+    for file in files {
+        copies.push(file.try_clone()?)?;
+    }
+    Ok(copies)
+}
+
+/// The text of a profile file.
+#[derive(Debug, Drop)]
+pub struct File {
+    /// How it is read.
+    pub kind: EnvConfigFileKind,
+    /// Where it lies, if it lies anywhere.
+    pub path: Option<String>,
+    /// The text.
+    pub contents: String,
+}
+
+impl File {
+    /// An equal file.
+    pub fn try_clone(&self) -> Mem<File>
+        ensures { IfOk result (λ copy. file_of copy ≡ file_of self.now) }
+    {
+        Ok(File {
+            kind: self.kind,
+            path: copied(&self.path)?,
+            contents: self.contents.clone()?,
+        })
+    }
+}

@@ -1,0 +1,24 @@
+ghost use Rattle.std.specs.Prelude.{◌≡◌, ◌++◌, IfOk, option_map};
+ghost use Rattle.std.specs.String.{string_bytes};
+
+use smithy_core::Mem;
+use std::alloc::Global;
+
+/// Both texts, one after the other.
+pub fn joined(alloc: Global, text: &str, other: &str) -> Mem<String>
+    ensures { IfOk result (λ both. string_bytes both ≡ text.now ++ other.now) }
+{
+    let mut both = String::from_str(alloc, text)?;
+    both.push_str(other)?;
+    Ok(both)
+}
+
+/// An equal text, where there is one.
+pub fn copied(text: &Option<String>) -> Mem<Option<String>>
+    ensures { IfOk result (λ copy. option_map string_bytes copy ≡ option_map string_bytes text.now) }
+{
+    match text {
+        Some(text) => Ok(Some(text.clone()?)),
+        None => Ok(None),
+    }
+}

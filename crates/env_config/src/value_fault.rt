@@ -1,0 +1,88 @@
+ghost use Rattle.std.specs.Prelude.{◌≡◌, IfOk};
+ghost use Rattle.env_config.specs.Values.{at_of};
+
+use crate::value_source::EnvConfigSource;
+use smithy_core::Mem;
+use std::alloc::AllocError;
+use std::fmt;
+
+/// A value that was refused, and where it was found.
+#[derive(Debug, Drop)]
+pub struct EnvConfigError<E> {
+    source: EnvConfigSource,
+    err: E,
+}
+
+impl<E> EnvConfigError<E> {
+    // The fault of a value that was found there.
+    pub(crate) fn new(source: EnvConfigSource, err: E) -> EnvConfigError<E>
+        ensures source { result.source ≡ source }
+        ensures err { result.err ≡ err }
+    {
+        EnvConfigError { source, err }
+    }
+
+    /// Why the value was refused.
+    pub fn err(&self) -> &E
+        ensures { result.now ≡ self.now.err }
+    {
+        &self.err
+    }
+}
+
+impl<E: Clone + Drop> EnvConfigError<E> {
+    /// An equal error.
+    pub fn try_clone(&self) -> Mem<EnvConfigError<E>>
+        ensures source { IfOk result (λ copy. at_of copy.source ≡ at_of self.now.source) }
+        ensures err { IfOk result (λ copy. E.is_clone self.now.err copy.err) }
+    {
+        Ok(EnvConfigError {
+            source: self.source.try_clone()?,
+            err: self.err.clone()?,
+        })
+    }
+}
+
+impl<E: fmt::Display> fmt::Display for EnvConfigError<E> {
+    ghost use Rattle.env_config.specs.Values.{invalid_text};
+
+    ghost output = { invalid_text E.output };
+
+    fn fmt<W: fmt::Write>(&self, f: &mut fmt::Formatter<W>) -> fmt::Result {
+        let (err, source) = (&self.err, &self.source);
+        write!(f, "{err}. source: {source}")
+    }
+}
+
+/// Why no value was answered.
+#[derive(Debug, Drop)]
+pub enum ValidateFault<E> {
+    /// The value that was found is refused.
+    Invalid(EnvConfigError<E>),
+    /// Memory ran out.
+    NoMemory,
+}
+
+impl<E: fmt::Display> fmt::Display for ValidateFault<E> {
+    ghost use Rattle.env_config.specs.Values.{validate_fault_text};
+
+    ghost output = { validate_fault_text E.output };
+
+    fn fmt<W: fmt::Write>(&self, f: &mut fmt::Formatter<W>) -> fmt::Result {
+        match self {
+            ValidateFault::Invalid(error) => error.fmt(f),
+            ValidateFault::NoMemory => f.write_str("no memory"),
+        }
+    }
+}
+
+impl<E> From<AllocError> for ValidateFault<E> {
+    ghost use Rattle.std.specs.Prelude.{◌≡◌};
+    ghost use Rattle.env_config.specs.declared.value_fault.ValidateFault.TheVariants.{NoMemory};
+
+    ghost from_gives = { λ _ fault. fault ≡ NoMemory };
+
+    fn from(_e: AllocError) -> ValidateFault<E> {
+        ValidateFault::NoMemory
+    }
+}
