@@ -2,6 +2,7 @@ pub mod Civil
 pub mod CivilText
 pub mod Format
 pub mod Given
+pub mod HeaderGrammar
 pub mod Instant
 pub mod Outside
 pub mod Pairs

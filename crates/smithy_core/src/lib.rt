@@ -7,13 +7,16 @@
 //! (`specs/Outside.antt`, `specs/Given.antt`).
 #![tactic(auto)]
 
+mod app_name;
 mod blob;
 mod civil_date;
 mod civil_text;
+mod client_config;
 mod env;
 mod error_metadata;
 mod format;
 mod header;
+mod header_grammar;
 mod header_iter;
 mod header_values;
 mod headers;
@@ -30,13 +33,16 @@ mod tests;
 mod text;
 mod text_pairs;
 
+pub use crate::app_name::{AppName, InvalidAppName};
 pub use crate::blob::Blob;
 pub use crate::civil_date::civil;
 pub use crate::civil_text::Civil;
+pub use crate::client_config::{RetryConfig, TimeoutConfig};
 pub use crate::env::Env;
 pub use crate::error_metadata::ErrorMetadata;
 pub use crate::format::{Format, FormatFault};
 pub use crate::header::{Header, HeaderValue};
+pub use crate::header_grammar::{is_header_name, is_header_value};
 pub use crate::header_iter::HeaderIter;
 pub use crate::header_values::HeaderValues;
 pub use crate::headers::Headers;

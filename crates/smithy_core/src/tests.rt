@@ -1,11 +1,12 @@
 ghost use Rattle.std.specs.Prelude.{◌≤◌, IfOk, length};
 
 use crate::{
-    ByteSink, ByteSource, CalmDisk, CalmSink, CalmSource, Clock, Credentials, DateTime, Disk,
-    DiskError, Env, ErrorMetadata, Failed, FaultyDisk, FaultySink, FaultySource, FixedClock,
+    AppName, ByteSink, ByteSource, CalmDisk, CalmSink, CalmSource, Clock, Credentials, DateTime,
+    Disk, DiskError, Env, ErrorMetadata, Failed, FaultyDisk, FaultySink, FaultySource, FixedClock,
     Format, FormatFault, Header, HeaderValue, Headers, HostDisk, HttpRequest, HttpResponse,
     Identity, ListClock, Mem, Message, ReadFault, SinkError, StdSink, StdSource, StrBytes,
-    SystemClock, TimeOutOfRange, civil, push_line, read_all, write_all,
+    SystemClock, TimeOutOfRange, civil, is_header_name, is_header_value, push_line, read_all,
+    write_all,
 };
 use bytes::Bytes;
 use std::alloc::Global;
@@ -311,6 +312,27 @@ fn variables(rt: HostRuntime) -> Result<(), Fail> {
 
 // Each call that can want memory gives its answer where there is enough.
 #[test]
+fn grammars(rt: HostRuntime) {
+    let cases = [
+        ("", false, true),
+        ("a", true, true),
+        ("x-amz-date", true, true),
+        ("!#$%&'*+-.^_`|~09AZ", true, true),
+        ("a b", false, true),
+        ("a\tb", false, true),
+        ("a:b", false, true),
+        ("a\u{7}", false, false),
+        ("a\nb", false, false),
+        ("a\u{7f}", false, false),
+        ("\u{e9}", false, true),
+    ];
+    for (text, name, value) in cases {
+        assert_eq!(rt; is_header_name(text), name, "name {text}");
+        assert_eq!(rt; is_header_value(text), value, "value {text}");
+    }
+}
+
+#[test]
 fn surface(rt: HostRuntime) -> Result<(), Fail> {
     let alloc = rt.alloc();
     let cases = [
@@ -322,6 +344,7 @@ fn surface(rt: HostRuntime) -> Result<(), Fail> {
         ("ErrorMetadata", metadata_holds(alloc)?),
         ("Credentials", credentials_hold(alloc)?),
         ("Identity", identity_holds(alloc)?),
+        ("AppName", app_name_holds(alloc)?),
         ("Env", env_holds(alloc)?),
         ("Civil", civil_holds(alloc)?),
         ("DateTime", moment_holds(alloc)),
@@ -422,6 +445,14 @@ fn identity_holds(alloc: Global) -> Mem<bool> {
         matches!(signer.try_clone()?, Identity::Credentials(_))
             && matches!(bearer.try_clone()?, Identity::Token(_)),
     )
+}
+
+fn app_name_holds(alloc: Global) -> Mem<bool> {
+    let empty = AppName::new(String::new(alloc));
+    match AppName::new(String::from_str(alloc, "my-app")?) {
+        Ok(name) => Ok(name.try_clone()?.as_str() == "my-app" && empty.is_err()),
+        Err(_) => Ok(false),
+    }
 }
 
 fn env_holds(alloc: Global) -> Mem<bool> {
