@@ -1,0 +1,11 @@
+pub mod Agent
+pub mod AgentParts
+pub mod Bag
+pub mod Build
+pub mod Distinct
+pub mod Features
+pub mod Frameworks
+pub mod Metadata
+pub mod Metric
+pub mod MetricIds
+pub mod UserAgent
