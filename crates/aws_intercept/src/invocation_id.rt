@@ -19,10 +19,13 @@ pub struct InvalidInvocationId;
 
 impl Model for InvocationId {
     ghost use Rattle.std.specs.Prelude.{ℕ, List, string_bytes};
+    ghost use Rattle.smithy_core.specs.HeaderGrammar.{IsHeaderValue};
 
     ghost Value = { List ℕ };
 
     ghost view = { λ id. string_bytes id.text };
+
+    ghost invariant = { λ id. IsHeaderValue (string_bytes id.text) };
 }
 
 impl InvocationId {
@@ -40,9 +43,18 @@ impl InvocationId {
         Ok(InvocationId { text })
     }
 
+    // The id of a text that is known to be a header's value.
+    pub(crate) fn from_text(text: String) -> InvocationId
+        requires { IsHeaderValue (string_bytes text) }
+        ensures { result ≡ string_bytes text }
+    {
+        InvocationId { text }
+    }
+
     /// The text of the id.
     pub fn as_str(&self) -> &str
-        ensures { result.now ≡ self.now }
+        ensures text { result.now ≡ self.now }
+        ensures value { IsHeaderValue self.now }
     {
         self.text.as_str()
     }
@@ -54,5 +66,19 @@ impl InvocationId {
         Ok(InvocationId {
             text: self.text.clone()?,
         })
+    }
+}
+
+impl PartialEq for InvocationId {
+    ghost use Rattle.std.specs.Prelude.{bytes_eq};
+    ghost use Rattle.std.proofs.Common.{rules};
+    ghost use Rattle.std.specs.Cmp.Rules.{comparing};
+
+    ghost eq = { bytes_eq };
+
+    ghost laws = { Prim.search (comparing, rules) };
+
+    fn eq(&self, other: &InvocationId) -> bool {
+        self.text == other.text
     }
 }
