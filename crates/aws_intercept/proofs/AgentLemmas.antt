@@ -22,9 +22,9 @@ rest_in_turn a b c d e f first fifth sixth is_first is_fifth is_sixth = simp (fl
 -- the first five parts, and what follows them
 front_in_turn : (core version api family os language : List ℕ) (rest : List (List ℕ))
     → join_by (λ part. part) (codes " ") ((codes "aws-sdk-rust/" ++ core) ∷ (codes "ua/" ++ version) ∷ api ∷ (codes "os/" ++ (family ++ os))
-      ∷ (codes "lang/rust/" ++ language) ∷ rest)
+    ∷ (codes "lang/rust/" ++ language) ∷ rest)
     ≡ ((((codes "aws-sdk-rust/" ++ (core ++ (codes " ua/" ++ (version ++ (codes " " ++ (api ++ (codes " os/" ++ family)))))))
-      ++ os) ++ codes " lang/rust/") ++ language) ++ spaced rest
+    ++ os) ++ codes " lang/rust/") ++ language) ++ spaced rest
 front_in_turn core version api family os language rest = simp append_assoc
 
 seven_in_turn : (s a b c d e f : List ℕ) → s ++ (a ++ (b ++ (c ++ (d ++ (e ++ f))))) ≡ (((((s ++ a) ++ b) ++ c) ++ d) ++ e) ++ f
@@ -38,11 +38,11 @@ pub text_in_turn : (agent : Agent) → agent_text agent ≡
 unfolding agent_text
 text_in_turn agent =
     front_in_turn agent.core_version agent.agent_version (api_text agent.api) (family_text agent.os_family)
-      (with_value (codes "/") agent.os_version) agent.language_version _
+    (with_value (codes "/") agent.os_version) agent.language_version _
     ∙ ap (λ (rest : List ℕ). system_text agent ++ rest) (rest_in_turn
-      (option_to_list (option_map (λ name. codes "exec-env/" ++ name) agent.execution_environment))
-      (option_to_list (metric_part agent.metrics)) (map framework_text agent.frameworks) (map additional_text agent.additional)
-      (option_to_list (option_map (λ name. codes "app/" ++ name) agent.app_name)) (option_to_list (option_map additional_text agent.build))
-      _ _ _ (spaced_value (codes "exec-env/") agent.execution_environment) (spaced_value (codes "app/") agent.app_name)
-      (spaced_value (codes "md/") agent.build))
+    (option_to_list (option_map (λ name. codes "exec-env/" ++ name) agent.execution_environment))
+    (option_to_list (metric_part agent.metrics)) (map framework_text agent.frameworks) (map additional_text agent.additional)
+    (option_to_list (option_map (λ name. codes "app/" ++ name) agent.app_name)) (option_to_list (option_map additional_text agent.build))
+    _ _ _ (spaced_value (codes "exec-env/") agent.execution_environment) (spaced_value (codes "app/") agent.app_name)
+    (spaced_value (codes "md/") agent.build))
     ∙ seven_in_turn (system_text agent) _ _ _ _ _ _

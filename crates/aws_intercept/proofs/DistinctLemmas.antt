@@ -45,8 +45,8 @@ module _ {X : Type 0} (same : X → X → Bool) (exact : (x y : X) → same x y 
   distinct_last (a ∷ xs) x =
       ap (λ (rest : List X). a ∷ filter (λ y. not (same a y)) rest) (distinct_last xs x)
       ∙ ap (λ (rest : List X). a ∷ rest) (filter-append (λ y. not (same a y)) (distinct same xs) _
-        ∙ ap (λ (rest : List X). filter (λ y. not (same a y)) (distinct same xs) ++ rest)
-          (filter_one (λ y. not (same a y)) x (same a x) (list_any (λ y. same y x) xs) refl))
+      ∙ ap (λ (rest : List X). filter (λ y. not (same a y)) (distinct same xs) ++ rest)
+      (filter_one (λ y. not (same a y)) x (same a x) (list_any (λ y. same y x) xs) refl))
 
   put_last : (xs : List X) (x : X) (any : Bool) → xs ++ (if any then [] else x ∷ []) ≡ (if any then xs else xs ++ x ∷ [])
   put_last xs x true = append-nil xs

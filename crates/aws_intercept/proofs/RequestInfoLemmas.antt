@@ -40,7 +40,7 @@ out_of_years t wide = grind (arith, ints)
 
 info_by : (attempt : List ℕ) (ttl : Option (List ℕ)) (retry : Option RetryConfig)
     → join_by (λ part. part) (codes "; ") (option_to_list (option_map (λ text. codes "ttl=" ++ text) ttl)
-      ++ (attempt ∷ option_to_list (option_map (λ retry. codes "max=" ++ decimal retry.max_attempts) retry)))
+    ++ (attempt ∷ option_to_list (option_map (λ retry. codes "max=" ++ decimal retry.max_attempts) retry)))
     ≡ (ttl_front ttl ++ attempt) ++ max_end retry
 info_by attempt None None = refl
 info_by attempt None (Some m) = simp append-nil

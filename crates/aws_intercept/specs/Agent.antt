@@ -24,7 +24,7 @@ agent_from env api build = record {
   frameworks = [];
   additional = [];
   app_name = None;
-  build = build.extra
+  build = build.extra;
 }
 
 -- the agent that tests of a client compare with
@@ -41,7 +41,7 @@ agent_for_tests = record {
   frameworks = [];
   additional = [];
   app_name = None;
-  build = None
+  build = None;
 }
 
 -- `m/IDS`, where there are metrics
@@ -58,11 +58,11 @@ agent_parts agent =
     ∷ (codes "os/" ++ (family_text agent.os_family ++ with_value (codes "/") agent.os_version))
     ∷ (codes "lang/rust/" ++ agent.language_version)
     ∷ (option_to_list (option_map (λ name. codes "exec-env/" ++ name) agent.execution_environment)
-      ++ (option_to_list (metric_part agent.metrics)
-        ++ (map framework_text agent.frameworks
-          ++ (map additional_text agent.additional
-            ++ (option_to_list (option_map (λ name. codes "app/" ++ name) agent.app_name)
-              ++ option_to_list (option_map additional_text agent.build))))))
+    ++ (option_to_list (metric_part agent.metrics)
+    ++ (map framework_text agent.frameworks
+    ++ (map additional_text agent.additional
+    ++ (option_to_list (option_map (λ name. codes "app/" ++ name) agent.app_name)
+    ++ option_to_list (option_map additional_text agent.build))))))
 
 -- the text: the parts, one space between
 unfoldable pub agent_text : Agent → List ℕ

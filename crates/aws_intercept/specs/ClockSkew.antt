@@ -53,7 +53,7 @@ abbrev pub measured : ConfigBag → List (List ℕ × List ℕ) → Instant → 
 measured bag headers received =
     if is_off bag || is_some (first_value headers (codes "age")) then None
     else option_and_then (λ sent. option_and_then (λ server. skew_at sent received server)
-      (option_and_then parse_secs (first_value headers (codes "date")))) bag.time_sent
+    (option_and_then parse_secs (first_value headers (codes "date")))) bag.time_sent
 
 -- the bag with the skew, where one was measured
 abbrev pub bag_with_skew : Option ℤ → ConfigBag → ConfigBag

@@ -5,21 +5,64 @@ use Rattle.aws_intercept.specs.declared.user_agent.sdk_feature.SmithySdkFeature.
 use Rattle.aws_intercept.specs.declared.user_agent.sdk_feature.AwsSdkFeature.{AwsSdkFeature}
 use Rattle.aws_intercept.specs.declared.user_agent.sdk_feature.AwsCredentialFeature.{AwsCredentialFeature}
 use Rattle.aws_intercept.specs.declared.user_agent.sdk_feature.SmithySdkFeature.TheVariants.{
-    Waiter, Paginator, GzipRequestCompression, ProtocolRpcV2Cbor, RetryModeStandard, RetryModeAdaptive,
-    FlexibleChecksumsReqCrc32, FlexibleChecksumsReqCrc32c, FlexibleChecksumsReqCrc64, FlexibleChecksumsReqSha1,
-    FlexibleChecksumsReqSha256, FlexibleChecksumsReqWhenSupported, FlexibleChecksumsReqWhenRequired,
-    FlexibleChecksumsResWhenSupported, FlexibleChecksumsResWhenRequired, ObservabilityOtelMetrics}
+  Waiter,
+  Paginator,
+  GzipRequestCompression,
+  ProtocolRpcV2Cbor,
+  RetryModeStandard,
+  RetryModeAdaptive,
+  FlexibleChecksumsReqCrc32,
+  FlexibleChecksumsReqCrc32c,
+  FlexibleChecksumsReqCrc64,
+  FlexibleChecksumsReqSha1,
+  FlexibleChecksumsReqSha256,
+  FlexibleChecksumsReqWhenSupported,
+  FlexibleChecksumsReqWhenRequired,
+  FlexibleChecksumsResWhenSupported,
+  FlexibleChecksumsResWhenRequired,
+  ObservabilityOtelMetrics,
+}
 use Rattle.aws_intercept.specs.declared.user_agent.sdk_feature.AwsSdkFeature.TheVariants.{
-    AccountIdModePreferred, AccountIdModeDisabled, AccountIdModeRequired, S3Transfer, SsoLoginDevice,
-    SsoLoginAuth, EndpointOverride, S3TransferUploadDirectory, S3TransferDownloadDirectory, S3CustomPartSize,
-    S3CustomThroughput, S3CustomMemoryLimit, S3OnEc2, S3FilePath}
+  AccountIdModePreferred,
+  AccountIdModeDisabled,
+  AccountIdModeRequired,
+  S3Transfer,
+  SsoLoginDevice,
+  SsoLoginAuth,
+  EndpointOverride,
+  S3TransferUploadDirectory,
+  S3TransferDownloadDirectory,
+  S3CustomPartSize,
+  S3CustomThroughput,
+  S3CustomMemoryLimit,
+  S3OnEc2,
+  S3FilePath,
+}
 use Rattle.aws_intercept.specs.declared.user_agent.sdk_feature.AwsCredentialFeature.TheVariants.{
-    CredentialsCode, CredentialsEnvVars, CredentialsEnvVarsStsWebIdToken, CredentialsStsAssumeRole,
-    CredentialsStsAssumeRoleSaml, CredentialsStsAssumeRoleWebId, CredentialsStsFederationToken,
-    CredentialsStsSessionToken, CredentialsProfile, CredentialsProfileSourceProfile,
-    CredentialsProfileNamedProvider, CredentialsProfileStsWebIdToken, CredentialsProfileSso, CredentialsSso,
-    CredentialsProfileProcess, CredentialsProcess, CredentialsHttp, CredentialsImds, ResolvedAccountId,
-    BearerServiceEnvVars, S3ExpressBucket, CredentialsProfileLogin, CredentialsLogin}
+  CredentialsCode,
+  CredentialsEnvVars,
+  CredentialsEnvVarsStsWebIdToken,
+  CredentialsStsAssumeRole,
+  CredentialsStsAssumeRoleSaml,
+  CredentialsStsAssumeRoleWebId,
+  CredentialsStsFederationToken,
+  CredentialsStsSessionToken,
+  CredentialsProfile,
+  CredentialsProfileSourceProfile,
+  CredentialsProfileNamedProvider,
+  CredentialsProfileStsWebIdToken,
+  CredentialsProfileSso,
+  CredentialsSso,
+  CredentialsProfileProcess,
+  CredentialsProcess,
+  CredentialsHttp,
+  CredentialsImds,
+  ResolvedAccountId,
+  BearerServiceEnvVars,
+  S3ExpressBucket,
+  CredentialsProfileLogin,
+  CredentialsLogin,
+}
 
 -- the metric of a feature that every client has
 abbrev pub smithy_metric : SmithySdkFeature → BusinessMetric

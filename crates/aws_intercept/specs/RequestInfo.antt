@@ -33,7 +33,7 @@ abbrev pub info_parts : Instant → ConfigBag → List (List ℕ)
 info_parts now bag =
     option_to_list (option_map (λ text. codes "ttl=" ++ text) (ttl now bag))
     ++ ((codes "attempt=" ++ decimal (unwrap_or bag.attempts 0))
-      ∷ option_to_list (option_map (λ retry. codes "max=" ++ decimal retry.max_attempts) bag.retry))
+    ∷ option_to_list (option_map (λ retry. codes "max=" ++ decimal retry.max_attempts) bag.retry))
 
 -- the header's value
 unfoldable pub info_text : Instant → ConfigBag → List ℕ

@@ -40,7 +40,7 @@ feature_metrics bag =
 abbrev pub sent_agent : ConfigBag → Agent → Agent
 sent_agent bag agent = record agent {
   metrics = agent.metrics ++ feature_metrics bag;
-  additional = agent.additional ++ option_to_list (option_map string_bytes bag.connector)
+  additional = agent.additional ++ option_to_list (option_map string_bytes bag.connector);
 }
 
 -- the text goes into both headers, or the first test that fails: an agent is there, the connector is metadata, the text is a header's value

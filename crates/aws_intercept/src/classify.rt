@@ -1,8 +1,9 @@
 ghost use Rattle.std.specs.Prelude.{◌≡◌, IfOk, map, option_copied, string_bytes};
 ghost use Rattle.aws_intercept.specs.Classify.{Acts, ActsAgain, Delays, IsDelay, code_of, delay_text, is_skew_error, is_skewed, kind_of, skew_action};
-ghost use Rattle.aws_intercept.specs.Codes.{is_listed, throttling_codes, transient_codes};
+ghost use Rattle.aws_intercept.specs.Codes.{codes_or_transient, is_listed, throttling_codes, transient_codes};
 
 use smithy_core::{ErrorMetadata, HttpResponse, Mem};
+use std::alloc::Global;
 use std::marker::Model;
 
 /// What kind of fault a retry answers.
@@ -97,6 +98,15 @@ impl AwsErrorCodeClassifierBuilder {
         }
     }
 
+    /// An equal builder.
+    pub fn try_clone(&self) -> Mem<AwsErrorCodeClassifierBuilder>
+        ensures { IfOk result (λ copy. copy ≡ self.now) }
+    {
+        Ok(AwsErrorCodeClassifierBuilder {
+            transient: copied_codes(&self.transient)?,
+        })
+    }
+
     /// The classifier.
     pub fn build(self) -> AwsErrorCodeClassifier
         ensures { result ≡ self }
@@ -126,11 +136,9 @@ impl AwsErrorCodeClassifier {
     pub fn try_clone(&self) -> Mem<AwsErrorCodeClassifier>
         ensures { IfOk result (λ copy. copy ≡ self.now) }
     {
-        let transient = match &self.transient {
-            Some(codes) => Some(copied_codes(codes)?),
-            None => None,
-        };
-        Ok(AwsErrorCodeClassifier { transient })
+        Ok(AwsErrorCodeClassifier {
+            transient: copied_codes(&self.transient)?,
+        })
     }
 
     /// Retryable as a throttling error for a code of [`THROTTLING_ERRORS`], else as a transient one for one of the
@@ -215,13 +223,22 @@ fn contains_text(listed: &[String], code: &str) -> bool
     false
 }
 
-// The same codes.
-fn copied_codes(codes: &Vec<String>) -> Mem<Vec<String>>
-    ensures { IfOk result (λ copies. map string_bytes copies.items ≡ map string_bytes codes.now.items) }
+// The same codes, where they are set.
+fn copied_codes(codes: &Option<Vec<String>>) -> Mem<Option<Vec<String>>>
+    ensures { IfOk result (λ copy. codes_or_transient copy ≡ codes_or_transient codes.now) }
 {
-    let mut copies = Vec::new(*codes.allocator());
-    for code in codes {
-        copies.push(code.clone()?)?;
+    Ok(match codes {
+        Some(codes) => Some(copied_texts(*codes.allocator(), codes.as_slice())?),
+        None => None,
+    })
+}
+
+fn copied_texts(alloc: Global, texts: &[String]) -> Mem<Vec<String>>
+    ensures { IfOk result (λ copies. map string_bytes copies.items ≡ map string_bytes texts.now) }
+{
+    let mut copies = Vec::new(alloc);
+    for text in texts {
+        copies.push(text.clone()?)?;
     }
     Ok(copies)
 }
@@ -246,7 +263,11 @@ fn code_of<'a>(error: Option<&'a ErrorMetadata>) -> Option<&'a str>
 fn retry_after(response: Option<&HttpResponse>) -> Option<u64>
     ensures { IsDelay (delay_text (option_copied response.entry)) result }
 {
-    response?.headers.get("x-amz-retry-after")?.parse::<u64>().ok()
+    response?
+        .headers
+        .get("x-amz-retry-after")?
+        .parse::<u64>()
+        .ok()
 }
 
 // What was said before with the delay of the response, where it had none.

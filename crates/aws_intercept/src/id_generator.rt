@@ -1,4 +1,4 @@
-ghost use Rattle.std.specs.Prelude.{◌≡◌, ◌≤◌, List, [], Option, Result, ℕ, string_bytes, string_capacity};
+ghost use Rattle.std.specs.Prelude.{◌≡◌, ◌≤◌, IfOk, List, [], Option, Result, ℕ, string_bytes, string_capacity};
 ghost use Rattle.uuid.specs.Text.{hyphenated_text, lower};
 ghost use Rattle.aws_intercept.specs.Invocation.{GivesDrawn, GivesFirst, GivesNone};
 ghost use Rattle.aws_intercept.specs.declared.id_fault.IdFault.{IdFault as Fault};
@@ -6,6 +6,7 @@ ghost use Rattle.aws_intercept.specs.declared.id_fault.IdFault.{IdFault as Fault
 use crate::id_fault::IdFault;
 use crate::invocation_id::InvocationId;
 use rand_core::Rng;
+use smithy_core::Mem;
 use std::alloc::Global;
 use std::marker::Model;
 use uuid::Uuid;
@@ -86,6 +87,14 @@ impl PredefinedInvocationIdGenerator {
         ids.reverse();
         PredefinedInvocationIdGenerator { left: ids }
     }
+
+    /// A generator with the same ids left.
+    pub fn try_clone(&self) -> Mem<PredefinedInvocationIdGenerator>
+        ensures { IfOk result (λ copy. copy ≡ self.now) }
+    {
+        let left = copied_ids(*self.left.allocator(), self.left.as_slice())?;
+        Ok(PredefinedInvocationIdGenerator { left })
+    }
 }
 
 impl InvocationIdGenerator for PredefinedInvocationIdGenerator {
@@ -97,6 +106,16 @@ impl InvocationIdGenerator for PredefinedInvocationIdGenerator {
             None => Err(IdFault::UsedUp),
         }
     }
+}
+
+fn copied_ids(alloc: Global, ids: &[InvocationId]) -> Mem<Vec<InvocationId>>
+    ensures { IfOk result (λ copies. copies.items ≡ ids.now) }
+{
+    let mut copies = Vec::new(alloc);
+    for id in ids {
+        copies.push(id.try_clone()?)?;
+    }
+    Ok(copies)
 }
 
 /// Gives no ids.

@@ -20,7 +20,7 @@ mod nanos;
 mod recursion;
 mod request_info;
 #[cfg(test)]
-mod tests;
+pub(crate) mod tests;
 mod user_agent;
 
 pub use crate::bag::ConfigBag;

@@ -20,6 +20,15 @@ impl RecursionDetectionInterceptor {
         RecursionDetectionInterceptor { env }
     }
 
+    /// An interceptor in the same environment.
+    pub fn try_clone(&self) -> Mem<RecursionDetectionInterceptor>
+        ensures { IfOk result (λ copy. copy ≡ self.now) }
+    {
+        Ok(RecursionDetectionInterceptor {
+            env: self.env.try_clone()?,
+        })
+    }
+
     /// Inserts the variable `_X_AMZN_TRACE_ID` as `x-amzn-trace-id`, its controls and bytes past ASCII escaped, where the
     /// request has no such header and the variable `AWS_LAMBDA_FUNCTION_NAME` is set too.
     pub fn modify_before_signing(

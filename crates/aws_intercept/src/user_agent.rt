@@ -9,6 +9,6 @@ pub(crate) mod frameworks;
 pub(crate) mod interceptor;
 pub(crate) mod metadata;
 pub(crate) mod metric;
-mod metric_ids;
+pub(crate) mod metric_ids;
 mod name_version;
 pub(crate) mod sdk_feature;

@@ -2,6 +2,8 @@ ghost use Rattle.std.specs.Prelude.{◌≡◌, [], ◌∷◌, ◌++◌, IfOk, On
 ghost use Rattle.smithy_core.specs.Pairs.{last_value};
 ghost use Rattle.aws_intercept.specs.Agent.{agent_for_tests, agent_from};
 
+#[cfg(test)]
+mod tests;
 mod text;
 
 use crate::copied::{copied_name, copied_text};
@@ -43,18 +45,18 @@ impl Model for AwsUserAgent {
     ghost Value = { Agent };
 
     ghost view = { λ agent. record {
-        core_version = string_bytes agent.core_version;
-        agent_version = string_bytes agent.agent_version;
-        api = agent.api;
-        os_family = agent.os_family;
-        os_version = option_map string_bytes agent.os_version;
-        language_version = string_bytes agent.language_version;
-        execution_environment = option_map string_bytes agent.execution_environment;
-        metrics = agent.metrics.items;
-        frameworks = agent.frameworks.items;
-        additional = agent.additional.items;
-        app_name = agent.app_name;
-        build = agent.build
+      core_version = string_bytes agent.core_version;
+      agent_version = string_bytes agent.agent_version;
+      api = agent.api;
+      os_family = agent.os_family;
+      os_version = option_map string_bytes agent.os_version;
+      language_version = string_bytes agent.language_version;
+      execution_environment = option_map string_bytes agent.execution_environment;
+      metrics = agent.metrics.items;
+      frameworks = agent.frameworks.items;
+      additional = agent.additional.items;
+      app_name = agent.app_name;
+      build = agent.build;
     } };
 }
 
@@ -215,7 +217,10 @@ impl AwsUserAgent {
     }
 
     /// Appends the additional value.
-    pub fn add_additional_metadata(&mut self, metadata: AdditionalMetadata) -> Mem<&mut AwsUserAgent>
+    pub fn add_additional_metadata(
+        &mut self,
+        metadata: AdditionalMetadata,
+    ) -> Mem<&mut AwsUserAgent>
         ensures same_agent { IfOk result (λ agent. agent.ghost_name ≡ self.entry.ghost_name) }
         ensures added { IfOk result (λ agent. agent.now ≡ record self.old { additional = self.old.additional ++ metadata ∷ [] }) }
     {

@@ -115,8 +115,12 @@ fn make_agent(
         return Err(UserAgentFault::MissingApiMetadata);
     };
     let alloc = *bag.frameworks.allocator();
-    let mut agent =
-        AwsUserAgent::new_from_environment(alloc, env, api.try_clone()?, build.try_clone()?)?;
+    let mut agent = AwsUserAgent::new_from_environment(
+        alloc,
+        env,
+        api.try_clone()?,
+        build.try_clone()?,
+    )?;
     agent.set_frameworks(oldest_frameworks(alloc, bag.frameworks.as_slice())?);
     if let Some(app_name) = &bag.app_name {
         agent.set_app_name(app_name.try_clone()?);

@@ -131,7 +131,7 @@ pub(crate) fn push_metric(ids: &mut String, metric: BusinessMetric) -> Mem<()>
 
 // Appends the id of a place.
 #[tactic(auto, unfolding(crate::specs::Metric::id_at))]
-fn push_id(ids: &mut String, place: usize) -> Mem<()>
+pub(crate) fn push_id(ids: &mut String, place: usize) -> Mem<()>
     requires { place < 4160 }
     ensures { OnOk result (string_bytes ids.new ≡ string_bytes ids.old ++ id_at place) }
 {

@@ -36,15 +36,23 @@ impl SmithySdkFeature {
             SmithySdkFeature::ProtocolRpcV2Cbor => BusinessMetric::ProtocolRpcV2Cbor,
             SmithySdkFeature::RetryModeStandard => BusinessMetric::RetryModeStandard,
             SmithySdkFeature::RetryModeAdaptive => BusinessMetric::RetryModeAdaptive,
-            SmithySdkFeature::FlexibleChecksumsReqCrc32 => BusinessMetric::FlexibleChecksumsReqCrc32,
-            SmithySdkFeature::FlexibleChecksumsReqCrc32c => BusinessMetric::FlexibleChecksumsReqCrc32c,
-            SmithySdkFeature::FlexibleChecksumsReqCrc64 => BusinessMetric::FlexibleChecksumsReqCrc64,
+            SmithySdkFeature::FlexibleChecksumsReqCrc32 =>
+                BusinessMetric::FlexibleChecksumsReqCrc32,
+            SmithySdkFeature::FlexibleChecksumsReqCrc32c =>
+                BusinessMetric::FlexibleChecksumsReqCrc32c,
+            SmithySdkFeature::FlexibleChecksumsReqCrc64 =>
+                BusinessMetric::FlexibleChecksumsReqCrc64,
             SmithySdkFeature::FlexibleChecksumsReqSha1 => BusinessMetric::FlexibleChecksumsReqSha1,
-            SmithySdkFeature::FlexibleChecksumsReqSha256 => BusinessMetric::FlexibleChecksumsReqSha256,
-            SmithySdkFeature::FlexibleChecksumsReqWhenSupported => BusinessMetric::FlexibleChecksumsReqWhenSupported,
-            SmithySdkFeature::FlexibleChecksumsReqWhenRequired => BusinessMetric::FlexibleChecksumsReqWhenRequired,
-            SmithySdkFeature::FlexibleChecksumsResWhenSupported => BusinessMetric::FlexibleChecksumsResWhenSupported,
-            SmithySdkFeature::FlexibleChecksumsResWhenRequired => BusinessMetric::FlexibleChecksumsResWhenRequired,
+            SmithySdkFeature::FlexibleChecksumsReqSha256 =>
+                BusinessMetric::FlexibleChecksumsReqSha256,
+            SmithySdkFeature::FlexibleChecksumsReqWhenSupported =>
+                BusinessMetric::FlexibleChecksumsReqWhenSupported,
+            SmithySdkFeature::FlexibleChecksumsReqWhenRequired =>
+                BusinessMetric::FlexibleChecksumsReqWhenRequired,
+            SmithySdkFeature::FlexibleChecksumsResWhenSupported =>
+                BusinessMetric::FlexibleChecksumsResWhenSupported,
+            SmithySdkFeature::FlexibleChecksumsResWhenRequired =>
+                BusinessMetric::FlexibleChecksumsResWhenRequired,
             SmithySdkFeature::ObservabilityOtelMetrics => BusinessMetric::ObservabilityOtelMetrics,
         }
     }
@@ -83,7 +91,8 @@ impl AwsSdkFeature {
             AwsSdkFeature::SsoLoginAuth => BusinessMetric::SsoLoginAuth,
             AwsSdkFeature::EndpointOverride => BusinessMetric::EndpointOverride,
             AwsSdkFeature::S3TransferUploadDirectory => BusinessMetric::S3TransferUploadDirectory,
-            AwsSdkFeature::S3TransferDownloadDirectory => BusinessMetric::S3TransferDownloadDirectory,
+            AwsSdkFeature::S3TransferDownloadDirectory =>
+                BusinessMetric::S3TransferDownloadDirectory,
             AwsSdkFeature::S3CustomPartSize => BusinessMetric::S3CustomPartSize,
             AwsSdkFeature::S3CustomThroughput => BusinessMetric::S3CustomThroughput,
             AwsSdkFeature::S3CustomMemoryLimit => BusinessMetric::S3CustomMemoryLimit,
@@ -129,26 +138,37 @@ impl AwsCredentialFeature {
         match self {
             AwsCredentialFeature::CredentialsCode => BusinessMetric::CredentialsCode,
             AwsCredentialFeature::CredentialsEnvVars => BusinessMetric::CredentialsEnvVars,
-            AwsCredentialFeature::CredentialsEnvVarsStsWebIdToken => BusinessMetric::CredentialsEnvVarsStsWebIdToken,
-            AwsCredentialFeature::CredentialsStsAssumeRole => BusinessMetric::CredentialsStsAssumeRole,
-            AwsCredentialFeature::CredentialsStsAssumeRoleSaml => BusinessMetric::CredentialsStsAssumeRoleSaml,
-            AwsCredentialFeature::CredentialsStsAssumeRoleWebId => BusinessMetric::CredentialsStsAssumeRoleWebId,
-            AwsCredentialFeature::CredentialsStsFederationToken => BusinessMetric::CredentialsStsFederationToken,
-            AwsCredentialFeature::CredentialsStsSessionToken => BusinessMetric::CredentialsStsSessionToken,
+            AwsCredentialFeature::CredentialsEnvVarsStsWebIdToken =>
+                BusinessMetric::CredentialsEnvVarsStsWebIdToken,
+            AwsCredentialFeature::CredentialsStsAssumeRole =>
+                BusinessMetric::CredentialsStsAssumeRole,
+            AwsCredentialFeature::CredentialsStsAssumeRoleSaml =>
+                BusinessMetric::CredentialsStsAssumeRoleSaml,
+            AwsCredentialFeature::CredentialsStsAssumeRoleWebId =>
+                BusinessMetric::CredentialsStsAssumeRoleWebId,
+            AwsCredentialFeature::CredentialsStsFederationToken =>
+                BusinessMetric::CredentialsStsFederationToken,
+            AwsCredentialFeature::CredentialsStsSessionToken =>
+                BusinessMetric::CredentialsStsSessionToken,
             AwsCredentialFeature::CredentialsProfile => BusinessMetric::CredentialsProfile,
-            AwsCredentialFeature::CredentialsProfileSourceProfile => BusinessMetric::CredentialsProfileSourceProfile,
-            AwsCredentialFeature::CredentialsProfileNamedProvider => BusinessMetric::CredentialsProfileNamedProvider,
-            AwsCredentialFeature::CredentialsProfileStsWebIdToken => BusinessMetric::CredentialsProfileStsWebIdToken,
+            AwsCredentialFeature::CredentialsProfileSourceProfile =>
+                BusinessMetric::CredentialsProfileSourceProfile,
+            AwsCredentialFeature::CredentialsProfileNamedProvider =>
+                BusinessMetric::CredentialsProfileNamedProvider,
+            AwsCredentialFeature::CredentialsProfileStsWebIdToken =>
+                BusinessMetric::CredentialsProfileStsWebIdToken,
             AwsCredentialFeature::CredentialsProfileSso => BusinessMetric::CredentialsProfileSso,
             AwsCredentialFeature::CredentialsSso => BusinessMetric::CredentialsSso,
-            AwsCredentialFeature::CredentialsProfileProcess => BusinessMetric::CredentialsProfileProcess,
+            AwsCredentialFeature::CredentialsProfileProcess =>
+                BusinessMetric::CredentialsProfileProcess,
             AwsCredentialFeature::CredentialsProcess => BusinessMetric::CredentialsProcess,
             AwsCredentialFeature::CredentialsHttp => BusinessMetric::CredentialsHttp,
             AwsCredentialFeature::CredentialsImds => BusinessMetric::CredentialsImds,
             AwsCredentialFeature::ResolvedAccountId => BusinessMetric::ResolvedAccountId,
             AwsCredentialFeature::BearerServiceEnvVars => BusinessMetric::BearerServiceEnvVars,
             AwsCredentialFeature::S3ExpressBucket => BusinessMetric::S3ExpressBucket,
-            AwsCredentialFeature::CredentialsProfileLogin => BusinessMetric::CredentialsProfileLogin,
+            AwsCredentialFeature::CredentialsProfileLogin =>
+                BusinessMetric::CredentialsProfileLogin,
             AwsCredentialFeature::CredentialsLogin => BusinessMetric::CredentialsLogin,
         }
     }
