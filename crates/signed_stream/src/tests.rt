@@ -92,17 +92,9 @@ fn answers(rt: HostRuntime) -> Result<(), Fail> {
             "refused 2 MissingCredentials\n",
         ),
         (number_header.as_str(), Status::Done, ""),
-        (
-            later_line.as_str(),
-            Status::NotBuilt(3),
-            "not built 3\n",
-        ),
+        (later_line.as_str(), Status::NotBuilt(3), "not built 3\n"),
         ("", Status::BadJob(1), "bad line 1\n"),
-        (
-            "method GET\nfoo bar\n",
-            Status::BadJob(2),
-            "bad line 2\n",
-        ),
+        ("method GET\nfoo bar\n", Status::BadJob(2), "bad line 2\n"),
     ];
     for (job, status, line) in cases {
         assert_ends(&rt, WORDS, job, status, line)?;

@@ -1,0 +1,9 @@
+pub mod AgentLemmas
+pub mod ClassifyLemmas
+pub mod DistinctLemmas
+pub mod InvocationLemmas
+pub mod KeptLemmas
+pub mod MetricIdsLemmas
+pub mod MetricLemmas
+pub mod RecursionLemmas
+pub mod RequestInfoLemmas

@@ -1,0 +1,17 @@
+pub mod Agent
+pub mod AgentParts
+pub mod Bag
+pub mod Build
+pub mod Classify
+pub mod ClockSkew
+pub mod Codes
+pub mod Distinct
+pub mod Features
+pub mod Frameworks
+pub mod Invocation
+pub mod Metadata
+pub mod Metric
+pub mod MetricIds
+pub mod Recursion
+pub mod RequestInfo
+pub mod UserAgent

@@ -1,0 +1,61 @@
+use crate::tests::{bare_request, text_of};
+use crate::{
+    ConfigBag, DefaultInvocationIdGenerator, IdFault, InvalidInvocationId, InvocationId,
+    InvocationIdGenerator, InvocationIdInterceptor, NoInvocationIdGenerator,
+    PredefinedInvocationIdGenerator,
+};
+use rand_pcg::Pcg32;
+use std::alloc::Global;
+use std::test::Fail;
+
+// The header that an invocation with a generator's next id sends.
+fn sent<G: InvocationIdGenerator>(
+    alloc: Global,
+    generator: &mut G,
+    bag: &mut ConfigBag,
+) -> Result<Option<String>, Fail> {
+    let mut interceptor = InvocationIdInterceptor::new();
+    interceptor.modify_before_retry_loop(generator, bag)?;
+    let mut request = bare_request(alloc)?;
+    interceptor.modify_before_transmit(&mut request, bag)?;
+    Ok(match request.headers.get("amz-sdk-invocation-id") {
+        Some(id) => Some(text_of(alloc, id)?),
+        None => None,
+    })
+}
+
+#[test]
+fn random_ids(rt: HostRuntime) -> Result<(), Fail> {
+    let alloc = rt.alloc();
+    let mut generator = DefaultInvocationIdGenerator::new(alloc, Pcg32::new(42, 54));
+    let mut bag = ConfigBag::new(alloc);
+    let header = sent(alloc, &mut generator, &mut bag)?.ok_or("no header")?;
+    let id = bag.invocation_id.as_ref().ok_or("no id")?;
+    assert_eq!(rt; id.as_str(), header.as_str());
+    assert_eq!(rt; header.len(), 36);
+    let hyphens = header.as_bytes().iter().filter(|b| **b == b'-').count();
+    assert_eq!(rt; hyphens, 4);
+    // The words of the reference generator of PCG, by RFC 9562.
+    assert_eq!(rt; header.as_str(), "b7025ca1-09f4-477b-b033-1dba93f2d283");
+    Ok(())
+}
+
+#[test]
+fn given_ids(rt: HostRuntime) -> Result<(), Fail> {
+    let alloc = rt.alloc();
+    let id = InvocationId::new(text_of(alloc, "the-best-invocation-id")?)?;
+    assert!(rt; id == id.try_clone()?);
+    let mut ids = Vec::new(alloc);
+    ids.push(id)?;
+    let mut generator = PredefinedInvocationIdGenerator::new(ids);
+    let mut bag = ConfigBag::new(alloc);
+    let header = sent(alloc, &mut generator, &mut bag)?.ok_or("no header")?;
+    assert_eq!(rt; header.as_str(), "the-best-invocation-id");
+    assert!(rt; matches!(&generator.generate(), Err(IdFault::UsedUp)));
+    let mut other = ConfigBag::new(alloc);
+    let mut none = NoInvocationIdGenerator::new();
+    assert!(rt; sent(alloc, &mut none, &mut other)?.is_none());
+    let control = InvocationId::new(text_of(alloc, "a\u{7}")?);
+    assert!(rt; matches!(&control, Err(InvalidInvocationId)));
+    Ok(())
+}

@@ -1,0 +1,14 @@
+mod additional;
+pub(crate) mod agent;
+pub(crate) mod build;
+pub(crate) mod config;
+pub(crate) mod feature;
+mod feature_metrics;
+pub(crate) mod framework;
+pub(crate) mod frameworks;
+pub(crate) mod interceptor;
+pub(crate) mod metadata;
+pub(crate) mod metric;
+pub(crate) mod metric_ids;
+mod name_version;
+pub(crate) mod sdk_feature;

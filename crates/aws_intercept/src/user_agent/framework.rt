@@ -1,0 +1,82 @@
+ghost use Rattle.std.specs.Prelude.{◌≡◌, IfOk, option_copied};
+ghost use Rattle.aws_intercept.specs.Metadata.{ChecksNamed, is_named};
+
+use crate::user_agent::metadata::InvalidMetadataValue;
+use crate::user_agent::name_version::NameVersion;
+use smithy_core::Mem;
+use std::fmt;
+use std::marker::Model;
+
+/// A framework that stands on the SDK, printed as `lib/NAME` or `lib/NAME/VERSION`.
+///
+/// Contracts see its name and its version.
+#[derive(Debug, Drop)]
+pub struct FrameworkMetadata {
+    named: NameVersion,
+}
+
+impl Model for FrameworkMetadata {
+    ghost use Rattle.aws_intercept.specs.Metadata.{Named};
+
+    ghost Value = { Named };
+
+    ghost view = { λ framework. framework.named };
+}
+
+impl FrameworkMetadata {
+    /// The framework of this name and this version.
+    ///
+    /// # Errors
+    ///
+    /// [`InvalidMetadataValue`] exactly where one of them holds a character that metadata can't have.
+    pub fn new(
+        name: String,
+        version: Option<String>,
+    ) -> Result<FrameworkMetadata, InvalidMetadataValue>
+        ensures { ChecksNamed name version result }
+    {
+        let named = NameVersion::new(name, version)?;
+        Ok(FrameworkMetadata { named })
+    }
+
+    /// The name.
+    pub fn name(&self) -> &str
+        ensures { result.now ≡ self.now.name }
+    {
+        self.named.name()
+    }
+
+    /// The version, where there is one.
+    pub fn version(&self) -> Option<&str>
+        ensures { option_copied result ≡ self.now.version }
+    {
+        self.named.version()
+    }
+
+    /// Whether name and version are the same.
+    pub(crate) fn is_same(&self, other: &FrameworkMetadata) -> bool
+        ensures { result ≡ is_named self.now other.now }
+    {
+        self.named.is_same(&other.named)
+    }
+
+    /// Equal metadata.
+    pub fn try_clone(&self) -> Mem<FrameworkMetadata>
+        ensures { IfOk result (λ copy. copy ≡ self.now) }
+    {
+        let named = self.named.try_clone()?;
+        Ok(FrameworkMetadata { named })
+    }
+}
+
+impl fmt::Display for FrameworkMetadata {
+    ghost use Rattle.std.specs.Prelude.{Some};
+    ghost use Rattle.aws_intercept.specs.Metadata.{framework_text};
+
+    ghost output = { λ framework. Some (framework_text framework) };
+
+    fn fmt<W: fmt::Write>(&self, f: &mut fmt::Formatter<W>) -> fmt::Result {
+        let named = &self.named;
+        write!(f, "lib/{named}")
+    }
+}
