@@ -52,7 +52,7 @@ unsigned_fits text case events headers halts.NoMemory held refused = inl (λ tar
 pub signed_fits : {T : Type 0} (text method : List ℕ) (case : Target → Case) (events : List Parts) (target : Target) (headers : List (List ℕ × List ℕ)) (signature : List ℕ) (before now : Option (List ℕ)) (answer : Result T Halt)
     → SpellsAs text (Some target) → unfit (case target) ≡ None → method ≡ (case target).method → headers ≡ signed_headers (case target) → signature ≡ signature_of (case target)
     → (let c = case target in let refusal = first_refusal c.signer 1 events c.at signature in
-      Sends (option_map fault_of refusal) (head method text headers ++ streamed_lines c.signer events c.at signature refusal) before now answer)
+    Sends (option_map fault_of refusal) (head method text headers ++ streamed_lines c.signer events c.at signature refusal) before now answer)
     → FitsTarget (SpellsAs text) (target_plan text case events) (ended answer) before now
 signed_fits text method case events target headers signature before now answer reads fit method_is headers_are signature_is sends =
     let c = case target in

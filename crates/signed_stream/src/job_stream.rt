@@ -16,7 +16,7 @@ ghost use Rattle.signed_stream.specs.Targets.{SpellsAs};
 ghost use Rattle.signed_stream.specs.Words.{wanted_of};
 ghost use Rattle.signed_stream.specs.Written.{head};
 
-use crate::halt::Halt;
+use crate::halt::{Halt, status_of};
 use crate::job::{Job, JobFault, read_job};
 use crate::sign::sign_request;
 use crate::status::{Status, StreamFault};
@@ -83,12 +83,7 @@ fn stream_bytes<K: ByteSink>(
 }
 
 // Streams a job, under the credentials and the region that its profile gives.
-fn stream_job<K: ByteSink>(
-    alloc: Global,
-    job: Job,
-    words: &StreamWords<'_>,
-    out: &mut K,
-) -> Status
+fn stream_job<K: ByteSink>(alloc: Global, job: Job, words: &StreamWords<'_>, out: &mut K) -> Status
     ensures never_bad_words { (place : ℕ) → result ≡ Status.BadWords place → ⊥ }
     ensures never_read_fault { result ≡ Status.ReadFault → ⊥ }
     ensures planned { FitsTarget (SpellsAs (string_bytes job.request.target)) (λ target. job_plan (wanted_of words.now) target (plain_job (plain_of job)))
@@ -106,8 +101,12 @@ fn stream_job<K: ByteSink>(
             Status::Refused(StreamFault::MomentOutOfRange(words.at))
         }
         (Some(key_id), Some(secret), Some(region)) => {
-            let identity =
-                Identity::Credentials(Credentials::new(key_id, secret, settings.token, None));
+            let identity = Identity::Credentials(Credentials::new(
+                key_id,
+                secret,
+                settings.token,
+                None,
+            ));
             let streamed = stream_request(
                 alloc,
                 request,
@@ -117,10 +116,7 @@ fn stream_job<K: ByteSink>(
                 words,
                 out,
             );
-            match streamed {
-                Ok(()) => Status::Done,
-                Err(halt) => halt.status(),
-            }
+            status_of(streamed)
         }
         (Some(_), Some(_), None) => Status::Refused(StreamFault::MissingSigningRegion),
         _ => Status::Refused(StreamFault::MissingCredentials),
