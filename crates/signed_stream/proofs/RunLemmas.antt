@@ -130,7 +130,7 @@ fits_keeps wanted target (plain_job j) answer before now fits = by_settings j.se
 -- ## What the target spells
 
 -- an answer that fits does so for whatever the target is said to spell
-pub fits_read : (wanted : Wanted) (reading : Reading) (answer : Status) (before now : Option (List ℕ)) (target : Option Target)
+fits_read : (wanted : Wanted) (reading : Reading) (answer : Status) (before now : Option (List ℕ)) (target : Option Target)
     → FitsTarget (ReadsTargetOf reading) (λ target. job_plan wanted target reading) answer before now → ReadsTargetOf reading target → Fits (job_plan wanted target reading) answer before now
 fits_read wanted reading answer before now target (inl fits) reads = fits target
 fits_read wanted (plain_job j) answer before now target (inr found) reads = let same = reads_one j.target target found.0 reads found.1 in rw same found.2
@@ -153,11 +153,19 @@ all_read None read bytes all told = cc
 all_read (Some told_bytes) read bytes all told = all ∙ (let e : Some told_bytes ≡ Some bytes = told in cc)
 
 -- its plan
-pub plan_of_read : (wanted : Wanted) (read bytes : List ℕ) (target : Option Target) → length read ≤ most_input → read ≡ bytes → input_plan wanted bytes target ≡ job_plan wanted target (job read)
+plan_of_read : (wanted : Wanted) (read bytes : List ℕ) (target : Option Target) → length read ≤ most_input → read ≡ bytes → input_plan wanted bytes target ≡ job_plan wanted target (job read)
 unfolding input_plan
 plan_of_read wanted read bytes target short same =
     let test : nat_lt most_input (length bytes) ≡ false = (let within : length bytes ≤ most_input = rw (← same) short in grind (arith, nat_tests)) in
     rw (test, same) refl
+
+-- an answer that fits its job fits the plan of an input that was read to its end
+pub fits_input : (wanted : Wanted) (left : Option (List ℕ)) (read bytes : List ℕ) (target : Option Target) (answer : Status) (before now : Option (List ℕ))
+    → IsAllOf left read → length read ≤ most_input → left ≡ Some bytes → ReadsTargetOf (job bytes) target
+    → FitsTarget (ReadsTargetOf (job read)) (λ target. job_plan wanted target (job read)) answer before now → Fits (input_plan wanted bytes target) answer before now
+fits_input wanted left read bytes target answer before now all short told reads fits =
+    let same = all_read left read bytes all told in
+    rw (plan_of_read wanted read bytes target short same) (fits_read wanted (job read) answer before now target fits (rw same reads))
 
 -- the plan of an input that is too large
 pub plan_too_large : (wanted : Wanted) (left : Option (List ℕ)) (bytes : List ℕ) (target : Option Target)

@@ -1,3 +1,6 @@
+ghost use Rattle.std.specs.Prelude.{◌≡◌};
+ghost use Rattle.signed_stream.specs.Sending.{ended};
+
 use crate::status::{Status, StreamFault};
 use sigv4::SigningError;
 use std::alloc::AllocError;
@@ -13,19 +16,15 @@ pub enum Halt {
     NoMemory,
 }
 
-impl Halt {
-    ghost use Rattle.std.specs.Prelude.{◌≡◌};
-    ghost use Rattle.signed_stream.specs.Sending.{halted};
-
-    /// How a run ends that halts so.
-    pub fn status(self) -> Status
-        ensures { result ≡ halted self }
-    {
-        match self {
-            Halt::Refused(fault) => Status::Refused(fault),
-            Halt::OutputFault => Status::OutputFault,
-            Halt::NoMemory => Status::NoMemory,
-        }
+/// How a run ends with this outcome.
+pub fn status_of(outcome: Result<(), Halt>) -> Status
+    ensures { result ≡ ended outcome }
+{
+    match outcome {
+        Ok(()) => Status::Done,
+        Err(Halt::Refused(fault)) => Status::Refused(fault),
+        Err(Halt::OutputFault) => Status::OutputFault,
+        Err(Halt::NoMemory) => Status::NoMemory,
     }
 }
 

@@ -16,7 +16,7 @@ ghost use Rattle.signed_stream.specs.Targets.{SpellsAs};
 ghost use Rattle.signed_stream.specs.Words.{wanted_of};
 ghost use Rattle.signed_stream.specs.Written.{head};
 
-use crate::halt::Halt;
+use crate::halt::{Halt, status_of};
 use crate::job::{Job, JobFault, read_job};
 use crate::sign::sign_request;
 use crate::status::{Status, StreamFault};
@@ -116,10 +116,7 @@ fn stream_job<K: ByteSink>(alloc: Global, job: Job, words: &StreamWords<'_>, out
                 words,
                 out,
             );
-            match streamed {
-                Ok(()) => Status::Done,
-                Err(halt) => halt.status(),
-            }
+            status_of(streamed)
         }
         (Some(_), Some(_), None) => Status::Refused(StreamFault::MissingSigningRegion),
         _ => Status::Refused(StreamFault::MissingCredentials),

@@ -3,8 +3,7 @@ mod refused_events;
 mod refused_runs;
 mod signed_requests;
 
-use crate::{Status, StreamFault, run};
-use sigv4::ValuePlace;
+use crate::run;
 use smithy_core::{
     ByteSink, CalmDisk, CalmSink, CalmSource, Env, FaultySink, FaultySource, FixedClock, Moment,
 };
@@ -37,19 +36,19 @@ fn texts(alloc: Global, words: &[&str]) -> Result<Vec<String>, AllocError> {
     Ok(out)
 }
 
-// A run on these words, an input, an output and an `err`.
+// The number that a run on these words, an input, an output and an `err` ends with.
 fn run_on<K: ByteSink, E: ByteSink>(
     alloc: Global,
     words: &[&str],
     input: &mut FaultySource,
     out: &mut K,
     err: &mut E,
-) -> Result<Status, AllocError> {
+) -> Result<u8, AllocError> {
     let words = texts(alloc, words)?;
     let mut disk = CalmDisk::new(Vec::new(alloc));
     let mut clock = FixedClock::new(Moment::new(0, 0));
     let env = Env::new(alloc);
-    Ok(run(
+    let status = run(
         alloc,
         words.as_slice(),
         &env,
@@ -58,7 +57,8 @@ fn run_on<K: ByteSink, E: ByteSink>(
         &mut clock,
         out,
         err,
-    ))
+    );
+    Ok(status.code())
 }
 
 fn input_of(alloc: Global, bytes: &[u8], fails: &[u64]) -> Result<FaultySource, AllocError> {
@@ -80,27 +80,19 @@ fn answers(rt: HostRuntime) -> Result<(), Fail> {
     let number_header = JOB.replace(alloc, "h :message-type text event", "h n i32 1")?;
     let later_line = JOB.replace(alloc, "header content", "config content")?;
     let cases = [
-        (JOB, Status::Done, ""),
-        (
-            lacks_region.as_str(),
-            Status::Refused(StreamFault::MissingSigningRegion),
-            "refused 3 MissingSigningRegion\n",
-        ),
-        (
-            lacks_secret.as_str(),
-            Status::Refused(StreamFault::MissingCredentials),
-            "refused 2 MissingCredentials\n",
-        ),
-        (number_header.as_str(), Status::Done, ""),
-        (later_line.as_str(), Status::NotBuilt(3), "not built 3\n"),
-        ("", Status::BadJob(1), "bad line 1\n"),
-        ("method GET\nfoo bar\n", Status::BadJob(2), "bad line 2\n"),
+        (JOB, 0, ""),
+        (lacks_region.as_str(), 7, "refused 3 MissingSigningRegion\n"),
+        (lacks_secret.as_str(), 7, "refused 2 MissingCredentials\n"),
+        (number_header.as_str(), 0, ""),
+        (later_line.as_str(), 11, "not built 3\n"),
+        ("", 4, "bad line 1\n"),
+        ("method GET\nfoo bar\n", 4, "bad line 2\n"),
     ];
-    for (job, status, line) in cases {
-        assert_ends(&rt, WORDS, job, status, line)?;
+    for (job, code, line) in cases {
+        assert_ends(&rt, WORDS, job, code, line)?;
     }
-    assert_ends(&rt, &["stream"], JOB, Status::BadWords(2), "bad word 2\n")?;
-    assert_ends(&rt, &["check"], JOB, Status::NotBuilt(1), "not built 1\n")
+    assert_ends(&rt, &["stream"], JOB, 2, "bad word 2\n")?;
+    assert_ends(&rt, &["check"], JOB, 11, "not built 1\n")
 }
 
 // The first test of the request that fails decides.
@@ -108,44 +100,32 @@ fn answers(rt: HostRuntime) -> Result<(), Fail> {
 fn refused_requests(rt: HostRuntime) -> Result<(), Fail> {
     let alloc = rt.alloc();
     let cases = [
-        (
-            "target /x",
-            StreamFault::MissingHost,
-            "refused 8 MissingHost\n",
-        ),
-        (
-            "target h.example",
-            StreamFault::InvalidUri,
-            "refused 5 InvalidUri\n",
-        ),
+        ("target /x", "refused 8 MissingHost\n"),
+        ("target h.example", "refused 5 InvalidUri\n"),
         (
             "target https://h.example/\nheader a: a\x07\nheader b c: d",
-            StreamFault::InvalidHeaderValue(ValuePlace::Header(1)),
             "refused 7 InvalidHeaderValue\n",
         ),
         (
             "target https://h.example/\nheader a: b\nheader b c: d\x07",
-            StreamFault::InvalidHeaderName(2),
             "refused 6 InvalidHeaderName\n",
         ),
     ];
-    for (lines, fault, line) in cases {
+    for (lines, line) in cases {
         let job = format!(in alloc; "method GET\n{lines}\n{PROFILE}")?;
-        assert_ends(&rt, WORDS, job.as_str(), Status::Refused(fault), line)?;
+        assert_ends(&rt, WORDS, job.as_str(), 7, line)?;
     }
     let late: &[&str] = &["stream", "--name", "a", "--at", "253402300800"];
-    let fault = StreamFault::MomentOutOfRange(Moment::new(253_402_300_800, 0));
     let job = format!(in alloc; "method GET\ntarget h.example\n{PROFILE}")?;
-    let line = "refused 4 MomentOutOfRange\n";
-    assert_ends(&rt, late, job.as_str(), Status::Refused(fault), line)
+    assert_ends(&rt, late, job.as_str(), 7, "refused 4 MomentOutOfRange\n")
 }
 
-// A run on these words and a job gives this answer and this line, and writes where it is done.
+// A run on these words and a job ends with this number and this line, and writes where it is done.
 fn assert_ends(
     rt: &(impl Abort + AllocGlobal),
     words: &[&str],
     job: &str,
-    status: Status,
+    code: u8,
     line: &str,
 ) -> Result<(), Fail> {
     let alloc = rt.alloc();
@@ -153,9 +133,30 @@ fn assert_ends(
     let mut out = FaultySink::new(alloc, Vec::new(alloc));
     let mut err = FaultySink::new(alloc, Vec::new(alloc));
     let answer = run_on(alloc, words, &mut input, &mut out, &mut err)?;
-    assert_eq!(rt; answer, status, "of {line:?}");
+    assert_eq!(rt; answer, code, "of {line:?}");
     assert_eq!(rt; err.held(), line.as_bytes());
-    assert_eq!(rt; out.held().is_empty(), status != Status::Done);
+    assert_eq!(rt; out.held().is_empty(), code != 0);
+    Ok(())
+}
+
+// A run on these words and a job, to an output that fails at these writes, ends with this number and leaves these texts.
+fn assert_run(
+    rt: &(impl Abort + AllocGlobal),
+    words: &[&str],
+    job: &str,
+    fails: &[u64],
+    code: u8,
+    line: &str,
+    held: &str,
+) -> Result<(), Fail> {
+    let alloc = rt.alloc();
+    let mut input = input_of(alloc, job.as_bytes(), &[])?;
+    let mut out = FaultySink::new(alloc, Vec::from_slice(alloc, fails)?);
+    let mut err = FaultySink::new(alloc, Vec::new(alloc));
+    let answer = run_on(alloc, words, &mut input, &mut out, &mut err)?;
+    assert_eq!(rt; answer, code);
+    assert_eq!(rt; err.held(), line.as_bytes());
+    assert_eq!(rt; out.held(), held.as_bytes());
     Ok(())
 }
 
@@ -163,51 +164,39 @@ fn assert_ends(
 #[test]
 fn output_faults(rt: HostRuntime) -> Result<(), Fail> {
     let alloc = rt.alloc();
-    let held = [
-        String::new(alloc),
-        String::from_str(alloc, HEAD)?,
-        format!(in alloc; "{HEAD}{EVENT}")?,
-        format!(in alloc; "{HEAD}{EVENT}{CLOSING}")?,
-    ];
-    for (writes, held) in held.iter().enumerate() {
-        let mut input = input_of(alloc, JOB.as_bytes(), &[])?;
-        let mut out = FaultySink::new(alloc, vec![in alloc; writes as u64 + 1]?);
-        let mut err = FaultySink::new(alloc, Vec::new(alloc));
-        let answer = run_on(alloc, WORDS, &mut input, &mut out, &mut err)?;
-        let done = writes == 3;
-        assert_eq!(rt;
-            answer,
-            if done {
-                Status::Done
-            } else {
-                Status::OutputFault
-            }
-        );
-        assert_eq!(rt; out.held(), held.as_bytes());
-        let line = if done { "" } else { "output fault\n" };
-        assert_eq!(rt; err.held(), line.as_bytes());
-    }
-    Ok(())
+    let line = "output fault\n";
+    assert_run(&rt, WORDS, JOB, &[1], 9, line, "")?;
+    assert_run(&rt, WORDS, JOB, &[2], 9, line, HEAD)?;
+    let held = format!(in alloc; "{HEAD}{EVENT}")?;
+    assert_run(&rt, WORDS, JOB, &[3], 9, line, held.as_str())?;
+    let held = format!(in alloc; "{HEAD}{EVENT}{CLOSING}")?;
+    assert_run(&rt, WORDS, JOB, &[4], 0, "", held.as_str())
 }
 
 #[test]
 fn other_faults(rt: HostRuntime) -> Result<(), Fail> {
     let alloc = rt.alloc();
-    for fail in [1u64, 2] {
-        let mut input = input_of(alloc, JOB.as_bytes(), &[fail])?;
-        let mut out = CalmSink::new(alloc);
-        let mut err = FaultySink::new(alloc, Vec::new(alloc));
-        let answer = run_on(alloc, WORDS, &mut input, &mut out, &mut err)?;
-        assert_eq!(rt; answer, Status::ReadFault);
-        assert!(rt; out.held().is_empty());
-        assert_eq!(rt; err.held(), b"read fault\n".as_slice());
-    }
+    assert_read_fault(&rt, 1)?;
+    assert_read_fault(&rt, 2)?;
     let mut input = input_of(alloc, b"foo", &[])?;
     let mut out = CalmSink::new(alloc);
     let mut err = FaultySink::new(alloc, vec![in alloc; 1u64]?);
     let answer = run_on(alloc, WORDS, &mut input, &mut out, &mut err)?;
-    assert_eq!(rt; answer, Status::BadJob(1));
+    assert_eq!(rt; answer, 4);
     assert!(rt; err.held().is_empty());
+    Ok(())
+}
+
+// A run whose input fails at this read says so and writes nothing.
+fn assert_read_fault(rt: &(impl Abort + AllocGlobal), read: u64) -> Result<(), Fail> {
+    let alloc = rt.alloc();
+    let mut input = input_of(alloc, JOB.as_bytes(), &[read])?;
+    let mut out = CalmSink::new(alloc);
+    let mut err = FaultySink::new(alloc, Vec::new(alloc));
+    let answer = run_on(alloc, WORDS, &mut input, &mut out, &mut err)?;
+    assert_eq!(rt; answer, 5);
+    assert!(rt; out.held().is_empty());
+    assert_eq!(rt; err.held(), b"read fault\n".as_slice());
     Ok(())
 }
 
@@ -234,7 +223,7 @@ fn variables(rt: HostRuntime) -> Result<(), Fail> {
             &mut out,
             &mut err,
         );
-        assert_eq!(rt; answer, Status::NotBuilt(0));
+        assert_eq!(rt; answer.code(), 11);
         assert_eq!(rt; err.held(), b"not built 0\n".as_slice());
     }
     Ok(())
@@ -251,7 +240,7 @@ fn large_input(rt: HostRuntime) -> Result<(), Fail> {
     let mut out = CalmSink::new(alloc);
     let mut err = CalmSink::new(alloc);
     let answer = run_on(alloc, WORDS, &mut input, &mut out, &mut err)?;
-    assert_eq!(rt; answer, Status::JobTooLarge);
+    assert_eq!(rt; answer, 3);
     assert_eq!(rt; err.held(), b"input over 67108864 bytes\n".as_slice());
     Ok(())
 }

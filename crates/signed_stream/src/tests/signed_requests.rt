@@ -1,7 +1,5 @@
 //! Signed requests of every kind: the head and the closing frame.
-use super::{PROFILE, input_of, run_on};
-use crate::Status;
-use smithy_core::{ByteSink, FaultySink};
+use super::{PROFILE, assert_run};
 use std::test::Fail;
 
 /// A request with a path and a query that aren't in their normal forms, a repeated header and a body.
@@ -58,13 +56,7 @@ fn signed_requests(rt: HostRuntime) -> Result<(), Fail> {
         ),
     ];
     for (words, job, held) in &cases {
-        let mut input = input_of(alloc, job.as_bytes(), &[])?;
-        let mut out = FaultySink::new(alloc, Vec::new(alloc));
-        let mut err = FaultySink::new(alloc, Vec::new(alloc));
-        let answer = run_on(alloc, words, &mut input, &mut out, &mut err)?;
-        assert_eq!(rt; answer, Status::Done);
-        assert_eq!(rt; out.held(), held.as_bytes());
-        assert!(rt; err.held().is_empty());
+        assert_run(&rt, words, job.as_str(), &[], 0, "", held.as_str())?;
     }
     Ok(())
 }

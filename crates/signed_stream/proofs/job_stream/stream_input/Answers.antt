@@ -3,7 +3,7 @@ use Rattle.signed_stream.specs.Job.{job}
 use Rattle.signed_stream.specs.Plan.{input_plan, most_input}
 use Rattle.signed_stream.specs.Words.{wanted_of}
 use Rattle.signed_stream.proofs.HeadlineLemmas.{done_streams}
-use Rattle.signed_stream.proofs.RunLemmas.{all_read, fits_ends, fits_gains, fits_read, gains_no_memory, plan_of_read, plan_too_large, read_keeps}
+use Rattle.signed_stream.proofs.RunLemmas.{all_read, fits_ends, fits_gains, fits_input, gains_no_memory, plan_too_large, read_keeps}
 use Rattle.signed_stream.proofs.job_stream.stream_input.Goals as goal
 
 pub returns-in-Ok-clause-streamed : goal.returns-in-Ok-clause-streamed
@@ -18,17 +18,15 @@ pub returns-in-Ok-clause-planned : goal.returns-in-Ok-clause-planned
 returns-in-Ok-clause-planned g c = λ bytes target told reads.
     let counted = rw c.as_slice.ensures.value at c.as_slice.ensures.len in
     let short : length c.in-Ok.bytes.items ≤ most_input = omega (arith, counted, c.in-Ok.ensures.short) in
-    let same = all_read (g.S.ByteSource.left c.args.input.now) c.in-Ok.bytes.items bytes c.in-Ok.ensures.bytes told in
-    let fits = rw c.as_slice.ensures.value at c.stream_bytes.ensures.planned in
-    rw (plan_of_read (wanted_of c.args.words.now) c.in-Ok.bytes.items bytes target short same) (fits_ends _ c.stream_bytes.result (g.K.ByteSink.held c.args.out.now) (g.K.ByteSink.held c.stream_bytes.new.out) (fits_read (wanted_of c.args.words.now) (job c.in-Ok.bytes.items) c.stream_bytes.result (g.K.ByteSink.held c.args.out.now) (g.K.ByteSink.held c.stream_bytes.new.out) target fits (rw same reads)))
+    fits_ends (input_plan (wanted_of c.args.words.now) bytes target) c.stream_bytes.result (g.K.ByteSink.held c.args.out.now) (g.K.ByteSink.held c.stream_bytes.new.out)
+    (fits_input _ (g.S.ByteSource.left c.args.input.now) c.in-Ok.bytes.items bytes target _ _ _ c.in-Ok.ensures.bytes short told reads (rw c.as_slice.ensures.value at c.stream_bytes.ensures.planned))
 
 pub returns-in-Ok-clause-output : goal.returns-in-Ok-clause-output
 returns-in-Ok-clause-output g c = λ bytes target told reads.
     let counted = rw c.as_slice.ensures.value at c.as_slice.ensures.len in
     let short : length c.in-Ok.bytes.items ≤ most_input = omega (arith, counted, c.in-Ok.ensures.short) in
-    let same = all_read (g.S.ByteSource.left c.args.input.now) c.in-Ok.bytes.items bytes c.in-Ok.ensures.bytes told in
-    let fits = rw c.as_slice.ensures.value at c.stream_bytes.ensures.planned in
-    rw (plan_of_read (wanted_of c.args.words.now) c.in-Ok.bytes.items bytes target short same) (fits_gains _ c.stream_bytes.result (g.K.ByteSink.held c.args.out.now) (g.K.ByteSink.held c.stream_bytes.new.out) (fits_read (wanted_of c.args.words.now) (job c.in-Ok.bytes.items) c.stream_bytes.result (g.K.ByteSink.held c.args.out.now) (g.K.ByteSink.held c.stream_bytes.new.out) target fits (rw same reads)))
+    fits_gains (input_plan (wanted_of c.args.words.now) bytes target) c.stream_bytes.result (g.K.ByteSink.held c.args.out.now) (g.K.ByteSink.held c.stream_bytes.new.out)
+    (fits_input _ (g.S.ByteSource.left c.args.input.now) c.in-Ok.bytes.items bytes target _ _ _ c.in-Ok.ensures.bytes short told reads (rw c.as_slice.ensures.value at c.stream_bytes.ensures.planned))
 
 pub returns-in-Ok-clause-kept : goal.returns-in-Ok-clause-kept
 returns-in-Ok-clause-kept g c =
