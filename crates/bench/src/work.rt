@@ -1,10 +1,14 @@
+ghost use Rattle.std.specs.Prelude.{◌≡◌};
+
 use crate::digest::Digest;
 use bytes::Bytes;
 use eventstream::write_message_to;
 use mac_core::crc32;
 use sha2::{Digest as _, Sha256};
 use sigv4::event_stream::{sign_empty_message, sign_message};
-use sigv4::{SignableBody, SignableRequest, SigningError, SigningSettings, sign, v4};
+use sigv4::{
+    SignableBody, SignableRequest, SigningError, SigningParams, SigningSettings, sign, v4,
+};
 use smithy_core::{Credentials, Headers, Identity, Message, Moment};
 use std::alloc::{AllocError, Global};
 
@@ -55,18 +59,25 @@ fn signatures(alloc: Global, count: u32) -> Result<Digest, SigningError> {
     let headers = example_headers(alloc)?;
     let mut digest = Digest::new();
     for number in 0..count {
-        let at = Moment::new(1_440_938_160 + i64::from(number), 0);
-        let params = sigv4::SigningParams::from(params_at(
-            &identity,
-            at,
-            SigningSettings::new(alloc)?,
-        ));
-        let target = "https://service.us-east-1.amazonaws.com/path";
-        let request = SignableRequest::new(alloc, "GET", target, &headers, SignableBody::empty())?;
-        let signed = sign(alloc, request, &params)?;
-        digest = digest.with(signed.signature().as_bytes());
+        let signature = signature_at(alloc, &identity, &headers, number)?;
+        digest = digest.with(signature.as_bytes());
     }
     Ok(digest)
+}
+
+// The signature of a small request so many seconds after the first.
+fn signature_at(
+    alloc: Global,
+    identity: &Identity,
+    headers: &Headers,
+    number: u32,
+) -> Result<String, SigningError> {
+    let at = Moment::new(1_440_938_160 + i64::from(number), 0);
+    let params = params_at(identity, at, SigningSettings::new(alloc)?);
+    let target = "https://service.us-east-1.amazonaws.com/path";
+    let request = SignableRequest::new(alloc, "GET", target, headers, SignableBody::empty())?;
+    let (_, signature) = sign(alloc, request, &SigningParams::V4(params))?.into_parts();
+    Ok(signature)
 }
 
 fn example_headers(alloc: Global) -> Result<Headers, AllocError> {
@@ -138,12 +149,18 @@ fn example_identity(alloc: Global) -> Result<Identity, AllocError> {
     )))
 }
 
-fn params_at<S: Drop>(identity: &Identity, at: Moment, settings: S) -> v4::SigningParams<'_, S> {
-    let builder = v4::SigningParams::builder()
+fn params_at<S: Drop>(identity: &Identity, at: Moment, settings: S) -> v4::SigningParams<'_, S>
+    ensures { result.settings ≡ settings }
+{
+    let made = v4::SigningParams::builder()
         .identity(identity)
         .region("us-east-1")
         .name("service")
         .time(at)
-        .settings(settings);
-    builder.build().unwrap()
+        .settings(settings)
+        .build();
+    match made {
+        Ok(params) => params,
+        Err(_) => unreachable!(),
+    }
 }

@@ -5,7 +5,7 @@ mod signed_requests;
 
 use crate::run;
 use smithy_core::{
-    ByteSink, CalmDisk, CalmSink, CalmSource, Env, FaultySink, FaultySource, FixedClock, Moment,
+    ByteSink, CalmDisk, CalmSink, Env, FaultySink, FaultySource, FixedClock, Moment,
 };
 use std::alloc::{AllocError, Global};
 use std::process::Abort;
@@ -44,14 +44,25 @@ fn run_on<K: ByteSink, E: ByteSink>(
     out: &mut K,
     err: &mut E,
 ) -> Result<u8, AllocError> {
+    run_in(alloc, &Env::new(alloc), words, input, out, err)
+}
+
+// The same among these variables.
+fn run_in<K: ByteSink, E: ByteSink>(
+    alloc: Global,
+    env: &Env,
+    words: &[&str],
+    input: &mut FaultySource,
+    out: &mut K,
+    err: &mut E,
+) -> Result<u8, AllocError> {
     let words = texts(alloc, words)?;
     let mut disk = CalmDisk::new(Vec::new(alloc));
     let mut clock = FixedClock::new(Moment::new(0, 0));
-    let env = Env::new(alloc);
     let status = run(
         alloc,
         words.as_slice(),
-        &env,
+        env,
         input,
         &mut disk,
         &mut clock,
@@ -207,23 +218,11 @@ fn variables(rt: HostRuntime) -> Result<(), Fail> {
     for name in ["AWS_PROFILE", "AWS_REGION"] {
         let mut env = Env::new(alloc);
         env.set(name, "a")?;
-        let words = texts(alloc, WORDS)?;
-        let mut input = CalmSource::new(Vec::new(alloc));
-        let mut disk = CalmDisk::new(Vec::new(alloc));
-        let mut clock = FixedClock::new(Moment::new(0, 0));
+        let mut input = input_of(alloc, b"", &[])?;
         let mut out = CalmSink::new(alloc);
         let mut err = CalmSink::new(alloc);
-        let answer = run(
-            alloc,
-            words.as_slice(),
-            &env,
-            &mut input,
-            &mut disk,
-            &mut clock,
-            &mut out,
-            &mut err,
-        );
-        assert_eq!(rt; answer.code(), 11);
+        let answer = run_in(alloc, &env, WORDS, &mut input, &mut out, &mut err)?;
+        assert_eq!(rt; answer, 11);
         assert_eq!(rt; err.held(), b"not built 0\n".as_slice());
     }
     Ok(())
