@@ -1,4 +1,9 @@
-//! AWS Signature Version 4: signing keys, the signature of a request, and signed messages.
+//! AWS Signature Version 4: signing keys, signed requests in header form, and signed messages.
+//!
+//! The layer above is promised that [`sign`] answers the headers and the signature of a request, and [`canonical_text`] its
+//! canonical text (`specs/Canonical.antt`, `specs/Signed.antt`), or exactly the first test that the request fails
+//! (`specs/Refusal.antt`), and that [`SigningInstructions::apply_to_request`] puts the signature into the request
+//! (`specs/Targets.antt`).
 //!
 //! The layer above is promised that [`v4::generate_signing_key`] is the signing key of a secret, a date, a
 //! region and a name, and takes no memory, and that [`v4::request_signature`] is the signature of a
