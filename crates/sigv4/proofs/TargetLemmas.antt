@@ -1,17 +1,17 @@
 -- Targets with more parameters, and with none.
-use Rattle.std.proofs.Common.{◌≡◌, ℕ, ◌==◌, Bool, true, false, List, [], ◌∷◌, length, Result, Ok, Err, arith, refl, sym, subst, inl, inr}
+use Rattle.std.proofs.Common.{◌≡◌, ℕ, ◌<◌, ◌==◌, Bool, true, false, List, [], ◌∷◌, length, Result, Ok, Err, arith, refl, sym, subst, inl, inr}
 use Rattle.std.specs.Prelude.{String, ◌⊎◌}
 use Rattle.std.specs.declared.alloc.Global.{Global}
 use Rattle.std.proofs.lemmas.Bool.{eqb-true, false≢true}
 use Rattle.http_uri.specs.declared.uri.Uri.{Uri}
 use Rattle.smithy_core.specs.Pairs.{text_pairs}
-use Rattle.smithy_http.specs.Building.{BuildsText, SpellsNoTarget, SpellsTarget}
+use Rattle.smithy_http.specs.Building.{Builds, BuildsText, IsRefused, SpellsNoTarget, SpellsTarget}
 use Rattle.smithy_http.specs.Target.{Target, target_of}
 use Rattle.smithy_http.specs.declared.uri_fault.UriFault.{UriFault}
 use Rattle.smithy_http.specs.declared.uri_fault.UriFault.TheVariants as fault
-use Rattle.sigv4.specs.Query.{Pair}
 use Rattle.sigv4.specs.Targets.{BuildsWith, HasNoTextWith, IsRetargeted, IsTextWith, IsUntargeted, target_error, with_params}
 use Rattle.sigv4.specs.declared.error.SigningError.TheVariants.{InvalidUri, NoMemory}
+use Rattle.sigv4.proofs.ParameterLemmas.{refused_where}
 
 abbrev Params : Type 0
 Params = List (String Global × String Global)
@@ -38,12 +38,19 @@ untargeted-some [] old error e has = absurd (false≢true (sym e))
 untargeted-some (param ∷ params) old fault.InvalidUri e has = inl (has, refl)
 untargeted-some (param ∷ params) old fault.NoMemory e has = inr refl
 
+-- a target that is built isn't refused
+built_passes : (t : Target) (built : Uri) → Builds t (Ok built) → ¬ (IsRefused t)
+built_passes t built builds (inl alone) = builds.0 alone
+built_passes t built builds (inr none) = none _ _ _ builds.1
+
 -- what is built of a writer that has the parameters
-pub builds-with : (params : List Pair) (old : List ℕ) (uri : Uri) (writer : Target) (result : Result (String Global) UriFault) → SpellsTarget old uri
-    → writer ≡ with_params (target_of uri) params → BuildsText writer result → BuildsWith params old result
-builds-with params old uri writer result spells is builds = by result (subst (λ t. BuildsText t result) is builds)
+pub builds-with : (params : Params) (old : List ℕ) (uri : Uri) (writer : Target) (result : Result (String Global) UriFault) → 0 < length params → SpellsTarget old uri
+    → writer ≡ with_params (target_of uri) (text_pairs params) → BuildsText writer result → BuildsWith (text_pairs params) old result
+builds-with [] old uri writer result some spells is builds = absurd (omega (arith, some))
+builds-with (param ∷ params) old uri writer result some spells is builds = by result (subst (λ t. BuildsText t result) is builds)
   where
-    by : (r : Result (String Global) UriFault) → BuildsText (with_params (target_of uri) params) r → BuildsWith params old r
-    by (Ok text) b = (uri, b.0, spells, b.1, b.2)
-    by (Err fault.InvalidUri) b = inr (uri, spells, b)
+    by : (r : Result (String Global) UriFault) → BuildsText (with_params (target_of uri) (text_pairs (param ∷ params))) r → BuildsWith (text_pairs (param ∷ params)) old r
+    by (Ok text) b =
+        (uri, b.0, spells, (λ full. built_passes _ b.0 b.1 ((refused_where old uri _ (text_pairs params) spells).1 full)), b.1, b.2)
+    by (Err fault.InvalidUri) b = inr (uri, spells, (refused_where old uri _ (text_pairs params) spells).0 b)
     by (Err fault.NoMemory) b = tt

@@ -1,7 +1,7 @@
 -- What the errors of the layer below become, and what is printed.
-use Rattle.std.specs.Prelude.{ℕ, List, ◌++◌, codes}
+use Rattle.std.specs.Prelude.{◌≡◌, ℕ, List, ◌++◌, codes}
 use Rattle.std.specs.Fmt.{decimal, signed_decimal}
-use Rattle.eventstream.specs.Errors.{text_of as encoding_text}
+use Rattle.eventstream.specs.Errors.{IsSameKind, text_of as encoding_text}
 use Rattle.eventstream.specs.declared.error.Error.{Error}
 use Rattle.eventstream.specs.declared.error.ErrorKind.{ErrorKind}
 use Rattle.eventstream.specs.declared.error.ErrorKind.TheVariants.{NoMemory as NoRoom}
@@ -37,3 +37,8 @@ text_of UnsupportedIdentityType = codes "only AWS credentials are supported for 
 text_of (FailedToEncodeMessage error) = codes "failed to encode message: " ++ encoding_text error.kind
 text_of (MomentOutOfRange t) = codes "moment " ++ (signed_decimal t.secs ++ codes " is outside the years 0 to 9999")
 text_of NoMemory = codes "no memory"
+
+-- the errors are the same, and so are the texts of an encoding that failed
+abbrev pub IsSameError : SigningError → SigningError → Type 0
+IsSameError (FailedToEncodeMessage error) (FailedToEncodeMessage copy) = IsSameKind error.kind copy.kind
+IsSameError error copy = copy ≡ error

@@ -36,6 +36,24 @@ Builds builder (Ok params) =
     × (builder.time ≡ Some params.time) × (builder.settings ≡ Some params.settings)
 Builds builder (Err error) = first_missing builder ≡ Some error
 
+-- the parameters are the same, and the settings a copy
+abbrev pub IsCopied : {S : Type 0} → (S → S → Type 0) → SigningParams S → SigningParams S → Type 0
+IsCopied copies params copy =
+    (copy.identity.now ≡ params.identity.now) × (copy.region.now ≡ params.region.now) × (copy.name.now ≡ params.name.now)
+    × (copy.time ≡ params.time) × copies params.settings copy.settings
+
+-- both are there, the second a copy of the first, or none is
+abbrev pub BothOrNone : {S : Type 0} → (S → S → Type 0) → Option S → Option S → Type 0
+BothOrNone copies None None = Unit {0}
+BothOrNone copies (Some settings) (Some copy) = copies settings copy
+BothOrNone copies settings copy = ⊥
+
+-- the builders have the same parts, and the settings are a copy
+abbrev pub HasSameParts : {S : Type 0} → (S → S → Type 0) → Builder S → Builder S → Type 0
+HasSameParts copies builder copy =
+    (copy.identity ≡ builder.identity) × (copy.region ≡ builder.region) × (copy.name ≡ builder.name)
+    × (copy.time ≡ builder.time) × BothOrNone copies builder.settings copy.settings
+
 -- what is printed
 abbrev pub text_of : BuildError → List ℕ
 text_of NoIdentity = codes "identity is required"

@@ -8,7 +8,7 @@ use Rattle.std.specs.List.{join_with_byte}
 use Rattle.std.specs.Ordering.{is_gt, nat_cmp, ordering_then}
 use Rattle.std.specs.Str.Lossy.{utf8_lossy}
 use Rattle.form_urlencoded.specs.Form.{decode, raw_pairs}
-use Rattle.smithy_http.specs.Escape.{base_set, escaped}
+use Rattle.smithy_http.specs.Building.{escaped_pair}
 use Rattle.smithy_http.specs.Query.{ampersand, pair_text}
 use Rattle.smithy_http.specs.Target.{Target}
 
@@ -44,10 +44,6 @@ inserted p (q ∷ pairs) = if is_gt (pair_cmp p q) then q ∷ inserted p pairs e
 abbrev pub sorted : List Pair → List Pair
 sorted [] = []
 sorted (p ∷ pairs) = inserted p (sorted pairs)
-
--- key and value with each byte escaped that isn't unreserved
-abbrev pub escaped_pair : Pair → Pair
-escaped_pair p = (escaped base_set p.0, escaped base_set p.1)
 
 -- what stands before a pair: `&`, unless it is the first
 abbrev pub mark : Bool → List ℕ

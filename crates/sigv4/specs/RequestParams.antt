@@ -1,6 +1,8 @@
 -- The parameters of a request's signature, of whatever version.
-use Rattle.std.specs.Prelude.{ℕ, List}
+use Rattle.std.specs.Prelude.{◌≡◌, ℕ, List}
 use Rattle.smithy_core.specs.Instant.{Instant}
+use Rattle.sigv4.specs.Params.{IsCopied}
+use Rattle.sigv4.specs.Settings.{settings_of}
 use Rattle.sigv4.specs.declared.settings.SigningSettings.{SigningSettings}
 use Rattle.sigv4.specs.declared.signing_params.SigningParams.{SigningParams}
 use Rattle.sigv4.specs.declared.signing_params.SigningParams.TheVariants.{V4}
@@ -16,3 +18,7 @@ time_of (V4 p) = p.time
 
 abbrev pub settings_in : SigningParams → SigningSettings
 settings_in (V4 p) = p.settings
+
+-- the parameters are the same, and so are the contents of the settings
+abbrev pub IsSameParams : SigningParams → SigningParams → Type 0
+IsSameParams (V4 params) (V4 copy) = IsCopied (λ settings other. settings_of other ≡ settings_of settings) params copy

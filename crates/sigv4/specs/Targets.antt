@@ -1,13 +1,13 @@
 -- What making a request to be signed promises of its target, and what putting its signature into it does.
-use Rattle.std.specs.Prelude.{◌≡◌, ◌⊎◌, ℕ, List, [], ◌∷◌, map, Option, Result, Ok, Err, String, string_bytes}
+use Rattle.std.specs.Prelude.{◌≡◌, ◌⊎◌, ℕ, ◌<◌, List, [], ◌∷◌, codes, length, map, Option, Result, Ok, Err, String, string_bytes}
 use Rattle.std.specs.Option.{option_map_or}
 use Rattle.std.specs.declared.alloc.Global.{Global}
 use Rattle.http_uri.specs.declared.uri.Uri.{Uri}
-use Rattle.smithy_http.specs.Building.{Builds, IsRefused, SpellsTarget, SpellsNoTarget, with_pairs}
+use Rattle.smithy_http.specs.Building.{Builds, SpellsTarget, SpellsNoTarget, escaped_pair, with_pairs}
 use Rattle.smithy_http.specs.Target.{Target, target_of, target_text}
 use Rattle.smithy_http.specs.declared.uri_fault.UriFault.{UriFault}
 use Rattle.smithy_http.specs.declared.uri_fault.UriFault.TheVariants as target
-use Rattle.sigv4.specs.Query.{Pair, escaped_pair}
+use Rattle.sigv4.specs.Query.{Pair}
 use Rattle.sigv4.specs.declared.body.SignableBody.{SignableBody}
 use Rattle.sigv4.specs.declared.error.SigningError.{SigningError}
 use Rattle.sigv4.specs.declared.error.SigningError.TheVariants.{InvalidUri, NoMemory}
@@ -28,17 +28,21 @@ IsMadeOf method uri headers body (Err error) = (SpellsNoTarget uri × (error ≡
 abbrev pub with_params : Target → List Pair → Target
 with_params target params = with_pairs target (map escaped_pair params)
 
--- the text of the target that the text spells, with more parameters
+-- the target takes no more parameters: its text is `*`, or that of the target with them passes 65,534 bytes
+abbrev pub TakesNoMore : List Pair → List ℕ → Uri → Type 0
+TakesNoMore params old uri = (old ≡ codes "*") ⊎ (65534 < length (target_text (with_params (target_of uri) params)))
+
+-- the text of the target that the text spells, with more parameters, where it takes them; that is a target again
 abbrev pub IsTextWith : List Pair → List ℕ → List ℕ → Type 0
 IsTextWith params old new =
-    (uri : Uri) × (built : Uri) × SpellsTarget old uri × Builds (with_params (target_of uri) params) (Ok built)
+    (uri : Uri) × (built : Uri) × SpellsTarget old uri × ¬ (TakesNoMore params old uri) × Builds (with_params (target_of uri) params) (Ok built)
     × (new ≡ target_text (with_params (target_of uri) params))
 
--- the text spells no target, or the one with more parameters is refused
+-- the text spells no target, or one that takes no more parameters
 abbrev pub HasNoTextWith : List Pair → List ℕ → Type 0
-HasNoTextWith params old = SpellsNoTarget old ⊎ ((uri : Uri) × SpellsTarget old uri × IsRefused (with_params (target_of uri) params))
+HasNoTextWith params old = SpellsNoTarget old ⊎ ((uri : Uri) × SpellsTarget old uri × TakesNoMore params old uri)
 
--- parameters are added to a target, exactly where they can be
+-- parameters are added to a target, exactly where it takes them
 abbrev pub BuildsWith : List Pair → List ℕ → Result (String Global) UriFault → Type 0
 BuildsWith params old (Ok new) = IsTextWith params old (string_bytes new)
 BuildsWith params old (Err target.InvalidUri) = HasNoTextWith params old
@@ -49,7 +53,7 @@ abbrev pub IsRetargeted : List Pair → List ℕ → List ℕ → Type 0
 IsRetargeted [] old new = ((uri : Uri) × SpellsTarget old uri) × (new ≡ old)
 IsRetargeted (param ∷ params) old new = IsTextWith (param ∷ params) old new
 
--- the text spells no target, or there are parameters and the target with them is refused
+-- the text spells no target, or there are parameters and it takes no more
 abbrev pub IsUntargeted : List Pair → List ℕ → Type 0
 IsUntargeted [] old = SpellsNoTarget old
 IsUntargeted (param ∷ params) old = HasNoTextWith (param ∷ params) old

@@ -1,4 +1,4 @@
-ghost use Rattle.std.specs.Prelude.{◌≡◌, map, IfOk, OnOk, string_bytes};
+ghost use Rattle.std.specs.Prelude.{◌≡◌, ◌<◌, length, map, IfOk, OnOk, string_bytes};
 ghost use Rattle.smithy_core.specs.Pairs.{text_pairs};
 ghost use Rattle.sigv4.specs.Instructions.{with_instructions};
 ghost use Rattle.sigv4.specs.Targets.{BuildsWith, Retargets, with_params};
@@ -42,8 +42,9 @@ pub(crate) fn target_with(
     Ok(Some(text_with(alloc, target, params)?))
 }
 
-// The text of a target with more parameters.
+// The text of a target with more parameters, of which there is one at least.
 fn text_with(alloc: Global, target: &str, params: &[(String, String)]) -> Result<String, UriFault>
+    requires { 0 < length params.now }
     ensures { BuildsWith (text_pairs params.now) target.now result }
 {
     let mut writer = QueryWriter::new_from_string(alloc, target)?;
@@ -58,26 +59,4 @@ fn insert_params(writer: &mut QueryWriter, params: &[(String, String)]) -> Mem<(
         writer.insert(key.as_str(), value.as_str())?;
     }
     Ok(())
-}
-
-/// The same headers.
-pub(crate) fn copied_headers(alloc: Global, headers: &[Header]) -> Mem<Vec<Header>>
-    ensures { IfOk result (λ copies. copies.items ≡ headers.now) }
-{
-    let mut copies = Vec::new(alloc);
-    for header in headers {
-        copies.push(header.try_clone()?)?;
-    }
-    Ok(copies)
-}
-
-/// The same texts.
-pub(crate) fn copied_pairs(alloc: Global, pairs: &[(String, String)]) -> Mem<Vec<(String, String)>>
-    ensures { IfOk result (λ copies. text_pairs copies.items ≡ text_pairs pairs.now) }
-{
-    let mut copies = Vec::new(alloc);
-    for pair in pairs {
-        copies.push((pair.0.clone()?, pair.1.clone()?))?;
-    }
-    Ok(copies)
 }

@@ -1,9 +1,10 @@
 ghost use Rattle.std.specs.Prelude.{◌≡◌, ◌++◌, [], ◌∷◌, map, IfOk, OnOk};
 ghost use Rattle.std.specs.String.{string_bytes};
 ghost use Rattle.form_urlencoded.specs.Form.{pair_text as parameter_text};
+ghost use Rattle.smithy_http.specs.Building.{escaped_pair};
 ghost use Rattle.smithy_http.specs.Query.{pair_text};
 ghost use Rattle.smithy_http.specs.Target.{target_of};
-ghost use Rattle.sigv4.specs.Query.{decoded, decoded_pairs, escaped_pair, joined, mark, query, sorted, string_pair};
+ghost use Rattle.sigv4.specs.Query.{decoded, decoded_pairs, joined, mark, query, sorted, string_pair};
 
 use http_uri::Uri;
 use smithy_core::Mem;

@@ -1,8 +1,8 @@
-ghost use Rattle.std.specs.Prelude.{◌≡◌};
+ghost use Rattle.std.specs.Prelude.{◌≡◌, IfOk};
 ghost use Rattle.sigv4.specs.declared.error.SigningError.TheVariants.{NoMemory};
 
 use eventstream::ErrorKind;
-use smithy_core::Moment;
+use smithy_core::{Mem, Moment};
 use smithy_http::UriFault;
 use std::alloc::AllocError;
 use std::fmt;
@@ -41,6 +41,28 @@ pub enum SigningError {
     MomentOutOfRange(Moment),
     /// Memory ran out.
     NoMemory,
+}
+
+impl SigningError {
+    ghost use Rattle.sigv4.specs.Errors.{IsSameError};
+
+    /// An equal error.
+    pub fn try_clone(&self) -> Mem<SigningError>
+        ensures { IfOk result (IsSameError self.now) }
+    {
+        Ok(match self {
+            SigningError::InvalidUri => SigningError::InvalidUri,
+            SigningError::InvalidHeaderName(place) => SigningError::InvalidHeaderName(*place),
+            SigningError::InvalidHeaderValue(place) => SigningError::InvalidHeaderValue(*place),
+            SigningError::MissingHost => SigningError::MissingHost,
+            SigningError::UnsupportedIdentityType => SigningError::UnsupportedIdentityType,
+            SigningError::FailedToEncodeMessage(error) => {
+                SigningError::FailedToEncodeMessage(error.try_clone()?)
+            }
+            SigningError::MomentOutOfRange(moment) => SigningError::MomentOutOfRange(*moment),
+            SigningError::NoMemory => SigningError::NoMemory,
+        })
+    }
 }
 
 impl fmt::Display for ValuePlace {

@@ -71,6 +71,14 @@ impl Header {
     }
 }
 
+impl Clone for Header {
+    ghost is_clone = { λ header copy. copy ≡ header };
+
+    fn clone(&self) -> Mem<Header> {
+        self.try_clone()
+    }
+}
+
 /// Gives the names and the values of headers in order.
 ///
 /// Contracts see the list of the pairs that are left.

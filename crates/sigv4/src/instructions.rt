@@ -7,7 +7,7 @@ ghost use Rattle.sigv4.specs.Settings.{settings_of};
 ghost use Rattle.sigv4.specs.Targets.{AppliesParams};
 ghost use Rattle.sigv4.specs.Signed.{instructions_for, optional};
 
-use crate::apply::{copied_headers, copied_pairs, headers_with, target_with};
+use crate::apply::{headers_with, target_with};
 use crate::error::SigningError;
 use crate::header::{Header, HeaderPairs};
 use crate::heads::token_name;
@@ -74,7 +74,8 @@ impl SigningInstructions {
     /// # Errors
     ///
     /// [`SigningError::InvalidUri`], and nothing changes, exactly where the request's own target isn't accepted as by
-    /// [`SignableRequest::new`](crate::SignableRequest::new), or there are parameters and the target with them isn't.
+    /// [`SignableRequest::new`](crate::SignableRequest::new), or there are parameters and that target is `*` or the new one
+    /// passes 65,534 bytes.
     pub fn apply_to_request(self, request: &mut HttpRequest) -> Result<(), SigningError>
         ensures headers { OnOk result (request.new.headers ≡ with_instructions request.old.headers self.headers) }
         ensures target { AppliesParams self.params (string_bytes request.old.target) (string_bytes request.new.target) result }
@@ -93,14 +94,22 @@ impl SigningInstructions {
     }
 
     /// Equal instructions.
+    #[tactic(auto, using(crate::proofs::CopyLemmas::headers_copied, crate::proofs::CopyLemmas::pairs_copied))]
     pub fn try_clone(&self) -> Mem<SigningInstructions>
         ensures { IfOk result (λ copy. copy ≡ self.now) }
     {
-        let alloc = *self.headers.allocator();
         Ok(SigningInstructions {
-            headers: copied_headers(alloc, self.headers.as_slice())?,
-            params: copied_pairs(alloc, self.params.as_slice())?,
+            headers: self.headers.clone()?,
+            params: self.params.clone()?,
         })
+    }
+}
+
+impl Clone for SigningInstructions {
+    ghost is_clone = { λ made copy. copy ≡ made };
+
+    fn clone(&self) -> Mem<SigningInstructions> {
+        self.try_clone()
     }
 }
 

@@ -1,5 +1,7 @@
-ghost use Rattle.std.specs.Prelude.{◌≡◌};
+ghost use Rattle.std.specs.Prelude.{◌≡◌, IfOk};
 ghost use Rattle.std.specs.String.{string_bytes};
+
+use smithy_core::Mem;
 
 /// What was signed, and its signature.
 #[derive(Debug, Drop)]
@@ -35,5 +37,18 @@ impl<T> SigningOutput<T> {
         ensures { result ≡ (self.output, self.signature) }
     {
         (self.output, self.signature)
+    }
+}
+
+impl<T: Clone + Drop> SigningOutput<T> {
+    /// A copy of the output, with the same signature.
+    pub fn try_clone(&self) -> Mem<SigningOutput<T>>
+        ensures output { IfOk result (λ copy. T.is_clone self.now.output copy.output) }
+        ensures signature { IfOk result (λ copy. string_bytes copy.signature ≡ string_bytes self.now.signature) }
+    {
+        Ok(SigningOutput {
+            output: self.output.clone()?,
+            signature: self.signature.clone()?,
+        })
     }
 }

@@ -1,7 +1,7 @@
-ghost use Rattle.std.specs.Prelude.{◌≡◌, Some, None, codes};
-ghost use Rattle.sigv4.specs.Params.{Builds, text_of};
+ghost use Rattle.std.specs.Prelude.{◌≡◌, Some, None, codes, IfOk};
+ghost use Rattle.sigv4.specs.Params.{Builds, HasSameParts, IsCopied, text_of};
 
-use smithy_core::{Identity, Moment};
+use smithy_core::{Identity, Mem, Moment};
 use std::fmt;
 
 /// What a signature is made with: who signs, for which region and name, at which moment and under which settings.
@@ -68,6 +68,21 @@ impl<'a, S> SigningParams<'a, S> {
         ensures { result.now ≡ codes "AWS4-HMAC-SHA256" }
     {
         "AWS4-HMAC-SHA256"
+    }
+}
+
+impl<'a, S: Clone + Drop> SigningParams<'a, S> {
+    /// The same parameters, with a copy of the settings.
+    pub fn try_clone(&self) -> Mem<SigningParams<'a, S>>
+        ensures { IfOk result (IsCopied S.is_clone self.now) }
+    {
+        Ok(SigningParams {
+            identity: self.identity,
+            region: self.region,
+            name: self.name,
+            time: self.time,
+            settings: self.settings.clone()?,
+        })
     }
 }
 
@@ -199,6 +214,24 @@ impl<'a, S: Drop> Builder<'a, S> {
             name: name.ok_or(BuildError::Name)?,
             time: time.ok_or(BuildError::Time)?,
             settings: settings.ok_or(BuildError::Settings)?,
+        })
+    }
+}
+
+impl<'a, S: Clone + Drop> Builder<'a, S> {
+    /// A builder with the same parts, with a copy of the settings.
+    pub fn try_clone(&self) -> Mem<Builder<'a, S>>
+        ensures { IfOk result (HasSameParts S.is_clone self.now) }
+    {
+        Ok(Builder {
+            identity: self.identity,
+            region: self.region,
+            name: self.name,
+            time: self.time,
+            settings: match &self.settings {
+                Some(settings) => Some(settings.clone()?),
+                None => None,
+            },
         })
     }
 }

@@ -73,6 +73,7 @@ impl SigningSettings {
     }
 
     /// Equal settings.
+    #[tactic(auto, using(crate::proofs::CopyLemmas::texts_copied))]
     pub fn try_clone(&self) -> Mem<SigningSettings>
         ensures { IfOk result (λ copy. settings_of copy ≡ settings_of self.now) }
     {
@@ -82,13 +83,21 @@ impl SigningSettings {
             signature_location: self.signature_location,
             expires_in: self.expires_in,
             excluded_headers: match &self.excluded_headers {
-                Some(names) => Some(copied_names(*names.allocator(), names.as_slice())?),
+                Some(names) => Some(names.clone()?),
                 None => None,
             },
             uri_path_normalization_mode: self.uri_path_normalization_mode,
             session_token_mode: self.session_token_mode,
             session_token_name_override: self.session_token_name_override.clone()?,
         })
+    }
+}
+
+impl Clone for SigningSettings {
+    ghost is_clone = { λ settings copy. settings_of copy ≡ settings_of settings };
+
+    fn clone(&self) -> Mem<SigningSettings> {
+        self.try_clone()
     }
 }
 
@@ -102,15 +111,4 @@ fn default_exclusions(alloc: Global) -> Mem<Vec<String>>
     names.push(String::from_str(alloc, "x-amzn-trace-id")?)?;
     names.push(String::from_str(alloc, "transfer-encoding")?)?;
     Ok(names)
-}
-
-// The same names.
-fn copied_names(alloc: Global, names: &[String]) -> Mem<Vec<String>>
-    ensures { IfOk result (λ copies. map string_bytes copies.items ≡ map string_bytes names.now) }
-{
-    let mut copies = Vec::new(alloc);
-    for name in names {
-        copies.push(name.clone()?)?;
-    }
-    Ok(copies)
 }

@@ -1,10 +1,10 @@
-ghost use Rattle.std.specs.Prelude.{◌≡◌, Some, codes, option_copied};
-ghost use Rattle.sigv4.specs.RequestParams.{name_of, region_of, settings_in, time_of};
+ghost use Rattle.std.specs.Prelude.{◌≡◌, Some, codes, option_copied, IfOk};
+ghost use Rattle.sigv4.specs.RequestParams.{IsSameParams, name_of, region_of, settings_in, time_of};
 ghost use Rattle.sigv4.specs.declared.signing_params.SignatureVersion.TheVariants.{V4};
 
 use crate::settings::SigningSettings;
 use crate::v4;
-use smithy_core::Moment;
+use smithy_core::{Mem, Moment};
 use std::fmt;
 
 /// A version of the signing process.
@@ -44,7 +44,16 @@ impl<'a> From<v4::SigningParams<'a, SigningSettings>> for SigningParams<'a> {
     }
 }
 
-impl SigningParams<'_> {
+impl<'a> SigningParams<'a> {
+    /// Equal parameters, over the same identity and texts.
+    pub fn try_clone(&self) -> Mem<SigningParams<'a>>
+        ensures { IfOk result (IsSameParams self.now) }
+    {
+        match self {
+            SigningParams::V4(params) => Ok(SigningParams::V4(params.try_clone()?)),
+        }
+    }
+
     /// The region that the signature is for, where the version has one.
     pub fn region(&self) -> Option<&str>
         ensures { option_copied result ≡ Some (region_of self.now) }

@@ -1,10 +1,14 @@
 ghost use Rattle.std.specs.Prelude.{◌≡◌};
 
-mod canonical_texts;
+mod cases;
+mod instructions;
+mod lines;
 mod messages;
 mod parameters;
+mod refusals;
 mod request_parts;
-mod requests;
+mod signatures;
+mod vectors;
 
 use crate::event_stream::{SigningParams as MessageParams, sign_empty_message, sign_message};
 use crate::v4::{SigningParams, calculate_signature, credential_scope, request_signature};

@@ -1,5 +1,6 @@
 use crate::tests::example_identity;
 use crate::v4::{Builder, SigningParams};
+use crate::{SignableBody, SigningParams as RequestParams, SigningSettings};
 use smithy_core::{Identity, Moment};
 use std::test::Fail;
 
@@ -56,5 +57,43 @@ fn missing_parts_in_order(rt: HostRuntime) -> Result<(), Fail> {
         }
     }
     assert!(rt; builder_of(&identity, 5).build().is_ok());
+    Ok(())
+}
+
+// Settings that are changed through the parameters stay so, and copies have them.
+#[test]
+fn changed_settings(rt: HostRuntime) -> Result<(), Fail> {
+    let identity = example_identity(rt.alloc())?;
+    let builder = SigningParams::builder()
+        .identity(&identity)
+        .region("us-east-1")
+        .name("service")
+        .time(Moment::new(7, 9))
+        .settings(SigningSettings::new(rt.alloc())?);
+    let mut params = match builder.try_clone()?.build() {
+        Ok(params) => RequestParams::from(params),
+        Err(_) => unreachable!(),
+    };
+    params.settings_mut().expires_in = Some(900);
+    let copy = params.try_clone()?;
+    assert_eq!(rt; copy.settings().expires_in, Some(900));
+    assert_eq!(rt; copy.region(), Some("us-east-1"));
+    assert_eq!(rt; copy.name(), "service");
+    assert_eq!(rt; *copy.time(), Moment::new(7, 9));
+    assert_eq!(rt; copy.algorithm(), "AWS4-HMAC-SHA256");
+    assert_eq!(rt;
+        copy.signature_version().to_string(rt.alloc())?.as_str(),
+        "SigV4"
+    );
+    Ok(())
+}
+
+#[test]
+fn copies(rt: HostRuntime) -> Result<(), Fail> {
+    let settings = SigningSettings::new(rt.alloc())?;
+    assert!(rt; settings.try_clone()? == settings);
+    let body = SignableBody::Precomputed(String::from_str(rt.alloc(), "abc")?);
+    assert!(rt; body.try_clone()? == body);
+    assert!(rt; SignableBody::empty() == SignableBody::Bytes(b"".as_slice()));
     Ok(())
 }

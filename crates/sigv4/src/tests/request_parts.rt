@@ -1,8 +1,6 @@
 use crate::canonical_query::canonical_query;
 use crate::host::host_text;
-use crate::path::canonical_path;
-use crate::trim::push_trimmed;
-use crate::{PercentEncodingMode, UriPathNormalizationMode, normalize_uri_path};
+use crate::normalize_uri_path;
 use http_uri::{Uri, UriError};
 use std::alloc::Global;
 use std::test::Fail;
@@ -52,48 +50,6 @@ fn normal_paths(rt: HostRuntime) -> Result<(), Fail> {
 }
 
 #[test]
-fn canonical_paths(rt: HostRuntime) -> Result<(), Fail> {
-    let normal = UriPathNormalizationMode::Enabled;
-    let given = UriPathNormalizationMode::Disabled;
-    let (double, single) = (PercentEncodingMode::Double, PercentEncodingMode::Single);
-    let cases = [
-        (normal, double, "/path%20one/x", "/path%2520one/x"),
-        (normal, double, "/~a/b~", "/~a/b~"),
-        (normal, double, "/a//:@", "/a/%3A%40"),
-        (given, double, "/a/../b//c", "/a/../b//c"),
-        (normal, single, "/example%20space/", "/example%20space/"),
-        (given, single, "/a/./b", "/a/./b"),
-    ];
-    for (normalization, encoding, path, want) in cases {
-        let text = canonical_path(rt.alloc(), normalization, encoding, path)?;
-        assert_eq!(rt; text.as_str(), want, "of {path:?}");
-    }
-    Ok(())
-}
-
-#[test]
-fn trimmed_values(rt: HostRuntime) -> Result<(), Fail> {
-    let cases = [
-        ("  Some  example   text  ", "Some example text"),
-        ("\"a   b   c\"", "\"a b c\""),
-        ("a\t\tb", "a\t\tb"),
-        ("   ", ""),
-        ("", ""),
-        ("a  \u{A0}  b", "a \u{A0} b"),
-    ];
-    for (value, want) in cases {
-        let mut text = String::from_str(rt.alloc(), "v:")?;
-        push_trimmed(&mut text, value)?;
-        assert_eq!(rt;
-            text.as_str().strip_prefix("v:"),
-            Some(want),
-            "of {value:?}"
-        );
-    }
-    Ok(())
-}
-
-#[test]
 fn canonical_queries(rt: HostRuntime) -> Result<(), Fail> {
     let none: &[(&str, &str)] = &[];
     let signed: &[(&str, &str)] = &[
@@ -102,14 +58,6 @@ fn canonical_queries(rt: HostRuntime) -> Result<(), Fail> {
     ];
     let cases = [
         ("/", none, ""),
-        ("/?b=2&a=1+x&a", none, "a=&a=1%20x&b=2"),
-        ("/?a=1+x&b=%20&a", none, "a=&a=1%20x&b=%20"),
-        ("/?x=%7E", none, "x=~"),
-        (
-            "/?Param1=value2&Param1=value1",
-            none,
-            "Param1=value1&Param1=value2",
-        ),
         ("/?a=%FF&&=&b==c", none, "=&a=%EF%BF%BD&b=%3Dc"),
         ("/?a=%2520&a=1%2C2&A=1", none, "A=1&a=%2520&a=1%2C2"),
         // In the order of the escapes, and not of what they stand for.
