@@ -94,7 +94,6 @@ impl SigningInstructions {
     }
 
     /// Equal instructions.
-    #[tactic(auto, using(crate::proofs::CopyLemmas::headers_copied, crate::proofs::CopyLemmas::pairs_copied))]
     pub fn try_clone(&self) -> Mem<SigningInstructions>
         ensures { IfOk result (λ copy. copy ≡ self.now) }
     {
