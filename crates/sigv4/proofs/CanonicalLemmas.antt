@@ -5,7 +5,7 @@ use Rattle.eventstream.specs.Key.{scope}
 use Rattle.sigv4.specs.Canonical.{joined_names, names, text_of, told_payload}
 use Rattle.sigv4.specs.Case.{Case}
 use Rattle.sigv4.specs.Refusal.{unfit, unfit_parts, unfit_value, unless}
-use Rattle.sigv4.specs.Signed.{authorization, authorization_front, authorization_text}
+use Rattle.sigv4.specs.Signed.{authorization_front, authorization_text}
 use Rattle.sigv4.specs.declared.error.SigningError.{SigningError}
 use Rattle.sigv4.specs.declared.error.SigningError.TheVariants.{InvalidHeaderValue}
 use Rattle.sigv4.specs.declared.error.ValuePlace.TheVariants.{Authorization}

@@ -9,18 +9,18 @@ use Rattle.std.specs.Ordering.{nat_cmp, is_lt, is_eq, eq_by_cmp}
 use Rattle.std.proofs.lemmas.Cmp.{nat_list_cmp_total}
 use Rattle.std.specs.Cmp.Lexicographic.{slice_cmp}
 use Rattle.std.proofs.lemmas.Cmp.{eq_by_cmp_equiv}
-use Rattle.std.specs.BTreeMap.{BTreeMap, get_by_text, is_at, IsOrdered}
+use Rattle.std.specs.BTreeMap.{is_at, IsOrdered}
 use Rattle.std.specs.List.{flat_map, join_with_byte, list_any, AllByRecursion}
 use Rattle.std.specs.List.Sorted.{IsStrictlySortedBy}
 use Rattle.std.specs.Map.{keys_of, lookup}
-use Rattle.std.specs.FinMap.{FinMap, entries, entries_sorted, from_entries, keys, get, get-entries, get-from_entries, find, is_sorted}
+use Rattle.std.specs.FinMap.{entries, entries_sorted, from_entries, get, get-entries, get-from_entries, find, is_sorted}
 use Rattle.std.specs.FinMap.Entries.{below_all, same_entries, is_some-find}
 use Rattle.std.proofs.lemmas.Map.Keys.{sorted_head, sorted_tail}
 use Rattle.std.proofs.lemmas.Map.Lookups.{exact_bytes}
 use Rattle.std.proofs.lemmas.Map.Text.{is_eq-slice_cmp}
 use Rattle.std.proofs.lemmas.Slice.Eq.{bytes_eq-Decides}
 use Rattle.smithy_core.specs.Pairs.{inserted, named_values, without}
-use Rattle.sigv4.specs.Canonical.{head_line, is_signed, joined_names, joined_values, ordered_set, signed_names, with_added}
+use Rattle.sigv4.specs.Canonical.{head_line, is_signed, joined_names, joined_values, signed_names, with_added}
 use Rattle.sigv4.specs.Query.{Pair}
 use Rattle.sigv4.specs.HeadMap.{HeadMap, HoldsHeads, appended, pair_line, signed_values, texts, value_at}
 use Rattle.sigv4.specs.Settings.{Settings}

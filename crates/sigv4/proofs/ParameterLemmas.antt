@@ -1,15 +1,15 @@
 -- A target takes more parameters unless its text is `*` or gets too long.
-use Rattle.std.proofs.Common.{rules, ◌≡◌, ◌≢◌, ◌==◌, ◌||◌, ℕ, ◌+◌, ◌<◌, ◌≤◌, ◌⊎◌, cond, true, false, nat_lt, not, is_some, map, IsTrue, List, [], ◌∷◌, ◌++◌, length, get_or, take, drop, Option, Some, None, refl, sym, ap, subst, ◌∙◌, arith, inl, inr, take_at, take_all, drop_at, drop-drop, get_or-take, length-append, append-nil, append_assoc, ne_eqb, le-ltb, length-take-le, lt-ltb, All}
+use Rattle.std.proofs.Common.{rules, ◌≡◌, ◌≢◌, ◌==◌, ◌||◌, ℕ, ◌+◌, ◌<◌, ◌≤◌, ◌⊎◌, cond, true, not, is_some, map, IsTrue, List, [], ◌∷◌, ◌++◌, length, get_or, drop, Option, Some, None, refl, sym, ap, subst, ◌∙◌, arith, inl, inr, take_at, take_all, drop_at, drop-drop, get_or-take, length-append, append-nil, append_assoc, ne_eqb, le-ltb, length-take-le, lt-ltb, All}
 use Rattle.std.specs.Prelude.{◌↔◌, IfSome, IsNone, IsSome, IsUtf8, bytes_eq, codes}
 use Rattle.std.specs.List.{join_with_byte}
-use Rattle.std.proofs.lemmas.Bool.{false≢true, cases_Bool, cases_lt, cases_eq, or_right}
+use Rattle.std.proofs.lemmas.Bool.{false≢true, cases_Bool, cases_lt, or_right}
 use Rattle.std.proofs.lemmas.Bool.Decides.{nat_tests}
 use Rattle.std.proofs.lemmas.List.{get_or_append_left}
 use Rattle.std.proofs.lemmas.List.Elements.{All-append, All-nil, All-cons, All-get_or, All-from_get_or}
-use Rattle.std.proofs.lemmas.Str.{IsUtf8-from_ascii, IsUtf8-append, IsUtf8-take, IsUtf8-drop, IsCharBoundary-end, IsCharBoundary-before_ascii, IsCharBoundary-after_ascii}
+use Rattle.std.proofs.lemmas.Str.{IsUtf8-from_ascii, IsUtf8-append, IsUtf8-take, IsUtf8-drop, IsCharBoundary-before_ascii, IsCharBoundary-after_ascii}
 use Rattle.http_uri.specs.ByteClasses.{lowercase, is_path_byte, is_query_byte, is_delimiter, index_of, framed_text, split_once_front, split_once_back}
-use Rattle.http_uri.specs.Grammar.{AllPass, IsScheme, IsAuthority, IsPathAndQuery, IsPathInput, IsAbsoluteForm, IsForm, IsOriginForm, IsTail, without_fragment, path_of, query_of, normal_scheme, or_slash}
-use Rattle.http_uri.specs.Uri.{Spells, SpellsNone, uri_scheme, uri_authority, uri_data}
+use Rattle.http_uri.specs.Grammar.{AllPass, IsScheme, IsAuthority, IsPathAndQuery, IsPathInput, IsAbsoluteForm, IsForm, IsOriginForm, IsTail, without_fragment, path_of, query_of, normal_scheme}
+use Rattle.http_uri.specs.Uri.{SpellsNone, uri_scheme, uri_authority, uri_data}
 use Rattle.http_uri.specs.declared.uri.Uri.{Uri}
 use Rattle.http_uri.proofs.RunLemmas.{AllPass-at, IsAscii-pass, index_of_at_least, index_of_is, index_of_found, index_of_le, run-append}
 use Rattle.http_uri.proofs.AuthorityLemmas.{IsAuthority_no_delimiter}
@@ -18,7 +18,7 @@ use Rattle.http_uri.proofs.UriLemmas.{cut_long, cut_scheme, none_of}
 use Rattle.smithy_http.specs.Building.{IsRefused, SpellsTarget, before_pair, escaped_pair, with_pair}
 use Rattle.smithy_http.specs.Escape.{base_set, escaped}
 use Rattle.smithy_http.specs.Query.{ampersand, pair, pair_text}
-use Rattle.smithy_http.specs.Target.{IsAuthorityAlone, Target, target_of, target_text}
+use Rattle.smithy_http.specs.Target.{Target, target_of, target_text}
 use Rattle.smithy_http.proofs.FitLemmas.{is_harmless, base_harmless, query_of_harmless}
 use Rattle.smithy_http.proofs.QueryLemmas.{pairs_joined}
 use Rattle.sigv4.specs.Query.{Pair}

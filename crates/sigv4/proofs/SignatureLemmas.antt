@@ -1,5 +1,5 @@
 -- Signatures are values of headers.
-use Rattle.std.proofs.Common.{◌≡◌, ℕ, zero, suc, ◌+◌, ◌*◌, ◌/◌, ◌%◌, ◌^◌, ◌<◌, Bool, true, false, ◌&&◌, List, [], ◌∷◌, ◌++◌, slice_index, refl, sym, ap, ◌∙◌, arith}
+use Rattle.std.proofs.Common.{◌≡◌, ℕ, zero, suc, ◌/◌, ◌%◌, ◌<◌, Bool, true, false, ◌&&◌, List, [], ◌∷◌, slice_index, refl, ap, ◌∙◌, arith}
 use Rattle.std.specs.Prelude.{nat_lt}
 use Rattle.std.specs.Int.{byte_at, bytes_high_first, to_be_bytes, w32}
 use Rattle.std.specs.List.{list_all}
@@ -9,10 +9,9 @@ use Rattle.sha2.specs.Sha256.{sha256, digest_bytes, final_hash, initial_hash_256
 use Rattle.hex.specs.Hex.{encode_lower, encode_with, lower_digits}
 use Rattle.http_header.specs.Token.{is_value_byte}
 use Rattle.mac_core.specs.Mac.{mac, mac_of_block}
-use Rattle.eventstream.specs.Key.{signing_key}
 use Rattle.sigv4.specs.Case.{Case}
-use Rattle.sigv4.specs.Refusal.{is_value, unfit_value}
-use Rattle.sigv4.specs.Signature.{signature, string_to_sign}
+use Rattle.sigv4.specs.Refusal.{is_value}
+use Rattle.sigv4.specs.Signature.{signature}
 use Rattle.sigv4.specs.Signed.{authorization, authorization_front, signature_of}
 
 abbrev is_byte : ℕ → Bool

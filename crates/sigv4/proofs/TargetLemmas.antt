@@ -1,5 +1,5 @@
 -- Targets with more parameters, and with none.
-use Rattle.std.proofs.Common.{◌≡◌, ℕ, ◌<◌, ◌==◌, Bool, true, false, List, [], ◌∷◌, length, Result, Ok, Err, arith, refl, sym, subst, inl, inr}
+use Rattle.std.proofs.Common.{◌≡◌, ℕ, ◌<◌, ◌==◌, true, false, List, [], ◌∷◌, length, Result, Ok, Err, arith, refl, sym, subst, inl, inr}
 use Rattle.std.specs.Prelude.{String, ◌⊎◌}
 use Rattle.std.specs.declared.alloc.Global.{Global}
 use Rattle.std.proofs.lemmas.Bool.{eqb-true, false≢true}
@@ -9,7 +9,7 @@ use Rattle.smithy_http.specs.Building.{Builds, BuildsText, IsRefused, SpellsNoTa
 use Rattle.smithy_http.specs.Target.{Target, target_of}
 use Rattle.smithy_http.specs.declared.uri_fault.UriFault.{UriFault}
 use Rattle.smithy_http.specs.declared.uri_fault.UriFault.TheVariants as fault
-use Rattle.sigv4.specs.Targets.{BuildsWith, HasNoTextWith, IsRetargeted, IsTextWith, IsUntargeted, target_error, with_params}
+use Rattle.sigv4.specs.Targets.{BuildsWith, IsRetargeted, IsTextWith, IsUntargeted, target_error, with_params}
 use Rattle.sigv4.specs.declared.error.SigningError.TheVariants.{InvalidUri, NoMemory}
 use Rattle.sigv4.proofs.ParameterLemmas.{refused_where}
 

@@ -3,7 +3,6 @@ use Rattle.http_uri.specs.Uri.{uri_path}
 use Rattle.sigv4.specs.Canonical.{canonical, heads, joined_names, names}
 use Rattle.sigv4.specs.Case.{case_under}
 use Rattle.sigv4.specs.Path.{canonical_path}
-use Rattle.sigv4.specs.Query.{decoded, query}
 use Rattle.sigv4.specs.Settings.{settings_of}
 use Rattle.sigv4.specs.declared.settings.SigningSettings.{SigningSettings}
 use Rattle.sigv4.proofs.CanonicalLemmas.{text-same}
