@@ -16,10 +16,15 @@ use std::alloc::Global;
 /// Does what the words ask for, on the objects of the outside, and says on `err` how it ended.
 ///
 /// The words are those after the program's name. `stream --name NAME --at N` reads a job from `input`, signs its
-/// request by AWS Signature Version 4, as `--sha256`, `--single-encode`, `--no-normalize` and `--unsigned` ask, and writes to `out` the head of the signed request and a chain of event
-/// stream frames: one for each event in order and an empty one last, each signed over the signature before it.
-/// The first event that has no frame, or whose signed message has none, ends the run with its fault, after the head
-/// and the frames of the events before it.
+/// request by AWS Signature Version 4 in header form, and writes to `out` the head of the signed request and then a
+/// chain of event stream frames: one for each event in order and an empty one last, each signed over the signature
+/// before it, the first over that of the request. All of them have the moment N. `--sha256`, `--single-encode`,
+/// `--no-normalize` and `--unsigned` say how the request is signed.
+///
+/// The first test that fails ends the run, in this order: the words, the variables, the length of the input, the
+/// job, what its profile gives, the moment, the target, each header of the request, the host, the token and the
+/// authorization. Until then nothing is written. Then each event is tested before its frame is written, so a refused
+/// event leaves the head and the frames of the events before it.
 pub fn run<S: ByteSource, D: Disk, C: Clock, K: ByteSink, E: ByteSink>(
     alloc: Global,
     words: &[String],
