@@ -35,14 +35,16 @@ pub fn run<S: ByteSource, D: Disk, C: Clock, K: ByteSink, E: ByteSink>(
     out: &mut K,
     err: &mut E,
 ) -> Status
-    // Where the run is done, the output gained exactly the head of the signed request and then the chain of the events read.
+    // Where the run is done, the output gained exactly the head of the signed request and then the chain of the
+    // events read.
     ensures headline { result ≡ Status.Done → (bytes : List ℕ) → S.left input.old ≡ Some bytes
         → Streams (map string_bytes words.now) env.now bytes (K.held out.old) (K.held out.new) }
 
     // Where what is asked is valid, it is done; a fault of the outside and want of memory may come in between.
     ensures complete { (bytes : List ℕ) → S.left input.old ≡ Some bytes → IsValid (map string_bytes words.now) env.now bytes → Completes result }
 
-    // It ends as words, variables and input ask, and what the target in it spells; a fault of the outside and want of memory may come in between.
+    // It ends as words, variables and input ask, and what the target in it spells; a fault of the outside and want
+    // of memory may come in between.
     ensures asked { EndsAsAsked (ask (map string_bytes words.now) env.now) result }
     ensures planned { (bytes : List ℕ) (target : Option Target) → S.left input.old ≡ Some bytes → ReadsTargetOf (job bytes) target
         → EndsAsPlanned (ask_plan (ask (map string_bytes words.now) env.now) bytes target) result }

@@ -152,7 +152,8 @@ fn assert_ends(
     Ok(())
 }
 
-// A run on these words and a job, to an output that fails at these writes, ends with this number and leaves these texts.
+// A run on these words and a job, to an output that fails at these writes, ends with this number and leaves these
+// texts.
 fn assert_run(
     rt: &(impl Abort + AllocGlobal),
     words: &[&str],
