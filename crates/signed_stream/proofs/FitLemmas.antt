@@ -1,5 +1,5 @@
 -- How the stream of a job fits its plan.
-use Rattle.std.proofs.Common.{◌≡◌, ℕ, inl, inr, true, false, List, ◌++◌, Option, Some, None, option_map, refl, sym, ap}
+use Rattle.std.proofs.Common.{◌≡◌, ℕ, inl, inr, true, List, ◌++◌, Option, Some, None, option_map, refl, sym, ap}
 use Rattle.std.specs.Prelude.{Result, Err}
 use Rattle.smithy_core.specs.Civil.{is_in_years}
 use Rattle.smithy_core.specs.Parts.{Parts}
@@ -26,7 +26,7 @@ use Rattle.signed_stream.specs.declared.halt.Halt.TheVariants as halts
 use Rattle.signed_stream.specs.declared.status.Status.{Status}
 use Rattle.signed_stream.specs.declared.status.Status.TheVariants.{Refused}
 use Rattle.signed_stream.specs.declared.status.StreamFault.{StreamFault}
-use Rattle.signed_stream.specs.declared.status.StreamFault.TheVariants.{InvalidUri, MomentOutOfRange}
+use Rattle.signed_stream.specs.declared.status.StreamFault.TheVariants.{InvalidUri}
 
 -- a fault that stops
 stopped : (fault told : StreamFault) (held : Option (List ℕ)) → fault ≡ told → Fits (stops (Refused fault)) (Refused told) held held
@@ -80,8 +80,3 @@ pub job_fits : (wanted : Wanted) (j : PlainJob) (selected : Selected) (answer : 
 job_fits wanted j selected answer before now gives token years =
     fits_same (SpellsAs j.target) (target_plan j.target (case_of j wanted selected) j.events) (λ target. job_plan wanted target (plain_job j)) answer before now
     (λ target. rw (gives.key_id, gives.secret, gives.region, years, ← token) refl)
-
--- the moment of a job lies outside the years
-pub late_fits : (wanted : Wanted) (j : PlainJob) (key_id secret region : List ℕ) (held : Option (List ℕ)) → Gives j key_id secret region → is_in_years wanted.at ≡ false
-    → FitsTarget (SpellsAs j.target) (λ target. job_plan wanted target (plain_job j)) (Refused (MomentOutOfRange wanted.at)) held held
-late_fits wanted j key_id secret region held gives years = inl (λ target. rw (gives.key_id, gives.secret, gives.region, years) (inl refl, refl))

@@ -179,17 +179,9 @@ plan_too_large wanted (Some told_bytes) bytes target long told =
 
 -- ## Before a plan is known
 
-pub ends_read_fault : (plan : Plan) → EndsAsPlanned plan ReadFault
-ends_read_fault (stops status) = inr (inl refl)
-ends_read_fault (writes text fault) = inr (inl refl)
-
 pub ends_no_memory : (plan : Plan) → EndsAsPlanned plan NoMemory
 ends_no_memory (stops status) = inr (inr refl)
 ends_no_memory (writes text fault) = inr (inr (inr refl))
-
-pub gains_read_fault : (plan : Plan) (held : Option (List ℕ)) → GainsAsPlanned plan ReadFault held held
-gains_read_fault (stops status) held = refl
-gains_read_fault (writes text fault) held = refl
 
 pub gains_no_memory : (plan : Plan) (held : Option (List ℕ)) → GainsAsPlanned plan NoMemory held held
 gains_no_memory (stops status) held = refl

@@ -13,17 +13,17 @@ use Rattle.sigv4.specs.Settings.{settings_of}
 use Rattle.sigv4.specs.Instructions.{Instruction, with_instructions}
 use Rattle.sigv4.specs.Signed.{instructions, signed_headers}
 use Rattle.sigv4.specs.Signing.{unsignable}
-use Rattle.sigv4.specs.Targets.{IsRetargeted, IsUntargeted}
+use Rattle.sigv4.specs.Targets.{IsRetargeted}
 use Rattle.sigv4.specs.declared.body.SignableBody.{SignableBody}
 use Rattle.sigv4.specs.declared.error.SigningError.{SigningError}
-use Rattle.sigv4.specs.declared.error.SigningError.TheVariants.{InvalidUri, InvalidHeaderName, InvalidHeaderValue, MissingHost, UnsupportedIdentityType, FailedToEncodeMessage, MomentOutOfRange, NoMemory}
+use Rattle.sigv4.specs.declared.error.SigningError.TheVariants.{InvalidUri, NoMemory}
 use Rattle.sigv4.specs.declared.instructions.SigningInstructions.{SigningInstructions}
 use Rattle.sigv4.specs.declared.output.SigningOutput.{SigningOutput}
 use Rattle.sigv4.specs.declared.request.SignableRequest.{SignableRequest}
 use Rattle.sigv4.specs.declared.settings.SigningSettings.{SigningSettings}
 use Rattle.sigv4.specs.declared.signing_params.SigningParams.TheVariants.{V4}
 use Rattle.signed_stream.specs.Signing.{case_under, payload_with, settings_with}
-use Rattle.signed_stream.specs.Signs.{SignsRequest, SignsText, Unsigned, halt_for}
+use Rattle.signed_stream.specs.Signs.{SignsText, Unsigned}
 use Rattle.signed_stream.specs.declared.words.options.StreamWords.{StreamWords}
 
 -- the case that is signed is that of the request

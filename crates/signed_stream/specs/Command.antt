@@ -69,16 +69,16 @@ option_step place given word =
     else if is_later_option word then ends (unbuilt_word place)
     else ends (bad_word place)
 
--- the number of seconds of `--at` at a place
-abbrev pub second_step : ℕ → Options → Option ℤ → OptionStep
-second_step place given None = ends (bad_word place)
-second_step place given (Some secs) = options (record given { at = Some (record { secs = secs; nanos = 0 }); awaited = None })
+-- the value of `--at` at a place: the seconds of the moment, where the word is a number of 64 bits
+abbrev pub moment_step : ℕ → Options → Option ℤ → OptionStep
+moment_step place given None = ends (bad_word place)
+moment_step place given (Some secs) = options (record given { at = Some (record { secs = secs; nanos = 0 }); awaited = None })
 
 -- the word at a place: the value of the option that waits for one, or else an option
 abbrev pub word_step : ℕ → Options → Option Valued → List ℕ → OptionStep
 word_step place given None word = option_step place given word
 word_step place given (Some Name) word = options (record given { name = Some word; awaited = None })
-word_step place given (Some At) word = second_step place given (number w64 word)
+word_step place given (Some At) word = moment_step place given (number w64 word)
 
 -- the words are over: the command, or the place after the last word
 abbrev pub command_of : ℕ → Options → Option (List ℕ) → Option Instant → Option Valued → Command

@@ -1,4 +1,5 @@
-//! Numbers as words and lines spell them: decimal digits without a leading zero, with `-` before them where they are below 0.
+//! Numbers as words and lines spell them: decimal digits without a leading zero, with `-` before them where they
+//! are below 0.
 ghost use Rattle.std.specs.Prelude.{◌≡◌, ◌<◌, ◌||◌, IfSome};
 ghost use Rattle.std.specs.List.{list_all};
 ghost use Rattle.std.specs.Int.{w8, w16, w32, w64};

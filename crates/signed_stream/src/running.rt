@@ -16,10 +16,15 @@ use std::alloc::Global;
 /// Does what the words ask for, on the objects of the outside, and says on `err` how it ended.
 ///
 /// The words are those after the program's name. `stream --name NAME --at N` reads a job from `input`, signs its
-/// request by AWS Signature Version 4, as `--sha256`, `--single-encode`, `--no-normalize` and `--unsigned` ask, and writes to `out` the head of the signed request and a chain of event
-/// stream frames: one for each event in order and an empty one last, each signed over the signature before it.
-/// The first event that has no frame, or whose signed message has none, ends the run with its fault, after the head
-/// and the frames of the events before it.
+/// request by AWS Signature Version 4 in header form, and writes to `out` the head of the signed request and then a
+/// chain of event stream frames: one for each event in order and an empty one last, each signed over the signature
+/// before it, the first over that of the request. All of them have the moment N. `--sha256`, `--single-encode`,
+/// `--no-normalize` and `--unsigned` say how the request is signed.
+///
+/// The first test that fails ends the run, in this order: the words, the variables, the length of the input, the
+/// job, what its profile gives, the moment, the target, each header of the request, the host, the token and the
+/// authorization. Until then nothing is written. Then each event is tested before its frame is written, so a refused
+/// event leaves the head and the frames of the events before it.
 pub fn run<S: ByteSource, D: Disk, C: Clock, K: ByteSink, E: ByteSink>(
     alloc: Global,
     words: &[String],
@@ -30,14 +35,16 @@ pub fn run<S: ByteSource, D: Disk, C: Clock, K: ByteSink, E: ByteSink>(
     out: &mut K,
     err: &mut E,
 ) -> Status
-    // Where the run is done, the output gained exactly the head of the signed request and then the chain of the events read.
+    // Where the run is done, the output gained exactly the head of the signed request and then the chain of the
+    // events read.
     ensures headline { result ≡ Status.Done → (bytes : List ℕ) → S.left input.old ≡ Some bytes
         → Streams (map string_bytes words.now) env.now bytes (K.held out.old) (K.held out.new) }
 
     // Where what is asked is valid, it is done; a fault of the outside and want of memory may come in between.
     ensures complete { (bytes : List ℕ) → S.left input.old ≡ Some bytes → IsValid (map string_bytes words.now) env.now bytes → Completes result }
 
-    // It ends as words, variables and input ask, and what the target in it spells; a fault of the outside and want of memory may come in between.
+    // It ends as words, variables and input ask, and what the target in it spells; a fault of the outside and want
+    // of memory may come in between.
     ensures asked { EndsAsAsked (ask (map string_bytes words.now) env.now) result }
     ensures planned { (bytes : List ℕ) (target : Option Target) → S.left input.old ≡ Some bytes → ReadsTargetOf (job bytes) target
         → EndsAsPlanned (ask_plan (ask (map string_bytes words.now) env.now) bytes target) result }

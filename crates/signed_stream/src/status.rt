@@ -48,7 +48,8 @@ pub enum Status {
     BadJob(usize),
     /// The input failed.
     ReadFault,
-    /// The job can't be streamed; where an event is at fault, the output holds the head and the frames of the events before it.
+    /// The job can't be streamed; where an event is at fault, the output holds the head and the frames of the events
+    /// before it.
     Refused(StreamFault),
     /// The output failed; it holds a front of the text.
     OutputFault,

@@ -1,9 +1,8 @@
 //! Runs on the objects in memory: the answers, and what the output and `err` hold after each.
-mod refused_events;
-mod refused_runs;
+mod refusals;
 mod signed_requests;
 
-use crate::run;
+use crate::{Status, run};
 use smithy_core::{
     ByteSink, CalmDisk, CalmSink, Env, FaultySink, FaultySource, FixedClock, Moment,
 };
@@ -26,6 +25,10 @@ const EVENT: &str =
 const CLOSING: &str =
     "0000005300000043f5447a58103a6368756e6b2d7369676e6174757265060020624d8899799296b936e200257d28d8bc1e2316e008dfdfb05f5e49ccff660a6f053a64617465080000014f7e9b6f80a703f498\n";
 
+/// The closing frame where no event stands before it.
+const ALONE: &str =
+    "0000005300000043f5447a58103a6368756e6b2d7369676e617475726506002033a2703cb94ea114eb369de67dca70d62f8554eb387c73678050de2f9e67b435053a64617465080000014f7e9b6f80812629f1\n";
+
 const WORDS: &[&str] = &["stream", "--name", "transcribe", "--at", "1440938160"];
 
 fn texts(alloc: Global, words: &[&str]) -> Result<Vec<String>, AllocError> {
@@ -36,14 +39,14 @@ fn texts(alloc: Global, words: &[&str]) -> Result<Vec<String>, AllocError> {
     Ok(out)
 }
 
-// The number that a run on these words, an input, an output and an `err` ends with.
+// How a run on these words, an input, an output and an `err` ends.
 fn run_on<K: ByteSink, E: ByteSink>(
     alloc: Global,
     words: &[&str],
     input: &mut FaultySource,
     out: &mut K,
     err: &mut E,
-) -> Result<u8, AllocError> {
+) -> Result<Status, AllocError> {
     run_in(alloc, &Env::new(alloc), words, input, out, err)
 }
 
@@ -55,11 +58,11 @@ fn run_in<K: ByteSink, E: ByteSink>(
     input: &mut FaultySource,
     out: &mut K,
     err: &mut E,
-) -> Result<u8, AllocError> {
+) -> Result<Status, AllocError> {
     let words = texts(alloc, words)?;
     let mut disk = CalmDisk::new(Vec::new(alloc));
     let mut clock = FixedClock::new(Moment::new(0, 0));
-    let status = run(
+    Ok(run(
         alloc,
         words.as_slice(),
         env,
@@ -68,8 +71,7 @@ fn run_in<K: ByteSink, E: ByteSink>(
         &mut clock,
         out,
         err,
-    );
-    Ok(status.code())
+    ))
 }
 
 fn input_of(alloc: Global, bytes: &[u8], fails: &[u64]) -> Result<FaultySource, AllocError> {
@@ -144,13 +146,14 @@ fn assert_ends(
     let mut out = FaultySink::new(alloc, Vec::new(alloc));
     let mut err = FaultySink::new(alloc, Vec::new(alloc));
     let answer = run_on(alloc, words, &mut input, &mut out, &mut err)?;
-    assert_eq!(rt; answer, code, "of {line:?}");
+    assert_eq!(rt; answer.code(), code, "of {line:?}");
     assert_eq!(rt; err.held(), line.as_bytes());
     assert_eq!(rt; out.held().is_empty(), code != 0);
     Ok(())
 }
 
-// A run on these words and a job, to an output that fails at these writes, ends with this number and leaves these texts.
+// A run on these words and a job, to an output that fails at these writes, ends with this number and leaves these
+// texts.
 fn assert_run(
     rt: &(impl Abort + AllocGlobal),
     words: &[&str],
@@ -165,7 +168,7 @@ fn assert_run(
     let mut out = FaultySink::new(alloc, Vec::from_slice(alloc, fails)?);
     let mut err = FaultySink::new(alloc, Vec::new(alloc));
     let answer = run_on(alloc, words, &mut input, &mut out, &mut err)?;
-    assert_eq!(rt; answer, code);
+    assert_eq!(rt; answer.code(), code);
     assert_eq!(rt; err.held(), line.as_bytes());
     assert_eq!(rt; out.held(), held.as_bytes());
     Ok(())
@@ -185,6 +188,15 @@ fn output_faults(rt: HostRuntime) -> Result<(), Fail> {
 }
 
 #[test]
+fn no_events(rt: HostRuntime) -> Result<(), Fail> {
+    let alloc = rt.alloc();
+    let events = "event\nh :message-type text event\npayload 68656c6c6f\n";
+    let job = JOB.replace(alloc, events, "")?;
+    let held = format!(in alloc; "{HEAD}{ALONE}")?;
+    assert_run(&rt, WORDS, job.as_str(), &[], 0, "", held.as_str())
+}
+
+#[test]
 fn other_faults(rt: HostRuntime) -> Result<(), Fail> {
     let alloc = rt.alloc();
     assert_read_fault(&rt, 1)?;
@@ -193,7 +205,7 @@ fn other_faults(rt: HostRuntime) -> Result<(), Fail> {
     let mut out = CalmSink::new(alloc);
     let mut err = FaultySink::new(alloc, vec![in alloc; 1u64]?);
     let answer = run_on(alloc, WORDS, &mut input, &mut out, &mut err)?;
-    assert_eq!(rt; answer, 4);
+    assert_eq!(rt; answer.code(), 4);
     assert!(rt; err.held().is_empty());
     Ok(())
 }
@@ -205,7 +217,7 @@ fn assert_read_fault(rt: &(impl Abort + AllocGlobal), read: u64) -> Result<(), F
     let mut out = CalmSink::new(alloc);
     let mut err = FaultySink::new(alloc, Vec::new(alloc));
     let answer = run_on(alloc, WORDS, &mut input, &mut out, &mut err)?;
-    assert_eq!(rt; answer, 5);
+    assert_eq!(rt; answer.code(), 5);
     assert!(rt; out.held().is_empty());
     assert_eq!(rt; err.held(), b"read fault\n".as_slice());
     Ok(())
@@ -222,7 +234,7 @@ fn variables(rt: HostRuntime) -> Result<(), Fail> {
         let mut out = CalmSink::new(alloc);
         let mut err = CalmSink::new(alloc);
         let answer = run_in(alloc, &env, WORDS, &mut input, &mut out, &mut err)?;
-        assert_eq!(rt; answer, 11);
+        assert_eq!(rt; answer.code(), 11);
         assert_eq!(rt; err.held(), b"not built 0\n".as_slice());
     }
     Ok(())
@@ -239,7 +251,7 @@ fn large_input(rt: HostRuntime) -> Result<(), Fail> {
     let mut out = CalmSink::new(alloc);
     let mut err = CalmSink::new(alloc);
     let answer = run_on(alloc, WORDS, &mut input, &mut out, &mut err)?;
-    assert_eq!(rt; answer, 3);
+    assert_eq!(rt; answer.code(), 3);
     assert_eq!(rt; err.held(), b"input over 67108864 bytes\n".as_slice());
     Ok(())
 }

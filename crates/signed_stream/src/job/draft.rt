@@ -7,7 +7,8 @@ use bytes::Bytes;
 use smithy_core::{Headers, Mem, Message};
 use std::alloc::Global;
 
-/// What the lines so far gave: settings from the line `credentials [default]` on, the events that are whole, and the one that is open.
+/// What the lines so far gave: settings from the line `credentials [default]` on, the events that are whole, and
+/// the one that is open.
 #[derive(Drop)]
 pub struct Draft {
     pub method: Option<String>,

@@ -36,7 +36,7 @@ pub struct GivenOptions<'a> {
 impl<'a> GivenOptions<'a> {
     ghost use Rattle.std.specs.Prelude.{◌≡◌, None};
     ghost use Rattle.std.specs.Int.{w64};
-    ghost use Rattle.signed_stream.specs.Command.{command_of, no_options, option_step, second_step, word_step};
+    ghost use Rattle.signed_stream.specs.Command.{command_of, no_options, option_step, moment_step, word_step};
     ghost use Rattle.signed_stream.specs.Numbers.{number};
     ghost use Rattle.signed_stream.specs.Words.{command_told, options_of, step_told};
 
@@ -61,7 +61,7 @@ impl<'a> GivenOptions<'a> {
                 self.name = Some(word);
                 Ok(())
             }
-            Some(Valued::At) => self.take_second(place, word),
+            Some(Valued::At) => self.take_moment(place, word),
             None => self.take_option(place, word),
         }
     }
@@ -92,8 +92,8 @@ impl<'a> GivenOptions<'a> {
     }
 
     // Takes the value of `--at` at a place.
-    fn take_second(&mut self, place: usize, word: &str) -> Result<(), WordsFault>
-        ensures { step_told result (options_of self.new) ≡ second_step place (options_of self.old) (number w64 word.now) }
+    fn take_moment(&mut self, place: usize, word: &str) -> Result<(), WordsFault>
+        ensures { step_told result (options_of self.new) ≡ moment_step place (options_of self.old) (number w64 word.now) }
     {
         self.awaited = None;
         let Some(secs) = parse_i64(word) else {
