@@ -54,8 +54,8 @@ pub fn section_name(line: &str) -> Option<&str>
     text.strip_prefix('[')?.strip_suffix(']')
 }
 
-// What stands before the first comment sign, or all.
-fn before_sign(text: &str) -> &str
+/// What stands before the first comment sign, or all.
+pub fn before_sign(text: &str) -> &str
     ensures { result.now ≡ before_first is_comment_sign text.now }
 {
     match text.find(['#', ';']) {
@@ -84,8 +84,8 @@ pub fn cut_property(line: &str) -> Result<(&str, &str), PropertyFault>
     Ok((key, trim(value)))
 }
 
-// What stands before the first comment sign that follows white space, or all.
-fn without_comment(text: &str) -> &str
+/// What stands before the first comment sign that follows white space, or all.
+pub fn without_comment(text: &str) -> &str
     ensures { result.now ≡ uncommented text.now }
 {
     let mut follows_space = false;
