@@ -27,13 +27,11 @@ pub fn merge_profile(
 ) -> Mem<()>
     ensures { OnOk result (named_as profile_of profiles.new ≡ merged_into (named_as profile_of profiles.old) name.now pairs.now) }
 {
-    let empty = Profile::new(String::from_str(alloc, name)?, BTreeMap::new(alloc));
-    let mut properties = profile_properties(alloc, profiles.replace(name, empty)?);
+    let empty = Profile::new(String::new(alloc), BTreeMap::new(alloc));
+    let mut properties = profile_properties(alloc, profiles.take(name, empty)?);
     put_pairs(alloc, &mut properties, pairs.pairs())?;
-    profiles.replace(
-        name,
-        Profile::new(String::from_str(alloc, name)?, properties),
-    )?;
+    let filled = Profile::new(String::from_str(alloc, name)?, properties);
+    profiles.replace(name, filled)?;
     Ok(())
 }
 
@@ -55,13 +53,11 @@ pub fn merge_session(
 ) -> Mem<()>
     ensures { OnOk result (named_as session_of sessions.new ≡ merged_into (named_as session_of sessions.old) name.now pairs.now) }
 {
-    let empty = SsoSession::new(String::from_str(alloc, name)?, BTreeMap::new(alloc));
-    let mut properties = session_properties(alloc, sessions.replace(name, empty)?);
+    let empty = SsoSession::new(String::new(alloc), BTreeMap::new(alloc));
+    let mut properties = session_properties(alloc, sessions.take(name, empty)?);
     put_pairs(alloc, &mut properties, pairs.pairs())?;
-    sessions.replace(
-        name,
-        SsoSession::new(String::from_str(alloc, name)?, properties),
-    )?;
+    let filled = SsoSession::new(String::from_str(alloc, name)?, properties);
+    sessions.replace(name, filled)?;
     Ok(())
 }
 

@@ -10,7 +10,7 @@ returns c =
     let before = values_of c.profile_properties-properties.result.entries in
     let properties = values_of c.put_pairs.new.properties.entries in
     let make : List ℕ → List (List ℕ × List ℕ) → Section = λ name properties. record { name = name; properties = properties } in
-    merged profile_of c.args.profiles.now c.replace.new.self c.replace-2.new.self c.args.name.now c.args.pairs.now before properties c.new-empty.result c.new-2.result c.in_ok-replace.field-0
-    c.in_ok-replace.ensures.now c.in_ok-replace.ensures.before c.profile_properties-properties.ensures (c.in_ok-put_pairs.ensures ∙ ap (put_identifiers before) c.pairs.ensures)
-    (ap₂ make (ap string_bytes c.new-2.ensures.name ∙ c.in_ok-from_str-2.ensures.ok) (ap (λ (m : BTreeMap (String Global) Property). values_of m.entries) c.new-2.ensures.properties))
-    c.in_ok-replace-2.ensures.now
+    merged profile_of c.args.profiles.now c.take.new.self c.replace.new.self c.args.name.now c.args.pairs.now before properties c.new-filled.result c.in_ok-take.field-0
+    c.in_ok-take.ensures.later c.in_ok-take.ensures.before c.profile_properties-properties.ensures (c.in_ok-put_pairs.ensures ∙ ap (put_identifiers before) c.pairs.ensures)
+    (ap₂ make (ap string_bytes c.new-filled.ensures.name ∙ c.in_ok-from_str.ensures.ok) (ap (λ (m : BTreeMap (String Global) Property). values_of m.entries) c.new-filled.ensures.properties))
+    c.in_ok-replace.ensures.now
