@@ -24,7 +24,7 @@ pub property_keyed : (es now : List (String Global × Property)) (key : String G
 property_keyed es now key property puts own keyed =
     let at = string_bytes key in
     let held : contents_of now ≡ put (contents_of es) at (at, string_bytes property.value) = ap contents_of puts ∙ entries_put string_cmp text_cmp string_bytes pair_of (λ _ _. refl) es key property
-        ∙ ap (λ (own : List ℕ). put (contents_of es) at (own, string_bytes property.value)) own in
+    ∙ ap (λ (own : List ℕ). put (contents_of es) at (own, string_bytes property.value)) own in
     subst IsKeyed (sym held) (put_keyed (contents_of es) at (string_bytes property.value) keyed)
 
 if_some : {X : Type 0} (P : X → Type 0) (o : Option X) → OfSome P o → IfSome o P

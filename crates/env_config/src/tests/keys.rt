@@ -32,7 +32,7 @@ fn homes(rt: HostRuntime) -> Result<(), Fail> {
     for (variables, os, dir) in &HOMES {
         let env = env_of(rt.alloc(), variables)?;
         let found = home_dir(rt.alloc(), &env, *os)?;
-        assert_eq!(rt; found.as_ref().map(|dir| dir.as_str()), *dir);
+        assert_eq!(rt; found.as_deref(), *dir);
     }
     assert_eq!(rt; Os::real(), Os::Unix);
     Ok(())
@@ -97,7 +97,9 @@ fn missing_parts(rt: HostRuntime) -> Result<(), Fail> {
 // A fault has its file, its line and its message.
 #[test]
 fn faulty_line(rt: HostRuntime) -> Result<(), Fail> {
-    match EnvConfigSections::parse(rt.alloc(), &faulty_source(rt.alloc())?) {
+    let source = faulty_source(rt.alloc())?;
+    let parsed = EnvConfigSections::parse(rt.alloc(), &source);
+    match &parsed {
         Err(ParseFault::Parse(error)) => {
             assert_eq!(rt; error.path.as_str(), "~/.aws/config");
             assert_eq!(rt; error.line_number, 1);
@@ -105,8 +107,9 @@ fn faulty_line(rt: HostRuntime) -> Result<(), Fail> {
                 error.message.as_str(),
                 "Profile definition must end with ']'"
             );
+            let printed = format!(in rt.alloc(); "{error}")?;
             assert_eq!(rt;
-                format!(in rt.alloc(); "{error}")?.as_str(),
+                printed.as_str(),
                 "error parsing ~/.aws/config on line 1:\n  Profile definition must end with ']'"
             );
         }

@@ -141,7 +141,7 @@ pub fn has_files(source: &Source, expected: &[Loaded]) -> bool {
     source.files.len() == expected.len()
         && source.files.iter().zip(expected).all(|(file, (kind, path, contents))| {
             file.kind == *kind
-                && file.path.as_ref().map(|path| path.as_str()) == *path
+                && file.path.as_deref() == *path
                 && file.contents.as_str() == *contents
         })
 }

@@ -111,7 +111,8 @@ pub fn refuses(_value: &str) -> Result<usize, &'static str> {
 fn refused_value(rt: HostRuntime) -> Result<(), Fail> {
     let env = env_of(rt.alloc(), &[SHARED])?;
     let sections = config_sections(rt.alloc(), WITH_SERVICES, "default")?;
-    match region().validate(rt.alloc(), &env, Some(&sections), refuses) {
+    let refused = region().validate(rt.alloc(), &env, Some(&sections), refuses);
+    match &refused {
         Err(ValidateFault::Invalid(error)) => {
             assert_eq!(rt; *error.err(), "bad");
             assert_eq!(rt;

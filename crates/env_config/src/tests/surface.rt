@@ -316,5 +316,5 @@ fn invalid_copy(alloc: Global) -> Mem<bool> {
 fn home(alloc: Global) -> Mem<bool> {
     let env = env_of(alloc, &[("HOME", "/h")])?;
     let dir = home_dir(alloc, &env, Os::real())?;
-    Ok(dir.as_ref().map(|dir| dir.as_str()) == Some("/h"))
+    Ok(dir.as_deref() == Some("/h"))
 }
