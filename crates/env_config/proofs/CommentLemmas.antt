@@ -1,9 +1,12 @@
 -- A text is walked character by character up to its comment.
-use Rattle.std.proofs.Common.{◌≡◌, ℕ, ◌+◌, ◌≤◌, Bool, true, false, cond, ◌&&◌, List, [], ◌∷◌, ◌++◌, length, take, drop, refl, sym, ap, subst₂, ◌∙◌, arith, append_assoc, append-nil, length-append, length-drop}
+use Rattle.std.proofs.Common.{◌≡◌, ℕ, ◌+◌, ◌≤◌, Bool, true, false, cond, eqb, ◌&&◌, List, [], ◌∷◌, ◌++◌, length, take, drop, refl, sym, ap, subst, subst₂, ◌∙◌, arith, append_assoc, append-nil, length-append, length-drop}
 use Rattle.std.specs.Char.{encode_utf8, is_whitespace}
-use Rattle.std.specs.Str.{IsUtf8, chars, encode_utf8_all}
+use Rattle.std.specs.Bool.{MatchBool}
+use Rattle.std.specs.Str.{IsUtf8, NoCharPasses, NonePass, chars, encode_utf8_all}
 use Rattle.std.proofs.lemmas.List.{take-append-drop, take_at, drop_at, drop-drop, length-take-le, take_all}
-use Rattle.std.proofs.lemmas.Str.{chars_past_char, chars-nil, IsUtf8-past_char}
+use Rattle.std.proofs.lemmas.Str.{chars_past_char, chars_from_encodes, chars-nil, encodes-chars, IsUtf8-past_char}
+use Rattle.std.proofs.lemmas.Bool.Decides.{nat_tests}
+use Rattle.env_config.proofs.LineLemmas.{and_no}
 use Rattle.env_config.specs.Line.{before_comment, is_comment_sign, uncommented}
 
 -- a text that is cut at a place: what stands before it stays, and of the rest what stands before the comment
@@ -56,3 +59,25 @@ walk_ends text place [] follows_space walks none =
     let all : take place text ≡ text = take_all place text (omega (arith, length-drop place text, ap length walks.after)) in
     sym all ∙ sym (append-nil (take place text)) ∙ sym (ap (λ cs. take place text ++ encode_utf8_all (before_comment follows_space cs)) chars-nil) ∙ walks.kept
 walk_ends text place (b ∷ rest) follows_space walks none = absurd (omega arith)
+
+-- ## No comment sign
+
+no_sign : (c : ℕ) → eqb c 35 ≡ false → eqb c 59 ≡ false → is_comment_sign c ≡ false
+no_sign c hash semicolon = grind (arith, nat_tests)
+
+no_comment : (follows_space : Bool) (cs : List ℕ) → NonePass (λ d. eqb d 35) cs → NonePass (λ d. eqb d 59) cs → before_comment follows_space cs ≡ cs
+no_comment follows_space [] hash semicolon = refl
+no_comment follows_space (c ∷ cs) hash semicolon =
+    ap (λ (v : Bool). cond (follows_space && v) [] (c ∷ before_comment (is_whitespace c) cs)) (no_sign c hash.0 semicolon.0)
+    ∙ and_no follows_space [] (c ∷ before_comment (is_whitespace c) cs)
+    ∙ ap (λ xs. c ∷ xs) (no_comment (is_whitespace c) cs hash.1 semicolon.1)
+
+sign_free : (text : List ℕ) → IsUtf8 text → NoCharPasses (λ d. eqb d 35) text → NoCharPasses (λ d. eqb d 59) text → text ≡ uncommented text
+unfolding uncommented
+sign_free text is hash semicolon =
+    let none : (test : ℕ → Bool) → NoCharPasses test text → NonePass test (chars text) = λ test passes. subst (NonePass test) (chars_from_encodes passes.0 text is passes.1) passes.2 in
+    sym (encodes-chars text is) ∙ ap encode_utf8_all (sym (no_comment false (chars text) (none (λ d. eqb d 35) hash) (none (λ d. eqb d 59) semicolon)))
+
+pub none_found : (text : List ℕ) (A : Type 0) → IsUtf8 text → NoCharPasses (λ d. eqb d 35) text → (found : Bool) → MatchBool found A (NoCharPasses (λ d. eqb d 59) text) → found ≡ false → text ≡ uncommented text
+none_found text A is hash true cases none = absurd cc
+none_found text A is hash false cases none = sign_free text is hash cases

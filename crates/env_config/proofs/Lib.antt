@@ -10,3 +10,4 @@ pub mod ServiceLemmas
 pub mod CloneLemmas
 pub mod LaterLemmas
 pub mod LowerLemmas
+pub mod KeyedLemmas

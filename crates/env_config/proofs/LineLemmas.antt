@@ -45,7 +45,7 @@ cr_only : (b : ℕ) (lines : List (List ℕ)) (v : Bool) → cond (v && true) ([
 cr_only b lines true = refl
 cr_only b lines false = refl
 
-and_no : {A : Type 0} (v : Bool) (x y : A) → cond (v && false) x y ≡ y
+pub and_no : {A : Type 0} (v : Bool) (x y : A) → cond (v && false) x y ≡ y
 and_no true x y = refl
 and_no false x y = refl
 

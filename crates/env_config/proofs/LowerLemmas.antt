@@ -14,7 +14,7 @@ use Rattle.env_config.specs.Laws.{value_in}
 use Rattle.env_config.specs.Line.{is_blank, is_skipped, lines_of, property_of, section_name}
 use Rattle.env_config.specs.Raw.{Last, Open, State, after_line, begun, continued, continued_or, grown, last_step, line_step, opened, properties_of, raw, raw_from, section_step, start, sub_checked, within_section}
 use Rattle.env_config.specs.Sections.{FileText, Section, Sections, after_file, files_from, has_profile_default, heading_of, is_identifier, is_taken_from, merged_into, no_sections, put_identifiers, put_others, section_properties, sections, with_file, with_names, with_raw, with_section}
-use Rattle.env_config.specs.Texts.{Named, put, text_cmp, value_at}
+use Rattle.env_config.specs.Texts.{EachValue, Named, put, text_cmp, value_at}
 
 -- ## Texts
 
@@ -35,17 +35,12 @@ either P false x y here there = there
 
 -- ## Maps
 
--- P holds of each value
-abbrev pub EachValue : {X : Type 0} → (X → Type 0) → List (List ℕ × X) → Type 0
-EachValue P [] = Unit {0}
-EachValue P (e ∷ es) = P e.1 × EachValue P es
-
 -- each key is in lower case
 abbrev pub LowerKeys : List (List ℕ × List ℕ) → Type 0
 LowerKeys [] = Unit {0}
 LowerKeys (e ∷ es) = IsLower e.0 × LowerKeys es
 
-put_each : {X : Type 0} (P : X → Type 0) (es : List (List ℕ × X)) (key : List ℕ) (value : X) → EachValue P es → P value → EachValue P (put es key value)
+pub put_each : {X : Type 0} (P : X → Type 0) (es : List (List ℕ × X)) (key : List ℕ) (value : X) → EachValue P es → P value → EachValue P (put es key value)
 put_each P [] key value each is = (is, tt)
 put_each P (e ∷ es) key value each is = by (text_cmp key e.0) (put_each P es key value each.1 is)
   where
@@ -63,11 +58,11 @@ put_lower (e ∷ es) key value each is = by (text_cmp key e.0) (put_lower es key
     by Equal more = each
     by Greater more = (each.0, more)
 
-abbrev OfSome : {X : Type 0} → (X → Type 0) → Option X → Type 0
+abbrev pub OfSome : {X : Type 0} → (X → Type 0) → Option X → Type 0
 OfSome P None = Unit {0}
 OfSome P (Some x) = P x
 
-value_each : {X : Type 0} (P : X → Type 0) (es : List (List ℕ × X)) (key : List ℕ) → EachValue P es → OfSome P (value_at es key)
+pub value_each : {X : Type 0} (P : X → Type 0) (es : List (List ℕ × X)) (key : List ℕ) → EachValue P es → OfSome P (value_at es key)
 value_each P [] key each = tt
 value_each P (e ∷ es) key each = either (OfSome P) (is_eq (text_cmp key e.0)) (Some e.1) (value_at es key) each.0 (value_each P es key each.1)
 

@@ -12,14 +12,14 @@ use Rattle.env_config.specs.declared.property.Property.{Property}
 use Rattle.env_config.specs.Sections.{Key, Section, key_cmp, merged_into, put_at_key, put_identifiers, section_properties, value_at_key}
 use Rattle.env_config.specs.Texts.{Named, put, put_named, text_cmp, value_at}
 use Rattle.env_config.specs.Words.{key_of, named_as, values_of}
-use Rattle.env_config.proofs.TextsLemmas.{entries_at, entries_put, named_twice, seen_at, seen_put}
+use Rattle.env_config.proofs.TextsLemmas.{entries_at, entries_put, seen_at, seen_put}
 
-pub merged : {X : Type 0} (f : X → Section) (old between now : Named X) (name : List ℕ) (pairs before properties : List (List ℕ × List ℕ)) (empty filled : X) (had : Option X)
-    → between ≡ put_named old name empty → had ≡ value_at old.values name → before ≡ section_properties (option_map f had) → properties ≡ put_identifiers before pairs
+pub merged : {X : Type 0} (f : X → Section) (old between now : Named X) (name : List ℕ) (pairs before properties : List (List ℕ × List ℕ)) (filled : X) (had : Option X)
+    → ((value : X) → put_named between name value ≡ put_named old name value) → had ≡ value_at old.values name → before ≡ section_properties (option_map f had) → properties ≡ put_identifiers before pairs
     → f filled ≡ record { name = name; properties = properties } → now ≡ put_named between name filled → named_as f now ≡ merged_into (named_as f old) name pairs
-merged f old between now name pairs before properties empty filled had between_is had_is before_is properties_is filled_is now_is =
+merged f old between now name pairs before properties filled had later had_is before_is properties_is filled_is now_is =
     let section : List (List ℕ × List ℕ) → Section = λ pairs. record { name = name; properties = pairs } in
-    ap (named_as f) (now_is ∙ ap (λ named. put_named named name filled) between_is ∙ named_twice old name empty filled)
+    ap (named_as f) (now_is ∙ later filled)
     ∙ seen_put f old name filled
     ∙ ap (put_named (named_as f old) name) (filled_is ∙ ap section (properties_is ∙ ap (λ xs. put_identifiers xs pairs) (before_is ∙ ap section_properties (ap (option_map f) had_is ∙ seen_at f old name))))
 

@@ -39,16 +39,12 @@ section_moved sections section next step (Err (line.Bad message)) gives = step_i
 section_moved sections section next step (Err line.NoMemory) gives = tt
 
 -- a section that is opened holds what it held
-pub section_opened : (state : State) (name : List ℕ) → in_section (put_named state.sections name []) (record { at = record { name = name; last = None }; properties = properties_of state.sections name }) ≡ opened state name
-section_opened state name =
+pub opened_is : (state : State) (name : List ℕ) (closed left : Named (List (List ℕ × List ℕ))) (fresh properties : List (List ℕ × List ℕ)) (before : Option (List (List ℕ × List ℕ))) (called : List ℕ)
+    → closed ≡ state.sections → ((value : List (List ℕ × List ℕ)) → put_named left name value ≡ put_named closed name value) → before ≡ value_at closed.values name → fresh ≡ [] → properties ≡ unwrap_or before fresh → called ≡ name
+    → in_section left (record { at = record { name = called; last = None }; properties = properties }) ≡ opened state name
+opened_is state name closed left fresh properties before called closed_is later before_is fresh_is properties_is called_is =
     let make : Named (List (List ℕ × List ℕ)) → State = λ now. record { sections = now; open_section = Some (record { name = name; last = None }) } in
-    ap make (named_twice state.sections name [] (properties_of state.sections name))
-
-pub opened_is : (state : State) (name : List ℕ) (closed replaced : Named (List (List ℕ × List ℕ))) (empty fresh properties : List (List ℕ × List ℕ)) (before : Option (List (List ℕ × List ℕ))) (called : List ℕ)
-    → closed ≡ state.sections → empty ≡ [] → replaced ≡ put_named closed name empty → before ≡ value_at closed.values name → fresh ≡ [] → properties ≡ unwrap_or before fresh → called ≡ name
-    → in_section replaced (record { at = record { name = called; last = None }; properties = properties }) ≡ opened state name
-opened_is state name closed replaced empty fresh properties before called closed_is empty_is replaced_is before_is fresh_is properties_is called_is =
-    rw (called_is, properties_is, fresh_is, before_is, replaced_is, empty_is, closed_is) (section_opened state name)
+    rw (called_is, properties_is, fresh_is, before_is) (ap make (later (properties_of closed name)) ∙ ap (λ (named : Named (List (List ℕ × List ℕ))). opened (record state { sections = named }) name) closed_is)
 
 -- a continuation keeps the key
 key_kept : (last next : Last) (line : List ℕ) → continued last line ≡ Ok next → next.key ≡ last.key

@@ -1,6 +1,6 @@
 -- A map of strings as a map of texts, and what it has after a value was put.
 use Rattle.std.proofs.Common.{◌≡◌, ℕ, Bool, true, false, cond, List, [], ◌∷◌, ◌++◌, map, String, string_bytes, string_cmp, Global, bytes_eq, refl, sym, ap, ap₂, ◌∙◌, Ordering, Less, Equal, Greater, is_eq}
-use Rattle.std.specs.Prelude.{Option, Some, None, option_map, is_some}
+use Rattle.std.specs.Prelude.{Option, Some, None, option_map, is_some, Result, Ok, Err, OnOk}
 use Rattle.std.specs.Ordering.{match_ordering}
 use Rattle.std.specs.BTreeMap.{insert_entry, is_at}
 use Rattle.std.specs.Cmp.{tied_itself}
@@ -72,6 +72,12 @@ module _ {X : Type 0} where
       let make : List (List ℕ) → List (List ℕ × X) → Named X = λ names values. record { names = names; values = values } in
       let names = cond (is_some (value_at named.values name)) named.names (named.names ++ name ∷ []) in
       ap₂ make (ap (λ (o : Option X). cond (is_some o) names (names ++ name ∷ [])) (value_put named.values name value)) (put_twice named.values name value later)
+
+  -- so what stood in between doesn't count
+  pub replaced_later : {E : Type 0} (result : Result (Option X) E) (named now : Named X) (name : List ℕ) (left : X) → OnOk result (now ≡ put_named named name left)
+      → OnOk result ((value : X) → put_named now name value ≡ put_named named name value)
+  replaced_later (Ok before) named now name left is = λ value. ap (λ (n : Named X). put_named n name value) is ∙ named_twice named name left value
+  replaced_later (Err e) named now name left is = is
 
 -- values by their names, as the code keeps them
 abbrev pub named_of : {Z X : Type 0} → List (String Z) → List (String Z × X) → Named X

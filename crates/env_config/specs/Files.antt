@@ -41,9 +41,17 @@ places_of files = map place_of files.files.items
 abbrev pub usual_if : Bool → EnvConfigFileKind → List Place
 usual_if on kind = if on then Usual kind ∷ [] else []
 
--- the default config file, the default credentials file, and then the others in the order in which they were given
+-- the files that were added
+abbrev pub added : Builder → List Place
+added builder = map place_of builder.files.items
+
+-- the same default files are asked for
+abbrev pub AsksAlike : Builder → Builder → Type 0
+AsksAlike builder other = (other.config ≡ builder.config) × (other.credentials ≡ builder.credentials)
+
+-- the default config file, the default credentials file, and then those that were added
 abbrev pub chosen : Builder → List Place
-chosen builder = usual_if builder.config Config ++ (usual_if builder.credentials Credentials ++ map place_of builder.files.items)
+chosen builder = usual_if builder.config Config ++ (usual_if builder.credentials Credentials ++ added builder)
 
 -- the files, or none are chosen
 abbrev pub BuildsFiles : List Place → Result EnvConfigFiles BuildFault → Type 0

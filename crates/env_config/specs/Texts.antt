@@ -4,6 +4,7 @@ use Rattle.std.specs.declared.cmp.Ordering.{Ordering}
 use Rattle.std.specs.Ordering.{nat_cmp}
 use Rattle.std.specs.Cmp.Lexicographic.{pointwise, slice_cmp}
 use Rattle.std.specs.BTreeMap.{insert_entry, is_at}
+use Rattle.std.specs.List.{AllByRecursion}
 use Rattle.std.specs.Map.{lookup}
 
 -- texts are compared byte by byte
@@ -32,6 +33,10 @@ put_named named name value = record {
   names = if is_some (value_at named.values name) then named.names else named.names ++ name ∷ [];
   values = put named.values name value;
 }
+
+-- P holds of each value
+abbrev pub EachValue : {X : Type 0} → (X → Type 0) → List (List ℕ × X) → Type 0
+EachValue P entries = AllByRecursion (λ e. P e.1) entries
 
 -- a copy of the value, under the same name
 abbrev pub CopiedUnder : {X : Type 0} → (X → X → Type 0) → List ℕ × X → List ℕ × X → Type 0

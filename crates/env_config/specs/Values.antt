@@ -81,6 +81,18 @@ abbrev pub ValidatesAt : {T E : Type 0} → (List ℕ → Result T E → Type 0)
 ValidatesAt Gives found (Ok pair) = Validates Gives found (Ok pair.0) × (pair.1 ≡ origin_of found)
 ValidatesAt Gives found (Err fault) = Validates Gives found (Err fault)
 
+-- ## Copies
+
+-- the same place, with a copy of what the validator said
+abbrev pub IsErrorCopy : {E : Type 0} → (E → E → Type 0) → EnvConfigError E → EnvConfigError E → Type 0
+IsErrorCopy IsCopy error copy = (at_of copy.source ≡ at_of error.source) × IsCopy error.err copy.err
+
+abbrev pub IsFaultCopy : {E : Type 0} → (E → E → Type 0) → ValidateFault E → ValidateFault E → Type 0
+IsFaultCopy IsCopy (Invalid error) (Invalid copy) = IsErrorCopy IsCopy error copy
+IsFaultCopy IsCopy (Invalid error) NoMemory = ⊥
+IsFaultCopy IsCopy NoMemory (Invalid copy) = ⊥
+IsFaultCopy IsCopy NoMemory NoMemory = Unit {0}
+
 -- ## Texts
 
 -- the text of the fault, and where its value was found

@@ -2,6 +2,7 @@
 use Rattle.std.specs.Prelude.{◌≡◌, ℕ, List, map, ◌++◌, ◌∷◌, [], codes, Option, Some, None, IsSome, option_map, unwrap_or, String, string_bytes, Result, Ok, Err}
 use Rattle.std.specs.declared.alloc.Global.{Global}
 use Rattle.std.specs.Fmt.{decimal}
+use Rattle.std.specs.List.{AllByRecursion, AllZip}
 use Rattle.env_config.specs.declared.parse_fault.EnvConfigParseError.{EnvConfigParseError}
 use Rattle.env_config.specs.declared.parse_fault.ParseFault.{ParseFault}
 use Rattle.env_config.specs.declared.parse_fault.ParseFault.TheVariants.{Parse, NoMemory}
@@ -17,7 +18,7 @@ use Rattle.env_config.specs.declared.sections.EnvConfigSections.{EnvConfigSectio
 use Rattle.env_config.specs.declared.source.File.{File}
 use Rattle.env_config.specs.Raw.{raw}
 use Rattle.env_config.specs.Sections.{Fault, FileText, Key, Section, Sections, after_file, with_file}
-use Rattle.env_config.specs.Texts.{Named}
+use Rattle.env_config.specs.Texts.{CopiedUnder, EachValue, Named}
 
 -- key and value
 abbrev pub pair_of : Property → List ℕ × List ℕ
@@ -37,6 +38,16 @@ profile_of profile = record { name = string_bytes profile.name; properties = val
 abbrev pub session_of : SsoSession → Section
 session_of session = record { name = string_bytes session.name; properties = values_of session.properties.entries }
 
+-- each property stands under its own key
+abbrev pub IsKeyed : List (List ℕ × (List ℕ × List ℕ)) → Type 0
+IsKeyed contents = AllByRecursion (λ e. e.1.0 ≡ e.0) contents
+
+abbrev pub IsKeyedProfile : Profile → Type 0
+IsKeyedProfile profile = IsKeyed (contents_of profile.properties.entries)
+
+abbrev pub IsKeyedSession : SsoSession → Type 0
+IsKeyedSession session = IsKeyed (contents_of session.properties.entries)
+
 -- the values under their names, as f sees them
 abbrev pub named_as : {X Y : Type 0} → (X → Y) → Named X → Named Y
 named_as f named = record { names = named.names; values = map (λ e. (e.0, f e.1)) named.values }
@@ -54,6 +65,10 @@ others_of properties = map (λ e. (key_of e.0, string_bytes e.1)) properties.ent
 
 abbrev pub sections_of : EnvConfigSections → Sections
 sections_of sections = record { profiles = named_as profile_of sections.profiles; sessions = named_as session_of sections.sessions; others = others_of sections.others }
+
+-- in each profile and session each property stands under its own key
+abbrev pub AreKeyed : EnvConfigSections → Type 0
+AreKeyed sections = EachValue IsKeyedProfile sections.profiles.values × EachValue IsKeyedSession sections.sessions.values
 
 -- the parts of a builder
 abbrev pub parts_of : PropertiesKeyBuilder → Option (List ℕ) × (Option (List ℕ) × (Option (List ℕ) × Option (List ℕ)))
@@ -76,6 +91,11 @@ SameProfile profile copy = (string_bytes copy.name ≡ string_bytes profile.name
 
 abbrev pub SameSession : SsoSession → SsoSession → Type 0
 SameSession session copy = (string_bytes copy.name ≡ string_bytes session.name) × (contents_of copy.properties.entries ≡ contents_of session.properties.entries)
+
+-- the same profiles and sessions, property by property
+abbrev pub HasCopies : EnvConfigSections → EnvConfigSections → Type 0
+HasCopies sections copy =
+    AllZip (CopiedUnder SameProfile) sections.profiles.values copy.profiles.values × AllZip (CopiedUnder SameSession) sections.sessions.values copy.sessions.values
 
 -- ## Answers
 

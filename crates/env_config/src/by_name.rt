@@ -87,6 +87,17 @@ impl<V: Drop> ByName<V> {
         Ok(before)
     }
 
+    /// Takes the value under the name, and leaves this one in its place. Where there is none nothing is changed.
+    pub fn take(&mut self, name: &str, left: V) -> Mem<Option<V>>
+        ensures before { IfOk result (λ before. before ≡ value_at self.old.values name.now) }
+        ensures later { OnOk result ((value : V) → put_named self.new name.now value ≡ put_named self.old name.now value) }
+    {
+        if self.get(name).is_none() {
+            return Ok(None);
+        }
+        self.replace(name, left)
+    }
+
     /// The names in the order of their first appearance.
     pub fn names(&self) -> &[String]
         ensures { map string_bytes result.now ≡ self.now.names }

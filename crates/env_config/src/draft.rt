@@ -104,7 +104,7 @@ impl Draft {
         ensures { OnOk result (state_of self.new ≡ opened (state_of self.old) name.now) }
     {
         self.close()?;
-        let before = self.sections.replace(name, Texts::new(alloc))?;
+        let before = self.sections.take(name, Texts::new(alloc))?;
         self.at = Some(OpenSection {
             name: String::from_str(alloc, name)?,
             properties: before.unwrap_or(Texts::new(alloc)),

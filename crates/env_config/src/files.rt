@@ -1,6 +1,6 @@
 ghost use Rattle.std.specs.Prelude.{◌≡◌, [], ◌∷◌, ◌++◌, IfOk, false, map};
 ghost use Rattle.std.specs.String.{string_bytes};
-ghost use Rattle.env_config.specs.Files.{BuildsFiles, chosen, place_of, places_of};
+ghost use Rattle.env_config.specs.Files.{AsksAlike, BuildsFiles, added, chosen, place_of, places_of};
 ghost use Rattle.env_config.specs.Files.Place.{At, Given, Usual};
 ghost use Rattle.env_config.specs.declared.source.EnvConfigFileKind.TheVariants.{Config, Credentials};
 
@@ -135,7 +135,8 @@ impl Builder {
 
     /// Adds the file at a path, which is taken as it is written.
     pub fn with_file(mut self, kind: EnvConfigFileKind, path: String) -> Mem<Builder>
-        ensures { IfOk result (λ builder. chosen builder ≡ chosen self ++ At kind (string_bytes path) ∷ []) }
+        ensures added { IfOk result (λ builder. added builder ≡ added self ++ At kind (string_bytes path) ∷ []) }
+        ensures defaults { IfOk result (AsksAlike self) }
     {
         self.files.push(EnvConfigFile::FilePath { kind, path })?;
         Ok(self)
@@ -143,7 +144,8 @@ impl Builder {
 
     /// Adds a text that is given, in place of a file.
     pub fn with_contents(mut self, kind: EnvConfigFileKind, contents: String) -> Mem<Builder>
-        ensures { IfOk result (λ builder. chosen builder ≡ chosen self ++ Given kind (string_bytes contents) ∷ []) }
+        ensures added { IfOk result (λ builder. added builder ≡ added self ++ Given kind (string_bytes contents) ∷ []) }
+        ensures defaults { IfOk result (AsksAlike self) }
     {
         self.files
             .push(EnvConfigFile::FileContents { kind, contents })?;
@@ -152,7 +154,8 @@ impl Builder {
 
     /// An equal builder.
     pub fn try_clone(&self) -> Mem<Builder>
-        ensures { IfOk result (λ copy. chosen copy ≡ chosen self.now) }
+        ensures added { IfOk result (λ copy. added copy ≡ added self.now) }
+        ensures defaults { IfOk result (AsksAlike self.now) }
     {
         Ok(Builder {
             config: self.config,

@@ -1,4 +1,4 @@
-ghost use Rattle.std.specs.Prelude.{◌≡◌, ◌<◌, ◌∷◌, ◌&&◌, length, option_copied};
+ghost use Rattle.std.specs.Prelude.{◌≡◌, ◌<◌, ◌∷◌, ◌&&◌, false, length, option_copied};
 ghost use Rattle.std.specs.List.{before_first};
 ghost use Rattle.env_config.specs.Line.{is_comment_sign, is_skipped, lines_of, property_of, section_name, trimmed, uncommented, without_cr};
 ghost use Rattle.env_config.specs.Cut.{CutsProperty};
@@ -54,8 +54,8 @@ pub fn section_name(line: &str) -> Option<&str>
     text.strip_prefix('[')?.strip_suffix(']')
 }
 
-// What stands before the first comment sign, or all.
-fn before_sign(text: &str) -> &str
+/// What stands before the first comment sign, or all.
+pub fn before_sign(text: &str) -> &str
     ensures { result.now ≡ before_first is_comment_sign text.now }
 {
     match text.find(['#', ';']) {
@@ -84,8 +84,26 @@ pub fn cut_property(line: &str) -> Result<(&str, &str), PropertyFault>
     Ok((key, trim(value)))
 }
 
-// What stands before the first comment sign that follows white space, or all.
-fn without_comment(text: &str) -> &str
+/// What stands before the first comment sign that follows white space, or all.
+pub fn without_comment(text: &str) -> &str
+    ensures { result.now ≡ uncommented text.now }
+{
+    if has_sign(text) {
+        before_comment(text)
+    } else {
+        text
+    }
+}
+
+// Whether there is a comment sign.
+fn has_sign(text: &str) -> bool
+    ensures { result ≡ false → text.now ≡ uncommented text.now }
+{
+    text.contains('#') || text.contains(';')
+}
+
+// The same, character by character.
+fn before_comment(text: &str) -> &str
     ensures { result.now ≡ uncommented text.now }
 {
     let mut follows_space = false;

@@ -1,9 +1,9 @@
-ghost use Rattle.std.specs.Prelude.{◌≡◌, ◌≤◌, ◌∷◌, length, nat_eq, Option, option_map, OnOk, IfOk, map, if◌then◌else◌};
+ghost use Rattle.std.specs.Prelude.{◌≡◌, ◌≤◌, ◌∷◌, length, nat_eq, Option, option_map, OnOk, IfOk, IfSome, map, if◌then◌else◌};
 ghost use Rattle.std.specs.List.{slice_split};
 ghost use Rattle.env_config.specs.Drafting.{pairs_of};
 ghost use Rattle.env_config.specs.Sections.{is_identifier, merged_into, put_identifiers, put_others, put_sub, put_subs, section_properties};
-ghost use Rattle.env_config.specs.Texts.{put};
-ghost use Rattle.env_config.specs.Words.{named_as, others_of, profile_of, session_of, values_of};
+ghost use Rattle.env_config.specs.Texts.{EachValue, put};
+ghost use Rattle.env_config.specs.Words.{IsKeyed, IsKeyedProfile, IsKeyedSession, contents_of, named_as, others_of, profile_of, session_of, values_of};
 ghost use Rattle.env_config.specs.Pieces.{pieces_of, pieces_len};
 
 use crate::by_name::ByName;
@@ -25,20 +25,20 @@ pub fn merge_profile(
     name: &str,
     pairs: &Texts,
 ) -> Mem<()>
-    ensures { OnOk result (named_as profile_of profiles.new ≡ merged_into (named_as profile_of profiles.old) name.now pairs.now) }
+    ensures merged { OnOk result (named_as profile_of profiles.new ≡ merged_into (named_as profile_of profiles.old) name.now pairs.now) }
+    ensures keys { EachValue IsKeyedProfile profiles.old.values → OnOk result (EachValue IsKeyedProfile profiles.new.values) }
 {
-    let empty = Profile::new(String::from_str(alloc, name)?, BTreeMap::new(alloc));
-    let mut properties = profile_properties(alloc, profiles.replace(name, empty)?);
+    let empty = Profile::new(String::new(alloc), BTreeMap::new(alloc));
+    let mut properties = profile_properties(alloc, profiles.take(name, empty)?);
     put_pairs(alloc, &mut properties, pairs.pairs())?;
-    profiles.replace(
-        name,
-        Profile::new(String::from_str(alloc, name)?, properties),
-    )?;
+    let filled = Profile::new(String::from_str(alloc, name)?, properties);
+    profiles.replace(name, filled)?;
     Ok(())
 }
 
 fn profile_properties(alloc: Global, before: Option<Profile>) -> BTreeMap<String, Property>
-    ensures { values_of result.entries ≡ section_properties (option_map profile_of before) }
+    ensures values { values_of result.entries ≡ section_properties (option_map profile_of before) }
+    ensures keys { IfSome before IsKeyedProfile → IsKeyed (contents_of result.entries) }
 {
     match before {
         Some(profile) => profile.into_properties(),
@@ -53,20 +53,20 @@ pub fn merge_session(
     name: &str,
     pairs: &Texts,
 ) -> Mem<()>
-    ensures { OnOk result (named_as session_of sessions.new ≡ merged_into (named_as session_of sessions.old) name.now pairs.now) }
+    ensures merged { OnOk result (named_as session_of sessions.new ≡ merged_into (named_as session_of sessions.old) name.now pairs.now) }
+    ensures keys { EachValue IsKeyedSession sessions.old.values → OnOk result (EachValue IsKeyedSession sessions.new.values) }
 {
-    let empty = SsoSession::new(String::from_str(alloc, name)?, BTreeMap::new(alloc));
-    let mut properties = session_properties(alloc, sessions.replace(name, empty)?);
+    let empty = SsoSession::new(String::new(alloc), BTreeMap::new(alloc));
+    let mut properties = session_properties(alloc, sessions.take(name, empty)?);
     put_pairs(alloc, &mut properties, pairs.pairs())?;
-    sessions.replace(
-        name,
-        SsoSession::new(String::from_str(alloc, name)?, properties),
-    )?;
+    let filled = SsoSession::new(String::from_str(alloc, name)?, properties);
+    sessions.replace(name, filled)?;
     Ok(())
 }
 
 fn session_properties(alloc: Global, before: Option<SsoSession>) -> BTreeMap<String, Property>
-    ensures { values_of result.entries ≡ section_properties (option_map session_of before) }
+    ensures values { values_of result.entries ≡ section_properties (option_map session_of before) }
+    ensures keys { IfSome before IsKeyedSession → IsKeyed (contents_of result.entries) }
 {
     match before {
         Some(session) => session.into_properties(),
@@ -80,7 +80,8 @@ fn put_pairs(
     properties: &mut BTreeMap<String, Property>,
     pairs: &BTreeMap<String, String>,
 ) -> Mem<()>
-    ensures { OnOk result (values_of properties.new.entries ≡ put_identifiers (values_of properties.old.entries) (pairs_of pairs.now.entries)) }
+    ensures keys { IsKeyed (contents_of properties.old.entries) → OnOk result (IsKeyed (contents_of properties.new.entries)) }
+    ensures values { OnOk result (values_of properties.new.entries ≡ put_identifiers (values_of properties.old.entries) (pairs_of pairs.now.entries)) }
 {
     for (key, value) in pairs {
         put_pair(alloc, properties, key.as_str(), value.as_str())?;
@@ -94,7 +95,8 @@ fn put_pair(
     key: &str,
     value: &str,
 ) -> Mem<()>
-    ensures { OnOk result (values_of properties.new.entries ≡ (if is_identifier key.now then put (values_of properties.old.entries) key.now value.now else values_of properties.old.entries)) }
+    ensures keys { IsKeyed (contents_of properties.old.entries) → OnOk result (IsKeyed (contents_of properties.new.entries)) }
+    ensures values { OnOk result (values_of properties.new.entries ≡ (if is_identifier key.now then put (values_of properties.old.entries) key.now value.now else values_of properties.old.entries)) }
 {
     if !is_identifier(key) {
         return Ok(());

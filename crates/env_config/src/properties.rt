@@ -1,4 +1,4 @@
-ghost use Rattle.std.specs.Prelude.{◌≡◌, [], IfOk, OnOk, option_copied};
+ghost use Rattle.std.specs.Prelude.{◌≡◌, [], IfOk, OnErr, OnOk, option_copied};
 ghost use Rattle.std.specs.String.{string_bytes};
 ghost use Rattle.env_config.specs.Sections.{put_at_key, value_at_key};
 ghost use Rattle.env_config.specs.Words.{key_of, others_of};
@@ -24,9 +24,10 @@ impl Properties {
         }
     }
 
-    /// The value stands at the key, in place of the one before.
+    /// The value stands at the key, in place of the one before. Where memory runs out nothing is changed.
     pub fn insert(&mut self, key: PropertiesKey, value: String) -> Mem<()>
-        ensures { OnOk result (others_of self.new ≡ put_at_key (others_of self.old) (key_of key) (string_bytes value)) }
+        ensures ok { OnOk result (others_of self.new ≡ put_at_key (others_of self.old) (key_of key) (string_bytes value)) }
+        ensures err { OnErr result (others_of self.new ≡ others_of self.old) }
     {
         self.entries.insert(key, value)?;
         Ok(())

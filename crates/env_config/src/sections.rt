@@ -6,7 +6,7 @@ ghost use Rattle.env_config.specs.Raw.{properties_of};
 ghost use Rattle.env_config.specs.Texts.{value_at};
 ghost use Rattle.env_config.specs.Value.{selected_value};
 ghost use Rattle.env_config.specs.Values.{chosen_of};
-ghost use Rattle.env_config.specs.Words.{MergesText, Parses, TellsLine, fault_of, file_of, others_of, profile_of, sections_of, selected_of, session_of};
+ghost use Rattle.env_config.specs.Words.{AreKeyed, HasCopies, MergesText, Parses, TellsLine, fault_of, file_of, others_of, profile_of, sections_of, selected_of, session_of};
 
 use crate::by_name::ByName;
 use crate::fault::RawFault;
@@ -45,6 +45,7 @@ impl EnvConfigSections {
     fn with_selected(alloc: Global, selected: String) -> EnvConfigSections
         ensures sections { sections_of result ≡ no_sections }
         ensures selected { selected_of result ≡ string_bytes selected }
+        ensures keys { AreKeyed result }
     {
         EnvConfigSections {
             selected,
@@ -61,7 +62,8 @@ impl EnvConfigSections {
     /// [`ParseFault::Parse`] with the first line outside the grammar in the first faulty file.
     #[tactic(auto, unfolding(crate::specs::Sections::sections))]
     pub fn parse(alloc: Global, source: &Source) -> Result<EnvConfigSections, ParseFault>
-        ensures { Parses (sections (map file_of source.now.files.items)) (string_bytes source.now.profile) result }
+        ensures parses { Parses (sections (map file_of source.now.files.items)) (string_bytes source.now.profile) result }
+        ensures keys { IfOk result AreKeyed }
     {
         let selected = String::from_str(alloc, source.profile.as_str())?;
         let mut sections = EnvConfigSections::with_selected(alloc, selected);
@@ -83,7 +85,8 @@ impl EnvConfigSections {
 
     /// The profile of this name.
     pub fn get_profile(&self, name: &str) -> Option<&Profile>
-        ensures { option_map profile_of (option_copied result) ≡ value_at (sections_of self.now).profiles.values name.now }
+        ensures itself { option_copied result ≡ value_at self.now.profiles.values name.now }
+        ensures section { option_map profile_of (option_copied result) ≡ value_at (sections_of self.now).profiles.values name.now }
     {
         self.profiles.get(name)
     }
@@ -118,7 +121,8 @@ impl EnvConfigSections {
 
     /// The session of this name.
     pub fn sso_session(&self, name: &str) -> Option<&SsoSession>
-        ensures { option_map session_of (option_copied result) ≡ value_at (sections_of self.now).sessions.values name.now }
+        ensures itself { option_copied result ≡ value_at self.now.sessions.values name.now }
+        ensures section { option_map session_of (option_copied result) ≡ value_at (sections_of self.now).sessions.values name.now }
     {
         self.sessions.get(name)
     }
@@ -134,6 +138,7 @@ impl EnvConfigSections {
     pub fn try_clone(&self) -> Mem<EnvConfigSections>
         ensures sections { IfOk result (λ copy. sections_of copy ≡ sections_of self.now) }
         ensures selected { IfOk result (λ copy. selected_of copy ≡ selected_of self.now) }
+        ensures copies { IfOk result (HasCopies self.now) }
     {
         Ok(EnvConfigSections {
             selected: self.selected.clone()?,
@@ -147,6 +152,7 @@ impl EnvConfigSections {
     fn merge_text(&mut self, alloc: Global, file: &File) -> Result<(), ParseFault>
         ensures sections { MergesText (sections_of self.old) (file_of file.now) (sections_of self.new) result }
         ensures selected { selected_of self.new ≡ selected_of self.old }
+        ensures keys { AreKeyed self.old → OnOk result (AreKeyed self.new) }
     {
         match read_raw(alloc, file.contents.as_str()) {
             Ok(raw) => Ok(self.merge_file(alloc, file.kind, &raw)?),
@@ -160,6 +166,7 @@ impl EnvConfigSections {
     fn merge_file(&mut self, alloc: Global, kind: EnvConfigFileKind, raw: &ByName<Texts>) -> Mem<()>
         ensures sections { OnOk result (sections_of self.new ≡ with_file (sections_of self.old) kind raw.now) }
         ensures selected { selected_of self.new ≡ selected_of self.old }
+        ensures keys { AreKeyed self.old → OnOk result (AreKeyed self.new) }
     {
         let overridden = has_profile_default(raw.names());
         for name in raw.names() {
@@ -178,6 +185,7 @@ impl EnvConfigSections {
     ) -> Mem<()>
         ensures sections { OnOk result (sections_of self.new ≡ with_raw (sections_of self.old) kind overridden (heading_of name.now) (properties_of raw.now name.now)) }
         ensures selected { selected_of self.new ≡ selected_of self.old }
+        ensures keys { AreKeyed self.old → OnOk result (AreKeyed self.new) }
     {
         let heading = Heading::of(name);
         if !heading.is_taken_from(kind, overridden) {
@@ -193,6 +201,7 @@ impl EnvConfigSections {
     fn merge_section(&mut self, alloc: Global, heading: Heading<'_>, pairs: &Texts) -> Mem<()>
         ensures sections { OnOk result (sections_of self.new ≡ with_section (sections_of self.old) (heading_seen heading.entry).prefix (heading_seen heading.entry).name pairs.now) }
         ensures selected { selected_of self.new ≡ selected_of self.old }
+        ensures keys { AreKeyed self.old → OnOk result (AreKeyed self.new) }
     {
         match heading.prefix {
             None | Some("profile") => {

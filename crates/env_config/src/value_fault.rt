@@ -1,5 +1,5 @@
 ghost use Rattle.std.specs.Prelude.{◌≡◌, IfOk};
-ghost use Rattle.env_config.specs.Values.{at_of};
+ghost use Rattle.env_config.specs.Values.{IsFaultCopy, at_of};
 
 use crate::value_source::EnvConfigSource;
 use smithy_core::Mem;
@@ -61,6 +61,18 @@ pub enum ValidateFault<E> {
     Invalid(EnvConfigError<E>),
     /// Memory ran out.
     NoMemory,
+}
+
+impl<E: Clone + Drop> ValidateFault<E> {
+    /// An equal fault.
+    pub fn try_clone(&self) -> Mem<ValidateFault<E>>
+        ensures { IfOk result (IsFaultCopy E.is_clone self.now) }
+    {
+        match self {
+            ValidateFault::Invalid(error) => Ok(ValidateFault::Invalid(error.try_clone()?)),
+            ValidateFault::NoMemory => Ok(ValidateFault::NoMemory),
+        }
+    }
 }
 
 impl<E: fmt::Display> fmt::Display for ValidateFault<E> {

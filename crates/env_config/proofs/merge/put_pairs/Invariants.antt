@@ -1,9 +1,12 @@
 use Rattle.std.proofs.Common.{◌≡◌}
 use Rattle.env_config.specs.Drafting.{pairs_of}
 use Rattle.env_config.specs.Sections.{put_identifiers}
-use Rattle.env_config.specs.Words.{values_of}
+use Rattle.env_config.specs.Words.{IsKeyed, contents_of, values_of}
 use Rattle.env_config.proofs.merge.put_pairs.Given as goal
 
 -- the pairs to come give what all pairs give
 abbrev pub invariant-loop-key : goal.invariant-loop-key
-invariant-loop-key l = put_identifiers (values_of l.properties.entries) (pairs_of l.key-iterator) ≡ put_identifiers (values_of l.fn.properties.entries) (pairs_of l.pairs.entries)
+invariant-loop-key l = record {
+  to_come : put_identifiers (values_of l.properties.entries) (pairs_of l.key-iterator) ≡ put_identifiers (values_of l.fn.properties.entries) (pairs_of l.pairs.entries);
+  keys : IsKeyed (contents_of l.fn.properties.entries) → IsKeyed (contents_of l.properties.entries);
+}

@@ -4,5 +4,5 @@ use Rattle.env_config.specs.Words.{profile_of}
 use Rattle.env_config.proofs.TextsLemmas.{seen_at}
 use Rattle.env_config.proofs.sections.EnvConfigSections.get_profile.Goals as goal
 
-pub returns : goal.returns
-returns c = ap (option_map profile_of) c.get.ensures ∙ seen_at profile_of c.args.self.now.profiles c.args.name.now
+pub returns-clause-section : goal.returns-clause-section
+returns-clause-section c = ap (option_map profile_of) c.get.ensures ∙ seen_at profile_of c.args.self.now.profiles c.args.name.now

@@ -1,7 +1,7 @@
 use Rattle.std.proofs.Common.{◌≡◌, map, drop}
 use Rattle.std.specs.String.{string_bytes}
 use Rattle.env_config.specs.Sections.{with_names}
-use Rattle.env_config.specs.Words.{sections_of, selected_of}
+use Rattle.env_config.specs.Words.{AreKeyed, sections_of, selected_of}
 use Rattle.env_config.proofs.sections.EnvConfigSections.merge_file.Given as goal
 
 -- the names to come give what all names give
@@ -9,4 +9,5 @@ abbrev pub invariant-loop-name : goal.invariant-loop-name
 invariant-loop-name l = record {
   to_come : with_names (sections_of l.self) l.kind l.overridden l.raw (map string_bytes (drop l.name-index l.name-items)) ≡ with_names (sections_of l.fn.self) l.kind l.overridden l.raw l.raw.names;
   selected : selected_of l.self ≡ selected_of l.fn.self;
+  keys : AreKeyed l.fn.self → AreKeyed l.self;
 }

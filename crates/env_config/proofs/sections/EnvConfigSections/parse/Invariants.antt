@@ -1,6 +1,6 @@
 use Rattle.std.proofs.Common.{◌≡◌, map, drop, string_bytes}
 use Rattle.env_config.specs.Sections.{files_from, no_sections}
-use Rattle.env_config.specs.Words.{file_of, sections_of, selected_of}
+use Rattle.env_config.specs.Words.{AreKeyed, file_of, sections_of, selected_of}
 use Rattle.env_config.proofs.sections.EnvConfigSections.parse.Given as goal
 
 -- the files to come give what all files give
@@ -8,4 +8,5 @@ abbrev pub invariant-loop-file : goal.invariant-loop-file
 invariant-loop-file l = record {
   to_come : files_from (sections_of l.sections) (map file_of (drop l.file-index l.source.files.items)) ≡ files_from no_sections (map file_of l.source.files.items);
   selected : selected_of l.sections ≡ string_bytes l.source.profile;
+  keys : AreKeyed l.sections;
 }

@@ -4,5 +4,5 @@ use Rattle.env_config.specs.Words.{session_of}
 use Rattle.env_config.proofs.TextsLemmas.{seen_at}
 use Rattle.env_config.proofs.sections.EnvConfigSections.sso_session.Goals as goal
 
-pub returns : goal.returns
-returns c = ap (option_map session_of) c.get.ensures ∙ seen_at session_of c.args.self.now.sessions c.args.name.now
+pub returns-clause-section : goal.returns-clause-section
+returns-clause-section c = ap (option_map session_of) c.get.ensures ∙ seen_at session_of c.args.self.now.sessions c.args.name.now

@@ -2,7 +2,7 @@ use Rattle.std.proofs.Common.{◌∙◌, ap, sym, subst, Bool, take, rules}
 use Rattle.std.specs.Str.Iter.{char_indices_offset, char_indices_rest}
 use Rattle.env_config.proofs.CommentLemmas.{Walks, walk_begins, walk_more, walk_stops, walk_ends}
 use Rattle.env_config.proofs.LineLemmas.{front_range}
-use Rattle.env_config.proofs.line.without_comment.Goals as goal
+use Rattle.env_config.proofs.line.before_comment.Goals as goal
 
 pub loop-place-init : goal.loop-place-init
 loop-place-init c = record {

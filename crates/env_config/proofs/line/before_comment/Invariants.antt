@@ -1,6 +1,6 @@
 use Rattle.std.specs.Str.Iter.{char_indices_offset, char_indices_rest}
 use Rattle.env_config.proofs.CommentLemmas.{Walks}
-use Rattle.env_config.proofs.line.without_comment.Given as goal
+use Rattle.env_config.proofs.line.before_comment.Given as goal
 
 abbrev pub invariant-loop-place : goal.invariant-loop-place
 invariant-loop-place l =
