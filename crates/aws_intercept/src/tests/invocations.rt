@@ -40,21 +40,46 @@ fn random_ids(rt: HostRuntime) -> Result<(), Fail> {
     Ok(())
 }
 
+fn id_of(alloc: Global, text: &str) -> Result<InvocationId, Fail> {
+    Ok(InvocationId::new(text_of(alloc, text)?)?)
+}
+
 #[test]
 fn given_ids(rt: HostRuntime) -> Result<(), Fail> {
     let alloc = rt.alloc();
-    let id = InvocationId::new(text_of(alloc, "the-best-invocation-id")?)?;
-    assert!(rt; id == id.try_clone()?);
     let mut ids = Vec::new(alloc);
-    ids.push(id)?;
+    ids.push(id_of(alloc, "the-best-invocation-id")?)?;
     let mut generator = PredefinedInvocationIdGenerator::new(ids);
     let mut bag = ConfigBag::new(alloc);
-    let header = sent(alloc, &mut generator, &mut bag)?.ok_or("no header")?;
-    assert_eq!(rt; header.as_str(), "the-best-invocation-id");
-    assert!(rt; matches!(&generator.generate(), Err(IdFault::UsedUp)));
-    let mut other = ConfigBag::new(alloc);
-    let mut none = NoInvocationIdGenerator::new();
-    assert!(rt; sent(alloc, &mut none, &mut other)?.is_none());
+    let header = sent(alloc, &mut generator, &mut bag)?;
+    assert_eq!(rt;
+        header.ok_or("no header")?.as_str(),
+        "the-best-invocation-id"
+    );
+    let again = InvocationIdInterceptor::new().modify_before_retry_loop(&mut generator, &mut bag);
+    assert_eq!(rt; again, Err(IdFault::UsedUp));
+    Ok(())
+}
+
+#[test]
+fn no_ids(rt: HostRuntime) -> Result<(), Fail> {
+    let alloc = rt.alloc();
+    let mut bag = ConfigBag::new(alloc);
+    let header = sent(alloc, &mut NoInvocationIdGenerator::new(), &mut bag)?;
+    assert!(rt; header.is_none());
+    Ok(())
+}
+
+// Every mark, digit, letter and blank that the header of a request's attempts may have.
+const ALLOWED: &str =
+    "allowed-symbols=!#$&'*+-.^_`|~; allowed-digits=01234567890; allowed-characters=abcdefghijklmnopqrstuvwxyzABCDEFGHIJKLMNOPQRSTUVWXYZ; allowed-whitespace= \t ";
+
+#[test]
+fn texts_of_ids(rt: HostRuntime) -> Result<(), Fail> {
+    let alloc = rt.alloc();
+    let id = id_of(alloc, ALLOWED)?;
+    assert_eq!(rt; id.as_str(), ALLOWED);
+    assert!(rt; id == id.try_clone()?);
     let control = InvocationId::new(text_of(alloc, "a\u{7}")?);
     assert!(rt; matches!(&control, Err(InvalidInvocationId)));
     Ok(())

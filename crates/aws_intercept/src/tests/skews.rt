@@ -1,10 +1,14 @@
 use crate::{ConfigBag, DisableClockSkewCorrection, ServiceClockSkewInterceptor};
 use smithy_core::{DateTime, Headers, HttpResponse, Mem, Moment};
 use std::alloc::Global;
-use std::process::Abort;
 use std::test::Fail;
 
 const ROW: i64 = 1_440_938_160;
+
+// So long after the row's moment.
+fn after(secs: i64) -> Moment {
+    DateTime::new(secs.wrapping_add(ROW), 0)
+}
 
 fn response_with(alloc: Global, headers: &[(&str, &str)]) -> Mem<HttpResponse> {
     let mut held = Headers::new(alloc);
@@ -36,64 +40,75 @@ fn skew_of(alloc: Global, received: Moment, headers: &[(&str, &str)]) -> Result<
     Ok(response.skew)
 }
 
-fn measures(
-    rt: &impl Abort,
-    alloc: Global,
-    received: Moment,
-    date: &str,
-    wanted: Option<i64>,
-) -> Result<(), Fail> {
-    assert_eq!(rt; skew_of(alloc, received, &[("date", date)])?, wanted);
-    Ok(())
-}
-
 #[test]
 fn measured_skews(rt: HostRuntime) -> Result<(), Fail> {
     let alloc = rt.alloc();
-    let after = |secs: i64| DateTime::new(secs.wrapping_add(ROW), 0);
-    let ahead = "Sun, 30 Aug 2015 12:41:01 GMT";
-    measures(&rt, alloc, after(2), ahead, Some(300_000))?;
-    let behind = "Sun, 30 Aug 2015 12:30:00 GMT";
-    measures(&rt, alloc, after(0), behind, Some(-360_000))?;
-    let same = "Sun, 30 Aug 2015 12:36:00 GMT";
-    measures(&rt, alloc, DateTime::new(ROW, 999), same, Some(0))?;
-    let back = "Sun, 30 Aug 2015 12:36:10 GMT";
-    measures(&rt, alloc, after(-10), back, Some(10_000))?;
-    measures(&rt, alloc, after(901), ahead, None)?;
-    let middle = "Sun, 30 Aug 2015 12:43:30 GMT";
-    measures(&rt, alloc, after(900), middle, Some(0))?;
-    measures(&rt, alloc, after(2), "x", None)?;
-    assert_eq!(rt; skew_of(alloc, after(2), &[])?, None);
-    let cached = [("age", "0"), ("date", ahead)];
-    assert_eq!(rt; skew_of(alloc, after(2), &cached)?, None);
+    let cases = [
+        (2, "Sun, 30 Aug 2015 12:41:01 GMT", Some(300_000)),
+        (0, "Sun, 30 Aug 2015 12:30:00 GMT", Some(-360_000)),
+        (-10, "Sun, 30 Aug 2015 12:36:10 GMT", Some(10_000)),
+        (901, "Sun, 30 Aug 2015 12:41:01 GMT", None),
+        (900, "Sun, 30 Aug 2015 12:43:30 GMT", Some(0)),
+        (2, "x", None),
+    ];
+    for (secs, date, wanted) in cases {
+        let skew = skew_of(alloc, after(secs), &[("date", date)])?;
+        assert_eq!(rt; skew, wanted, "{secs} and {date}");
+    }
+    Ok(())
+}
+
+// The half of 999 nanoseconds is cut away.
+#[test]
+fn skews_are_cut_toward_zero(rt: HostRuntime) -> Result<(), Fail> {
+    let date = [("date", "Sun, 30 Aug 2015 12:36:00 GMT")];
+    let skew = skew_of(rt.alloc(), DateTime::new(ROW, 999), &date)?;
+    assert_eq!(rt; skew, Some(0));
     Ok(())
 }
 
 #[test]
 fn skews_that_are_not_measured(rt: HostRuntime) -> Result<(), Fail> {
     let alloc = rt.alloc();
-    let mut interceptor = ServiceClockSkewInterceptor::new();
+    assert_eq!(rt; skew_of(alloc, after(2), &[])?, None);
+    let cached = [("age", "0"), ("date", "Sun, 30 Aug 2015 12:41:01 GMT")];
+    assert_eq!(rt; skew_of(alloc, after(2), &cached)?, None);
+    Ok(())
+}
+
+// The skew of a response that is received at this moment, for a bag.
+fn skew_for(alloc: Global, bag: &mut ConfigBag, received: Moment) -> Mem<Option<i64>> {
     let mut response = response_with(alloc, &[("date", "Sun, 30 Aug 2015 12:41:01 GMT")])?;
+    ServiceClockSkewInterceptor::new().modify_before_deserialization(&mut response, received, bag);
+    Ok(response.skew)
+}
+
+#[test]
+fn skews_without_a_moment_of_sending(rt: HostRuntime) -> Result<(), Fail> {
+    let alloc = rt.alloc();
     let mut unsent = ConfigBag::new(alloc);
-    interceptor.modify_before_deserialization(&mut response, DateTime::new(ROW, 0), &mut unsent);
-    assert_eq!(rt; response.skew, None);
-    let mut off = ConfigBag::new(alloc);
-    off.disable_skew = Some(DisableClockSkewCorrection::from(true));
-    interceptor.modify_before_retry_loop(&mut off);
-    interceptor.read_before_transmit(DateTime::new(ROW, 0), &mut off);
-    assert_eq!(rt; off.attempt_skew, None);
-    assert!(rt; off.time_sent.is_none());
-    off.time_sent = Some(DateTime::new(ROW, 0));
-    interceptor.modify_before_deserialization(&mut response, DateTime::new(ROW, 0), &mut off);
-    assert_eq!(rt; response.skew, None);
+    assert_eq!(rt; skew_for(alloc, &mut unsent, after(0))?, None);
     // A date that lies over 292 million years after the moment of sending.
     let mut early = ConfigBag::new(alloc);
     early.time_sent = Some(DateTime::new(i64::MIN, 0));
-    interceptor.modify_before_deserialization(
-        &mut response,
-        DateTime::new(i64::MIN, 0),
-        &mut early,
+    assert_eq!(rt;
+        skew_for(alloc, &mut early, DateTime::new(i64::MIN, 0))?,
+        None
     );
-    assert_eq!(rt; response.skew, None);
+    Ok(())
+}
+
+#[test]
+fn skews_that_are_switched_off(rt: HostRuntime) -> Result<(), Fail> {
+    let alloc = rt.alloc();
+    let mut off = ConfigBag::new(alloc);
+    off.disable_skew = Some(DisableClockSkewCorrection::from(true));
+    let mut interceptor = ServiceClockSkewInterceptor::new();
+    interceptor.modify_before_retry_loop(&mut off);
+    interceptor.read_before_transmit(after(0), &mut off);
+    assert_eq!(rt; off.attempt_skew, None);
+    assert!(rt; off.time_sent.is_none());
+    off.time_sent = Some(after(0));
+    assert_eq!(rt; skew_for(alloc, &mut off, after(0))?, None);
     Ok(())
 }

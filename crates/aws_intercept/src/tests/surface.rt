@@ -1,10 +1,10 @@
-use crate::tests::agents::{api_metadata, build_metadata};
+use crate::tests::agents::{additional, api_metadata, build_metadata, framework, framework_with};
 use crate::tests::{bare_request, text_of};
 use crate::{
-    AdditionalMetadata, AwsErrorCodeClassifier, AwsUserAgent, BusinessMetric, ConfigBag,
-    ConfigMetadata, FeatureMetadata, FrameworkMetadata, InvocationId, InvocationIdGenerator,
-    InvocationIdInterceptor, PredefinedInvocationIdGenerator, RecursionDetectionInterceptor,
-    RequestInfoInterceptor, RetryAction, UserAgentInterceptor,
+    AwsErrorCodeClassifier, AwsUserAgent, BusinessMetric, ConfigBag, ConfigMetadata,
+    FeatureMetadata, InvocationId, InvocationIdGenerator, InvocationIdInterceptor,
+    PredefinedInvocationIdGenerator, RecursionDetectionInterceptor, RequestInfoInterceptor,
+    RetryAction, UserAgentInterceptor,
 };
 use smithy_core::{DateTime, Env, ErrorMetadata, Mem};
 use std::alloc::Global;
@@ -35,25 +35,19 @@ fn surface(rt: HostRuntime) -> Result<(), Fail> {
     Ok(())
 }
 
-fn additional(alloc: Global) -> Result<AdditionalMetadata, Fail> {
-    Ok(AdditionalMetadata::new(text_of(alloc, "az09!#$%&'*+-.^_`|~")?)?)
-}
+// A letter, a digit and the marks that metadata may have.
+const MARKS: &str = "az09!#$%&'*+-.^_`|~";
 
 fn additional_holds(alloc: Global) -> Result<bool, Fail> {
-    let printed = additional(alloc)?.try_clone()?.to_string(alloc)?;
+    let printed = additional(alloc, MARKS)?.try_clone()?.to_string(alloc)?;
     Ok(printed.as_str() == "md/az09!#$%&'*+-.^_`|~")
 }
 
-fn framework(alloc: Global) -> Result<FrameworkMetadata, Fail> {
-    let version = Some(text_of(alloc, "1")?);
-    Ok(FrameworkMetadata::new(text_of(alloc, "n")?, version)?)
-}
-
 fn framework_holds(alloc: Global) -> Result<bool, Fail> {
-    let framework = framework(alloc)?.try_clone()?;
-    let printed = framework.to_string(alloc)?;
-    let bare = FrameworkMetadata::new(text_of(alloc, "n")?, None)?.to_string(alloc)?;
-    Ok(printed.as_str() == "lib/n/1" && bare.as_str() == "lib/n" && framework.name() == "n")
+    let versioned = framework_with(alloc, "n", "1")?.try_clone()?;
+    let printed = versioned.to_string(alloc)?;
+    let bare = framework(alloc, "n")?.to_string(alloc)?;
+    Ok(printed.as_str() == "lib/n/1" && bare.as_str() == "lib/n" && versioned.name() == "n")
 }
 
 fn config_holds(alloc: Global) -> Result<bool, Fail> {
@@ -67,7 +61,7 @@ fn config_holds(alloc: Global) -> Result<bool, Fail> {
 fn feature_holds(alloc: Global) -> Result<bool, Fail> {
     let version = Some(text_of(alloc, "1")?);
     let feature = FeatureMetadata::new(alloc, text_of(alloc, "n")?, version)?;
-    let more = feature.with_additional(AdditionalMetadata::new(text_of(alloc, "x")?)?)?;
+    let more = feature.with_additional(additional(alloc, "x")?)?;
     Ok(more.try_clone()?.to_string(alloc)?.as_str() == "ft/n/1 md/x")
 }
 
@@ -90,14 +84,14 @@ fn agent_holds(alloc: Global) -> Result<bool, Fail> {
 fn setters_hold(alloc: Global) -> Result<bool, Fail> {
     let mut agent = AwsUserAgent::for_tests(alloc)?
         .with_business_metric(BusinessMetric::Waiter)?
-        .with_framework_metadata(framework(alloc)?)?
-        .with_additional_metadata(additional(alloc)?)?;
+        .with_framework_metadata(framework_with(alloc, "n", "1")?)?
+        .with_additional_metadata(additional(alloc, MARKS)?)?;
     let plain = AwsUserAgent::for_tests(alloc)?.ua_header()?.len();
     let once = agent.ua_header()?.len();
     agent
         .add_business_metric(BusinessMetric::Waiter)?
-        .add_framework_metadata(framework(alloc)?)?
-        .add_additional_metadata(additional(alloc)?)?;
+        .add_framework_metadata(framework_with(alloc, "n", "1")?)?
+        .add_additional_metadata(additional(alloc, MARKS)?)?;
     let twice = agent.ua_header()?.len();
     Ok(plain == 87 && once == 122 && twice == 155)
 }
