@@ -58,11 +58,12 @@ pub(crate) fn lambda_env(alloc: Global) -> Mem<Env> {
     Ok(env)
 }
 
-/// The agent with two frameworks, one of them with a version.
-pub(crate) fn framed(alloc: Global, agent: AwsUserAgent) -> Result<AwsUserAgent, Fail> {
+/// Two frameworks, the first one with a version.
+pub(crate) fn two_frameworks(
+    alloc: Global,
+) -> Result<(FrameworkMetadata, FrameworkMetadata), Fail> {
     let first = framework_with(alloc, "some-framework", "1.3")?;
-    let agent = agent.with_framework_metadata(first)?;
-    Ok(agent.with_framework_metadata(framework(alloc, "other")?)?)
+    Ok((first, framework(alloc, "other")?))
 }
 
 /// Both calls of the agent give a text that begins so and ends so.
@@ -72,7 +73,7 @@ pub(crate) fn tells(
     agent: &AwsUserAgent,
     begin: &str,
     end: &str,
-) -> Mem<()> {
+) -> Result<(), Fail> {
     let text = format!(in alloc; "{begin}{end}")?;
     assert_eq!(rt; agent.aws_ua_header()?.as_str(), text.as_str());
     assert_eq!(rt; agent.ua_header()?.as_str(), text.as_str());
@@ -85,84 +86,93 @@ fn plain_agent(alloc: Global) -> Mem<AwsUserAgent> {
 
 // The agent of a program whose build tells more.
 fn built_agent(alloc: Global) -> Result<AwsUserAgent, Fail> {
+    let extra = additional(alloc, "asdf")?;
+    let api = api_metadata(alloc)?;
     let mut build = build_metadata(alloc)?;
-    build.extra = Some(additional(alloc, "asdf")?);
-    let (env, api) = (Env::new(alloc), api_metadata(alloc)?);
-    Ok(AwsUserAgent::new_from_environment(alloc, &env, api, build)?)
+    build.extra = Some(extra);
+    Ok(AwsUserAgent::new_from_environment(alloc, &Env::new(alloc), api, build)?)
 }
 
 #[test]
 fn plain_agents(rt: HostRuntime) -> Result<(), Fail> {
     let alloc = rt.alloc();
-    tells(&rt, alloc, &plain_agent(alloc)?, SYSTEM, "")?;
-    Ok(())
+    let agent = plain_agent(alloc)?;
+    tells(&rt, alloc, &agent, SYSTEM, "")
 }
 
 #[test]
 fn agents_in_execution_environments(rt: HostRuntime) -> Result<(), Fail> {
     let alloc = rt.alloc();
     let agent = agent_in(alloc, &lambda_env(alloc)?)?;
-    tells(&rt, alloc, &agent, SYSTEM, " exec-env/lambda")?;
-    Ok(())
+    tells(&rt, alloc, &agent, SYSTEM, " exec-env/lambda")
 }
 
 #[test]
 fn agents_with_frameworks(rt: HostRuntime) -> Result<(), Fail> {
     let alloc = rt.alloc();
-    let agent = framed(alloc, plain_agent(alloc)?)?;
+    let (first, other) = two_frameworks(alloc)?;
+    let agent = plain_agent(alloc)?
+        .with_framework_metadata(first)?
+        .with_framework_metadata(other)?;
     let end = " lib/some-framework/1.3 lib/other";
-    tells(&rt, alloc, &agent, SYSTEM, end)?;
-    Ok(())
+    tells(&rt, alloc, &agent, SYSTEM, end)
 }
 
 #[test]
 fn agents_with_names(rt: HostRuntime) -> Result<(), Fail> {
     let alloc = rt.alloc();
-    let agent = plain_agent(alloc)?.with_app_name(app_name(alloc)?);
-    tells(&rt, alloc, &agent, SYSTEM, " app/my_app")?;
-    Ok(())
+    let name = app_name(alloc)?;
+    let agent = plain_agent(alloc)?.with_app_name(name);
+    tells(&rt, alloc, &agent, SYSTEM, " app/my_app")
 }
 
 #[test]
 fn agents_with_more_of_the_build(rt: HostRuntime) -> Result<(), Fail> {
     let alloc = rt.alloc();
+    let agent = built_agent(alloc)?;
+    tells(&rt, alloc, &agent, SYSTEM, " md/asdf")
+}
+
+#[test]
+fn agents_with_names_and_more_of_the_build(rt: HostRuntime) -> Result<(), Fail> {
+    let alloc = rt.alloc();
+    let name = app_name(alloc)?;
     let mut agent = built_agent(alloc)?;
-    tells(&rt, alloc, &agent, SYSTEM, " md/asdf")?;
-    agent.set_app_name(app_name(alloc)?);
-    tells(&rt, alloc, &agent, SYSTEM, " app/my_app md/asdf")?;
-    Ok(())
+    agent.set_app_name(name);
+    tells(&rt, alloc, &agent, SYSTEM, " app/my_app md/asdf")
 }
 
 #[test]
 fn agents_for_tests(rt: HostRuntime) -> Result<(), Fail> {
     let alloc = rt.alloc();
     let agent = AwsUserAgent::for_tests(alloc)?;
-    tells(&rt, alloc, &agent, TESTED, "")?;
-    Ok(())
+    tells(&rt, alloc, &agent, TESTED, "")
 }
 
 /// The text of the agent that tests compare with.
 pub(crate) const TESTED: &str =
     "aws-sdk-rust/0.123.test ua/0.1 api/test-service/0.123 os/windows/XPSP3 lang/rust/1.50.0";
 
-// An agent to which each call that takes the agent has added.
-fn agent_with_more(alloc: Global) -> Result<AwsUserAgent, Fail> {
-    let agent = plain_agent(alloc)?
-        .with_business_metric(BusinessMetric::Waiter)?
-        .with_business_metric(BusinessMetric::ResourceModel)?;
-    Ok(agent.with_additional_metadata(additional(alloc, "x")?)?)
+// Adds by each call that lends the agent on.
+fn add_more(alloc: Global, agent: &mut AwsUserAgent) -> Result<(), Fail> {
+    let (framework, more) = (framework(alloc, "f")?, additional(alloc, "y")?);
+    agent
+        .add_business_metric(BusinessMetric::Waiter)?
+        .add_framework_metadata(framework)?
+        .add_additional_metadata(more)?;
+    Ok(())
 }
 
 #[test]
 fn agents_with_more(rt: HostRuntime) -> Result<(), Fail> {
     let alloc = rt.alloc();
-    let mut agent = agent_with_more(alloc)?;
-    agent
-        .add_business_metric(BusinessMetric::Waiter)?
-        .add_framework_metadata(framework(alloc, "f")?)?
-        .add_additional_metadata(additional(alloc, "y")?)?;
-    tells(&rt, alloc, &agent, SYSTEM, " m/B,A,B lib/f md/x md/y")?;
-    Ok(())
+    let more = additional(alloc, "x")?;
+    let mut agent = plain_agent(alloc)?
+        .with_business_metric(BusinessMetric::Waiter)?
+        .with_business_metric(BusinessMetric::ResourceModel)?
+        .with_additional_metadata(more)?;
+    add_more(alloc, &mut agent)?;
+    tells(&rt, alloc, &agent, SYSTEM, " m/B,A,B lib/f md/x md/y")
 }
 
 fn feature(alloc: Global) -> Result<FeatureMetadata, Fail> {
@@ -176,14 +186,15 @@ fn config(alloc: Global) -> Result<ConfigMetadata, Fail> {
 #[test]
 fn metadata_that_is_not_kept(rt: HostRuntime) -> Result<(), Fail> {
     let alloc = rt.alloc();
+    let (first, second) = (feature(alloc)?, feature(alloc)?);
+    let (third, fourth) = (config(alloc)?, config(alloc)?);
     let mut agent = plain_agent(alloc)?
-        .with_feature_metadata(feature(alloc)?)
-        .with_config_metadata(config(alloc)?);
+        .with_feature_metadata(first)
+        .with_config_metadata(third);
     agent
-        .add_feature_metadata(feature(alloc)?)
-        .add_config_metadata(config(alloc)?);
-    tells(&rt, alloc, &agent, SYSTEM, "")?;
-    Ok(())
+        .add_feature_metadata(second)
+        .add_config_metadata(fourth);
+    tells(&rt, alloc, &agent, SYSTEM, "")
 }
 
 fn name_fault(alloc: Global, text: &str) -> Result<bool, Fail> {

@@ -3,8 +3,8 @@ use crate::tests::agents::{
 };
 use crate::tests::{bare_request, text_of};
 use crate::{
-    ApiMetadata, AwsCredentialFeature, AwsSdkFeature, AwsUserAgent, ConfigBag, SmithySdkFeature,
-    UserAgentFault, UserAgentInterceptor,
+    ApiMetadata, AwsCredentialFeature, AwsSdkFeature, AwsUserAgent, ConfigBag, FrameworkMetadata,
+    SmithySdkFeature, UserAgentFault, UserAgentInterceptor,
 };
 use smithy_core::{Env, HttpRequest, Mem};
 use std::alloc::Global;
@@ -12,8 +12,9 @@ use std::process::Abort;
 use std::test::Fail;
 
 fn service_bag(alloc: Global) -> Mem<ConfigBag> {
+    let api = api_metadata(alloc)?;
     let mut bag = ConfigBag::new(alloc);
-    bag.api_metadata = Some(api_metadata(alloc)?);
+    bag.api_metadata = Some(api);
     Ok(bag)
 }
 
@@ -23,23 +24,32 @@ fn make(alloc: Global, bag: &mut ConfigBag) -> Result<(), UserAgentFault> {
     UserAgentInterceptor::new().read_after_serialization(&Env::new(alloc), &build, bag)
 }
 
-// Makes the bag's agent and sends it with a request.
+// Sends the bag's agent with a request.
 fn send(alloc: Global, bag: &mut ConfigBag) -> Result<HttpRequest, UserAgentFault> {
-    make(alloc, bag)?;
     let mut request = bare_request(alloc)?;
     UserAgentInterceptor::new().modify_before_signing(&mut request, bag)?;
     Ok(request)
+}
+
+// Makes the bag's agent and sends it.
+fn make_and_send(alloc: Global, bag: &mut ConfigBag) -> Result<HttpRequest, UserAgentFault> {
+    make(alloc, bag)?;
+    send(alloc, bag)
+}
+
+fn sent(alloc: Global, mut bag: ConfigBag) -> Result<HttpRequest, UserAgentFault> {
+    make_and_send(alloc, &mut bag)
 }
 
 // Both headers that the bag's agent gets, and no others, have a text that begins so and ends so.
 fn sends(
     rt: &impl Abort,
     alloc: Global,
-    mut bag: ConfigBag,
+    bag: ConfigBag,
     begin: &str,
     end: &str,
 ) -> Result<(), Fail> {
-    let request = send(alloc, &mut bag)?;
+    let request = sent(alloc, bag)?;
     let text = format!(in alloc; "{begin}{end}")?;
     assert_eq!(rt; request.headers.get("user-agent"), Some(text.as_str()));
     assert_eq!(rt;
@@ -59,76 +69,110 @@ fn agents_are_made_and_sent(rt: HostRuntime) -> Result<(), Fail> {
 #[test]
 fn agents_that_are_there_are_sent(rt: HostRuntime) -> Result<(), Fail> {
     let alloc = rt.alloc();
-    let mut bag = service_bag(alloc)?;
-    bag.user_agent = Some(AwsUserAgent::for_tests(alloc)?);
+    let agent = AwsUserAgent::for_tests(alloc)?;
+    let mut bag = ConfigBag::new(alloc);
+    bag.user_agent = Some(agent);
     sends(&rt, alloc, bag, TESTED, "")
 }
 
 #[test]
 fn names_are_sent(rt: HostRuntime) -> Result<(), Fail> {
     let alloc = rt.alloc();
+    let name = app_name(alloc)?;
     let mut bag = service_bag(alloc)?;
-    bag.app_name = Some(app_name(alloc)?);
-    sends(&rt, alloc, bag.try_clone()?, SYSTEM, " app/my_app")
+    bag.app_name = Some(name);
+    sends(&rt, alloc, bag, SYSTEM, " app/my_app")
 }
 
 #[test]
 fn connectors_are_sent(rt: HostRuntime) -> Result<(), Fail> {
     let alloc = rt.alloc();
+    let connector = text_of(alloc, "hyper-1.x")?;
     let mut bag = service_bag(alloc)?;
-    bag.connector = Some(text_of(alloc, "hyper-1.x")?);
+    bag.connector = Some(connector);
     sends(&rt, alloc, bag, SYSTEM, " md/hyper-1.x")
+}
+
+// Two different frameworks, the first of them twice, and one without a version.
+fn some_frameworks(alloc: Global) -> Result<Vec<FrameworkMetadata>, Fail> {
+    let mut frameworks = Vec::new(alloc);
+    for (name, version) in [("b", "2"), ("a", "1"), ("b", "2")] {
+        frameworks.push(framework_with(alloc, name, version)?)?;
+    }
+    frameworks.push(framework(alloc, "c")?)?;
+    Ok(frameworks)
 }
 
 #[test]
 fn frameworks_are_sent(rt: HostRuntime) -> Result<(), Fail> {
     let alloc = rt.alloc();
+    let frameworks = some_frameworks(alloc)?;
     let mut bag = service_bag(alloc)?;
-    bag.frameworks.push(framework_with(alloc, "b", "2")?)?;
-    bag.frameworks.push(framework_with(alloc, "a", "1")?)?;
-    bag.frameworks.push(framework_with(alloc, "b", "2")?)?;
-    bag.frameworks.push(framework(alloc, "c")?)?;
+    bag.frameworks = frameworks;
     sends(&rt, alloc, bag, SYSTEM, " lib/c lib/b/2 lib/a/1")
+}
+
+fn twelve_frameworks(alloc: Global) -> Result<Vec<FrameworkMetadata>, Fail> {
+    let names = [
+        "f11", "f10", "f9", "f8", "f7", "f6", "f5", "f4", "f3", "f2", "f1", "f0",
+    ];
+    let mut frameworks = Vec::new(alloc);
+    for name in names {
+        frameworks.push(framework(alloc, name)?)?;
+    }
+    Ok(frameworks)
 }
 
 #[test]
 fn ten_frameworks_are_sent(rt: HostRuntime) -> Result<(), Fail> {
     let alloc = rt.alloc();
+    let frameworks = twelve_frameworks(alloc)?;
     let mut bag = service_bag(alloc)?;
-    let names = [
-        "f11", "f10", "f9", "f8", "f7", "f6", "f5", "f4", "f3", "f2", "f1", "f0",
-    ];
-    for name in names {
-        bag.frameworks.push(framework(alloc, name)?)?;
-    }
+    bag.frameworks = frameworks;
     let ten = " lib/f0 lib/f1 lib/f2 lib/f3 lib/f4 lib/f5 lib/f6 lib/f7 lib/f8 lib/f9";
     sends(&rt, alloc, bag, SYSTEM, ten)
+}
+
+// A bag with these features.
+fn featured_bag(
+    alloc: Global,
+    smithy: &[SmithySdkFeature],
+    aws: &[AwsSdkFeature],
+    credentials: &[AwsCredentialFeature],
+) -> Mem<ConfigBag> {
+    let smithy_features = Vec::from_slice(alloc, smithy)?;
+    let aws_features = Vec::from_slice(alloc, aws)?;
+    let credential_features = Vec::from_slice(alloc, credentials)?;
+    let mut bag = service_bag(alloc)?;
+    bag.smithy_features = smithy_features;
+    bag.aws_features = aws_features;
+    bag.credential_features = credential_features;
+    Ok(bag)
 }
 
 #[test]
 fn features_are_sent(rt: HostRuntime) -> Result<(), Fail> {
     let alloc = rt.alloc();
-    let mut bag = service_bag(alloc)?;
-    let (paginator, waiter) = (SmithySdkFeature::Paginator, SmithySdkFeature::Waiter);
-    bag.smithy_features
-        .extend_from_slice(&[paginator, waiter, paginator])?;
-    bag.aws_features.extend_from_slice(&[
-        AwsSdkFeature::S3Transfer,
-        AwsSdkFeature::EndpointOverride,
-    ])?;
+    let smithy = [
+        SmithySdkFeature::Paginator,
+        SmithySdkFeature::Waiter,
+        SmithySdkFeature::Paginator,
+    ];
+    let aws = [AwsSdkFeature::S3Transfer, AwsSdkFeature::EndpointOverride];
+    let bag = featured_bag(alloc, &smithy, &aws, &[])?;
     sends(&rt, alloc, bag, SYSTEM, " m/C,B,G,N")
 }
 
 #[test]
 fn credentials_are_sent(rt: HostRuntime) -> Result<(), Fail> {
     let alloc = rt.alloc();
-    let mut bag = service_bag(alloc)?;
-    bag.credential_features.extend_from_slice(&[
+    let credentials = [
         AwsCredentialFeature::CredentialsImds,
         AwsCredentialFeature::CredentialsHttp,
         AwsCredentialFeature::CredentialsImds,
         AwsCredentialFeature::CredentialsCode,
-    ])?;
+    ];
+    let bag = featured_bag(alloc, &[], &[], &credentials)?;
     sends(&rt, alloc, bag, SYSTEM, " m/e,z,0")
 }
 
@@ -145,8 +189,7 @@ fn transfers_are_sent(rt: HostRuntime) -> Result<(), Fail> {
         (AwsSdkFeature::S3FilePath, " m/Ab"),
     ];
     for (feature, end) in cases {
-        let mut bag = service_bag(alloc)?;
-        bag.aws_features.push(feature)?;
+        let bag = featured_bag(alloc, &[], &[feature], &[])?;
         sends(&rt, alloc, bag, SYSTEM, end)?;
     }
     Ok(())
@@ -155,9 +198,10 @@ fn transfers_are_sent(rt: HostRuntime) -> Result<(), Fail> {
 #[test]
 fn refused_connectors(rt: HostRuntime) -> Result<(), Fail> {
     let alloc = rt.alloc();
+    let connector = text_of(alloc, "a b")?;
     let mut bag = service_bag(alloc)?;
-    bag.connector = Some(text_of(alloc, "a b")?);
-    let fault = send(alloc, &mut bag).err();
+    bag.connector = Some(connector);
+    let fault = sent(alloc, bag).err();
     assert_eq!(rt; fault, Some(UserAgentFault::InvalidMetadataValue));
     Ok(())
 }
@@ -165,22 +209,20 @@ fn refused_connectors(rt: HostRuntime) -> Result<(), Fail> {
 #[test]
 fn refused_texts(rt: HostRuntime) -> Result<(), Fail> {
     let alloc = rt.alloc();
+    let api = ApiMetadata::new(text_of(alloc, "a\u{7}")?, text_of(alloc, "1")?);
     let mut bag = ConfigBag::new(alloc);
-    let id = text_of(alloc, "a\u{7}")?;
-    bag.api_metadata = Some(ApiMetadata::new(id, text_of(alloc, "1")?));
-    let fault = send(alloc, &mut bag).err();
+    bag.api_metadata = Some(api);
+    let fault = sent(alloc, bag).err();
     assert_eq!(rt; fault, Some(UserAgentFault::InvalidHeaderValue));
     Ok(())
 }
 
 #[test]
-fn refused_bags(rt: HostRuntime) -> Result<(), Fail> {
+fn refused_bags(rt: HostRuntime) {
     let alloc = rt.alloc();
     let mut bag = ConfigBag::new(alloc);
-    let fault = make(alloc, &mut bag).err();
-    assert_eq!(rt; fault, Some(UserAgentFault::MissingApiMetadata));
-    let mut request = bare_request(alloc)?;
-    let sent = UserAgentInterceptor::new().modify_before_signing(&mut request, &mut bag);
-    assert_eq!(rt; sent.err(), Some(UserAgentFault::MissingUserAgent));
-    Ok(())
+    let made = make(alloc, &mut bag).err();
+    assert_eq!(rt; made, Some(UserAgentFault::MissingApiMetadata));
+    let sent = send(alloc, &mut bag).err();
+    assert_eq!(rt; sent, Some(UserAgentFault::MissingUserAgent));
 }

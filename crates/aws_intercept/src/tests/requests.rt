@@ -15,16 +15,18 @@ fn bag_with(alloc: Global, attempts: Option<u32>, secs: Option<u64>) -> ConfigBa
 }
 
 // The header that a bag gives at a moment, beside which there is none.
-fn told(alloc: Global, now: Moment, mut bag: ConfigBag) -> Result<String, Fail> {
+fn tell(alloc: Global, now: Moment, bag: &mut ConfigBag) -> Result<String, Fail> {
     let mut request = bare_request(alloc)?;
-    RequestInfoInterceptor::new().modify_before_transmit(&mut request, now, &mut bag)?;
+    RequestInfoInterceptor::new().modify_before_transmit(&mut request, now, bag)?;
     if request.headers.len() != 1 {
         return Ok(text_of(alloc, "more than one header")?);
     }
-    Ok(text_of(
-        alloc,
-        request.headers.get("amz-sdk-request").ok_or("no header")?,
-    )?)
+    let header = request.headers.get("amz-sdk-request").ok_or("no header")?;
+    Ok(text_of(alloc, header)?)
+}
+
+fn told(alloc: Global, now: Moment, mut bag: ConfigBag) -> Result<String, Fail> {
+    tell(alloc, now, &mut bag)
 }
 
 #[test]

@@ -1,18 +1,12 @@
 use crate::recursion::escape;
 use crate::tests::{bare_request, text_of};
 use crate::{ConfigBag, RecursionDetectionInterceptor};
-use smithy_core::{Env, Mem};
+use smithy_core::{Env, HttpRequest, Mem};
 use std::alloc::Global;
 use std::process::Abort;
 use std::test::Fail;
 
-// The trace that a request with this header gets where the variables have these values.
-fn traced(
-    alloc: Global,
-    function: Option<&str>,
-    trace: Option<&str>,
-    before: Option<&str>,
-) -> Mem<Option<String>> {
+fn env_with(alloc: Global, function: Option<&str>, trace: Option<&str>) -> Mem<Env> {
     let mut env = Env::new(alloc);
     if let Some(function) = function {
         env.set("AWS_LAMBDA_FUNCTION_NAME", function)?;
@@ -20,12 +14,31 @@ fn traced(
     if let Some(trace) = trace {
         env.set("_X_AMZN_TRACE_ID", trace)?;
     }
+    Ok(env)
+}
+
+fn request_with(alloc: Global, trace: Option<&str>) -> Mem<HttpRequest> {
     let mut request = bare_request(alloc)?;
-    if let Some(before) = before {
-        request.headers.append("X-Amzn-Trace-Id", before)?;
+    if let Some(trace) = trace {
+        request.headers.append("X-Amzn-Trace-Id", trace)?;
     }
+    Ok(request)
+}
+
+fn send(alloc: Global, env: Env, request: &mut HttpRequest) -> Mem<()> {
     let mut bag = ConfigBag::new(alloc);
-    RecursionDetectionInterceptor::new(env).modify_before_signing(&mut request, &mut bag)?;
+    RecursionDetectionInterceptor::new(env).modify_before_signing(request, &mut bag)
+}
+
+// The one trace that a request with this header gets where the variables have these values.
+fn traced(
+    alloc: Global,
+    function: Option<&str>,
+    trace: Option<&str>,
+    before: Option<&str>,
+) -> Mem<Option<String>> {
+    let mut request = request_with(alloc, before)?;
+    send(alloc, env_with(alloc, function, trace)?, &mut request)?;
     if request.headers.len() > 1 {
         return Ok(Some(text_of(alloc, "more than one header")?));
     }
