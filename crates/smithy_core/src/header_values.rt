@@ -1,7 +1,8 @@
-ghost use Rattle.std.specs.Prelude.{◌≡◌, ◌<◌, List, [], ◌∷◌, MatchOption, bytes_eq, length, option_map};
+ghost use Rattle.std.specs.Prelude.{◌≡◌, ◌<◌, List, [], ◌∷◌, MatchOption, length, option_map};
 ghost use Rattle.std.specs.Iterator.{YieldsFirstBy, item_count};
 ghost use Rattle.smithy_core.specs.Pairs.{first_value, lower, named_values, text_pairs};
 
+use crate::lower::is_lower_of;
 use std::marker::Model;
 
 /// Gives the values of one name of [`Headers`](crate::Headers) in order.
@@ -60,20 +61,4 @@ pub(crate) fn after_named<'a>(
         }
     }
     None
-}
-
-// Whether the text is the name in ASCII lower case.
-fn is_lower_of(text: &str, name: &str) -> bool
-    ensures { result ≡ bytes_eq text.now (lower name.now) }
-{
-    let (text, name) = (text.as_bytes(), name.as_bytes());
-    if text.len() != name.len() {
-        return false;
-    }
-    for (at, byte) in text.iter().enumerate() {
-        if *byte != name[at].to_ascii_lowercase() {
-            return false;
-        }
-    }
-    true
 }

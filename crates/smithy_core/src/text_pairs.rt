@@ -4,8 +4,8 @@ ghost use Rattle.smithy_core.specs.Pairs.{text_pairs};
 use crate::memory::Mem;
 use std::alloc::Global;
 
-/// The same texts.
-pub(crate) fn copied_pairs(alloc: Global, pairs: &[(String, String)]) -> Mem<Vec<(String, String)>>
+/// Pairs of the same texts. This crate's own.
+pub fn copied_pairs(alloc: Global, pairs: &[(String, String)]) -> Mem<Vec<(String, String)>>
     ensures { IfOk result (λ copies. text_pairs copies.items ≡ text_pairs pairs.now) }
 {
     let mut copies = Vec::new(alloc);
