@@ -6,7 +6,7 @@ use Rattle.std.specs.Prelude.{String, Vec}
 use Rattle.std.specs.declared.alloc.Global.{Global}
 
 -- the codes of a service that has too many requests
-abbrev pub throttling_codes : List (List ℕ)
+unfoldable pub throttling_codes : List (List ℕ)
 throttling_codes =
     codes "Throttling" ∷ codes "ThrottlingException" ∷ codes "ThrottledException" ∷ codes "RequestThrottledException"
     ∷ codes "TooManyRequestsException" ∷ codes "ProvisionedThroughputExceededException" ∷ codes "TransactionInProgressException"
@@ -14,11 +14,11 @@ throttling_codes =
     ∷ codes "SlowDown" ∷ codes "PriorRequestNotComplete" ∷ codes "EC2ThrottledException" ∷ []
 
 -- the codes of errors that pass by themselves
-abbrev pub transient_codes : List (List ℕ)
+unfoldable pub transient_codes : List (List ℕ)
 transient_codes = codes "RequestTimeout" ∷ codes "RequestTimeoutException" ∷ []
 
 -- the codes of errors that a skew of the clocks can bring about
-abbrev pub skew_codes : List (List ℕ)
+unfoldable pub skew_codes : List (List ℕ)
 skew_codes =
     codes "InvalidSignatureException" ∷ codes "SignatureDoesNotMatch" ∷ codes "AuthFailure" ∷ codes "RequestTimeTooSkewed"
     ∷ codes "AccessDeniedException" ∷ []

@@ -189,6 +189,7 @@ impl AwsErrorCodeClassifier {
         }
     }
 
+    #[tactic(auto, unfolding(crate::specs::Codes::transient_codes))]
     fn is_transient(&self, code: &str) -> bool
         ensures { result ≡ is_listed self.now code.now }
     {
@@ -243,6 +244,7 @@ fn copied_texts(alloc: Global, texts: &[String]) -> Mem<Vec<String>>
     Ok(copies)
 }
 
+#[tactic(auto, unfolding(crate::specs::Codes::throttling_codes))]
 fn is_throttling(code: &str) -> bool
     ensures { result ≡ is_listed throttling_codes code.now }
 {
@@ -346,6 +348,7 @@ fn is_skewed(response: Option<&HttpResponse>) -> bool
 }
 
 // Whether a skew can bring about an error with this code.
+#[tactic(auto, unfolding(crate::specs::Codes::skew_codes))]
 fn is_skew_error(code: Option<&str>) -> bool
     ensures { result ≡ is_skew_error (option_copied code.entry) }
 {

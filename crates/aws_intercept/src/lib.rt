@@ -4,8 +4,8 @@
 //! The layer above is promised that each interceptor's call gives exactly the header text, the bag and the skew of its
 //! definition and changes nothing else (`specs/UserAgent.antt`, `specs/Invocation.antt`, `specs/Recursion.antt`,
 //! `specs/RequestInfo.antt`, `specs/ClockSkew.antt`), that the agent's text is its parts in order (`specs/Agent.antt`),
-//! that different metrics have different ids ([`metric_ids_differ`]), and that both classifiers answer by their tables
-//! (`specs/Classify.antt`).
+//! that different metrics have different ids ([`metric_ids_differ`]), that an escaped trace is a header's value
+//! ([`escaped_traces_fit`]), and that both classifiers answer by their tables (`specs/Classify.antt`).
 #![tactic(auto)]
 
 mod bag;
@@ -36,7 +36,7 @@ pub use crate::id_generator::{
 };
 pub use crate::invocation::InvocationIdInterceptor;
 pub use crate::invocation_id::{InvalidInvocationId, InvocationId};
-pub use crate::recursion::RecursionDetectionInterceptor;
+pub use crate::recursion::{RecursionDetectionInterceptor, escaped_traces_fit};
 pub use crate::request_info::RequestInfoInterceptor;
 pub use crate::user_agent::agent::AwsUserAgent;
 pub use crate::user_agent::build::{BuildMetadata, OsFamily};

@@ -1,8 +1,10 @@
-ghost use Rattle.std.specs.Prelude.{◌≡◌, IfOk, OnErr, OnOk, string_bytes};
-ghost use Rattle.aws_intercept.specs.Recursion.{escaped, traced};
+ghost use Rattle.std.specs.Prelude.{◌≡◌, IfOk, List, OnErr, OnOk, string_bytes, ℕ};
+ghost use Rattle.http_header.specs.Token.{AllPass};
+ghost use Rattle.smithy_core.specs.HeaderGrammar.{IsHeaderValue};
+ghost use Rattle.aws_intercept.specs.Recursion.{escaped, is_visible, traced};
 
 use crate::bag::ConfigBag;
-use percent_encoding::{CONTROLS, utf8_percent_encode};
+use percent_encoding::{CONTROLS, percent_encode};
 use smithy_core::{Env, HttpRequest, Mem};
 use std::alloc::Global;
 
@@ -51,7 +53,7 @@ impl RecursionDetectionInterceptor {
         let function = self.env.get("AWS_LAMBDA_FUNCTION_NAME");
         match (function, self.env.get("_X_AMZN_TRACE_ID")) {
             (Some(_), Some(trace)) => {
-                let value = escape(*request.method.allocator(), trace)?;
+                let value = escape(*request.method.allocator(), trace.as_bytes())?;
                 request.headers.insert("x-amzn-trace-id", value.as_str())
             }
             _ => Ok(()),
@@ -59,12 +61,19 @@ impl RecursionDetectionInterceptor {
     }
 }
 
-// The text with its controls and its bytes past ASCII escaped.
+// The bytes with controls and those past ASCII escaped.
 #[tactic(auto, using(crate::proofs::RecursionLemmas::by_controls))]
-pub(crate) fn escape(alloc: Global, text: &str) -> Mem<String>
-    ensures { IfOk result (λ value. string_bytes value ≡ escaped text.now) }
+pub(crate) fn escape(alloc: Global, bytes: &[u8]) -> Mem<String>
+    ensures { IfOk result (λ value. string_bytes value ≡ escaped bytes.now) }
 {
     let mut value = String::new(alloc);
-    utf8_percent_encode(text, CONTROLS).append_to(&mut value)?;
+    percent_encode(bytes, CONTROLS).append_to(&mut value)?;
     Ok(value)
 }
+
+/// Whatever its bytes, an escaped trace is visible ASCII and spaces, and so a header's value.
+#[tactic(auto, using(crate::proofs::RecursionLemmas::escaped_visible, crate::proofs::RecursionLemmas::escaped_fits))]
+pub fn escaped_traces_fit()
+    ensures visible { (trace : List ℕ) → AllPass is_visible (escaped trace) }
+    ensures value { (trace : List ℕ) → IsHeaderValue (escaped trace) }
+{}

@@ -8,8 +8,9 @@ use std::alloc::Global;
 use std::process::Abort;
 use std::test::Fail;
 
-// What each agent of these tests begins with.
-const SYSTEM: &str = "aws-sdk-rust/0.1 ua/2.1 api/dynamodb/123 os/macos lang/rust/1.50.0";
+/// What each agent begins with that is made of the metadata of these tests.
+pub(crate) const SYSTEM: &str =
+    "aws-sdk-rust/0.1 ua/2.1 api/dynamodb/123 os/macos lang/rust/1.50.0";
 
 pub(crate) fn build_metadata(alloc: Global) -> Mem<BuildMetadata> {
     Ok(BuildMetadata {
@@ -24,86 +25,176 @@ pub(crate) fn api_metadata(alloc: Global) -> Mem<ApiMetadata> {
     Ok(ApiMetadata::new(text_of(alloc, "dynamodb")?, text_of(alloc, "123")?))
 }
 
-fn agent_in(alloc: Global, env: &Env, build: BuildMetadata) -> Mem<AwsUserAgent> {
-    AwsUserAgent::new_from_environment(alloc, env, api_metadata(alloc)?, build)
+pub(crate) fn app_name(alloc: Global) -> Result<AppName, Fail> {
+    Ok(AppName::new(text_of(alloc, "my_app")?)?)
 }
 
-fn plain_agent(alloc: Global) -> Mem<AwsUserAgent> {
-    agent_in(alloc, &Env::new(alloc), build_metadata(alloc)?)
+pub(crate) fn additional(alloc: Global, value: &str) -> Result<AdditionalMetadata, Fail> {
+    Ok(AdditionalMetadata::new(text_of(alloc, value)?)?)
 }
 
-// Both calls of the agent give this text after what each agent begins with.
-fn tells(rt: &impl Abort, alloc: Global, agent: &AwsUserAgent, more: &str) -> Mem<()> {
-    let text = format!(in alloc; "{SYSTEM}{more}")?;
+pub(crate) fn framework(alloc: Global, name: &str) -> Result<FrameworkMetadata, Fail> {
+    Ok(FrameworkMetadata::new(text_of(alloc, name)?, None)?)
+}
+
+pub(crate) fn framework_with(
+    alloc: Global,
+    name: &str,
+    version: &str,
+) -> Result<FrameworkMetadata, Fail> {
+    let version = Some(text_of(alloc, version)?);
+    Ok(FrameworkMetadata::new(text_of(alloc, name)?, version)?)
+}
+
+/// The agent of the metadata of these tests.
+pub(crate) fn agent_in(alloc: Global, env: &Env) -> Mem<AwsUserAgent> {
+    AwsUserAgent::new_from_environment(alloc, env, api_metadata(alloc)?, build_metadata(alloc)?)
+}
+
+/// An environment with an execution environment.
+pub(crate) fn lambda_env(alloc: Global) -> Mem<Env> {
+    let mut env = Env::new(alloc);
+    env.set("AWS_EXECUTION_ENV", "lambda")?;
+    Ok(env)
+}
+
+/// Two frameworks, the first one with a version.
+pub(crate) fn two_frameworks(
+    alloc: Global,
+) -> Result<(FrameworkMetadata, FrameworkMetadata), Fail> {
+    let first = framework_with(alloc, "some-framework", "1.3")?;
+    Ok((first, framework(alloc, "other")?))
+}
+
+/// Both calls of the agent give a text that begins so and ends so.
+pub(crate) fn tells(
+    rt: &impl Abort,
+    alloc: Global,
+    agent: &AwsUserAgent,
+    begin: &str,
+    end: &str,
+) -> Result<(), Fail> {
+    let text = format!(in alloc; "{begin}{end}")?;
     assert_eq!(rt; agent.aws_ua_header()?.as_str(), text.as_str());
     assert_eq!(rt; agent.ua_header()?.as_str(), text.as_str());
     Ok(())
 }
 
-#[test]
-fn texts_of_agents(rt: HostRuntime) -> Result<(), Fail> {
-    let alloc = rt.alloc();
-    tells(&rt, alloc, &plain_agent(alloc)?, "")?;
-    let mut env = Env::new(alloc);
-    env.set("AWS_EXECUTION_ENV", "lambda")?;
-    let in_lambda = agent_in(alloc, &env, build_metadata(alloc)?)?;
-    tells(&rt, alloc, &in_lambda, " exec-env/lambda")?;
-    let version = Some(text_of(alloc, "1.3")?);
-    let with_version = FrameworkMetadata::new(text_of(alloc, "some-framework")?, version)?;
-    let other = FrameworkMetadata::new(text_of(alloc, "other")?, None)?;
-    let framed = plain_agent(alloc)?
-        .with_framework_metadata(with_version)?
-        .with_framework_metadata(other)?;
-    tells(&rt, alloc, &framed, " lib/some-framework/1.3 lib/other")?;
-    let name = AppName::new(text_of(alloc, "my_app")?)?;
-    tells(
-        &rt,
-        alloc,
-        &plain_agent(alloc)?.with_app_name(name),
-        " app/my_app",
-    )?;
+fn plain_agent(alloc: Global) -> Mem<AwsUserAgent> {
+    agent_in(alloc, &Env::new(alloc))
+}
+
+// The agent of a program whose build tells more.
+fn built_agent(alloc: Global) -> Result<AwsUserAgent, Fail> {
+    let extra = additional(alloc, "asdf")?;
+    let api = api_metadata(alloc)?;
     let mut build = build_metadata(alloc)?;
-    build.extra = Some(AdditionalMetadata::new(text_of(alloc, "asdf")?)?);
-    let mut built = agent_in(alloc, &Env::new(alloc), build)?;
-    tells(&rt, alloc, &built, " md/asdf")?;
-    built.set_app_name(AppName::new(text_of(alloc, "my_app")?)?);
-    tells(&rt, alloc, &built, " app/my_app md/asdf")?;
-    let copy = built.try_clone()?;
-    tells(&rt, alloc, &copy, " app/my_app md/asdf")?;
-    Ok(())
+    build.extra = Some(extra);
+    Ok(AwsUserAgent::new_from_environment(alloc, &Env::new(alloc), api, build)?)
+}
+
+#[test]
+fn plain_agents(rt: HostRuntime) -> Result<(), Fail> {
+    let alloc = rt.alloc();
+    let agent = plain_agent(alloc)?;
+    tells(&rt, alloc, &agent, SYSTEM, "")
+}
+
+#[test]
+fn agents_in_execution_environments(rt: HostRuntime) -> Result<(), Fail> {
+    let alloc = rt.alloc();
+    let agent = agent_in(alloc, &lambda_env(alloc)?)?;
+    tells(&rt, alloc, &agent, SYSTEM, " exec-env/lambda")
+}
+
+#[test]
+fn agents_with_frameworks(rt: HostRuntime) -> Result<(), Fail> {
+    let alloc = rt.alloc();
+    let (first, other) = two_frameworks(alloc)?;
+    let agent = plain_agent(alloc)?
+        .with_framework_metadata(first)?
+        .with_framework_metadata(other)?;
+    let end = " lib/some-framework/1.3 lib/other";
+    tells(&rt, alloc, &agent, SYSTEM, end)
+}
+
+#[test]
+fn agents_with_names(rt: HostRuntime) -> Result<(), Fail> {
+    let alloc = rt.alloc();
+    let name = app_name(alloc)?;
+    let agent = plain_agent(alloc)?.with_app_name(name);
+    tells(&rt, alloc, &agent, SYSTEM, " app/my_app")
+}
+
+#[test]
+fn agents_with_more_of_the_build(rt: HostRuntime) -> Result<(), Fail> {
+    let alloc = rt.alloc();
+    let agent = built_agent(alloc)?;
+    tells(&rt, alloc, &agent, SYSTEM, " md/asdf")
+}
+
+#[test]
+fn agents_with_names_and_more_of_the_build(rt: HostRuntime) -> Result<(), Fail> {
+    let alloc = rt.alloc();
+    let name = app_name(alloc)?;
+    let mut agent = built_agent(alloc)?;
+    agent.set_app_name(name);
+    tells(&rt, alloc, &agent, SYSTEM, " app/my_app md/asdf")
 }
 
 #[test]
 fn agents_for_tests(rt: HostRuntime) -> Result<(), Fail> {
-    let agent = AwsUserAgent::for_tests(rt.alloc())?;
-    assert_eq!(rt;
-        agent.ua_header()?.as_str(),
-        "aws-sdk-rust/0.123.test ua/0.1 api/test-service/0.123 os/windows/XPSP3 lang/rust/1.50.0"
-    );
+    let alloc = rt.alloc();
+    let agent = AwsUserAgent::for_tests(alloc)?;
+    tells(&rt, alloc, &agent, TESTED, "")
+}
+
+/// The text of the agent that tests compare with.
+pub(crate) const TESTED: &str =
+    "aws-sdk-rust/0.123.test ua/0.1 api/test-service/0.123 os/windows/XPSP3 lang/rust/1.50.0";
+
+// Adds by each call that lends the agent on.
+fn add_more(alloc: Global, agent: &mut AwsUserAgent) -> Result<(), Fail> {
+    let (framework, more) = (framework(alloc, "f")?, additional(alloc, "y")?);
+    agent
+        .add_business_metric(BusinessMetric::Waiter)?
+        .add_framework_metadata(framework)?
+        .add_additional_metadata(more)?;
     Ok(())
 }
 
 #[test]
 fn agents_with_more(rt: HostRuntime) -> Result<(), Fail> {
     let alloc = rt.alloc();
+    let more = additional(alloc, "x")?;
     let mut agent = plain_agent(alloc)?
         .with_business_metric(BusinessMetric::Waiter)?
         .with_business_metric(BusinessMetric::ResourceModel)?
-        .with_additional_metadata(AdditionalMetadata::new(text_of(alloc, "x")?)?)?;
-    agent.add_business_metric(BusinessMetric::Waiter)?;
-    agent.add_framework_metadata(FrameworkMetadata::new(text_of(alloc, "f")?, None)?)?;
-    agent.add_additional_metadata(AdditionalMetadata::new(text_of(alloc, "y")?)?)?;
-    let feature = FeatureMetadata::new(alloc, text_of(alloc, "n")?, None)?;
-    agent.add_feature_metadata(feature);
-    agent.add_config_metadata(ConfigMetadata::new(text_of(alloc, "n")?, None)?);
-    tells(&rt, alloc, &agent, " m/B,A,B lib/f md/x md/y")?;
-    let feature = FeatureMetadata::new(alloc, text_of(alloc, "n")?, None)?;
-    let config = ConfigMetadata::new(text_of(alloc, "n")?, None)?;
-    let same = agent
-        .with_feature_metadata(feature)
-        .with_config_metadata(config);
-    tells(&rt, alloc, &same, " m/B,A,B lib/f md/x md/y")?;
-    Ok(())
+        .with_additional_metadata(more)?;
+    add_more(alloc, &mut agent)?;
+    tells(&rt, alloc, &agent, SYSTEM, " m/B,A,B lib/f md/x md/y")
+}
+
+fn feature(alloc: Global) -> Result<FeatureMetadata, Fail> {
+    Ok(FeatureMetadata::new(alloc, text_of(alloc, "n")?, None)?)
+}
+
+fn config(alloc: Global) -> Result<ConfigMetadata, Fail> {
+    Ok(ConfigMetadata::new(text_of(alloc, "n")?, None)?)
+}
+
+#[test]
+fn metadata_that_is_not_kept(rt: HostRuntime) -> Result<(), Fail> {
+    let alloc = rt.alloc();
+    let (first, second) = (feature(alloc)?, feature(alloc)?);
+    let (third, fourth) = (config(alloc)?, config(alloc)?);
+    let mut agent = plain_agent(alloc)?
+        .with_feature_metadata(first)
+        .with_config_metadata(third);
+    agent
+        .add_feature_metadata(second)
+        .add_config_metadata(fourth);
+    tells(&rt, alloc, &agent, SYSTEM, "")
 }
 
 fn name_fault(alloc: Global, text: &str) -> Result<bool, Fail> {

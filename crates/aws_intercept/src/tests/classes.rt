@@ -51,13 +51,44 @@ fn is_class(
     Ok(())
 }
 
+// The codes of errors of a service that has too many requests.
+const THROTTLING: [&str; 14] = [
+    "Throttling",
+    "ThrottlingException",
+    "ThrottledException",
+    "RequestThrottledException",
+    "TooManyRequestsException",
+    "ProvisionedThroughputExceededException",
+    "TransactionInProgressException",
+    "RequestLimitExceeded",
+    "BandwidthLimitExceeded",
+    "LimitExceededException",
+    "RequestThrottled",
+    "SlowDown",
+    "PriorRequestNotComplete",
+    "EC2ThrottledException",
+];
+
 #[test]
-fn classes_of_codes(rt: HostRuntime) -> Result<(), Fail> {
-    let alloc = rt.alloc();
+fn classes_of_throttling_codes(rt: HostRuntime) -> Result<(), Fail> {
     let throttling = retryable(RetryKind::ThrottlingError, None);
-    is_class(&rt, alloc, &THROTTLING_ERRORS, throttling)?;
+    is_class(&rt, rt.alloc(), &THROTTLING, throttling)?;
+    assert!(rt; THROTTLING_ERRORS == THROTTLING);
+    Ok(())
+}
+
+#[test]
+fn classes_of_transient_codes(rt: HostRuntime) -> Result<(), Fail> {
+    let codes = ["RequestTimeout", "RequestTimeoutException"];
     let transient = retryable(RetryKind::TransientError, None);
-    is_class(&rt, alloc, &TRANSIENT_ERRORS, transient)?;
+    is_class(&rt, rt.alloc(), &codes, transient)?;
+    assert!(rt; TRANSIENT_ERRORS == codes);
+    Ok(())
+}
+
+#[test]
+fn classes_of_other_codes(rt: HostRuntime) -> Result<(), Fail> {
+    let alloc = rt.alloc();
     is_class(&rt, alloc, &["AccessDenied", ""], NOTHING)?;
     let classifier = AwsErrorCodeClassifier::new();
     let silent = ErrorMetadata {
@@ -66,14 +97,25 @@ fn classes_of_codes(rt: HostRuntime) -> Result<(), Fail> {
     };
     assert_eq!(rt; classifier.classify_retry(None, Some(&silent)), NOTHING);
     assert_eq!(rt; classifier.classify_retry(None, None), NOTHING);
-    let delayed = retryable(RetryKind::ThrottlingError, Some(250));
-    assert_eq!(rt; classified(alloc, "SlowDown", Some("250"))?, delayed);
-    let long = retryable(RetryKind::ThrottlingError, Some(5000));
-    assert_eq!(rt; classified(alloc, "SlowDown", Some("5000"))?, long);
-    assert_eq!(rt;
-        classified(alloc, "SlowDown", Some("not-a-number"))?,
-        throttling
-    );
+    Ok(())
+}
+
+#[test]
+fn classes_with_delays(rt: HostRuntime) -> Result<(), Fail> {
+    let alloc = rt.alloc();
+    let cases = [
+        ("250", Some(250)),
+        ("5000", Some(5000)),
+        ("not-a-number", None),
+    ];
+    for (text, delay) in cases {
+        let found = classified(alloc, "SlowDown", Some(text))?;
+        assert_eq!(rt;
+            found,
+            retryable(RetryKind::ThrottlingError, delay),
+            "{text}"
+        );
+    }
     Ok(())
 }
 
@@ -118,26 +160,39 @@ fn skew_class(alloc: Global, code: &str, skew: Option<i64>) -> Mem<RetryAction> 
     Ok(ServiceClockSkewClassifier::new().classify_retry(Some(&response), Some(&error)))
 }
 
+// The codes of errors that a skew of the clocks can bring about.
+const SKEW: [&str; 5] = [
+    "InvalidSignatureException",
+    "SignatureDoesNotMatch",
+    "AuthFailure",
+    "RequestTimeTooSkewed",
+    "AccessDeniedException",
+];
+
 #[test]
 fn classes_of_skews(rt: HostRuntime) -> Result<(), Fail> {
     let alloc = rt.alloc();
     let server = retryable(RetryKind::ServerError, None);
-    let codes = [
-        "InvalidSignatureException",
-        "SignatureDoesNotMatch",
-        "AuthFailure",
-        "RequestTimeTooSkewed",
-        "AccessDeniedException",
-    ];
-    for code in codes {
+    for code in SKEW {
         assert_eq!(rt; skew_class(alloc, code, Some(240_001))?, server, "{code}");
         assert_eq!(rt; skew_class(alloc, code, Some(-240_001))?, server, "{code}");
     }
-    let code = "SignatureDoesNotMatch";
-    assert_eq!(rt; skew_class(alloc, code, Some(240_000))?, NOTHING);
-    assert_eq!(rt; skew_class(alloc, code, Some(-240_000))?, NOTHING);
-    assert_eq!(rt; skew_class(alloc, code, Some(300_000))?, server);
-    assert_eq!(rt; skew_class(alloc, code, None)?, NOTHING);
-    assert_eq!(rt; skew_class(alloc, "SlowDown", Some(300_000))?, NOTHING);
+    Ok(())
+}
+
+#[test]
+fn classes_at_the_limits_of_skew(rt: HostRuntime) -> Result<(), Fail> {
+    let alloc = rt.alloc();
+    let server = retryable(RetryKind::ServerError, None);
+    let cases = [
+        ("SignatureDoesNotMatch", Some(240_000), NOTHING),
+        ("SignatureDoesNotMatch", Some(-240_000), NOTHING),
+        ("SignatureDoesNotMatch", Some(300_000), server),
+        ("SignatureDoesNotMatch", None, NOTHING),
+        ("SlowDown", Some(300_000), NOTHING),
+    ];
+    for (code, skew, wanted) in cases {
+        assert_eq!(rt; skew_class(alloc, code, skew)?, wanted, "{code}");
+    }
     Ok(())
 }

@@ -1,12 +1,12 @@
 ghost use Rattle.std.specs.Prelude.{◌<◌};
 
-use crate::BusinessMetric;
+use crate::tests::agents::TESTED;
 use crate::tests::text_of;
 use crate::user_agent::metric::push_id;
 use crate::user_agent::metric_ids::{fit, fitting_ids};
+use crate::{AwsUserAgent, BusinessMetric};
 use smithy_core::Mem;
 use std::alloc::Global;
-use std::process::Abort;
 use std::test::Fail;
 
 // Every metric in order.
@@ -151,33 +151,40 @@ fn fitted(alloc: Global, ids: &str, limit: usize) -> Mem<String> {
 #[test]
 fn ids_that_do_not_fit(rt: HostRuntime) -> Result<(), Fail> {
     let alloc = rt.alloc();
-    assert_eq!(rt; fitted(alloc, "A,10BC,E", 5)?.as_str(), "A");
-    assert_eq!(rt; fitted(alloc, "A10B,CE", 5)?.as_str(), "A10B");
-    assert_eq!(rt; fitted(alloc, "A10BC,E", 5)?.as_str(), "A10BC");
-    assert_eq!(rt; fitted(alloc, "A10BCE", 5)?.as_str(), "A10BC");
-    assert_eq!(rt; fitted(alloc, "A", 5)?.as_str(), "A");
-    assert_eq!(rt; fitted(alloc, "A,B", 5)?.as_str(), "A,B");
+    let cases = [
+        ("A,10BC,E", "A"),
+        ("A10B,CE", "A10B"),
+        ("A10BC,E", "A10BC"),
+        ("A10BCE", "A10BC"),
+        ("A", "A"),
+        ("A,B", "A,B"),
+    ];
+    for (ids, left) in cases {
+        assert_eq!(rt; fitted(alloc, ids, 5)?.as_str(), left, "{ids}");
+    }
     Ok(())
 }
 
-// So many of one metric, and then others.
-fn metrics(
+// The text of an agent that has so many of one metric, and then others.
+fn text_with(
     alloc: Global,
     metric: BusinessMetric,
     count: usize,
     others: &[BusinessMetric],
-) -> Mem<Vec<BusinessMetric>> {
-    let mut metrics = Vec::new(alloc);
+) -> Mem<String> {
+    let mut agent = AwsUserAgent::for_tests(alloc)?;
     for _ in 0..count {
-        metrics.push(metric)?;
+        agent = agent.with_business_metric(metric)?;
     }
-    metrics.extend_from_slice(others)?;
-    Ok(metrics)
+    for other in others {
+        agent = agent.with_business_metric(*other)?;
+    }
+    agent.ua_header()
 }
 
-// So many copies of an id, joined by commas, and then a text.
-fn joined(alloc: Global, id: &str, count: usize, end: &str) -> Mem<String> {
-    let mut text = String::new(alloc);
+// The text of an agent that tells so many copies of an id, joined by commas, and then a text.
+fn text_of_ids(alloc: Global, id: &str, count: usize, end: &str) -> Mem<String> {
+    let mut text = format!(in alloc; "{TESTED} m/")?;
     for at in 0..count {
         if at > 0 {
             text.push_str(",")?;
@@ -188,31 +195,30 @@ fn joined(alloc: Global, id: &str, count: usize, end: &str) -> Mem<String> {
     Ok(text)
 }
 
-fn cut_at_limit(
-    rt: &impl Abort,
-    alloc: Global,
-    metrics: Vec<BusinessMetric>,
-    left: String,
-) -> Mem<()> {
-    let ids = fitting_ids(alloc, metrics.as_slice(), 1024)?;
-    assert_eq!(rt; ids.as_str(), left.as_str());
+#[test]
+fn ids_of_one_sign_at_the_limit(rt: HostRuntime) -> Result<(), Fail> {
+    let alloc = rt.alloc();
+    let whole = text_of_ids(alloc, "A", 512, "")?;
+    for count in [512, 513] {
+        let text = text_with(alloc, BusinessMetric::ResourceModel, count, &[])?;
+        assert_eq!(rt; text.as_str(), whole.as_str(), "{count}");
+    }
     Ok(())
 }
 
 #[test]
-fn ids_at_the_limit(rt: HostRuntime) -> Result<(), Fail> {
+fn ids_of_two_signs_at_the_limit(rt: HostRuntime) -> Result<(), Fail> {
     let alloc = rt.alloc();
-    let (first, login) = (
-        BusinessMetric::ResourceModel,
+    let (login, first) = (
         BusinessMetric::LoginSameDevice,
+        BusinessMetric::ResourceModel,
     );
-    let fits = metrics(alloc, first, 512, &[])?;
-    cut_at_limit(&rt, alloc, fits, joined(alloc, "A", 512, "")?)?;
-    let more = metrics(alloc, first, 513, &[])?;
-    cut_at_limit(&rt, alloc, more, joined(alloc, "A", 512, "")?)?;
-    let exact = metrics(alloc, login, 341, &[first])?;
-    cut_at_limit(&rt, alloc, exact, joined(alloc, "AA", 341, ",A")?)?;
-    let over = metrics(alloc, login, 341, &[first, first])?;
-    cut_at_limit(&rt, alloc, over, joined(alloc, "AA", 341, "")?)?;
+    let exact = text_with(alloc, login, 341, &[first])?;
+    assert_eq!(rt;
+        exact.as_str(),
+        text_of_ids(alloc, "AA", 341, ",A")?.as_str()
+    );
+    let over = text_with(alloc, login, 341, &[first, first])?;
+    assert_eq!(rt; over.as_str(), text_of_ids(alloc, "AA", 341, "")?.as_str());
     Ok(())
 }

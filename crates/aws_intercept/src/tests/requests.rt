@@ -1,8 +1,7 @@
-use crate::tests::bare_request;
+use crate::tests::{bare_request, text_of};
 use crate::{ConfigBag, RequestInfoInterceptor};
-use smithy_core::{DateTime, Mem, Moment, RetryConfig, TimeoutConfig};
+use smithy_core::{DateTime, Moment, RetryConfig, TimeoutConfig};
 use std::alloc::Global;
-use std::process::Abort;
 use std::test::Fail;
 
 const ROW: i64 = 1_440_938_160;
@@ -15,60 +14,65 @@ fn bag_with(alloc: Global, attempts: Option<u32>, secs: Option<u64>) -> ConfigBa
     bag
 }
 
-fn tells(rt: &impl Abort, alloc: Global, mut bag: ConfigBag, now: Moment, wanted: &str) -> Mem<()> {
+// The header that a bag gives at a moment, beside which there is none.
+fn tell(alloc: Global, now: Moment, bag: &mut ConfigBag) -> Result<String, Fail> {
     let mut request = bare_request(alloc)?;
-    let mut interceptor = RequestInfoInterceptor::new();
-    interceptor.modify_before_transmit(&mut request, now, &mut bag)?;
-    assert_eq!(rt; request.headers.get("amz-sdk-request"), Some(wanted));
-    assert_eq!(rt; request.headers.len(), 1);
+    RequestInfoInterceptor::new().modify_before_transmit(&mut request, now, bag)?;
+    if request.headers.len() != 1 {
+        return Ok(text_of(alloc, "more than one header")?);
+    }
+    let header = request.headers.get("amz-sdk-request").ok_or("no header")?;
+    Ok(text_of(alloc, header)?)
+}
+
+fn told(alloc: Global, now: Moment, mut bag: ConfigBag) -> Result<String, Fail> {
+    tell(alloc, now, &mut bag)
+}
+
+#[test]
+fn first_attempts_are_told(rt: HostRuntime) -> Result<(), Fail> {
+    let (alloc, now) = (rt.alloc(), DateTime::new(ROW, 500_000_000));
+    let first = told(alloc, now, bag_with(alloc, None, Some(30)))?;
+    assert_eq!(rt; first.as_str(), "attempt=0; max=3");
+    let mut plain = ConfigBag::new(alloc);
+    plain.attempts = Some(1);
+    assert_eq!(rt; told(alloc, now, plain)?.as_str(), "attempt=1");
     Ok(())
 }
 
 #[test]
-fn attempts_are_told(rt: HostRuntime) -> Result<(), Fail> {
-    let alloc = rt.alloc();
-    let now = DateTime::new(ROW, 500_000_000);
-    let first = bag_with(alloc, None, Some(30));
-    tells(&rt, alloc, first, now, "attempt=0; max=3")?;
-    let second = bag_with(alloc, Some(2), Some(30));
-    tells(
-        &rt,
-        alloc,
-        second,
-        now,
-        "ttl=20150830T123630Z; attempt=2; max=3",
-    )?;
+fn second_attempts_are_told(rt: HostRuntime) -> Result<(), Fail> {
+    let (alloc, now) = (rt.alloc(), DateTime::new(ROW, 500_000_000));
+    let second = told(alloc, now, bag_with(alloc, Some(2), Some(30)))?;
+    assert_eq!(rt; second.as_str(), "ttl=20150830T123630Z; attempt=2; max=3");
     let mut skewed = bag_with(alloc, Some(2), Some(30));
     skewed.attempt_skew = Some(60_000);
-    tells(
-        &rt,
-        alloc,
-        skewed,
-        now,
-        "ttl=20150830T123730Z; attempt=2; max=3",
-    )?;
-    let patient = bag_with(alloc, Some(2), None);
-    tells(&rt, alloc, patient, now, "attempt=2; max=3")?;
-    let mut plain = ConfigBag::new(alloc);
-    plain.attempts = Some(1);
-    tells(&rt, alloc, plain, now, "attempt=1")?;
+    let text = "ttl=20150830T123730Z; attempt=2; max=3";
+    assert_eq!(rt; told(alloc, now, skewed)?.as_str(), text);
+    Ok(())
+}
+
+#[test]
+fn attempts_without_a_timeout_are_told(rt: HostRuntime) -> Result<(), Fail> {
+    let (alloc, now) = (rt.alloc(), DateTime::new(ROW, 500_000_000));
+    let endless = told(alloc, now, bag_with(alloc, Some(2), None))?;
+    assert_eq!(rt; endless.as_str(), "attempt=2; max=3");
+    let mut unset = bag_with(alloc, Some(2), None);
+    unset.timeout = None;
+    assert_eq!(rt; told(alloc, now, unset)?.as_str(), "attempt=2; max=3");
+    Ok(())
+}
+
+#[test]
+fn attempts_outside_the_years_are_told(rt: HostRuntime) -> Result<(), Fail> {
+    let alloc = rt.alloc();
     let mut late = bag_with(alloc, Some(2), Some(30));
     late.retry = None;
-    tells(
-        &rt,
-        alloc,
-        late,
-        DateTime::new(253_402_300_790, 0),
-        "attempt=2",
-    )?;
+    let text = told(alloc, DateTime::new(253_402_300_790, 0), late)?;
+    assert_eq!(rt; text.as_str(), "attempt=2");
     let mut forever = bag_with(alloc, Some(2), Some(u64::MAX));
     forever.attempt_skew = Some(i64::MAX);
-    tells(
-        &rt,
-        alloc,
-        forever,
-        DateTime::new(i64::MAX, 0),
-        "attempt=2; max=3",
-    )?;
+    let text = told(alloc, DateTime::new(i64::MAX, 0), forever)?;
+    assert_eq!(rt; text.as_str(), "attempt=2; max=3");
     Ok(())
 }

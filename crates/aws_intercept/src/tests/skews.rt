@@ -1,10 +1,14 @@
 use crate::{ConfigBag, DisableClockSkewCorrection, ServiceClockSkewInterceptor};
 use smithy_core::{DateTime, Headers, HttpResponse, Mem, Moment};
 use std::alloc::Global;
-use std::process::Abort;
 use std::test::Fail;
 
 const ROW: i64 = 1_440_938_160;
+
+// So long after the row's moment.
+fn after(secs: i64) -> Moment {
+    DateTime::new(secs.wrapping_add(ROW), 0)
+}
 
 fn response_with(alloc: Global, headers: &[(&str, &str)]) -> Mem<HttpResponse> {
     let mut held = Headers::new(alloc);
@@ -18,82 +22,118 @@ fn response_with(alloc: Global, headers: &[(&str, &str)]) -> Mem<HttpResponse> {
     })
 }
 
-// The skew of a response to a request sent at the row's moment, which bag, response and interceptor have alike.
-fn skew_of(alloc: Global, received: Moment, headers: &[(&str, &str)]) -> Result<Option<i64>, Fail> {
+// The skew that the bag of a request sent at the row's moment gets with its response.
+fn skew_in_bag(
+    alloc: Global,
+    interceptor: &mut ServiceClockSkewInterceptor,
+    response: &mut HttpResponse,
+    received: Moment,
+) -> Option<i64> {
     let mut bag = ConfigBag::new(alloc);
-    let mut interceptor = ServiceClockSkewInterceptor::new();
-    interceptor.read_before_transmit(DateTime::new(ROW, 0), &mut bag);
-    let mut response = response_with(alloc, headers)?;
-    interceptor.modify_before_deserialization(&mut response, received, &mut bag);
-    if bag.attempt_skew != response.skew {
-        return Ok(Some(i64::MIN));
-    }
-    let mut next = ConfigBag::new(alloc);
-    interceptor.modify_before_retry_loop(&mut next);
-    if next.attempt_skew != Some(response.skew.unwrap_or(0)) {
-        return Ok(Some(i64::MAX));
-    }
-    Ok(response.skew)
+    interceptor.read_before_transmit(after(0), &mut bag);
+    interceptor.modify_before_deserialization(response, received, &mut bag);
+    bag.attempt_skew
 }
 
-fn measures(
-    rt: &impl Abort,
-    alloc: Global,
-    received: Moment,
-    date: &str,
-    wanted: Option<i64>,
-) -> Result<(), Fail> {
-    assert_eq!(rt; skew_of(alloc, received, &[("date", date)])?, wanted);
-    Ok(())
+// The skew that the next operation begins with.
+fn skew_kept(alloc: Global, interceptor: &mut ServiceClockSkewInterceptor) -> Option<i64> {
+    let mut bag = ConfigBag::new(alloc);
+    interceptor.modify_before_retry_loop(&mut bag);
+    bag.attempt_skew
 }
+
+// The skews that response, bag and interceptor have then.
+fn skews_of(alloc: Global, received: Moment, headers: &[(&str, &str)]) -> Mem<[Option<i64>; 3]> {
+    let mut response = response_with(alloc, headers)?;
+    let mut interceptor = ServiceClockSkewInterceptor::new();
+    let in_bag = skew_in_bag(alloc, &mut interceptor, &mut response, received);
+    let kept = skew_kept(alloc, &mut interceptor);
+    Ok([response.skew, in_bag, kept])
+}
+
+// What they have where none is measured.
+const UNMEASURED: [Option<i64>; 3] = [None, None, Some(0)];
 
 #[test]
 fn measured_skews(rt: HostRuntime) -> Result<(), Fail> {
     let alloc = rt.alloc();
-    let after = |secs: i64| DateTime::new(secs.wrapping_add(ROW), 0);
-    let ahead = "Sun, 30 Aug 2015 12:41:01 GMT";
-    measures(&rt, alloc, after(2), ahead, Some(300_000))?;
-    let behind = "Sun, 30 Aug 2015 12:30:00 GMT";
-    measures(&rt, alloc, after(0), behind, Some(-360_000))?;
-    let same = "Sun, 30 Aug 2015 12:36:00 GMT";
-    measures(&rt, alloc, DateTime::new(ROW, 999), same, Some(0))?;
-    let back = "Sun, 30 Aug 2015 12:36:10 GMT";
-    measures(&rt, alloc, after(-10), back, Some(10_000))?;
-    measures(&rt, alloc, after(901), ahead, None)?;
-    let middle = "Sun, 30 Aug 2015 12:43:30 GMT";
-    measures(&rt, alloc, after(900), middle, Some(0))?;
-    measures(&rt, alloc, after(2), "x", None)?;
-    assert_eq!(rt; skew_of(alloc, after(2), &[])?, None);
-    let cached = [("age", "0"), ("date", ahead)];
-    assert_eq!(rt; skew_of(alloc, after(2), &cached)?, None);
+    let cases = [
+        (2, "Sun, 30 Aug 2015 12:41:01 GMT", 300_000),
+        (0, "Sun, 30 Aug 2015 12:30:00 GMT", -360_000),
+        (-10, "Sun, 30 Aug 2015 12:36:10 GMT", 10_000),
+        (900, "Sun, 30 Aug 2015 12:43:30 GMT", 0),
+    ];
+    for (secs, date, skew) in cases {
+        let skews = skews_of(alloc, after(secs), &[("date", date)])?;
+        assert_eq!(rt; skews, [Some(skew), Some(skew), Some(skew)], "{date}");
+    }
     Ok(())
 }
+
+// The half of 999 nanoseconds is cut away.
+#[test]
+fn skews_are_cut_toward_zero(rt: HostRuntime) -> Result<(), Fail> {
+    let date = [("date", "Sun, 30 Aug 2015 12:36:00 GMT")];
+    let skews = skews_of(rt.alloc(), DateTime::new(ROW, 999), &date)?;
+    assert_eq!(rt; skews, [Some(0), Some(0), Some(0)]);
+    Ok(())
+}
+
+const DATE: (&str, &str) = ("date", "Sun, 30 Aug 2015 12:41:01 GMT");
 
 #[test]
 fn skews_that_are_not_measured(rt: HostRuntime) -> Result<(), Fail> {
     let alloc = rt.alloc();
+    assert_eq!(rt; skews_of(alloc, after(901), &[DATE])?, UNMEASURED);
+    assert_eq!(rt; skews_of(alloc, after(2), &[("date", "x")])?, UNMEASURED);
+    assert_eq!(rt; skews_of(alloc, after(2), &[])?, UNMEASURED);
+    assert_eq!(rt;
+        skews_of(alloc, after(2), &[("age", "0"), DATE])?,
+        UNMEASURED
+    );
+    Ok(())
+}
+
+// The skew of a response that is received at this moment, for a bag.
+fn skew_for(response: &mut HttpResponse, received: Moment, mut bag: ConfigBag) -> Option<i64> {
     let mut interceptor = ServiceClockSkewInterceptor::new();
-    let mut response = response_with(alloc, &[("date", "Sun, 30 Aug 2015 12:41:01 GMT")])?;
-    let mut unsent = ConfigBag::new(alloc);
-    interceptor.modify_before_deserialization(&mut response, DateTime::new(ROW, 0), &mut unsent);
-    assert_eq!(rt; response.skew, None);
+    interceptor.modify_before_deserialization(response, received, &mut bag);
+    response.skew
+}
+
+#[test]
+fn skews_without_a_moment_of_sending(rt: HostRuntime) -> Result<(), Fail> {
+    let alloc = rt.alloc();
+    let mut response = response_with(alloc, &[DATE])?;
+    let skew = skew_for(&mut response, after(0), ConfigBag::new(alloc));
+    assert_eq!(rt; skew, None);
+    Ok(())
+}
+
+// The date lies over 292 million years after the moment of sending.
+#[test]
+fn skews_that_do_not_fit(rt: HostRuntime) -> Result<(), Fail> {
+    let alloc = rt.alloc();
+    let mut response = response_with(alloc, &[DATE])?;
+    let moment = DateTime::new(i64::MIN, 0);
+    let mut bag = ConfigBag::new(alloc);
+    bag.time_sent = Some(moment);
+    assert_eq!(rt; skew_for(&mut response, moment, bag), None);
+    Ok(())
+}
+
+#[test]
+fn skews_that_are_switched_off(rt: HostRuntime) -> Result<(), Fail> {
+    let alloc = rt.alloc();
+    let mut response = response_with(alloc, &[DATE])?;
     let mut off = ConfigBag::new(alloc);
     off.disable_skew = Some(DisableClockSkewCorrection::from(true));
+    let mut interceptor = ServiceClockSkewInterceptor::new();
     interceptor.modify_before_retry_loop(&mut off);
-    interceptor.read_before_transmit(DateTime::new(ROW, 0), &mut off);
+    interceptor.read_before_transmit(after(0), &mut off);
     assert_eq!(rt; off.attempt_skew, None);
     assert!(rt; off.time_sent.is_none());
-    off.time_sent = Some(DateTime::new(ROW, 0));
-    interceptor.modify_before_deserialization(&mut response, DateTime::new(ROW, 0), &mut off);
-    assert_eq!(rt; response.skew, None);
-    // A date that lies over 292 million years after the moment of sending.
-    let mut early = ConfigBag::new(alloc);
-    early.time_sent = Some(DateTime::new(i64::MIN, 0));
-    interceptor.modify_before_deserialization(
-        &mut response,
-        DateTime::new(i64::MIN, 0),
-        &mut early,
-    );
-    assert_eq!(rt; response.skew, None);
+    off.time_sent = Some(after(0));
+    assert_eq!(rt; skew_for(&mut response, after(0), off), None);
     Ok(())
 }

@@ -1,4 +1,4 @@
-ghost use Rattle.std.specs.Prelude.{◌≡◌, [], ◌∷◌, ◌++◌, IfOk, OnOk, Some, option_map, string_bytes};
+ghost use Rattle.std.specs.Prelude.{◌≡◌, [], ◌∷◌, ◌++◌, IfOk, OnErr, OnOk, Some, option_map, string_bytes};
 ghost use Rattle.smithy_core.specs.Pairs.{last_value};
 ghost use Rattle.aws_intercept.specs.Agent.{agent_for_tests, agent_from};
 
@@ -142,7 +142,7 @@ impl AwsUserAgent {
     pub fn with_business_metric(mut self, metric: BusinessMetric) -> Mem<AwsUserAgent>
         ensures { IfOk result (λ agent. agent ≡ record self { metrics = self.metrics ++ metric ∷ [] }) }
     {
-        self.metrics.push(metric)?;
+        self.push_metric(metric)?;
         Ok(self)
     }
 
@@ -150,7 +150,7 @@ impl AwsUserAgent {
     pub fn with_framework_metadata(mut self, metadata: FrameworkMetadata) -> Mem<AwsUserAgent>
         ensures { IfOk result (λ agent. agent ≡ record self { frameworks = self.frameworks ++ metadata ∷ [] }) }
     {
-        self.frameworks.push(metadata)?;
+        self.push_framework(metadata)?;
         Ok(self)
     }
 
@@ -158,7 +158,7 @@ impl AwsUserAgent {
     pub fn with_additional_metadata(mut self, metadata: AdditionalMetadata) -> Mem<AwsUserAgent>
         ensures { IfOk result (λ agent. agent ≡ record self { additional = self.additional ++ metadata ∷ [] }) }
     {
-        self.additional.push(metadata)?;
+        self.push_additional(metadata)?;
         Ok(self)
     }
 
@@ -198,25 +198,25 @@ impl AwsUserAgent {
         self.metrics.extend_from_slice(metrics)
     }
 
-    /// Appends the metric.
+    /// Appends the metric. After want of memory the agent is as it was.
     pub fn add_business_metric(&mut self, metric: BusinessMetric) -> Mem<&mut AwsUserAgent>
         ensures same_agent { IfOk result (λ agent. agent.ghost_name ≡ self.entry.ghost_name) }
         ensures added { IfOk result (λ agent. agent.now ≡ record self.old { metrics = self.old.metrics ++ metric ∷ [] }) }
     {
-        self.metrics.push(metric)?;
+        self.push_metric(metric)?;
         Ok(self)
     }
 
-    /// Appends the framework.
+    /// Appends the framework. After want of memory the agent is as it was.
     pub fn add_framework_metadata(&mut self, metadata: FrameworkMetadata) -> Mem<&mut AwsUserAgent>
         ensures same_agent { IfOk result (λ agent. agent.ghost_name ≡ self.entry.ghost_name) }
         ensures added { IfOk result (λ agent. agent.now ≡ record self.old { frameworks = self.old.frameworks ++ metadata ∷ [] }) }
     {
-        self.frameworks.push(metadata)?;
+        self.push_framework(metadata)?;
         Ok(self)
     }
 
-    /// Appends the additional value.
+    /// Appends the additional value. After want of memory the agent is as it was.
     pub fn add_additional_metadata(
         &mut self,
         metadata: AdditionalMetadata,
@@ -224,8 +224,35 @@ impl AwsUserAgent {
         ensures same_agent { IfOk result (λ agent. agent.ghost_name ≡ self.entry.ghost_name) }
         ensures added { IfOk result (λ agent. agent.now ≡ record self.old { additional = self.old.additional ++ metadata ∷ [] }) }
     {
-        self.additional.push(metadata)?;
+        self.push_additional(metadata)?;
         Ok(self)
+    }
+
+    // Appends the metric, or leaves the agent as it was.
+    fn push_metric(&mut self, metric: BusinessMetric) -> Mem<()>
+        ensures ok { OnOk result (self.new ≡ record self.old { metrics = self.old.metrics ++ metric ∷ [] }) }
+        ensures err { OnErr result (self.new ≡ self.old) }
+    {
+        self.metrics.push(metric)?;
+        Ok(())
+    }
+
+    // Appends the framework, or leaves the agent as it was.
+    fn push_framework(&mut self, metadata: FrameworkMetadata) -> Mem<()>
+        ensures ok { OnOk result (self.new ≡ record self.old { frameworks = self.old.frameworks ++ metadata ∷ [] }) }
+        ensures err { OnErr result (self.new ≡ self.old) }
+    {
+        self.frameworks.push(metadata)?;
+        Ok(())
+    }
+
+    // Appends the additional value, or leaves the agent as it was.
+    fn push_additional(&mut self, metadata: AdditionalMetadata) -> Mem<()>
+        ensures ok { OnOk result (self.new ≡ record self.old { additional = self.old.additional ++ metadata ∷ [] }) }
+        ensures err { OnErr result (self.new ≡ self.old) }
+    {
+        self.additional.push(metadata)?;
+        Ok(())
     }
 
     /// Changes nothing: metadata of a feature isn't kept.
