@@ -1,10 +1,10 @@
 -- The text of a user agent, part by part.
-use Rattle.std.proofs.Common.{◌≡◌, ℕ, List, [], ◌∷◌, ◌++◌, Option, Some, None, codes, flat_map, map, refl, ◌∙◌, ap, option_map, option_to_list, append_assoc, arith}
+use Rattle.std.proofs.Common.{◌≡◌, ℕ, List, ◌∷◌, ◌++◌, Option, Some, None, codes, map, refl, ◌∙◌, ap, option_map, option_to_list, append_assoc}
 use Rattle.std.proofs.lemmas.Grind.{flat_map-append}
 use Rattle.std.proofs.lemmas.List.{append-nil}
 use Rattle.std.specs.List.{join_by}
 use Rattle.aws_intercept.specs.AgentParts.{Agent}
-use Rattle.aws_intercept.specs.Agent.{agent_parts, agent_text, metric_part, spaced, system_text}
+use Rattle.aws_intercept.specs.Agent.{agent_text, metric_part, spaced, system_text}
 use Rattle.aws_intercept.specs.Metadata.{additional_text, api_text, framework_text, with_value}
 use Rattle.aws_intercept.specs.Build.{family_text}
 

@@ -1,8 +1,8 @@
 -- What a classifier says again.
-use Rattle.std.proofs.Common.{◌≡◌, ℕ, List, Option, Some, None, refl}
+use Rattle.std.proofs.Common.{◌≡◌, ℕ, List, Option, Some, None}
 use Rattle.aws_intercept.specs.Classify.{Acts, ActsAgain, Delays}
 use Rattle.aws_intercept.specs.declared.classify.RetryAction.{RetryAction}
-use Rattle.aws_intercept.specs.declared.classify.RetryAction.TheVariants.{NoActionIndicated, Retryable}
+use Rattle.aws_intercept.specs.declared.classify.RetryAction.TheVariants.{NoActionIndicated}
 use Rattle.aws_intercept.specs.declared.classify.RetryKind.{RetryKind}
 
 -- where the code says nothing, as was said before

@@ -1,5 +1,5 @@
 -- Ids of several metrics.
-use Rattle.std.proofs.Common.{◌≡◌, ℕ, suc, ◌-◌, ◌/◌, ◌%◌, ◌<◌, ◌≤◌, ◌==◌, Bool, true, false, List, [], ◌∷◌, ◌++◌, Option, Some, None, if◌then◌else◌, codes, flat_map, refl, arith, rules, length, nat_lt, option_map, lit<, take, get_or, IfSome, ◌+◌}
+use Rattle.std.proofs.Common.{◌≡◌, ℕ, suc, ◌-◌, ◌/◌, ◌%◌, ◌<◌, ◌≤◌, ◌==◌, Bool, true, false, List, [], ◌∷◌, ◌++◌, Option, Some, None, if◌then◌else◌, codes, flat_map, refl, arith, length, nat_lt, option_map, lit<, take, get_or, IfSome, ◌+◌}
 use Rattle.std.proofs.lemmas.List.{take_more, length-take-le}
 use Rattle.std.specs.Option.{option_or}
 use Rattle.std.specs.Str.{IsAscii}

@@ -1,6 +1,6 @@
 -- The escapes of a trace are those of percent-encoding with the controls as the set, and each of their bytes is visible.
 use Rattle.std.proofs.Common.{◌≡◌, ℕ, ◌<◌, ◌≤◌, inl, inr, true, false, not, ◌||◌, Bool, cond, List, [], ◌∷◌, ◌++◌, IsTrue, refl, sym, ap, ◌∙◌, subst, arith}
-use Rattle.std.proofs.lemmas.Bool.{agree_below, agree_below_at, cases_order}
+use Rattle.std.proofs.lemmas.Bool.{agree_below_at, cases_order}
 use Rattle.std.proofs.lemmas.Bool.Decides.{nat_tests}
 use Rattle.std.proofs.lemmas.List.Elements.{All-weaker}
 use Rattle.std.specs.Char.{is_ascii}

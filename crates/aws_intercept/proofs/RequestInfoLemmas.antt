@@ -1,7 +1,6 @@
 -- The header that tells of the attempts of a request.
-use Rattle.std.proofs.Common.{◌≡◌, ℕ, ℤ, pos, negsuc, ◌≤ℤ◌, Bool, true, false, ◌&&◌, List, [], ◌∷◌, ◌++◌, Option, Some, None, codes, FitsSigned, refl, arith, option_map, option_to_list, append_assoc, unwrap_or}
+use Rattle.std.proofs.Common.{◌≡◌, ℕ, true, false, List, ◌∷◌, ◌++◌, Option, Some, None, codes, FitsSigned, refl, arith, option_map, option_to_list, append_assoc, unwrap_or}
 use Rattle.std.specs.Fmt.{decimal}
-use Rattle.std.specs.Prelude.{int_le}
 use Rattle.std.specs.Int.{w64}
 use Rattle.std.specs.List.{join_by}
 use Rattle.std.proofs.lemmas.List.{append-nil}

@@ -1,5 +1,5 @@
 -- The header that tells a trace.
-use Rattle.std.specs.Prelude.{ℕ, Bool, ◌&&◌, List, [], ◌∷◌, Option, Some, None, if◌then◌else◌, codes, flat_map, is_some, nat_le, nat_lt}
+use Rattle.std.specs.Prelude.{ℕ, Bool, ◌&&◌, List, [], ◌∷◌, Option, Some, if◌then◌else◌, codes, flat_map, is_some, nat_le, nat_lt}
 use Rattle.percent_encoding.specs.Percent.{percent_encode_byte}
 use Rattle.smithy_core.specs.Pairs.{first_value, inserted, last_value}
 

@@ -1,5 +1,5 @@
 -- What the interceptor of the user agent does.
-use Rattle.std.specs.Prelude.{◌≡◌, ℕ, List, [], ◌∷◌, ◌++◌, Option, Some, None, Result, Ok, Err, String, IsNone, IsSome, IsSomeAnd, MatchOption, codes, map, option_map, option_to_list, reverse, string_bytes}
+use Rattle.std.specs.Prelude.{◌≡◌, ℕ, List, [], ◌∷◌, ◌++◌, Option, Some, Result, Ok, Err, String, IsNone, IsSome, IsSomeAnd, MatchOption, codes, map, option_map, option_to_list, reverse, string_bytes}
 use Rattle.std.specs.declared.alloc.Global.{Global}
 use Rattle.smithy_core.specs.HeaderGrammar.{IsHeaderValue}
 use Rattle.aws_intercept.specs.Agent.{agent_from, agent_text}

@@ -1,4 +1,4 @@
-use Rattle.std.proofs.Common.{◌≡◌, List, ℕ, arith, rules, string_bytes, subst, sym}
+use Rattle.std.proofs.Common.{◌≡◌, List, ℕ, arith, string_bytes, subst, sym}
 use Rattle.std.proofs.lemmas.Grind.{common_steps}
 use Rattle.smithy_core.specs.HeaderGrammar.{IsHeaderValue}
 use Rattle.uuid.specs.Text.{hyphenated_text, lower}
