@@ -1,12 +1,12 @@
 //! Each call where there is memory enough. The expected texts come from the cases of the Rust, or from the rules alone.
 pub(crate) mod agents;
 mod classes;
-mod copies;
 mod interceptors;
 mod invocations;
 mod metrics;
 mod requests;
 mod skews;
+mod surface;
 mod traces;
 
 use bytes::Bytes;

@@ -1,11 +1,11 @@
-ghost use Rattle.std.specs.Prelude.{◌≡◌, IfOk, bytes_eq, option_copied};
+ghost use Rattle.std.specs.Prelude.{◌≡◌, IfOk, option_copied};
 ghost use Rattle.std.specs.String.{string_bytes};
 ghost use Rattle.smithy_core.specs.Pairs.{lower};
 ghost use Rattle.env_config.specs.Texts.{value_at};
 ghost use Rattle.env_config.specs.Words.{SameProfile, SameSession, contents_of, profile_of, session_of, values_of};
 
 use crate::property::Property;
-use smithy_core::Mem;
+use smithy_core::{Mem, is_lower_of};
 use std::collections::BTreeMap;
 
 /// A profile.
@@ -135,20 +135,4 @@ fn value_of<'a>(properties: &'a BTreeMap<String, Property>, name: &str) -> Optio
         }
     }
     None
-}
-
-// Whether the text is the name in ASCII lower case.
-fn is_lower_of(text: &str, name: &str) -> bool
-    ensures { result ≡ bytes_eq text.now (lower name.now) }
-{
-    let (text, name) = (text.as_bytes(), name.as_bytes());
-    if text.len() != name.len() {
-        return false;
-    }
-    for (at, byte) in text.iter().enumerate() {
-        if *byte != name[at].to_ascii_lowercase() {
-            return false;
-        }
-    }
-    true
 }

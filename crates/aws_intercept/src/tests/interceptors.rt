@@ -37,6 +37,11 @@ fn make_and_send(alloc: Global, bag: &mut ConfigBag) -> Result<HttpRequest, User
     send(alloc, bag)
 }
 
+// The request that the agent of a service is sent with.
+pub(crate) fn service_request(alloc: Global) -> Result<HttpRequest, UserAgentFault> {
+    sent(alloc, service_bag(alloc)?)
+}
+
 fn sent(alloc: Global, mut bag: ConfigBag) -> Result<HttpRequest, UserAgentFault> {
     make_and_send(alloc, &mut bag)
 }

@@ -26,7 +26,7 @@ fn send<G: InvocationIdGenerator>(
     }
 }
 
-fn sent<G: InvocationIdGenerator>(
+pub(crate) fn sent<G: InvocationIdGenerator>(
     alloc: Global,
     generator: &mut G,
 ) -> Result<Option<String>, Fail> {
@@ -53,7 +53,7 @@ fn random_ids(rt: HostRuntime) -> Result<(), Fail> {
     Ok(())
 }
 
-fn id_of(alloc: Global, text: &str) -> Result<InvocationId, Fail> {
+pub(crate) fn id_of(alloc: Global, text: &str) -> Result<InvocationId, Fail> {
     Ok(InvocationId::new(text_of(alloc, text)?)?)
 }
 

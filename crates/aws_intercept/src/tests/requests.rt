@@ -25,7 +25,7 @@ fn tell(alloc: Global, now: Moment, bag: &mut ConfigBag) -> Result<String, Fail>
     Ok(text_of(alloc, header)?)
 }
 
-fn told(alloc: Global, now: Moment, mut bag: ConfigBag) -> Result<String, Fail> {
+pub(crate) fn told(alloc: Global, now: Moment, mut bag: ConfigBag) -> Result<String, Fail> {
     tell(alloc, now, &mut bag)
 }
 

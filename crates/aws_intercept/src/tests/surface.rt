@@ -1,18 +1,22 @@
 use crate::tests::agents::{
     TESTED, additional, api_metadata, build_metadata, framework, framework_with,
 };
+use crate::tests::interceptors::service_request;
+use crate::tests::invocations::{id_of, sent};
+use crate::tests::requests::told;
 use crate::tests::{bare_request, text_of};
 use crate::{
-    AwsErrorCodeClassifier, AwsUserAgent, ConfigBag, ConfigMetadata, FeatureMetadata, InvocationId,
-    RecursionDetectionInterceptor, RetryAction,
+    AwsErrorCodeClassifier, AwsUserAgent, BusinessMetric, ConfigBag, ConfigMetadata,
+    FeatureMetadata, InvocationId, PredefinedInvocationIdGenerator, RecursionDetectionInterceptor,
+    RetryAction,
 };
-use smithy_core::{Env, ErrorMetadata, HttpRequest, Mem};
+use smithy_core::{DateTime, Env, ErrorMetadata, HttpRequest, Mem};
 use std::alloc::Global;
 use std::test::Fail;
 
-// What is printed and what is copied, where there is memory enough.
+// Each call that can want memory gives its answer where there is enough.
 #[test]
-fn texts_and_copies(rt: HostRuntime) -> Result<(), Fail> {
+fn surface(rt: HostRuntime) -> Result<(), Fail> {
     let alloc = rt.alloc();
     let cases = [
         ("AdditionalMetadata", additional_holds(alloc)?),
@@ -21,7 +25,12 @@ fn texts_and_copies(rt: HostRuntime) -> Result<(), Fail> {
         ("FeatureMetadata", feature_holds(alloc)?),
         ("ApiMetadata and BuildMetadata", build_holds(alloc)?),
         ("AwsUserAgent", agent_holds(alloc)?),
+        ("AwsUserAgent with more", agent_with_more_holds(alloc)?),
+        ("AwsUserAgent that is given more", given_more_holds(alloc)?),
+        ("UserAgentInterceptor", agent_interceptor_holds(alloc)?),
         ("InvocationId", id_holds(alloc)?),
+        ("InvocationIdInterceptor", id_interceptor_holds(alloc)?),
+        ("RequestInfoInterceptor", request_info_holds(alloc)?),
         ("RecursionDetectionInterceptor", recursion_holds(alloc)?),
         ("ConfigBag", bag_holds(alloc)?),
         ("AwsErrorCodeClassifier", classifier_holds(alloc)?),
@@ -72,6 +81,40 @@ fn build_holds(alloc: Global) -> Result<bool, Fail> {
 fn agent_holds(alloc: Global) -> Result<bool, Fail> {
     let copy = AwsUserAgent::for_tests(alloc)?.try_clone()?;
     Ok(copy.ua_header()?.as_str() == TESTED)
+}
+
+fn agent_with_more_holds(alloc: Global) -> Result<bool, Fail> {
+    let (library, value) = (framework(alloc, "n")?, additional(alloc, "x")?);
+    let agent = AwsUserAgent::for_tests(alloc)?
+        .with_business_metric(BusinessMetric::Waiter)?
+        .with_framework_metadata(library)?
+        .with_additional_metadata(value)?;
+    Ok(agent.ua_header()?.as_str().ends_with(" m/B lib/n md/x"))
+}
+
+fn given_more_holds(alloc: Global) -> Result<bool, Fail> {
+    let (library, value) = (framework(alloc, "n")?, additional(alloc, "x")?);
+    let mut agent = AwsUserAgent::for_tests(alloc)?;
+    agent.add_business_metric(BusinessMetric::Waiter)?;
+    agent.add_framework_metadata(library)?;
+    agent.add_additional_metadata(value)?;
+    Ok(agent.ua_header()?.as_str().ends_with(" m/B lib/n md/x"))
+}
+
+fn agent_interceptor_holds(alloc: Global) -> Result<bool, Fail> {
+    Ok(service_request(alloc)?.headers.len() == 2)
+}
+
+fn id_interceptor_holds(alloc: Global) -> Result<bool, Fail> {
+    let mut ids = Vec::new(alloc);
+    ids.push(id_of(alloc, "id")?)?;
+    let id = sent(alloc, &mut PredefinedInvocationIdGenerator::new(ids))?;
+    Ok(id.ok_or("no id")?.as_str() == "id")
+}
+
+fn request_info_holds(alloc: Global) -> Result<bool, Fail> {
+    let text = told(alloc, DateTime::new(0, 0), ConfigBag::new(alloc))?;
+    Ok(text.as_str() == "attempt=0")
 }
 
 fn id_holds(alloc: Global) -> Result<bool, Fail> {
