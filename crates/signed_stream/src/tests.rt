@@ -39,19 +39,42 @@ fn texts(alloc: Global, words: &[&str]) -> Result<Vec<String>, AllocError> {
     Ok(out)
 }
 
-// How a run on these words, an input, an output and an `err` ends.
+// The number that a run on these words, an input, an output and an `err` ends with.
 fn run_on<K: ByteSink, E: ByteSink>(
     alloc: Global,
     words: &[&str],
     input: &mut FaultySource,
     out: &mut K,
     err: &mut E,
-) -> Result<Status, AllocError> {
-    run_in(alloc, &Env::new(alloc), words, input, out, err)
+) -> Result<u8, AllocError> {
+    Ok(status_on(alloc, words, input, out, err)?.code())
 }
 
-// The same among these variables.
+// How such a run ends.
+fn status_on<K: ByteSink, E: ByteSink>(
+    alloc: Global,
+    words: &[&str],
+    input: &mut FaultySource,
+    out: &mut K,
+    err: &mut E,
+) -> Result<Status, AllocError> {
+    status_in(alloc, &Env::new(alloc), words, input, out, err)
+}
+
+// The number that a run among these variables ends with.
 fn run_in<K: ByteSink, E: ByteSink>(
+    alloc: Global,
+    env: &Env,
+    words: &[&str],
+    input: &mut FaultySource,
+    out: &mut K,
+    err: &mut E,
+) -> Result<u8, AllocError> {
+    Ok(status_in(alloc, env, words, input, out, err)?.code())
+}
+
+// How a run among these variables ends.
+fn status_in<K: ByteSink, E: ByteSink>(
     alloc: Global,
     env: &Env,
     words: &[&str],
@@ -145,8 +168,8 @@ fn assert_ends(
     let mut input = input_of(alloc, job.as_bytes(), &[])?;
     let mut out = FaultySink::new(alloc, Vec::new(alloc));
     let mut err = FaultySink::new(alloc, Vec::new(alloc));
-    let answer = run_on(alloc, words, &mut input, &mut out, &mut err)?;
-    assert_eq!(rt; answer.code(), code, "of {line:?}");
+    let number = run_on(alloc, words, &mut input, &mut out, &mut err)?;
+    assert_eq!(rt; number, code, "of {line:?}");
     assert_eq!(rt; err.held(), line.as_bytes());
     assert_eq!(rt; out.held().is_empty(), code != 0);
     Ok(())
@@ -167,8 +190,8 @@ fn assert_run(
     let mut input = input_of(alloc, job.as_bytes(), &[])?;
     let mut out = FaultySink::new(alloc, Vec::from_slice(alloc, fails)?);
     let mut err = FaultySink::new(alloc, Vec::new(alloc));
-    let answer = run_on(alloc, words, &mut input, &mut out, &mut err)?;
-    assert_eq!(rt; answer.code(), code);
+    let number = run_on(alloc, words, &mut input, &mut out, &mut err)?;
+    assert_eq!(rt; number, code);
     assert_eq!(rt; err.held(), line.as_bytes());
     assert_eq!(rt; out.held(), held.as_bytes());
     Ok(())
@@ -204,8 +227,8 @@ fn other_faults(rt: HostRuntime) -> Result<(), Fail> {
     let mut input = input_of(alloc, b"foo", &[])?;
     let mut out = CalmSink::new(alloc);
     let mut err = FaultySink::new(alloc, vec![in alloc; 1u64]?);
-    let answer = run_on(alloc, WORDS, &mut input, &mut out, &mut err)?;
-    assert_eq!(rt; answer.code(), 4);
+    let number = run_on(alloc, WORDS, &mut input, &mut out, &mut err)?;
+    assert_eq!(rt; number, 4);
     assert!(rt; err.held().is_empty());
     Ok(())
 }
@@ -216,8 +239,8 @@ fn assert_read_fault(rt: &(impl Abort + AllocGlobal), read: u64) -> Result<(), F
     let mut input = input_of(alloc, JOB.as_bytes(), &[read])?;
     let mut out = CalmSink::new(alloc);
     let mut err = FaultySink::new(alloc, Vec::new(alloc));
-    let answer = run_on(alloc, WORDS, &mut input, &mut out, &mut err)?;
-    assert_eq!(rt; answer.code(), 5);
+    let number = run_on(alloc, WORDS, &mut input, &mut out, &mut err)?;
+    assert_eq!(rt; number, 5);
     assert!(rt; out.held().is_empty());
     assert_eq!(rt; err.held(), b"read fault\n".as_slice());
     Ok(())
@@ -233,8 +256,8 @@ fn variables(rt: HostRuntime) -> Result<(), Fail> {
         let mut input = input_of(alloc, b"", &[])?;
         let mut out = CalmSink::new(alloc);
         let mut err = CalmSink::new(alloc);
-        let answer = run_in(alloc, &env, WORDS, &mut input, &mut out, &mut err)?;
-        assert_eq!(rt; answer.code(), 11);
+        let number = run_in(alloc, &env, WORDS, &mut input, &mut out, &mut err)?;
+        assert_eq!(rt; number, 11);
         assert_eq!(rt; err.held(), b"not built 0\n".as_slice());
     }
     Ok(())
@@ -250,8 +273,8 @@ fn large_input(rt: HostRuntime) -> Result<(), Fail> {
     let mut input = FaultySource::new(vec![in alloc; b'a'; too_many()]?, Vec::new(alloc));
     let mut out = CalmSink::new(alloc);
     let mut err = CalmSink::new(alloc);
-    let answer = run_on(alloc, WORDS, &mut input, &mut out, &mut err)?;
-    assert_eq!(rt; answer.code(), 3);
+    let number = run_on(alloc, WORDS, &mut input, &mut out, &mut err)?;
+    assert_eq!(rt; number, 3);
     assert_eq!(rt; err.held(), b"input over 67108864 bytes\n".as_slice());
     Ok(())
 }

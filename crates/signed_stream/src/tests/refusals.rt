@@ -1,5 +1,5 @@
 //! Runs that refuse a request or an event: how they end, and what the output holds.
-use super::{EVENT, HEAD, JOB, PROFILE, WORDS, assert_run, input_of, run_on};
+use super::{EVENT, HEAD, JOB, PROFILE, WORDS, assert_run, input_of, status_on};
 use crate::{Status, StreamFault};
 use sigv4::ValuePlace;
 use smithy_core::CalmSink;
@@ -59,7 +59,7 @@ fn assert_refused(
     let mut input = input_of(alloc, job.as_bytes(), &[])?;
     let mut out = CalmSink::new(alloc);
     let mut err = CalmSink::new(alloc);
-    let answer = run_on(alloc, WORDS, &mut input, &mut out, &mut err)?;
+    let answer = status_on(alloc, WORDS, &mut input, &mut out, &mut err)?;
     assert_eq!(rt; answer, Status::Refused(fault));
     Ok(())
 }
