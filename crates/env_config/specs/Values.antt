@@ -87,6 +87,7 @@ ValidatesAt Gives found (Err fault) = Validates Gives found (Err fault)
 abbrev pub IsErrorCopy : {E : Type 0} → (E → E → Type 0) → EnvConfigError E → EnvConfigError E → Type 0
 IsErrorCopy IsCopy error copy = (at_of copy.source ≡ at_of error.source) × IsCopy error.err copy.err
 
+-- the same refusal, or want of memory both times
 abbrev pub IsFaultCopy : {E : Type 0} → (E → E → Type 0) → ValidateFault E → ValidateFault E → Type 0
 IsFaultCopy IsCopy (Invalid error) (Invalid copy) = IsErrorCopy IsCopy error copy
 IsFaultCopy IsCopy (Invalid error) NoMemory = ⊥

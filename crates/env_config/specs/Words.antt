@@ -42,9 +42,11 @@ session_of session = record { name = string_bytes session.name; properties = val
 abbrev pub IsKeyed : List (List ℕ × (List ℕ × List ℕ)) → Type 0
 IsKeyed contents = AllByRecursion (λ e. e.1.0 ≡ e.0) contents
 
+-- the same of a profile's properties
 abbrev pub IsKeyedProfile : Profile → Type 0
 IsKeyedProfile profile = IsKeyed (contents_of profile.properties.entries)
 
+-- and of a session's
 abbrev pub IsKeyedSession : SsoSession → Type 0
 IsKeyedSession session = IsKeyed (contents_of session.properties.entries)
 
@@ -66,9 +68,17 @@ others_of properties = map (λ e. (key_of e.0, string_bytes e.1)) properties.ent
 abbrev pub sections_of : EnvConfigSections → Sections
 sections_of sections = record { profiles = named_as profile_of sections.profiles; sessions = named_as session_of sections.sessions; others = others_of sections.others }
 
+-- the profiles themselves, by their names
+abbrev pub profiles_in : EnvConfigSections → List (List ℕ × Profile)
+profiles_in sections = sections.profiles.values
+
+-- the sessions themselves, by their names
+abbrev pub sessions_in : EnvConfigSections → List (List ℕ × SsoSession)
+sessions_in sections = sections.sessions.values
+
 -- in each profile and session each property stands under its own key
 abbrev pub AreKeyed : EnvConfigSections → Type 0
-AreKeyed sections = EachValue IsKeyedProfile sections.profiles.values × EachValue IsKeyedSession sections.sessions.values
+AreKeyed sections = EachValue IsKeyedProfile (profiles_in sections) × EachValue IsKeyedSession (sessions_in sections)
 
 -- the parts of a builder
 abbrev pub parts_of : PropertiesKeyBuilder → Option (List ℕ) × (Option (List ℕ) × (Option (List ℕ) × Option (List ℕ)))
@@ -95,7 +105,7 @@ SameSession session copy = (string_bytes copy.name ≡ string_bytes session.name
 -- the same profiles and sessions, property by property
 abbrev pub HasCopies : EnvConfigSections → EnvConfigSections → Type 0
 HasCopies sections copy =
-    AllZip (CopiedUnder SameProfile) sections.profiles.values copy.profiles.values × AllZip (CopiedUnder SameSession) sections.sessions.values copy.sessions.values
+    AllZip (CopiedUnder SameProfile) (profiles_in sections) (profiles_in copy) × AllZip (CopiedUnder SameSession) (sessions_in sections) (sessions_in copy)
 
 -- ## Answers
 

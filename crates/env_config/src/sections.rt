@@ -6,7 +6,7 @@ ghost use Rattle.env_config.specs.Raw.{properties_of};
 ghost use Rattle.env_config.specs.Texts.{value_at};
 ghost use Rattle.env_config.specs.Value.{selected_value};
 ghost use Rattle.env_config.specs.Values.{chosen_of};
-ghost use Rattle.env_config.specs.Words.{AreKeyed, HasCopies, MergesText, Parses, TellsLine, fault_of, file_of, others_of, profile_of, sections_of, selected_of, session_of};
+ghost use Rattle.env_config.specs.Words.{AreKeyed, HasCopies, MergesText, Parses, TellsLine, fault_of, file_of, others_of, profile_of, profiles_in, sections_of, selected_of, session_of, sessions_in};
 
 use crate::by_name::ByName;
 use crate::fault::RawFault;
@@ -85,7 +85,7 @@ impl EnvConfigSections {
 
     /// The profile of this name.
     pub fn get_profile(&self, name: &str) -> Option<&Profile>
-        ensures itself { option_copied result ≡ value_at self.now.profiles.values name.now }
+        ensures itself { option_copied result ≡ value_at (profiles_in self.now) name.now }
         ensures section { option_map profile_of (option_copied result) ≡ value_at (sections_of self.now).profiles.values name.now }
     {
         self.profiles.get(name)
@@ -121,7 +121,7 @@ impl EnvConfigSections {
 
     /// The session of this name.
     pub fn sso_session(&self, name: &str) -> Option<&SsoSession>
-        ensures itself { option_copied result ≡ value_at self.now.sessions.values name.now }
+        ensures itself { option_copied result ≡ value_at (sessions_in self.now) name.now }
         ensures section { option_map session_of (option_copied result) ≡ value_at (sections_of self.now).sessions.values name.now }
     {
         self.sessions.get(name)
