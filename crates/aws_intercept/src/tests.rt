@@ -13,6 +13,9 @@ use bytes::Bytes;
 use smithy_core::{Headers, HttpRequest, Mem};
 use std::alloc::Global;
 
+/// 2015-08-30T12:36:00Z.
+const EXAMPLE_SECOND: i64 = 1_440_938_160;
+
 // A request without headers.
 fn bare_request(alloc: Global) -> Mem<HttpRequest> {
     Ok(HttpRequest {

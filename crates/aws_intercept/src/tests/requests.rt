@@ -1,10 +1,8 @@
-use crate::tests::{bare_request, text_of};
+use crate::tests::{EXAMPLE_SECOND, bare_request, text_of};
 use crate::{ConfigBag, RequestInfoInterceptor};
 use smithy_core::{DateTime, Moment, RetryConfig, TimeoutConfig};
 use std::alloc::Global;
 use std::test::Fail;
-
-const ROW: i64 = 1_440_938_160;
 
 fn bag_with(alloc: Global, attempts: Option<u32>, secs: Option<u64>) -> ConfigBag {
     let mut bag = ConfigBag::new(alloc);
@@ -31,7 +29,7 @@ pub(crate) fn told(alloc: Global, now: Moment, mut bag: ConfigBag) -> Result<Str
 
 #[test]
 fn first_attempts_are_told(rt: HostRuntime) -> Result<(), Fail> {
-    let (alloc, now) = (rt.alloc(), DateTime::new(ROW, 500_000_000));
+    let (alloc, now) = (rt.alloc(), DateTime::new(EXAMPLE_SECOND, 500_000_000));
     let first = told(alloc, now, bag_with(alloc, None, Some(30)))?;
     assert_eq!(rt; first.as_str(), "attempt=0; max=3");
     let mut plain = ConfigBag::new(alloc);
@@ -42,7 +40,7 @@ fn first_attempts_are_told(rt: HostRuntime) -> Result<(), Fail> {
 
 #[test]
 fn second_attempts_are_told(rt: HostRuntime) -> Result<(), Fail> {
-    let (alloc, now) = (rt.alloc(), DateTime::new(ROW, 500_000_000));
+    let (alloc, now) = (rt.alloc(), DateTime::new(EXAMPLE_SECOND, 500_000_000));
     let second = told(alloc, now, bag_with(alloc, Some(2), Some(30)))?;
     assert_eq!(rt; second.as_str(), "ttl=20150830T123630Z; attempt=2; max=3");
     let mut skewed = bag_with(alloc, Some(2), Some(30));
@@ -54,7 +52,7 @@ fn second_attempts_are_told(rt: HostRuntime) -> Result<(), Fail> {
 
 #[test]
 fn attempts_without_a_timeout_are_told(rt: HostRuntime) -> Result<(), Fail> {
-    let (alloc, now) = (rt.alloc(), DateTime::new(ROW, 500_000_000));
+    let (alloc, now) = (rt.alloc(), DateTime::new(EXAMPLE_SECOND, 500_000_000));
     let endless = told(alloc, now, bag_with(alloc, Some(2), None))?;
     assert_eq!(rt; endless.as_str(), "attempt=2; max=3");
     let mut unset = bag_with(alloc, Some(2), None);

@@ -1,13 +1,12 @@
+use crate::tests::EXAMPLE_SECOND;
 use crate::{ConfigBag, DisableClockSkewCorrection, ServiceClockSkewInterceptor};
 use smithy_core::{DateTime, Headers, HttpResponse, Mem, Moment};
 use std::alloc::Global;
 use std::test::Fail;
 
-const ROW: i64 = 1_440_938_160;
-
-// So long after the row's moment.
+// So long after the example's second.
 fn after(secs: i64) -> Moment {
-    DateTime::new(secs.wrapping_add(ROW), 0)
+    DateTime::new(secs.wrapping_add(EXAMPLE_SECOND), 0)
 }
 
 fn response_with(alloc: Global, headers: &[(&str, &str)]) -> Mem<HttpResponse> {
@@ -22,7 +21,7 @@ fn response_with(alloc: Global, headers: &[(&str, &str)]) -> Mem<HttpResponse> {
     })
 }
 
-// The skew that the bag of a request sent at the row's moment gets with its response.
+// The skew that the bag of a request sent at the example's second gets with its response.
 fn skew_in_bag(
     alloc: Global,
     interceptor: &mut ServiceClockSkewInterceptor,
@@ -74,7 +73,7 @@ fn measured_skews(rt: HostRuntime) -> Result<(), Fail> {
 #[test]
 fn skews_are_cut_toward_zero(rt: HostRuntime) -> Result<(), Fail> {
     let date = [("date", "Sun, 30 Aug 2015 12:36:00 GMT")];
-    let skews = skews_of(rt.alloc(), DateTime::new(ROW, 999), &date)?;
+    let skews = skews_of(rt.alloc(), DateTime::new(EXAMPLE_SECOND, 999), &date)?;
     assert_eq!(rt; skews, [Some(0), Some(0), Some(0)]);
     Ok(())
 }
