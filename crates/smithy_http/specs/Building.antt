@@ -72,7 +72,7 @@ abbrev pub BuildsQuery : Target → Result (String Global) UriFault → Type 0
 BuildsQuery t (Ok query) = (uri : Uri) × Builds t (Ok uri) × (string_bytes query ≡ unwrap_or (uri_query uri) [])
 BuildsQuery t (Err fault) = Builds t (Err fault)
 
--- the text of the target that is built
+-- the text that is read when the target is built
 abbrev pub BuildsText : Target → Result (String Global) UriFault → Type 0
 BuildsText t (Ok text) = (uri : Uri) × Builds t (Ok uri) × (string_bytes text ≡ target_text t)
 BuildsText t (Err fault) = Builds t (Err fault)

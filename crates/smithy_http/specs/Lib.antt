@@ -9,5 +9,6 @@ pub mod Query
 pub mod Resolving
 pub mod SetIfAbsent
 pub mod Target
+pub mod Texts
 pub mod Timestamp
 pub mod UriFault

@@ -5,6 +5,7 @@ ghost use Rattle.smithy_http.specs.declared.endpoint_error.InvalidEndpointError.
 use crate::uri_fault::UriFault;
 use smithy_core::Mem;
 use std::alloc::AllocError;
+use std::fmt;
 
 /// Why an endpoint isn't applied.
 #[derive(Debug, Drop)]
@@ -64,6 +65,31 @@ impl InvalidEndpointError {
         })
     }
 }
+
+impl fmt::Display for InvalidEndpointError {
+    ghost use Rattle.std.specs.Prelude.{Some};
+    ghost use Rattle.smithy_http.specs.Texts.{endpoint_error_text};
+
+    ghost output = { λ error. Some (endpoint_error_text error) };
+
+    fn fmt<W: fmt::Write>(&self, f: &mut fmt::Formatter<W>) -> fmt::Result {
+        match self {
+            InvalidEndpointError::EndpointMustHaveScheme => f.write_str(
+                "the endpoint must have a scheme",
+            ),
+            InvalidEndpointError::FailedToConstructAuthority { authority } => write!(
+                f,
+                "invalid authority: {authority}"
+            ),
+            InvalidEndpointError::FailedToConstructUri => f.write_str(
+                "the target at the endpoint is invalid",
+            ),
+            InvalidEndpointError::NoMemory => f.write_str("no memory"),
+        }
+    }
+}
+
+impl std::error::Error for InvalidEndpointError {}
 
 impl From<AllocError> for InvalidEndpointError {
     ghost from_gives = { λ _ error. error ≡ NoMemory };

@@ -2,6 +2,7 @@ ghost use Rattle.smithy_http.specs.Merge.{Merges};
 
 use http_header::{HeaderMap, HeaderMapError, HeaderValue};
 use std::alloc::{AllocError, Global};
+use std::fmt;
 
 /// Why header maps aren't merged.
 #[derive(Clone, Copy, Debug, PartialEq, Eq)]
@@ -11,6 +12,22 @@ pub enum MergeFault {
     /// Memory ran out.
     NoMemory,
 }
+
+impl fmt::Display for MergeFault {
+    ghost use Rattle.std.specs.Prelude.{Some};
+    ghost use Rattle.smithy_http.specs.Texts.{merge_fault_text};
+
+    ghost output = { λ fault. Some (merge_fault_text fault) };
+
+    fn fmt<W: fmt::Write>(&self, f: &mut fmt::Formatter<W>) -> fmt::Result {
+        match self {
+            MergeFault::MaxSizeReached => f.write_str("too many headers"),
+            MergeFault::NoMemory => f.write_str("no memory"),
+        }
+    }
+}
+
+impl std::error::Error for MergeFault {}
 
 impl From<AllocError> for MergeFault {
     ghost use Rattle.std.specs.Prelude.{◌≡◌};

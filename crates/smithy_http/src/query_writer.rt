@@ -124,7 +124,8 @@ impl QueryWriter {
         Ok(copied_query(*self.query.allocator(), &uri)?)
     }
 
-    /// The text of the target that [`QueryWriter::build_uri`] gives.
+    /// The text that [`QueryWriter::build_uri`] reads. Where a parameter that was added as it is holds a `#`, the text
+    /// goes on with it, and the URI that is read ends before it.
     ///
     /// # Errors
     ///

@@ -4,6 +4,7 @@ ghost use Rattle.smithy_http.specs.declared.set_header.HeaderFault.TheVariants.{
 
 use smithy_core::{Headers, HttpRequest, HttpResponse, is_header_name, is_header_value};
 use std::alloc::{AllocError, Global};
+use std::fmt;
 
 /// Why a header isn't set.
 #[derive(Clone, Copy, Debug, PartialEq, Eq)]
@@ -15,6 +16,23 @@ pub enum HeaderFault {
     /// Memory ran out.
     NoMemory,
 }
+
+impl fmt::Display for HeaderFault {
+    ghost use Rattle.std.specs.Prelude.{Some};
+    ghost use Rattle.smithy_http.specs.Texts.{header_fault_text};
+
+    ghost output = { λ fault. Some (header_fault_text fault) };
+
+    fn fmt<W: fmt::Write>(&self, f: &mut fmt::Formatter<W>) -> fmt::Result {
+        match self {
+            HeaderFault::InvalidHeaderName => f.write_str("invalid header name"),
+            HeaderFault::InvalidHeaderValue => f.write_str("invalid header value"),
+            HeaderFault::NoMemory => f.write_str("no memory"),
+        }
+    }
+}
+
+impl std::error::Error for HeaderFault {}
 
 impl From<AllocError> for HeaderFault {
     ghost from_gives = { λ _ fault. fault ≡ NoMemory };

@@ -2,6 +2,7 @@ ghost use Rattle.smithy_http.specs.declared.uri_fault.UriFault.TheVariants.{NoMe
 
 use http_uri::UriError;
 use std::alloc::AllocError;
+use std::fmt;
 
 /// Why a target isn't built.
 #[derive(Clone, Copy, Debug, PartialEq, Eq)]
@@ -11,6 +12,22 @@ pub enum UriFault {
     /// Memory ran out.
     NoMemory,
 }
+
+impl fmt::Display for UriFault {
+    ghost use Rattle.std.specs.Prelude.{Some};
+    ghost use Rattle.smithy_http.specs.Texts.{uri_fault_text};
+
+    ghost output = { λ fault. Some (uri_fault_text fault) };
+
+    fn fmt<W: fmt::Write>(&self, f: &mut fmt::Formatter<W>) -> fmt::Result {
+        match self {
+            UriFault::InvalidUri => f.write_str("invalid target"),
+            UriFault::NoMemory => f.write_str("no memory"),
+        }
+    }
+}
+
+impl std::error::Error for UriFault {}
 
 impl From<AllocError> for UriFault {
     ghost use Rattle.std.specs.Prelude.{◌≡◌};
