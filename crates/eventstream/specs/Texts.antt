@@ -64,3 +64,13 @@ Refuses (Err text) kind = Tells text kind
 abbrev pub Answers : {A B : Type 0} → (B → A) → Result A (List ℕ) → Result B Error → Type 0
 Answers seen wanted (Ok x) = wanted ≡ Ok (seen x)
 Answers seen wanted (Err e) = Refuses wanted e.kind
+
+-- the error tells the text, and there is one
+abbrev pub RefusesOnly : {A : Type 0} → Result A (List ℕ) → ErrorKind → Type 0
+RefusesOnly (Ok x) kind = ⊥
+RefusesOnly (Err text) kind = Tells text kind
+
+-- the same, where what is wanted takes no memory: it is answered wherever it is there
+abbrev pub AnswersAtOnce : {A B : Type 0} → (B → A) → Result A (List ℕ) → Result B Error → Type 0
+AnswersAtOnce seen wanted (Ok x) = wanted ≡ Ok (seen x)
+AnswersAtOnce seen wanted (Err e) = RefusesOnly wanted e.kind

@@ -1,7 +1,7 @@
 ghost use Rattle.std.specs.Prelude.{codes, string_bytes};
 ghost use Rattle.smithy_core.specs.Values.{string_of};
 ghost use Rattle.eventstream.specs.Expect.{bool_of, byte_of, bytes_of, expected, instant_of, int16_of, int32_of, int64_of};
-ghost use Rattle.eventstream.specs.Texts.{Answers, Tells, unexpected_text};
+ghost use Rattle.eventstream.specs.Texts.{Answers, AnswersAtOnce, Tells, unexpected_text};
 
 use crate::error::Error;
 use crate::texts::{refusal, unexpected_text};
@@ -14,7 +14,7 @@ use std::alloc::Global;
 ///
 /// [`ErrorKind::Unmarshalling`](crate::ErrorKind::Unmarshalling) exactly where it is of another kind.
 pub fn expect_bool(alloc: Global, header: &Header) -> Result<bool, Error>
-    ensures { Answers (λ b. b) (expected bool_of (codes "Bool") header.now) result }
+    ensures { AnswersAtOnce (λ b. b) (expected bool_of (codes "Bool") header.now) result }
 {
     match header.value() {
         HeaderValue::Bool(value) => Ok(*value),
@@ -28,7 +28,7 @@ pub fn expect_bool(alloc: Global, header: &Header) -> Result<bool, Error>
 ///
 /// [`ErrorKind::Unmarshalling`](crate::ErrorKind::Unmarshalling) exactly where it is of another kind.
 pub fn expect_byte(alloc: Global, header: &Header) -> Result<i8, Error>
-    ensures { Answers (λ n. n) (expected byte_of (codes "Byte") header.now) result }
+    ensures { AnswersAtOnce (λ n. n) (expected byte_of (codes "Byte") header.now) result }
 {
     match header.value() {
         HeaderValue::Byte(value) => Ok(*value),
@@ -42,7 +42,7 @@ pub fn expect_byte(alloc: Global, header: &Header) -> Result<i8, Error>
 ///
 /// [`ErrorKind::Unmarshalling`](crate::ErrorKind::Unmarshalling) exactly where it is of another kind.
 pub fn expect_int16(alloc: Global, header: &Header) -> Result<i16, Error>
-    ensures { Answers (λ n. n) (expected int16_of (codes "Int16") header.now) result }
+    ensures { AnswersAtOnce (λ n. n) (expected int16_of (codes "Int16") header.now) result }
 {
     match header.value() {
         HeaderValue::Int16(value) => Ok(*value),
@@ -56,7 +56,7 @@ pub fn expect_int16(alloc: Global, header: &Header) -> Result<i16, Error>
 ///
 /// [`ErrorKind::Unmarshalling`](crate::ErrorKind::Unmarshalling) exactly where it is of another kind.
 pub fn expect_int32(alloc: Global, header: &Header) -> Result<i32, Error>
-    ensures { Answers (λ n. n) (expected int32_of (codes "Int32") header.now) result }
+    ensures { AnswersAtOnce (λ n. n) (expected int32_of (codes "Int32") header.now) result }
 {
     match header.value() {
         HeaderValue::Int32(value) => Ok(*value),
@@ -70,7 +70,7 @@ pub fn expect_int32(alloc: Global, header: &Header) -> Result<i32, Error>
 ///
 /// [`ErrorKind::Unmarshalling`](crate::ErrorKind::Unmarshalling) exactly where it is of another kind.
 pub fn expect_int64(alloc: Global, header: &Header) -> Result<i64, Error>
-    ensures { Answers (λ n. n) (expected int64_of (codes "Int64") header.now) result }
+    ensures { AnswersAtOnce (λ n. n) (expected int64_of (codes "Int64") header.now) result }
 {
     match header.value() {
         HeaderValue::Int64(value) => Ok(*value),
@@ -112,7 +112,7 @@ pub fn expect_string(alloc: Global, header: &Header) -> Result<String, Error>
 ///
 /// [`ErrorKind::Unmarshalling`](crate::ErrorKind::Unmarshalling) exactly where it is of another kind.
 pub fn expect_timestamp(alloc: Global, header: &Header) -> Result<DateTime, Error>
-    ensures { Answers (λ t. t) (expected instant_of (codes "Timestamp") header.now) result }
+    ensures { AnswersAtOnce (λ t. t) (expected instant_of (codes "Timestamp") header.now) result }
 {
     match header.value() {
         HeaderValue::Timestamp(value) => Ok(*value),

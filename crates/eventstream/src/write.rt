@@ -1,5 +1,6 @@
 ghost use Rattle.std.specs.Prelude.{◌≡◌, ℕ, ◌+◌, ◌≤◌, ◌<◌, ◌^◌, ◌++◌, ◌∷◌, length, drop, None, Some, OnOk, IfOk, MatchResult};
 ghost use Rattle.std.specs.Int.{w16, to_be_bytes};
+ghost use Rattle.std.specs.Vec.{vec_capacity, vec_len};
 ghost use Rattle.mac_core.specs.Crc.{remainder};
 ghost use Rattle.eventstream.specs.Frame.{be32, block, first_unspelled, frame, prelude_of, spelling, summed, unfit, unframed, unspelled, unspelled_value, value_spelling};
 ghost use Rattle.eventstream.specs.Writing.{Writes};
@@ -62,9 +63,8 @@ pub fn write_message_to(alloc: Global, message: &Message, buffer: &mut Vec<u8>) 
     if let Err(kind) = test_lengths(headers.len(), message.payload().len()) {
         return Err(Error::from(kind));
     }
-    let mut frame = Vec::new(alloc);
-    push_frame(&mut frame, headers.as_slice(), message.payload().as_slice())?;
-    buffer.extend_from_slice(frame.as_slice())?;
+    buffer.reserve(OVERHEAD + headers.len() + message.payload().len())?;
+    push_frame(buffer, headers.as_slice(), message.payload().as_slice());
     Ok(())
 }
 
@@ -76,8 +76,9 @@ pub fn frame_of(alloc: Global, message: &Message) -> Mem<Vec<u8>>
 {
     let mut headers = Vec::new(alloc);
     push_headers(&mut headers, message.headers())?;
-    let mut frame = Vec::new(alloc);
-    push_frame(&mut frame, headers.as_slice(), message.payload().as_slice())?;
+    let len = OVERHEAD + headers.len() + message.payload().len();
+    let mut frame = Vec::with_capacity(alloc, len)?;
+    push_frame(&mut frame, headers.as_slice(), message.payload().as_slice());
     Ok(frame)
 }
 
@@ -206,41 +207,61 @@ fn push_counted(buffer: &mut Vec<u8>, tag: u8, bytes: &[u8]) -> Mem<()>
     buffer.extend_from_slice(bytes)
 }
 
-// The frame of these bytes of headers and this payload.
-fn push_frame(buffer: &mut Vec<u8>, headers: &[u8], payload: &[u8]) -> Mem<()>
-    requires { 16 + length headers.now + length payload.now < 2 ^ 32 }
-    ensures { OnOk result (buffer.new.items ≡ buffer.old.items ++ summed (summed (prelude_of
-        (16 + length headers.now + length payload.now) (length headers.now)) ++ headers.now ++ payload.now)) }
+// The frame of these bytes of headers and this payload, where there is room for it.
+fn push_frame(buffer: &mut Vec<u8>, headers: &[u8], payload: &[u8])
+    requires fits { 16 + length headers.now + length payload.now < 2 ^ 32 }
+    requires room { vec_len buffer.old + (16 + length headers.now + length payload.now) ≤ vec_capacity buffer.old }
+    ensures { buffer.new.items ≡ buffer.old.items ++ summed (summed (prelude_of
+        (16 + length headers.now + length payload.now) (length headers.now)) ++ headers.now ++ payload.now) }
 {
     let start = buffer.len();
     let total = OVERHEAD + headers.len() + payload.len();
-    push_prelude(buffer, total as u32, headers.len() as u32)?;
-    buffer.extend_from_slice(headers)?;
-    buffer.extend_from_slice(payload)?;
-    push_checksum(buffer, start)
+    push_prelude(buffer, total as u32, headers.len() as u32);
+    push_bytes(buffer, headers);
+    push_bytes(buffer, payload);
+    push_checksum(buffer, start);
 }
 
-fn push_prelude(buffer: &mut Vec<u8>, total: u32, headers: u32) -> Mem<()>
-    ensures { OnOk result (buffer.new.items ≡ buffer.old.items ++ summed (prelude_of total headers)) }
+fn push_prelude(buffer: &mut Vec<u8>, total: u32, headers: u32)
+    requires room { vec_len buffer.old + 12 ≤ vec_capacity buffer.old }
+    ensures items { buffer.new.items ≡ buffer.old.items ++ summed (prelude_of total headers) }
+    ensures len { vec_len buffer.new ≡ vec_len buffer.old + 12 }
+    ensures capacity { vec_capacity buffer.old ≤ vec_capacity buffer.new }
 {
     let start = buffer.len();
-    push_u32(buffer, total)?;
-    push_u32(buffer, headers)?;
-    push_checksum(buffer, start)
+    push_u32(buffer, total);
+    push_u32(buffer, headers);
+    push_checksum(buffer, start);
 }
 
 // The checksum of the bytes from `start` on.
-fn push_checksum(buffer: &mut Vec<u8>, start: usize) -> Mem<()>
-    requires { start ≤ length buffer.old.items }
-    ensures { OnOk result (buffer.new.items ≡ buffer.old.items ++ be32 (remainder (drop start buffer.old.items))) }
+fn push_checksum(buffer: &mut Vec<u8>, start: usize)
+    requires place { start ≤ length buffer.old.items }
+    requires room { vec_len buffer.old + 4 ≤ vec_capacity buffer.old }
+    ensures items { buffer.new.items ≡ buffer.old.items ++ be32 (remainder (drop start buffer.old.items)) }
+    ensures len { vec_len buffer.new ≡ vec_len buffer.old + 4 }
+    ensures capacity { vec_capacity buffer.old ≤ vec_capacity buffer.new }
 {
     let checksum = crc32(&buffer[start..]);
-    push_u32(buffer, checksum)
+    push_u32(buffer, checksum);
 }
 
 #[tactic(auto, unfolding(crate::specs::Frame::be32))]
-fn push_u32(buffer: &mut Vec<u8>, n: u32) -> Mem<()>
-    ensures { OnOk result (buffer.new.items ≡ buffer.old.items ++ be32 n) }
+fn push_u32(buffer: &mut Vec<u8>, n: u32)
+    requires room { vec_len buffer.old + 4 ≤ vec_capacity buffer.old }
+    ensures items { buffer.new.items ≡ buffer.old.items ++ be32 n }
+    ensures len { vec_len buffer.new ≡ vec_len buffer.old + 4 }
+    ensures capacity { vec_capacity buffer.old ≤ vec_capacity buffer.new }
 {
-    buffer.extend_from_slice(n.to_be_bytes().as_slice())
+    push_bytes(buffer, n.to_be_bytes().as_slice());
+}
+
+// The bytes, where there is room for them.
+fn push_bytes(buffer: &mut Vec<u8>, bytes: &[u8])
+    requires room { vec_len buffer.old + length bytes.now ≤ vec_capacity buffer.old }
+    ensures items { buffer.new.items ≡ buffer.old.items ++ bytes.now }
+    ensures len { vec_len buffer.new ≡ vec_len buffer.old + length bytes.now }
+    ensures capacity { vec_capacity buffer.old ≤ vec_capacity buffer.new }
+{
+    buffer.extend_from_slice(bytes).unwrap();
 }
