@@ -1,11 +1,11 @@
 -- What contracts see of the settings of a signature.
 use Rattle.std.specs.Prelude.{◌≡◌, ℕ, List, [], ◌∷◌, codes, map, Option, Some, None, option_map, string_bytes}
 use Rattle.sigv4.specs.declared.modes.PercentEncodingMode.{PercentEncodingMode}
-use Rattle.sigv4.specs.declared.modes.PercentEncodingMode.TheVariants.{Double}
+use Rattle.sigv4.specs.declared.modes.PercentEncodingMode.TheVariants.{Double, Single}
 use Rattle.sigv4.specs.declared.modes.UriPathNormalizationMode.{UriPathNormalizationMode}
-use Rattle.sigv4.specs.declared.modes.UriPathNormalizationMode.TheVariants.{Enabled}
+use Rattle.sigv4.specs.declared.modes.UriPathNormalizationMode.TheVariants.{Enabled, Disabled}
 use Rattle.sigv4.specs.declared.settings.PayloadChecksumKind.{PayloadChecksumKind}
-use Rattle.sigv4.specs.declared.settings.PayloadChecksumKind.TheVariants.{NoHeader}
+use Rattle.sigv4.specs.declared.settings.PayloadChecksumKind.TheVariants.{NoHeader, XAmzSha256}
 use Rattle.sigv4.specs.declared.settings.SessionTokenMode.{SessionTokenMode}
 use Rattle.sigv4.specs.declared.settings.SessionTokenMode.TheVariants.{Include}
 use Rattle.sigv4.specs.declared.settings.SignatureLocation.{SignatureLocation}
@@ -50,6 +50,14 @@ default_settings = record {
   uri_path_normalization_mode = Enabled;
   session_token_mode = Include;
   session_token_name_override = None;
+}
+
+-- the settings of header form for Amazon S3: the path is escaped once and stays as it is, and the payload's text has a header
+abbrev pub s3_settings : Settings
+s3_settings = record default_settings {
+  percent_encoding_mode = Single;
+  payload_checksum_kind = XAmzSha256;
+  uri_path_normalization_mode = Disabled;
 }
 
 -- the signature goes into headers, and the token's header has its default name

@@ -1,5 +1,5 @@
 -- What making a request to be signed promises of its target, and what putting its signature into it does.
-use Rattle.std.specs.Prelude.{◌≡◌, ◌⊎◌, ℕ, ◌<◌, List, [], ◌∷◌, codes, length, map, Option, Result, Ok, Err, String, string_bytes}
+use Rattle.std.specs.Prelude.{◌≡◌, ◌⊎◌, ℕ, ◌<◌, List, [], ◌∷◌, codes, length, map, Option, Some, Result, Ok, Err, String, string_bytes}
 use Rattle.std.specs.Option.{option_map_or}
 use Rattle.std.specs.declared.alloc.Global.{Global}
 use Rattle.http_uri.specs.declared.uri.Uri.{Uri}
@@ -7,6 +7,8 @@ use Rattle.smithy_http.specs.Building.{Builds, SpellsTarget, SpellsNoTarget, esc
 use Rattle.smithy_http.specs.Target.{Target, target_of, target_text}
 use Rattle.smithy_http.specs.declared.uri_fault.UriFault.{UriFault}
 use Rattle.smithy_http.specs.declared.uri_fault.UriFault.TheVariants as target
+use Rattle.smithy_core.specs.declared.request.HttpRequest.{HttpRequest}
+use Rattle.sigv4.specs.Case.{bytes_of}
 use Rattle.sigv4.specs.Query.{Pair}
 use Rattle.sigv4.specs.declared.body.SignableBody.{SignableBody}
 use Rattle.sigv4.specs.declared.error.SigningError.{SigningError}
@@ -23,6 +25,13 @@ abbrev pub IsMadeOf : List ℕ → List ℕ → List (List ℕ × List ℕ) → 
 IsMadeOf method uri headers body (Ok request) =
     (request.method.now ≡ method) × SpellsTarget uri request.uri × (request.headers.now ≡ headers) × (request.body ≡ body)
 IsMadeOf method uri headers body (Err error) = (SpellsNoTarget uri × (error ≡ InvalidUri)) ⊎ (error ≡ NoMemory)
+
+-- a request with this one's method, headers and bytes, exactly where its target's text spells a target
+abbrev pub IsMadeOfRequest : HttpRequest → Result SignableRequest SigningError → Type 0
+IsMadeOfRequest from (Ok request) =
+    (request.method.now ≡ string_bytes from.method) × SpellsTarget (string_bytes from.target) request.uri
+    × (request.headers.now ≡ from.headers) × (bytes_of request.body ≡ Some from.body)
+IsMadeOfRequest from (Err error) = (SpellsNoTarget (string_bytes from.target) × (error ≡ InvalidUri)) ⊎ (error ≡ NoMemory)
 
 -- the target with more pairs in its query, escaped
 abbrev pub with_params : Target → List Pair → Target

@@ -4,9 +4,10 @@ ghost use Rattle.sigv4.specs.Case.{IsSameBody, bytes_of, payload_text};
 use mac_core::sha256_hex;
 use smithy_core::Mem;
 use std::alloc::Global;
+use std::fmt;
 
 /// A request's body as it is signed.
-#[derive(Debug, Drop, PartialEq, Eq)]
+#[derive(Drop, PartialEq, Eq)]
 pub enum SignableBody<'a> {
     /// These bytes.
     Bytes(&'a [u8]),
@@ -43,6 +44,26 @@ impl<'a> SignableBody<'a> {
                 SignableBody::StreamingSignedPayloadTrailer
             }
         })
+    }
+}
+
+// Shows how many bytes there are, and none of them: a body may hold secrets.
+impl fmt::Debug for SignableBody<'_> {
+    fn fmt<W: fmt::Write>(&self, f: &mut fmt::Formatter<W>) -> fmt::Result {
+        match self {
+            SignableBody::Bytes(bytes) => {
+                let length = bytes.len();
+                write!(f, "Bytes({length} bytes)")
+            }
+            SignableBody::UnsignedPayload => f.write_str("UnsignedPayload"),
+            SignableBody::Precomputed(digest) => write!(f, "Precomputed({digest})"),
+            SignableBody::StreamingUnsignedPayloadTrailer => {
+                f.write_str("StreamingUnsignedPayloadTrailer")
+            }
+            SignableBody::StreamingSignedPayloadTrailer => {
+                f.write_str("StreamingSignedPayloadTrailer")
+            }
+        }
     }
 }
 

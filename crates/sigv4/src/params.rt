@@ -28,6 +28,25 @@ impl<'a, S> SigningParams<'a, S> {
         }
     }
 
+    /// The parameters of all parts. Unlike a builder's, this call can't fail.
+    pub fn new(
+        identity: &'a Identity,
+        region: &'a str,
+        name: &'a str,
+        time: Moment,
+        settings: S,
+    ) -> SigningParams<'a, S>
+        ensures { result ≡ record { identity = identity.entry; region = region.entry; name = name.entry; time = time; settings = settings } }
+    {
+        SigningParams {
+            identity,
+            region,
+            name,
+            time,
+            settings,
+        }
+    }
+
     /// Who signs.
     pub fn identity(&self) -> &'a Identity
         ensures { result.now ≡ self.now.identity.now }
@@ -68,6 +87,15 @@ impl<'a, S> SigningParams<'a, S> {
         ensures { result.now ≡ codes "AWS4-HMAC-SHA256" }
     {
         "AWS4-HMAC-SHA256"
+    }
+}
+
+impl<'a, S: Drop> SigningParams<'a, S> {
+    /// The same parameters with these settings.
+    pub fn with_settings(self, settings: S) -> SigningParams<'a, S>
+        ensures { result ≡ record self.entry { settings = settings } }
+    {
+        SigningParams { settings, ..self }
     }
 }
 
@@ -193,6 +221,9 @@ impl<'a, S: Drop> Builder<'a, S> {
     }
 
     /// The parameters of the parts.
+    ///
+    /// An error borrows nothing, but `?` on this call may keep its caller from being proved where what it goes on with
+    /// borrows from the parts: write a `match` there, or take [`SigningParams::new`], which can't fail.
     ///
     /// # Errors
     ///

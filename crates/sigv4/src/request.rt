@@ -1,11 +1,11 @@
 ghost use Rattle.std.specs.Prelude.{◌≡◌, IfOk};
 ghost use Rattle.sigv4.specs.Case.{IsSameRequest};
-ghost use Rattle.sigv4.specs.Targets.{IsMadeOf};
+ghost use Rattle.sigv4.specs.Targets.{IsMadeOf, IsMadeOfRequest};
 
 use crate::body::SignableBody;
 use crate::error::SigningError;
 use http_uri::Uri;
-use smithy_core::{Headers, Mem};
+use smithy_core::{Headers, HttpRequest, Mem};
 use smithy_http::read_target;
 use std::alloc::Global;
 
@@ -39,6 +39,24 @@ impl<'a> SignableRequest<'a> {
             headers,
             body,
         })
+    }
+
+    /// The request as it stands, its body signed as bytes.
+    ///
+    /// # Errors
+    ///
+    /// Those of [`SignableRequest::new`].
+    pub fn from_http_request(alloc: Global, request: &'a HttpRequest) -> Result<Self, SigningError>
+        ensures { IsMadeOfRequest request.now result }
+    {
+        let body = SignableBody::Bytes(request.body.as_slice());
+        SignableRequest::new(
+            alloc,
+            request.method.as_str(),
+            request.target.as_str(),
+            &request.headers,
+            body,
+        )
     }
 
     /// An equal request, over the same headers.

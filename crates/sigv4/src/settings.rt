@@ -1,6 +1,6 @@
 ghost use Rattle.std.specs.Prelude.{◌≡◌, map, IfOk};
 ghost use Rattle.std.specs.String.{string_bytes};
-ghost use Rattle.sigv4.specs.Settings.{default_exclusions, default_settings, settings_of};
+ghost use Rattle.sigv4.specs.Settings.{default_exclusions, default_settings, s3_settings, settings_of};
 
 use crate::modes::{PercentEncodingMode, UriPathNormalizationMode};
 use smithy_core::Mem;
@@ -69,6 +69,19 @@ impl SigningSettings {
             uri_path_normalization_mode: UriPathNormalizationMode::Enabled,
             session_token_mode: SessionTokenMode::Include,
             session_token_name_override: None,
+        })
+    }
+
+    /// The settings for Amazon S3, whose keys are taken as they are: the path is escaped once and not normalized, and
+    /// the payload's text goes into the header `x-amz-content-sha256`. All else is as [`SigningSettings::new`] has it.
+    pub fn for_s3(alloc: Global) -> Mem<SigningSettings>
+        ensures { IfOk result (λ settings. settings_of settings ≡ s3_settings) }
+    {
+        Ok(SigningSettings {
+            percent_encoding_mode: PercentEncodingMode::Single,
+            payload_checksum_kind: PayloadChecksumKind::XAmzSha256,
+            uri_path_normalization_mode: UriPathNormalizationMode::Disabled,
+            ..SigningSettings::new(alloc)?
         })
     }
 
