@@ -1,15 +1,43 @@
 -- What contracts see of a `SegBuf`, and what holds of its fields.
-use Rattle.std.specs.Prelude.{◌≡◌, ℕ, ◌<◌, List, [], ◌∷◌, length, drop}
-use Rattle.std.specs.List.{flat_map}
+use Rattle.std.specs.Prelude.{◌≡◌, ℕ, zero, suc, ◌-◌, ◌<◌, nat_lt, if◌then◌else◌, List, [], ◌∷◌, ◌++◌, length, drop, Option, Some, None}
+use Rattle.std.specs.List.{AllByRecursion, flat_map}
 
--- all bytes in one list, and for how many pieces more there is room
+-- all bytes in one list, the segments in which they lie, and for how many pieces more there is room
 pub record Segments : Type 0 where
   pub bytes : List ℕ
+  pub segments : List (List ℕ)
   pub spare : ℕ
+
+-- a segment at the end, where it isn't empty
+abbrev pub with_segment : List (List ℕ) → List ℕ → List (List ℕ)
+with_segment segments [] = segments
+with_segment segments (byte ∷ bytes) = segments ++ (byte ∷ bytes) ∷ []
+
+-- the segments without their first n bytes; one that is used up goes
+unfoldable pub cut : ℕ → List (List ℕ) → List (List ℕ)
+cut zero segments = segments
+cut (suc n) [] = []
+cut (suc n) (segment ∷ segments) =
+    if nat_lt (suc n) (length segment) then drop (suc n) segment ∷ segments else cut (suc n - length segment) segments
+
+-- the first segment, where there is one
+abbrev pub first_segment : List (List ℕ) → Option (List ℕ)
+first_segment [] = None
+first_segment (segment ∷ segments) = Some segment
+
+-- the bytes lie in the segments, none of which is empty
+pub record LieIn (bytes : List ℕ) (segments : List (List ℕ)) : Type 0 where
+  pub joined : bytes ≡ flat_map (λ segment. segment) segments
+  pub filled : AllByRecursion (λ segment. 0 < length segment) segments
 
 -- the bytes of the pieces, one after another, without those that were taken of the first
 abbrev pub flat : List (List ℕ) → ℕ → List ℕ
 flat pieces taken = drop taken (flat_map (λ piece. piece) pieces)
+
+-- the pieces as they are left: the first without the bytes that were taken of it
+abbrev pub left_of : List (List ℕ) → ℕ → List (List ℕ)
+left_of [] taken = []
+left_of (piece ∷ pieces) taken = drop taken piece ∷ pieces
 
 -- no piece is used up: the first has more bytes than were taken of it, and no other is empty
 abbrev pub AreLive : List (List ℕ) → ℕ → Type 0

@@ -1,4 +1,5 @@
-ghost use Rattle.std.specs.Prelude.{◌≡◌, ℕ, ◌+◌, ◌-◌, ◌^◌, ◌<◌, ◌≤◌, List, [], ◌++◌, length, take, drop, slice_index, min, IsOk, IfOk, OnOk, OnErr};
+ghost use Rattle.std.specs.Prelude.{◌≡◌, ℕ, ◌+◌, ◌-◌, ◌^◌, ◌<◌, ◌≤◌, List, [], ◌++◌, length, take, drop, slice_index, min, option_copied, IsOk, IfOk, OnOk, OnErr};
+ghost use Rattle.seg_buf.specs.Segments.{LieIn, cut, first_segment, with_segment};
 
 use bytes::Bytes;
 use std::alloc::{AllocError, Global};
@@ -10,8 +11,8 @@ const FIRST_ROOM: usize = 4;
 
 /// Shared pieces of bytes, read as one list.
 ///
-/// Contracts see it as its `Segments`: its bytes in one flat list, and for how many pieces more it
-/// has room.
+/// Contracts see it as its `Segments`: its bytes in one flat list, the segments in which they lie, and for how many
+/// pieces more it has room.
 #[derive(Debug, Drop)]
 pub struct SegBuf {
     // The pieces that aren't used up, in order.
@@ -25,11 +26,11 @@ pub struct SegBuf {
 impl Model for SegBuf {
     ghost use Rattle.std.specs.Prelude.{◌-◌};
     ghost use Rattle.std.specs.VecDeque.{deque_len, deque_capacity};
-    ghost use Rattle.seg_buf.specs.Segments.{Segments, flat, IsKept};
+    ghost use Rattle.seg_buf.specs.Segments.{Segments, flat, left_of, IsKept};
 
     ghost Value = { Segments };
 
-    ghost view = { λ b. record { bytes = flat b.pieces.items b.taken; spare = deque_capacity b.pieces - deque_len b.pieces } };
+    ghost view = { λ b. record { bytes = flat b.pieces.items b.taken; segments = left_of b.pieces.items b.taken; spare = deque_capacity b.pieces - deque_len b.pieces } };
 
     ghost invariant = { λ b. IsKept b.pieces.items b.taken b.len };
 }
@@ -37,7 +38,8 @@ impl Model for SegBuf {
 impl SegBuf {
     /// A buffer without bytes. How much room it has is left open.
     pub fn new(alloc: Global) -> SegBuf
-        ensures { result.bytes ≡ [] }
+        ensures bytes { result.bytes ≡ [] }
+        ensures segments { result.segments ≡ [] }
     {
         SegBuf {
             pieces: VecDeque::new(alloc),
@@ -53,6 +55,7 @@ impl SegBuf {
     /// Memory ran out. Nothing has changed then.
     pub fn reserve_one(&mut self) -> Result<(), AllocError>
         ensures bytes { self.new.bytes ≡ self.old.bytes }
+        ensures segments { self.new.segments ≡ self.old.segments }
         ensures ok { OnOk result (1 ≤ self.new.spare) }
         ensures kept { self.old.spare ≤ self.new.spare }
         ensures at_hand { 1 ≤ self.old.spare → IsOk result }
@@ -72,12 +75,40 @@ impl SegBuf {
         requires room { 1 ≤ self.old.spare }
         requires fits { length self.old.bytes + length piece < 2 ^ 64 }
         ensures bytes { self.new.bytes ≡ self.old.bytes ++ piece }
+        ensures segments { self.new.segments ≡ with_segment self.old.segments piece }
         ensures spare { self.old.spare ≤ self.new.spare + 1 }
     {
         if !piece.is_empty() {
             self.len += piece.len();
             self.pieces.push_back_reserved(piece);
         }
+    }
+
+    /// Appends a copy of the bytes, and makes the room for it.
+    ///
+    /// # Errors
+    ///
+    /// Memory ran out. Nothing has changed then.
+    pub fn push_slice(&mut self, bytes: &[u8]) -> Result<(), AllocError>
+        requires fits { length self.old.bytes + length bytes.now < 2 ^ 64 }
+        ensures bytes { OnOk result (self.new.bytes ≡ self.old.bytes ++ bytes.now) }
+        ensures segments { OnOk result (self.new.segments ≡ with_segment self.old.segments bytes.now) }
+        ensures err { OnErr result (self.new ≡ self.old) }
+    {
+        let piece = Bytes::copy_from_slice(*self.pieces.allocator(), bytes)?;
+        self.reserve_one()?;
+        self.push(piece);
+        Ok(())
+    }
+
+    /// The first segment, lent without copying it, and nothing exactly where no byte remains.
+    #[tactic(auto, using(crate::proofs::SegmentLemmas::lie))]
+    pub fn first(&self) -> Option<&[u8]>
+        ensures first { option_copied result ≡ first_segment self.now.segments }
+        ensures lie { LieIn self.now.bytes self.now.segments }
+    {
+        let first = self.pieces.front()?;
+        Some(&first.as_slice()[self.taken..])
     }
 
     /// The number of bytes.
@@ -88,9 +119,11 @@ impl SegBuf {
     }
 
     /// Drops the first `n` bytes. It takes no memory.
+    #[tactic(auto, using(crate::proofs::SegmentLemmas::cuts))]
     pub fn advance(&mut self, n: usize)
         requires { n ≤ length self.old.bytes }
         ensures bytes { self.new.bytes ≡ drop n self.old.bytes }
+        ensures segments { self.new.segments ≡ cut n self.old.segments }
         ensures spare { self.old.spare ≤ self.new.spare }
     {
         let mut left = n;
@@ -100,12 +133,14 @@ impl SegBuf {
     }
 
     // Drops up to `n` bytes of the first piece, and tells how many.
+    #[tactic(auto, using(crate::proofs::SegmentLemmas::cuts))]
     fn advance_first(&mut self, n: usize) -> usize
         requires some { 0 < n }
         requires within { n ≤ length self.old.bytes }
         ensures some { 0 < result }
         ensures bound { result ≤ n }
         ensures bytes { self.new.bytes ≡ drop result self.old.bytes }
+        ensures segments { cut (n - result) self.new.segments ≡ cut n self.old.segments }
         ensures spare { self.old.spare ≤ self.new.spare }
     {
         let Some(first) = self.pieces.front() else {
@@ -163,6 +198,7 @@ impl SegBuf {
         ensures bytes { self.old.bytes ≡ result ++ self.new.bytes }
         ensures front { result ≡ take 12 self.old.bytes }
         ensures rest { self.new.bytes ≡ drop 12 self.old.bytes }
+        ensures segments { self.new.segments ≡ cut 12 self.old.segments }
         ensures spare { self.old.spare ≤ self.new.spare }
     {
         let mut prelude = [0; 12];
@@ -206,6 +242,7 @@ impl SegBuf {
         requires { n ≤ length self.old.bytes }
         ensures front { IfOk result (λ front. front ≡ take n self.old.bytes) }
         ensures rest { OnOk result (self.new.bytes ≡ drop n self.old.bytes) }
+        ensures segments { OnOk result (self.new.segments ≡ cut n self.old.segments) }
         ensures spare { self.old.spare ≤ self.new.spare }
         ensures err { OnErr result (self.new ≡ self.old) }
     {
