@@ -1,15 +1,20 @@
 -- Targets with more parameters, and with none.
 use Rattle.std.proofs.Common.{◌≡◌, ℕ, ◌<◌, ◌==◌, true, false, List, [], ◌∷◌, length, Result, Ok, Err, arith, refl, sym, subst, inl, inr}
-use Rattle.std.specs.Prelude.{String, ◌⊎◌}
+use Rattle.std.specs.Prelude.{String, string_bytes, Some, ◌⊎◌}
 use Rattle.std.specs.declared.alloc.Global.{Global}
 use Rattle.std.proofs.lemmas.Bool.{eqb-true, false≢true}
 use Rattle.http_uri.specs.declared.uri.Uri.{Uri}
 use Rattle.smithy_core.specs.Pairs.{text_pairs}
+use Rattle.smithy_core.specs.declared.request.HttpRequest.{HttpRequest}
 use Rattle.smithy_http.specs.Building.{Builds, BuildsText, IsRefused, SpellsNoTarget, SpellsTarget}
 use Rattle.smithy_http.specs.Target.{Target, target_of}
 use Rattle.smithy_http.specs.declared.uri_fault.UriFault.{UriFault}
 use Rattle.smithy_http.specs.declared.uri_fault.UriFault.TheVariants as fault
-use Rattle.sigv4.specs.Targets.{BuildsWith, IsRetargeted, IsTextWith, IsUntargeted, target_error, with_params}
+use Rattle.sigv4.specs.Targets.{BuildsWith, IsMadeOf, IsMadeOfRequest, IsRetargeted, IsTextWith, IsUntargeted, target_error, with_params}
+use Rattle.sigv4.specs.Case.{bytes_of}
+use Rattle.sigv4.specs.declared.body.SignableBody.{SignableBody}
+use Rattle.sigv4.specs.declared.error.SigningError.{SigningError}
+use Rattle.sigv4.specs.declared.request.SignableRequest.{SignableRequest}
 use Rattle.sigv4.specs.declared.error.SigningError.TheVariants.{InvalidUri, NoMemory}
 use Rattle.sigv4.proofs.ParameterLemmas.{refused_where}
 
@@ -54,3 +59,9 @@ builds-with (param ∷ params) old uri writer result some spells is builds = by 
         (uri, b.0, spells, (λ full. built_passes _ b.0 b.1 ((refused_where old uri _ (text_pairs params) spells).1 full)), b.1, b.2)
     by (Err fault.InvalidUri) b = inr (uri, spells, (refused_where old uri _ (text_pairs params) spells).0 b)
     by (Err fault.NoMemory) b = tt
+
+-- a request that is made of the parts of another one
+pub made_of_request : (from : HttpRequest) (body : SignableBody) (result : Result SignableRequest SigningError) → bytes_of body ≡ Some from.body
+    → IsMadeOf (string_bytes from.method) (string_bytes from.target) from.headers body result → IsMadeOfRequest from result
+made_of_request from body (Ok request) bytes made = (made.0, made.1, made.2, rw made.3 bytes)
+made_of_request from body (Err error) bytes made = made

@@ -46,6 +46,7 @@ impl<'a> SignableRequest<'a> {
     /// # Errors
     ///
     /// Those of [`SignableRequest::new`].
+    #[tactic(auto, using(crate::proofs::TargetLemmas::made_of_request))]
     pub fn from_http_request(alloc: Global, request: &'a HttpRequest) -> Result<Self, SigningError>
         ensures { IsMadeOfRequest request.now result }
     {
