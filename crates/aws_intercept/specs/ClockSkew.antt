@@ -1,7 +1,6 @@
 -- The skew between the clocks of a client and a service.
-use Rattle.std.specs.Prelude.{ℕ, ℤ, pos, negsuc, ◌+ℤ◌, ◌-ℤ◌, ◌*ℤ◌, ◌≤ℤ◌, ◌||◌, ◌&&◌, Bool, false, List, Option, Some, None, if◌then◌else◌, codes, int_div, int_le, is_some, option_and_then}
+use Rattle.std.specs.Prelude.{ℕ, ℤ, pos, negsuc, ◌+ℤ◌, ◌-ℤ◌, ◌*ℤ◌, ◌≤ℤ◌, ◌||◌, ◌&&◌, Bool, false, List, Option, Some, None, if◌then◌else◌, codes, int_div, int_le, is_some, option_and_then, unwrap_or}
 use Rattle.std.specs.Int.{int_max}
-use Rattle.std.specs.Option.{option_map_or}
 use Rattle.httpdate.specs.Date.{parse_secs}
 use Rattle.smithy_core.specs.Instant.{Instant, total_nanos}
 use Rattle.smithy_core.specs.Pairs.{first_value}
@@ -10,7 +9,7 @@ use Rattle.aws_intercept.specs.declared.bag.ConfigBag.{ConfigBag}
 
 -- the correction is disabled
 abbrev pub is_off : ConfigBag → Bool
-is_off bag = option_map_or (λ correction. correction.is_disabled) bag.disable_skew false
+is_off bag = unwrap_or bag.disable_skew false
 
 -- the bag with the skew that is kept
 abbrev pub bag_with_kept : ℤ → ConfigBag → ConfigBag

@@ -5,7 +5,12 @@ use Rattle.uuid.specs.Parts.{v4_of_fill}
 use Rattle.uuid.specs.Text.{hyphenated_text, lower}
 use Rattle.aws_intercept.specs.declared.bag.ConfigBag.{ConfigBag}
 use Rattle.aws_intercept.specs.declared.id_fault.IdFault.{IdFault}
+use Rattle.aws_intercept.specs.declared.id_generator.DefaultInvocationIdGenerator.{DefaultInvocationIdGenerator}
 use Rattle.aws_intercept.specs.declared.id_fault.IdFault.TheVariants.{UsedUp, NoMemory}
+
+-- the generator of random numbers that a generator of ids draws from
+abbrev pub numbers_of : {R : Type 0} → DefaultInvocationIdGenerator R → R
+numbers_of generator = generator.rng
 
 -- the UUID of version 4 of the next 16 bytes, or memory ran out before they were taken
 abbrev pub GivesDrawn : Stream → Result (Option (List ℕ)) IdFault → Stream → Type 0

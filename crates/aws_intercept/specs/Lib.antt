@@ -14,4 +14,5 @@ pub mod Metric
 pub mod MetricIds
 pub mod Recursion
 pub mod RequestInfo
+pub mod Texts
 pub mod UserAgent

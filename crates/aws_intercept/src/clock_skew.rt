@@ -8,24 +8,37 @@ use crate::bag::ConfigBag;
 use crate::nanos::nanos;
 use httpdate::HttpDate;
 use smithy_core::{Headers, HttpResponse, Moment};
+use std::marker::Model;
 
 /// Whether no skew between the clocks of client and service is to be measured.
+///
+/// Contracts see just that.
 #[derive(Clone, Copy, Debug, PartialEq, Eq)]
 pub struct DisableClockSkewCorrection {
     is_disabled: bool,
 }
 
+impl Model for DisableClockSkewCorrection {
+    ghost use Rattle.std.specs.Prelude.{Bool};
+
+    ghost Value = { Bool };
+
+    ghost view = { λ correction. correction.is_disabled };
+
+    ghost inverse = { λ is_disabled. record { is_disabled = is_disabled } };
+}
+
 impl DisableClockSkewCorrection {
     /// Whether none is to be measured.
     pub fn is_disabled(&self) -> bool
-        ensures { result ≡ self.now.is_disabled }
+        ensures { result ≡ self.now }
     {
         self.is_disabled
     }
 }
 
 impl From<bool> for DisableClockSkewCorrection {
-    ghost from_gives = { λ disable correction. correction ≡ record { is_disabled = disable } };
+    ghost from_gives = { λ disable correction. correction ≡ disable };
 
     fn from(is_disabled: bool) -> DisableClockSkewCorrection {
         DisableClockSkewCorrection { is_disabled }
@@ -36,23 +49,35 @@ impl From<bool> for DisableClockSkewCorrection {
 const MOST_ELAPSED: i128 = 900_000_000_000;
 
 /// Measures how far the service's clock is ahead of the client's, and keeps that from one operation to the next.
+///
+/// Contracts see the skew that is kept, in milliseconds.
 #[derive(Clone, Copy, Debug)]
 pub struct ServiceClockSkewInterceptor {
     // In milliseconds.
     kept: i64,
 }
 
+impl Model for ServiceClockSkewInterceptor {
+    ghost use Rattle.std.specs.Prelude.{ℤ};
+
+    ghost Value = { ℤ };
+
+    ghost view = { λ interceptor. interceptor.kept };
+
+    ghost inverse = { λ kept. record { kept = kept } };
+}
+
 impl ServiceClockSkewInterceptor {
     /// An interceptor that keeps the skew 0.
     pub fn new() -> ServiceClockSkewInterceptor
-        ensures { result ≡ record { kept = pos 0 } }
+        ensures { result ≡ pos 0 }
     {
         ServiceClockSkewInterceptor { kept: 0 }
     }
 
     /// Gives the operation the skew that is kept, unless the correction is disabled.
     pub fn modify_before_retry_loop(&mut self, bag: &mut ConfigBag)
-        ensures bag { bag.new ≡ bag_with_kept self.old.kept bag.old }
+        ensures bag { bag.new ≡ bag_with_kept self.old bag.old }
         ensures kept { self.new ≡ self.old }
     {
         if !is_disabled(bag) {
@@ -84,7 +109,7 @@ impl ServiceClockSkewInterceptor {
     )
         ensures bag { bag.new ≡ bag_with_skew (measured bag.old response.old.headers now) bag.old }
         ensures response { response.new ≡ response_with_skew (measured bag.old response.old.headers now) response.old }
-        ensures kept { self.new.kept ≡ unwrap_or (measured bag.old response.old.headers now) self.old.kept }
+        ensures kept { self.new ≡ unwrap_or (measured bag.old response.old.headers now) self.old }
     {
         if let Some(skew) = measured(bag, &response.headers, now) {
             self.kept = skew;

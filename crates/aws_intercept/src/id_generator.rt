@@ -1,6 +1,6 @@
 ghost use Rattle.std.specs.Prelude.{◌≡◌, ◌≤◌, IfOk, List, [], Option, Result, ℕ, string_bytes, string_capacity};
 ghost use Rattle.uuid.specs.Text.{hyphenated_text, lower};
-ghost use Rattle.aws_intercept.specs.Invocation.{GivesDrawn, GivesFirst, GivesNone};
+ghost use Rattle.aws_intercept.specs.Invocation.{GivesDrawn, GivesFirst, GivesNone, numbers_of};
 ghost use Rattle.aws_intercept.specs.declared.id_fault.IdFault.{IdFault as Fault};
 
 use crate::id_fault::IdFault;
@@ -30,9 +30,21 @@ pub struct DefaultInvocationIdGenerator<R: Rng> {
 impl<R: Rng> DefaultInvocationIdGenerator<R> {
     /// Ids of the bytes that the generator of random numbers gives.
     pub fn new(alloc: Global, rng: R) -> DefaultInvocationIdGenerator<R>
-        ensures { result.rng ≡ rng }
+        ensures { numbers_of result ≡ rng }
     {
         DefaultInvocationIdGenerator { alloc, rng }
+    }
+}
+
+impl<R: Rng + Clone> DefaultInvocationIdGenerator<R> {
+    /// A generator with a copy of the generator of random numbers.
+    pub fn try_clone(&self) -> Mem<DefaultInvocationIdGenerator<R>>
+        ensures { IfOk result (λ copy. R.is_clone (numbers_of self.now) (numbers_of copy)) }
+    {
+        Ok(DefaultInvocationIdGenerator {
+            alloc: self.alloc,
+            rng: self.rng.clone()?,
+        })
     }
 }
 

@@ -3,6 +3,7 @@ ghost use Rattle.smithy_core.specs.HeaderGrammar.{IsHeaderValue};
 ghost use Rattle.aws_intercept.specs.Metadata.{Checks};
 
 use smithy_core::{Mem, is_header_value};
+use std::fmt;
 use std::marker::Model;
 
 /// The id of an invocation, the same for each attempt: a header's value.
@@ -16,6 +17,18 @@ pub struct InvocationId {
 /// The text isn't a header's value.
 #[derive(Clone, Copy, Debug, PartialEq, Eq)]
 pub struct InvalidInvocationId;
+
+impl fmt::Display for InvalidInvocationId {
+    ghost use Rattle.std.specs.Prelude.{Some, codes};
+
+    ghost output = { λ _. Some (codes "the invocation's id is no header value") };
+
+    fn fmt<W: fmt::Write>(&self, f: &mut fmt::Formatter<W>) -> fmt::Result {
+        f.write_str("the invocation's id is no header value")
+    }
+}
+
+impl std::error::Error for InvalidInvocationId {}
 
 impl Model for InvocationId {
     ghost use Rattle.std.specs.Prelude.{ℕ, List, string_bytes};
@@ -81,4 +94,10 @@ impl PartialEq for InvocationId {
     fn eq(&self, other: &InvocationId) -> bool {
         self.text == other.text
     }
+}
+
+impl Eq for InvocationId {
+    ghost use Rattle.std.specs.Cmp.Lexicographic.{nat_list_eq_equiv};
+
+    ghost laws = { nat_list_eq_equiv };
 }

@@ -7,17 +7,28 @@ use crate::bag::ConfigBag;
 use percent_encoding::{CONTROLS, percent_encode};
 use smithy_core::{Env, HttpRequest, Mem};
 use std::alloc::Global;
+use std::marker::Model;
 
 /// Tells a service which trace a request of a function belongs to, so that it can see a call that goes round in a circle.
-#[derive(Debug, Drop)]
+///
+/// Contracts see the variables of its environment.
+#[derive(Drop)]
 pub struct RecursionDetectionInterceptor {
     env: Env,
+}
+
+impl Model for RecursionDetectionInterceptor {
+    ghost use Rattle.std.specs.Prelude.{ℕ, List};
+
+    ghost Value = { List (List ℕ × List ℕ) };
+
+    ghost view = { λ interceptor. interceptor.env };
 }
 
 impl RecursionDetectionInterceptor {
     /// The interceptor in this environment.
     pub fn new(env: Env) -> RecursionDetectionInterceptor
-        ensures { result ≡ record { env = env } }
+        ensures { result ≡ env }
     {
         RecursionDetectionInterceptor { env }
     }
@@ -38,7 +49,7 @@ impl RecursionDetectionInterceptor {
         request: &mut HttpRequest,
         bag: &mut ConfigBag,
     ) -> Mem<()>
-        ensures ok { OnOk result (request.new.headers ≡ traced self.old.env request.old.headers) }
+        ensures ok { OnOk result (request.new.headers ≡ traced self.old request.old.headers) }
         ensures err { OnErr result (request.new.headers ≡ request.old.headers) }
         ensures method { request.new.method ≡ request.old.method }
         ensures target { request.new.target ≡ request.old.target }

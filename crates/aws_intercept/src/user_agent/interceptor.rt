@@ -10,6 +10,7 @@ use crate::user_agent::frameworks::oldest_frameworks;
 use crate::user_agent::metadata::{AdditionalMetadata, InvalidMetadataValue};
 use smithy_core::{Env, Headers, HttpRequest, Mem, is_header_value};
 use std::alloc::AllocError;
+use std::fmt;
 
 /// Why no user agent is made or sent.
 #[derive(Clone, Copy, Debug, PartialEq, Eq)]
@@ -25,6 +26,25 @@ pub enum UserAgentFault {
     /// Memory ran out.
     NoMemory,
 }
+
+impl fmt::Display for UserAgentFault {
+    ghost use Rattle.std.specs.Prelude.{Some};
+    ghost use Rattle.aws_intercept.specs.Texts.{user_agent_fault_text};
+
+    ghost output = { λ fault. Some (user_agent_fault_text fault) };
+
+    fn fmt<W: fmt::Write>(&self, f: &mut fmt::Formatter<W>) -> fmt::Result {
+        f.write_str(match self {
+            UserAgentFault::MissingApiMetadata => "the API metadata is missing",
+            UserAgentFault::MissingUserAgent => "the user agent is missing",
+            UserAgentFault::InvalidMetadataValue => "the connector is no metadata value",
+            UserAgentFault::InvalidHeaderValue => "the user agent is no header value",
+            UserAgentFault::NoMemory => "no memory",
+        })
+    }
+}
+
+impl std::error::Error for UserAgentFault {}
 
 impl From<AllocError> for UserAgentFault {
     ghost from_gives = { λ _ fault. fault ≡ NoMemory };

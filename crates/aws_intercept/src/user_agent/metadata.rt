@@ -10,6 +10,18 @@ use std::marker::Model;
 #[derive(Clone, Copy, Debug, PartialEq, Eq)]
 pub struct InvalidMetadataValue;
 
+impl fmt::Display for InvalidMetadataValue {
+    ghost use Rattle.std.specs.Prelude.{Some, codes};
+
+    ghost output = { λ _. Some (codes "the text is no metadata value") };
+
+    fn fmt<W: fmt::Write>(&self, f: &mut fmt::Formatter<W>) -> fmt::Result {
+        f.write_str("the text is no metadata value")
+    }
+}
+
+impl std::error::Error for InvalidMetadataValue {}
+
 /// Whether metadata can have the text: letters, digits and the marks ``!#$%&'*+-.^_`|~``, as of a token (RFC 9110,
 /// section 5.6.2), or nothing.
 pub(crate) fn is_metadata(text: &str) -> bool
