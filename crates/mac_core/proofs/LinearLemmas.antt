@@ -46,7 +46,7 @@ bit_linear x y b = elim (parity x) [
   ]
 ]
 
-pub linear : (k x y b : ℕ) → after_bits k (bit_xor x y) b ≡ bit_xor (after_bits k x 0) (after_bits k y b)
+linear : (k x y b : ℕ) → after_bits k (bit_xor x y) b ≡ bit_xor (after_bits k x 0) (after_bits k y b)
 unfolding after_bits
 linear zero x y b = refl
 linear (suc k) x y b = ap (λ (z : ℕ). after_bits k z (b / 2)) (bit_linear x y b) ∙ linear k (after_bit x 0) (after_bit y b) (b / 2)
@@ -58,7 +58,7 @@ into_register r b = elim (parity (b + r)) [
   | inr i ↦ in_place (odd_bit (bit_xor r b) 0 (omega (arith, lowest r b))) (odd_bit r b i) refl (ap (λ (z : ℕ). bit_xor z 0xEDB88320) (halved r b) ∙ xor_swap (r / 2) (b / 2) 0xEDB88320)
 ]
 
-pub merged : (k r b : ℕ) → b < 2 ^ k → after_bits k r b ≡ after_bits k (bit_xor r b) 0
+merged : (k r b : ℕ) → b < 2 ^ k → after_bits k r b ≡ after_bits k (bit_xor r b) 0
 unfolding after_bits
 merged zero r b l = let e : b ≡ 0 = omega arith in rw e (sym (xor_zero_r r))
 merged (suc k) r b l = merged k (after_bit r b) (b / 2) (omega arith) ∙ ap (λ (z : ℕ). after_bits k z 0) (sym (into_register r b))
@@ -79,7 +79,7 @@ none_left : (x : ℕ) → after_bits 0 x 0 ≡ x
 unfolding after_bits
 none_left x = refl
 
-pub joined : (n j k x : ℕ) → n ≡ j + k → after_bits n x 0 ≡ after_bits k (after_bits j x 0) 0
+joined : (n j k x : ℕ) → n ≡ j + k → after_bits n x 0 ≡ after_bits k (after_bits j x 0) 0
 unfolding after_bits
 joined n zero k x e = let same : n ≡ k = omega arith in rw same refl
 joined zero (suc j) k x e = absurd (omega arith)
@@ -144,8 +144,12 @@ into_front r a b c d bytes short la lb lc ld =
 next_alone : (s n b : ℕ) (bytes : List ℕ) → b < 256 → n ≡ 8 * length bytes + 8 → bit_xor s (after_bytes 0 (b ∷ bytes)) ≡ bit_xor (bit_xor s (after_bits n b 0)) (after_bytes 0 bytes)
 next_alone s n b bytes l e = ap (bit_xor s) (first_alone n b bytes l e) ∙ sym (xor_assoc s (after_bits n b 0) (after_bytes 0 bytes))
 
--- eight bytes from a register of 0: each is followed by as many zero bytes as there are bytes to come
-eight_alone : (a b c d e f g h : ℕ) → a < 256 → b < 256 → c < 256 → d < 256 → e < 256 → f < 256 → g < 256 → h < 256 → after_bytes 0 (a ∷ b ∷ c ∷ d ∷ e ∷ f ∷ g ∷ h ∷ []) ≡ bit_xor (bit_xor (bit_xor (bit_xor (bit_xor (bit_xor (bit_xor (after_bits 64 a 0) (after_bits 56 b 0)) (after_bits 48 c 0)) (after_bits 40 d 0)) (after_bits 32 e 0)) (after_bits 24 f 0)) (after_bits 16 g 0)) (after_bits 8 h 0)
+-- eight bytes from a register of 0, each with as many zero bytes after it as there are bytes to come
+abbrev entries : (a b c d e f g h : ℕ) → ℕ
+entries a b c d e f g h =
+    bit_xor (bit_xor (bit_xor (bit_xor (bit_xor (bit_xor (bit_xor (after_bits 64 a 0) (after_bits 56 b 0)) (after_bits 48 c 0)) (after_bits 40 d 0)) (after_bits 32 e 0)) (after_bits 24 f 0)) (after_bits 16 g 0)) (after_bits 8 h 0)
+
+eight_alone : (a b c d e f g h : ℕ) → a < 256 → b < 256 → c < 256 → d < 256 → e < 256 → f < 256 → g < 256 → h < 256 → after_bytes 0 (a ∷ b ∷ c ∷ d ∷ e ∷ f ∷ g ∷ h ∷ []) ≡ entries a b c d e f g h
 eight_alone a b c d e f g h la lb lc ld le lf lg lh =
     first_alone 64 a (b ∷ c ∷ d ∷ e ∷ f ∷ g ∷ h ∷ []) la refl
     ∙ next_alone _ 56 b (c ∷ d ∷ e ∷ f ∷ g ∷ h ∷ []) lb refl
@@ -157,10 +161,7 @@ eight_alone a b c d e f g h la lb lc ld le lf lg lh =
     ∙ next_alone _ 8 h [] lh refl
     ∙ xor_zero_r _
 
-pub eight_by_entries : (r a b c d e f g h : ℕ) → r < 2 ^ 32 → a < 256 → b < 256 → c < 256 → d < 256 → e < 256 → f < 256 → g < 256 → h < 256 → after_bytes r (a ∷ b ∷ c ∷ d ∷ e ∷ f ∷ g ∷ h ∷ []) ≡ bit_xor (bit_xor (bit_xor (bit_xor (bit_xor (bit_xor (bit_xor (after_bits 64 (bit_xor (r % 256) a) 0) (after_bits 56 (bit_xor (r / 256 % 256) b) 0)) (after_bits 48 (bit_xor (r / 65536 % 256) c) 0)) (after_bits 40 (bit_xor (r / 16777216 % 256) d) 0)) (after_bits 32 e 0)) (after_bits 24 f 0)) (after_bits 16 g 0)) (after_bits 8 h 0)
+pub eight_by_entries : (r a b c d e f g h : ℕ) → r < 2 ^ 32 → a < 256 → b < 256 → c < 256 → d < 256 → e < 256 → f < 256 → g < 256 → h < 256 → after_bytes r (a ∷ b ∷ c ∷ d ∷ e ∷ f ∷ g ∷ h ∷ []) ≡ entries (bit_xor (r % 256) a) (bit_xor (r / 256 % 256) b) (bit_xor (r / 65536 % 256) c) (bit_xor (r / 16777216 % 256) d) e f g h
 eight_by_entries r a b c d e f g h short la lb lc ld le lf lg lh =
     into_front r a b c d (e ∷ f ∷ g ∷ h ∷ []) short la lb lc ld
-    ∙ eight_alone _ _ _ _ e f g h (byte (r % 256) a (omega arith) la) (byte (r / 256 % 256) b (omega arith) lb) (byte (r / 65536 % 256) c (omega arith) lc) (byte (r / 16777216 % 256) d (omega arith) ld) le lf lg lh
-  where
-    byte : (x y : ℕ) → x < 256 → y < 256 → bit_xor x y < 256
-    byte x y l m = xor_lt 8 x y l m
+    ∙ eight_alone _ _ _ _ e f g h (xor_lt 8 (r % 256) a (omega arith) la) (xor_lt 8 (r / 256 % 256) b (omega arith) lb) (xor_lt 8 (r / 65536 % 256) c (omega arith) lc) (xor_lt 8 (r / 16777216 % 256) d (omega arith) ld) le lf lg lh

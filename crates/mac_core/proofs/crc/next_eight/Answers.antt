@@ -4,9 +4,11 @@ use Rattle.mac_core.specs.Crc.{after_bytes}
 use Rattle.mac_core.proofs.LinearLemmas.{eight_by_entries}
 use Rattle.mac_core.proofs.crc.next_eight.Goals as goal
 
+-- the list from place i on
 item : (xs rest : List ℕ) (i : ℕ) → length xs ≡ 8 → i < 8 → drop (i + 1) xs ≡ rest → drop i xs ≡ get_or xs i 0 ∷ rest
 item xs rest i l m e = drop_more xs i 0 (omega arith) ∙ ap (λ (z : List ℕ). get_or xs i 0 ∷ z) e
 
+-- a list of eight, item by item
 listed : (xs : List ℕ) → length xs ≡ 8 → xs ≡ get_or xs 0 0 ∷ get_or xs 1 0 ∷ get_or xs 2 0 ∷ get_or xs 3 0 ∷ get_or xs 4 0 ∷ get_or xs 5 0 ∷ get_or xs 6 0 ∷ get_or xs 7 0 ∷ []
 listed xs l = item xs _ 0 l (omega arith) (item xs _ 1 l (omega arith) (item xs _ 2 l (omega arith) (item xs _ 3 l (omega arith) (item xs _ 4 l (omega arith) (item xs _ 5 l (omega arith) (item xs _ 6 l (omega arith) (item xs [] 7 l (omega arith) (drop_all 8 xs (omega arith)))))))))
 
