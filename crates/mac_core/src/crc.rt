@@ -75,7 +75,8 @@ fn next_each(register: u32, bytes: &[u8]) -> u32
     left
 }
 
-// The register is xored into the first four bytes, and then each byte is taken alone.
+// The steps are linear, so no look-up waits for another one: the register is xored into the first four
+// bytes, and what each byte leaves with the zeros after it is xored together.
 #[inline(always)]
 fn next_eight(register: u32, bytes: [u8; 8]) -> u32
     ensures { result ≡ after_bytes register bytes }
@@ -100,8 +101,8 @@ fn next_byte(register: u32, byte: u8) -> u32
     entry(low ^ byte, 0) ^ (register / 256)
 }
 
-// What the byte leaves of a register of 0, with so many zero bytes after it: that is what as many bits
-// of 0 leave of the byte.
+// What the byte leaves of a register of 0, with so many zero bytes after it. A register that holds the
+// byte is left so by as many bits of 0.
 #[inline(always)]
 fn entry(byte: u8, zeros: usize) -> u32
     requires { zeros < 8 }
