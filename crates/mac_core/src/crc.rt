@@ -1,10 +1,8 @@
-ghost use Rattle.std.specs.Prelude.{◌≡◌, ℕ, ◌-◌};
-ghost use Rattle.mac_core.specs.Crc.{after_bit, after_bits, after_bytes, before_any, remainder};
+ghost use Rattle.std.specs.Prelude.{◌≡◌, ℕ, ◌+◌, ◌-◌, ◌*◌, ◌<◌};
+ghost use Rattle.mac_core.specs.Crc.{after_bits, after_bytes, before_any, remainder};
 
+use crate::tables::TABLES;
 use std::marker::Model;
-
-/// The polynomial of CRC-32 (ISO 3309), its bits reversed.
-const POLYNOMIAL: u32 = 0xEDB8_8320;
 
 /// A CRC-32 that takes its bytes in pieces.
 ///
@@ -59,32 +57,56 @@ fn next_bytes(register: u32, bytes: &[u8]) -> u32
     ensures { result ≡ after_bytes register bytes.now }
 {
     let mut left = register;
+    let mut rest = bytes;
+    'eights: while let [a, b, c, d, e, f, g, h, more @ ..] = rest {
+        left = next_eight(left, [*a, *b, *c, *d, *e, *f, *g, *h]);
+        rest = more;
+    }
+    next_each(left, rest)
+}
+
+fn next_each(register: u32, bytes: &[u8]) -> u32
+    ensures { result ≡ after_bytes register bytes.now }
+{
+    let mut left = register;
     for byte in bytes {
         left = next_byte(left, *byte);
     }
     left
 }
 
-#[tactic(auto, using(crate::proofs::CrcLemmas::bits))]
+// The steps are linear, so no look-up waits for another one: the register is xored into the first four
+// bytes, and what each byte leaves with the zeros after it is xored together.
+#[inline(always)]
+fn next_eight(register: u32, bytes: [u8; 8]) -> u32
+    ensures { result ≡ after_bytes register bytes }
+{
+    let [a, b, c, d, e, f, g, h] = bytes;
+    let [low, second, third, high] = register.to_le_bytes();
+    entry(low ^ a, 7)
+        ^ entry(second ^ b, 6)
+        ^ entry(third ^ c, 5)
+        ^ entry(high ^ d, 4)
+        ^ entry(e, 3)
+        ^ entry(f, 2)
+        ^ entry(g, 1)
+        ^ entry(h, 0)
+}
+
+#[inline(always)]
 fn next_byte(register: u32, byte: u8) -> u32
     ensures { result ≡ after_bits 8 register byte }
 {
-    let mut rest = byte;
-    let mut left = register;
-    'bits: for _i in 0..8u8 {
-        left = next_bit(left, rest);
-        rest /= 2;
-    }
-    left
+    let low = (register % 256) as u8;
+    entry(low ^ byte, 0) ^ (register / 256)
 }
 
-fn next_bit(register: u32, byte: u8) -> u32
-    ensures { result ≡ after_bit register byte }
+// What the byte leaves of a register of 0, with so many zero bytes after it. A register that holds the
+// byte is left so by as many bits of 0.
+#[inline(always)]
+fn entry(byte: u8, zeros: usize) -> u32
+    requires { zeros < 8 }
+    ensures { result ≡ after_bits (8 * zeros + 8) byte 0 }
 {
-    let differ = u32::from(byte % 2) != register % 2;
-    if differ {
-        (register / 2) ^ POLYNOMIAL
-    } else {
-        register / 2
-    }
+    TABLES[zeros][usize::from(byte)]
 }

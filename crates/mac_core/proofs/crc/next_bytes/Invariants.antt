@@ -1,7 +1,10 @@
-use Rattle.std.proofs.Common.{◌≡◌, drop}
+use Rattle.std.proofs.Common.{◌≡◌, length}
 use Rattle.mac_core.specs.Crc.{after_bytes}
 use Rattle.mac_core.proofs.crc.next_bytes.Given as goal
 
 -- the bytes to come leave what all of them leave
-abbrev pub invariant-loop-byte : goal.invariant-loop-byte
-invariant-loop-byte l = after_bytes l.left (drop l.byte-index l.bytes) ≡ after_bytes l.register l.bytes
+abbrev pub invariant-eights : goal.invariant-eights
+invariant-eights l = after_bytes l.left l.rest ≡ after_bytes l.register l.bytes
+
+abbrev pub decreases-eights : goal.decreases-eights
+decreases-eights l = length l.rest
