@@ -1,19 +1,29 @@
 #!/usr/bin/env bash
-# Times each kind of work of the program `bench`: a line for each, with what it did in one second. The first run builds it.
+# Times each kind of work of the program `bench`: a line for each, with what it did in one second, and for bytes also the
+# ratio to the SHA-256 of the same run, since machines differ. The first run builds it.
 set -eu
 cd "$(dirname "$0")/../crates/bench"
 rt run -- hash 1 1 > /dev/null
 TIMEFORMAT=%U
+seconds_of() {
+  { time ./out/bench "$@" > /dev/null; } 2>&1
+}
+hash_rate=$(awk -v seconds="$(seconds_of hash 1000 65536)" 'BEGIN { print 65.536 / (seconds + 0.000001) }')
 rate() {
   local unit=$1 amount=$2
   shift 2
-  local seconds
-  seconds=$({ time ./out/bench "$@" > /dev/null; } 2>&1)
-  awk -v words="$*" -v unit="$unit" -v amount="$amount" -v seconds="$seconds" \
-    'BEGIN { printf "%-24s %8.2f s %12.1f %s/s\n", words, seconds, amount / (seconds + 0.000001), unit }'
+  awk -v words="$*" -v unit="$unit" -v amount="$amount" -v seconds="$(seconds_of "$@")" -v hash="$hash_rate" 'BEGIN {
+    rate = amount / (seconds + 0.000001)
+    printf "%-22s %7.2f s %12.1f %s/s", words, seconds, rate, unit
+    if (unit == "MB") printf " %8.2f of SHA-256", rate / hash
+    printf "\n"
+  }'
 }
 rate requests 20000 sign 20000
 rate MB 20.48 chain 20000 1024
 rate MB 65.536 chain 1000 65536
-rate MB 65.536 checksum 1000 65536
+rate MB 655.36 checksum 10000 65536
 rate MB 65.536 hash 1000 65536
+rate MB 655.36 write 10000 65536
+rate MB 358.4 decode 2000
+rate MB 20 profiles 200

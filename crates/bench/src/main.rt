@@ -1,14 +1,22 @@
 //! Does one kind of work so many times, and prints a digest of the answers: `bench/run.sh` times it.
 //!
 //! ```notrust
-//! bench sign COUNT          signs a small request: three headers and no body
-//! bench chain COUNT SIZE    signs a chain of so many events with so many bytes each
-//! bench checksum COUNT SIZE the CRC-32 of so many bytes
-//! bench hash COUNT SIZE     the SHA-256 of so many bytes
+//! bench sign COUNT            signs a small request: three headers and no body
+//! bench chain COUNT SIZE      signs a chain of so many events with so many bytes each
+//! bench checksum COUNT SIZE   the CRC-32 of so many bytes
+//! bench hash COUNT SIZE       the SHA-256 of so many bytes
+//! bench write COUNT SIZE      writes a frame with so many bytes of payload
+//! bench decode COUNT          decodes 175 frames of 1,024 bytes that come in pieces of 1,400 bytes
+//! bench profiles COUNT        parses a profile file of 100 KB
+//! bench each COUNT            each of these so many times, with small sizes, a line for each
 //! ```
 #![tactic(auto)]
 
 mod digest;
+mod frames;
+mod profiles;
+mod signing;
+mod sums;
 mod work;
 
 use crate::work::Work;
@@ -19,22 +27,21 @@ fn main(rt: HostRuntime) -> io::Result<ExitCode> {
     let mut args = env::args(&rt)?;
     args.next();
     let words: Vec<String> = args.collect(rt.alloc())?;
-    match Work::from_words(words.as_slice()) {
-        Some(work) => match work.answers(rt.alloc()) {
-            Ok(digest) => {
-                println!(rt; "{digest}")?;
-                Ok(ExitCode::SUCCESS)
-            }
-            Err(_) => {
-                eprintln!(rt; "refused")?;
-                Ok(ExitCode::from(7))
-            }
-        },
+    let works = match Work::from_words(rt.alloc(), words.as_slice())? {
+        Some(works) => works,
         None => {
-            eprintln!(rt;
-                "usage: bench sign COUNT | chain COUNT SIZE | checksum COUNT SIZE | hash COUNT SIZE"
-            )?;
-            Ok(ExitCode::from(2))
+            eprintln!(rt; "usage: bench KIND COUNT [SIZE]")?;
+            return Ok(ExitCode::from(2));
+        }
+    };
+    for work in works.iter() {
+        match work.answers(rt.alloc()) {
+            Ok(digest) => println!(rt; "{work} {digest}")?,
+            Err(refusal) => {
+                eprintln!(rt; "{refusal}")?;
+                return Ok(ExitCode::from(7));
+            }
         }
     }
+    Ok(ExitCode::SUCCESS)
 }

@@ -1,16 +1,7 @@
-ghost use Rattle.std.specs.Prelude.{◌≡◌};
-
 use crate::digest::Digest;
-use bytes::Bytes;
-use eventstream::write_message_to;
-use mac_core::crc32;
-use sha2::{Digest as _, Sha256};
-use sigv4::event_stream::{sign_empty_message, sign_message};
-use sigv4::{
-    SignableBody, SignableRequest, SigningError, SigningParams, SigningSettings, sign, v4,
-};
-use smithy_core::{Credentials, Headers, Identity, Message, Moment};
+use crate::{frames, profiles, signing, sums};
 use std::alloc::{AllocError, Global};
+use std::fmt;
 
 /// A kind of work, with its count and the size of each piece in bytes.
 #[derive(Clone, Copy, Debug, PartialEq, Eq)]
@@ -19,148 +10,95 @@ pub enum Work {
     Chain { count: u32, size: usize },
     Checksum { count: u32, size: usize },
     Hash { count: u32, size: usize },
+    Write { count: u32, size: usize },
+    Decode { count: u32 },
+    Profiles { count: u32 },
 }
 
 impl Work {
-    /// The work that the words ask for.
-    pub fn from_words(words: &[String]) -> Option<Work> {
+    /// The work that the words ask for, where they do.
+    pub fn from_words(alloc: Global, words: &[String]) -> Result<Option<Vec<Work>>, AllocError> {
         match words {
-            [kind, count] if kind.as_str() == "sign" => Some(Work::Sign {
-                count: count.as_str().parse::<u32>().ok()?,
-            }),
-            [kind, count, size] => {
-                let count = count.as_str().parse::<u32>().ok()?;
-                let size = size.as_str().parse::<usize>().ok()?;
-                match kind.as_str() {
-                    "chain" => Some(Work::Chain { count, size }),
-                    "checksum" => Some(Work::Checksum { count, size }),
-                    "hash" => Some(Work::Hash { count, size }),
-                    _ => None,
-                }
-            }
+            [kind, count] if kind.as_str() == "each" => match count.as_str().parse::<u32>() {
+                Ok(count) => Ok(Some(Work::each(alloc, count)?)),
+                Err(_) => Ok(None),
+            },
+            _ => match Work::one(words) {
+                Some(work) => Ok(Some(vec![in alloc; work]?)),
+                None => Ok(None),
+            },
+        }
+    }
+
+    // Each kind, with small sizes.
+    fn each(alloc: Global, count: u32) -> Result<Vec<Work>, AllocError> {
+        let works = vec![in alloc;
+            Work::Sign { count },
+            Work::Chain { count, size: 100 },
+            Work::Checksum { count, size: 100 },
+            Work::Hash { count, size: 100 },
+            Work::Write { count, size: 100 },
+            Work::Decode { count },
+            Work::Profiles { count },
+        ]?;
+        Ok(works)
+    }
+
+    fn one(words: &[String]) -> Option<Work> {
+        match words {
+            [kind, count] => Work::counted(kind.as_str(), count.as_str().parse().ok()?),
+            [kind, count, size] => Work::sized(
+                kind.as_str(),
+                count.as_str().parse().ok()?,
+                size.as_str().parse().ok()?,
+            ),
+            _ => None,
+        }
+    }
+
+    fn counted(kind: &str, count: u32) -> Option<Work> {
+        match kind {
+            "sign" => Some(Work::Sign { count }),
+            "decode" => Some(Work::Decode { count }),
+            "profiles" => Some(Work::Profiles { count }),
+            _ => None,
+        }
+    }
+
+    fn sized(kind: &str, count: u32, size: usize) -> Option<Work> {
+        match kind {
+            "chain" => Some(Work::Chain { count, size }),
+            "checksum" => Some(Work::Checksum { count, size }),
+            "hash" => Some(Work::Hash { count, size }),
+            "write" => Some(Work::Write { count, size }),
             _ => None,
         }
     }
 
     /// Does the work, and gives the digest of the answers.
-    pub fn answers(self, alloc: Global) -> Result<Digest, SigningError> {
+    pub fn answers(self, alloc: Global) -> anyhow::Result<Digest> {
         match self {
-            Work::Sign { count } => signatures(alloc, count),
-            Work::Chain { count, size } => chain(alloc, count, size),
-            Work::Checksum { count, size } => Ok(checksums(alloc, count, size)?),
-            Work::Hash { count, size } => Ok(hashes(alloc, count, size)?),
+            Work::Sign { count } => signing::signatures(alloc, count),
+            Work::Chain { count, size } => signing::chain(alloc, count, size),
+            Work::Checksum { count, size } => Ok(sums::checksums(alloc, count, size)?),
+            Work::Hash { count, size } => Ok(sums::hashes(alloc, count, size)?),
+            Work::Write { count, size } => frames::written(alloc, count, size),
+            Work::Decode { count } => frames::decoded(alloc, count),
+            Work::Profiles { count } => profiles::parsed(alloc, count),
         }
     }
 }
 
-// Signs a small request so many times, each a second after the last one.
-fn signatures(alloc: Global, count: u32) -> Result<Digest, SigningError> {
-    let identity = example_identity(alloc)?;
-    let headers = example_headers(alloc)?;
-    let mut digest = Digest::new();
-    for number in 0..count {
-        let signature = signature_at(alloc, &identity, &headers, number)?;
-        digest = digest.with(signature.as_bytes());
-    }
-    Ok(digest)
-}
-
-// The signature of a small request so many seconds after the first.
-fn signature_at(
-    alloc: Global,
-    identity: &Identity,
-    headers: &Headers,
-    number: u32,
-) -> Result<String, SigningError> {
-    let at = Moment::new(1_440_938_160 + i64::from(number), 0);
-    let params = params_at(identity, at, SigningSettings::new(alloc)?);
-    let target = "https://service.us-east-1.amazonaws.com/path";
-    let request = SignableRequest::new(alloc, "GET", target, headers, SignableBody::empty())?;
-    let (_, signature) = sign(alloc, request, &SigningParams::V4(params))?.into_parts();
-    Ok(signature)
-}
-
-fn example_headers(alloc: Global) -> Result<Headers, AllocError> {
-    let mut headers = Headers::new(alloc);
-    headers.insert("host", "service.us-east-1.amazonaws.com")?;
-    headers.insert("content-type", "application/json")?;
-    headers.insert("x-amz-target", "Service.Operation")?;
-    Ok(headers)
-}
-
-// Signs so many events with payloads of so many bytes, one over the other, and the empty message; writes their frames.
-fn chain(alloc: Global, count: u32, size: usize) -> Result<Digest, SigningError> {
-    let identity = example_identity(alloc)?;
-    let params = params_at(&identity, Moment::new(1_440_938_160, 0), ());
-    let payload = vec![in alloc; 7; size]?;
-    let event = Message::new(alloc, Bytes::copy_from_slice(alloc, payload.as_slice())?);
-    let mut frame = Vec::new(alloc);
-    let mut signature = String::new(alloc);
-    let mut digest = Digest::new();
-    for _ in 0..count {
-        let (message, next) = sign_message(
-            alloc,
-            &event,
-            signature.as_str(),
-            &params,
-        )?.into_parts();
-        frame.clear();
-        write_message_to(alloc, &message, &mut frame)?;
-        digest = digest.with(next.as_bytes());
-        signature = next;
-    }
-    let (_, last) = sign_empty_message(alloc, signature.as_str(), &params)?.into_parts();
-    Ok(digest.with(last.as_bytes()))
-}
-
-fn checksums(alloc: Global, count: u32, size: usize) -> Result<Digest, AllocError> {
-    let mut bytes = vec![in alloc; 7; size]?;
-    let mut digest = Digest::new();
-    for number in 0..count {
-        stamp(&mut bytes, number);
-        digest = digest.with(&crc32(bytes.as_slice()).to_be_bytes());
-    }
-    Ok(digest)
-}
-
-fn hashes(alloc: Global, count: u32, size: usize) -> Result<Digest, AllocError> {
-    let mut bytes = vec![in alloc; 7; size]?;
-    let mut digest = Digest::new();
-    for number in 0..count {
-        stamp(&mut bytes, number);
-        digest = digest.with(Sha256::digest(bytes.as_slice()).as_slice());
-    }
-    Ok(digest)
-}
-
-// Makes each turn's bytes differ from the last one's.
-fn stamp(bytes: &mut Vec<u8>, number: u32) {
-    if let Some(first) = bytes.first_mut() {
-        *first = (number & 0xff) as u8;
-    }
-}
-
-fn example_identity(alloc: Global) -> Result<Identity, AllocError> {
-    Ok(Identity::Credentials(Credentials::new(
-        String::from_str(alloc, "AKIDEXAMPLE")?,
-        String::from_str(alloc, "wJalrXUtnFEMI/K7MDENG+bPxRfiCYEXAMPLEKEY")?,
-        None,
-        None,
-    )))
-}
-
-fn params_at<S: Drop>(identity: &Identity, at: Moment, settings: S) -> v4::SigningParams<'_, S>
-    ensures { result.settings ≡ settings }
-{
-    let made = v4::SigningParams::builder()
-        .identity(identity)
-        .region("us-east-1")
-        .name("service")
-        .time(at)
-        .settings(settings)
-        .build();
-    match made {
-        Ok(params) => params,
-        Err(_) => unreachable!(),
+impl fmt::Display for Work {
+    fn fmt<W: fmt::Write>(&self, f: &mut fmt::Formatter<W>) -> fmt::Result {
+        match self {
+            Work::Sign { count } => write!(f, "sign {count}"),
+            Work::Chain { count, size } => write!(f, "chain {count} {size}"),
+            Work::Checksum { count, size } => write!(f, "checksum {count} {size}"),
+            Work::Hash { count, size } => write!(f, "hash {count} {size}"),
+            Work::Write { count, size } => write!(f, "write {count} {size}"),
+            Work::Decode { count } => write!(f, "decode {count}"),
+            Work::Profiles { count } => write!(f, "profiles {count}"),
+        }
     }
 }

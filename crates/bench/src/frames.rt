@@ -1,0 +1,103 @@
+use crate::digest::Digest;
+use bytes::Bytes;
+use eventstream::{DecodedFrame, MessageFrameDecoder, write_message_to};
+use seg_buf::SegBuf;
+use smithy_core::Message;
+use std::alloc::Global;
+
+/// Payloads of so many bytes make frames of 1,024 bytes.
+const PAYLOAD: usize = 1_008;
+
+/// So many frames of 1,024 bytes are 128 pieces of 1,400 bytes.
+const FRAMES: u32 = 175;
+
+const PIECE: usize = 1_400;
+
+/// Writes so many frames with payloads of so many bytes.
+pub fn written(alloc: Global, count: u32, size: usize) -> anyhow::Result<Digest> {
+    let message = message_of(alloc, size)?;
+    let mut frame = Vec::new(alloc);
+    let mut digest = Digest::new();
+    for _ in 0..count {
+        digest = with_frame(alloc, digest, &message, &mut frame)?;
+    }
+    Ok(digest)
+}
+
+/// The digest of one frame more, by its closing checksum, which depends on each byte of it.
+pub fn with_frame(
+    alloc: Global,
+    digest: Digest,
+    message: &Message,
+    frame: &mut Vec<u8>,
+) -> anyhow::Result<Digest> {
+    frame.clear();
+    write_message_to(alloc, message, frame)?;
+    Ok(match frame.as_slice().last_chunk::<4>() {
+        Some(checksum) => digest.with(checksum.as_slice()),
+        None => digest,
+    })
+}
+
+/// Decodes a stream of frames so many times, as it comes in pieces.
+pub fn decoded(alloc: Global, count: u32) -> anyhow::Result<Digest> {
+    let stream = stream_of_frames(alloc)?;
+    let mut decoder = MessageFrameDecoder::new();
+    let mut buffer = SegBuf::new(alloc);
+    let mut digest = Digest::new();
+    for _ in 0..count {
+        digest = with_stream(alloc, digest, &stream, &mut decoder, &mut buffer)?;
+    }
+    Ok(digest)
+}
+
+fn stream_of_frames(alloc: Global) -> anyhow::Result<Bytes> {
+    let message = message_of(alloc, PAYLOAD)?;
+    let mut stream = Vec::new(alloc);
+    for _ in 0..FRAMES {
+        write_message_to(alloc, &message, &mut stream)?;
+    }
+    Ok(Bytes::from_vec(stream)?)
+}
+
+// The digest of all messages of a stream more.
+fn with_stream(
+    alloc: Global,
+    digest: Digest,
+    stream: &Bytes,
+    decoder: &mut MessageFrameDecoder,
+    buffer: &mut SegBuf,
+) -> anyhow::Result<Digest> {
+    let mut digest = digest;
+    let mut start = 0;
+    while start < stream.len() {
+        let end = stream.len().min(start + PIECE);
+        buffer.reserve_one()?;
+        buffer.push(stream.slice(start..end)?);
+        digest = with_messages(alloc, digest, decoder, buffer)?;
+        start = end;
+    }
+    Ok(digest)
+}
+
+// The digest of the messages more that are there.
+fn with_messages(
+    alloc: Global,
+    digest: Digest,
+    decoder: &mut MessageFrameDecoder,
+    buffer: &mut SegBuf,
+) -> anyhow::Result<Digest> {
+    let mut digest = digest;
+    for _ in 0..FRAMES {
+        match decoder.decode_frame(alloc, buffer)? {
+            DecodedFrame::Complete(message) => digest = digest.with(&[message.payload()[0]]),
+            DecodedFrame::Incomplete => break,
+        }
+    }
+    Ok(digest)
+}
+
+fn message_of(alloc: Global, size: usize) -> anyhow::Result<Message> {
+    let payload = vec![in alloc; 7; size]?;
+    Ok(Message::new(alloc, Bytes::from_vec(payload)?))
+}
