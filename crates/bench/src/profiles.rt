@@ -3,7 +3,7 @@ use env_config::{EnvConfigFileKind, EnvConfigSections, File, Source};
 use std::alloc::{AllocError, Global};
 
 /// So many profiles of five properties take some 100 KB.
-const PROFILES: u32 = 550;
+const PROFILES: u32 = 587;
 
 /// Parses a profile file so many times.
 pub fn parsed(alloc: Global, count: u32) -> anyhow::Result<Digest> {
