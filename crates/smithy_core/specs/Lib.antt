@@ -1,9 +1,12 @@
 pub mod Civil
 pub mod CivilText
+pub mod Disks
+pub mod Files
 pub mod Format
 pub mod Given
 pub mod HeaderGrammar
 pub mod Instant
+pub mod Memory
 pub mod Outside
 pub mod Pairs
 pub mod Parts

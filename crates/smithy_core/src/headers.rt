@@ -5,14 +5,16 @@ ghost use Rattle.smithy_core.specs.Pairs.{first_value, inserted, lower, named_va
 use crate::header_iter::HeaderIter;
 use crate::header_values::{HeaderValues, after_named};
 use crate::memory::Mem;
-use crate::text_pairs::copied_pairs;
+use crate::text_pairs::{copied_pairs, fmt_lengths};
 use std::alloc::Global;
+use std::fmt;
 use std::marker::Model;
 
 /// Headers of a request or a response: pairs of a name in ASCII lower case and a value, in order. Nothing is tested.
+/// [`Debug`](std::fmt::Debug) prints names and the lengths of values, since a value may be a secret.
 ///
 /// Contracts see the list of the pairs.
-#[derive(Debug, Drop)]
+#[derive(Drop)]
 pub struct Headers {
     pairs: Vec<(String, String)>,
 }
@@ -95,6 +97,12 @@ impl Headers {
         ensures { result ≡ length self.now }
     {
         self.pairs.len()
+    }
+}
+
+impl fmt::Debug for Headers {
+    fn fmt<W: fmt::Write>(&self, f: &mut fmt::Formatter<W>) -> fmt::Result {
+        fmt_lengths(self.pairs.as_slice(), f)
     }
 }
 

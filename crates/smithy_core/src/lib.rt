@@ -63,4 +63,3 @@ pub use crate::request::HttpRequest;
 pub use crate::response::HttpResponse;
 pub use crate::str_bytes::StrBytes;
 pub use crate::text::push_line;
-pub use crate::text_pairs::copied_pairs;

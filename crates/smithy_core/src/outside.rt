@@ -1,3 +1,4 @@
+pub mod calls;
 pub mod clock;
 pub mod disk;
 pub mod host;

@@ -4,9 +4,11 @@ ghost use Rattle.std.specs.String.{string_bytes};
 use crate::headers::Headers;
 use crate::memory::Mem;
 use bytes::Bytes;
+use std::fmt;
 
-/// An HTTP request.
-#[derive(Debug, Drop)]
+/// An HTTP request. [`Debug`](std::fmt::Debug) prints the method, the headers' names and lengths, since a target, a
+/// header's value or a body may hold a secret.
+#[derive(Drop)]
 pub struct HttpRequest {
     /// The method, as `GET`.
     pub method: String,
@@ -32,5 +34,16 @@ impl HttpRequest {
             headers: self.headers.try_clone()?,
             body: self.body.clone()?,
         })
+    }
+}
+
+impl fmt::Debug for HttpRequest {
+    fn fmt<W: fmt::Write>(&self, f: &mut fmt::Formatter<W>) -> fmt::Result {
+        f.debug_struct("HttpRequest")
+            .field("method", &self.method)
+            .field("target_len", &self.target.len())
+            .field("headers", &self.headers)
+            .field("body_len", &self.body.len())
+            .finish()
     }
 }
