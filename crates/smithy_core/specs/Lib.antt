@@ -1,8 +1,10 @@
 pub mod Civil
 pub mod CivilText
 pub mod Disks
+pub mod Document
 pub mod Files
 pub mod Format
+pub mod Frames
 pub mod Given
 pub mod HeaderGrammar
 pub mod Instant
@@ -10,6 +12,7 @@ pub mod Memory
 pub mod Outside
 pub mod Pairs
 pub mod Parts
+pub mod SdkErrors
 pub mod Signers
 pub mod Text
 pub mod Values

@@ -47,6 +47,13 @@ impl Calls {
         fails
     }
 
+    /// How many calls were made.
+    pub fn made(&self) -> u64
+        ensures { result ≡ self.now.calls }
+    {
+        self.made
+    }
+
     /// The same calls.
     pub fn try_clone(&self) -> Mem<Calls>
         ensures { IfOk result (λ copy. copy ≡ self.now) }
