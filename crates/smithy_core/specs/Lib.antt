@@ -2,6 +2,7 @@ pub mod Civil
 pub mod CivilText
 pub mod Disks
 pub mod Document
+pub mod Faults
 pub mod Files
 pub mod Format
 pub mod Frames

@@ -1,4 +1,4 @@
-ghost use Rattle.std.specs.Prelude.{◌≡◌, ◌<◌, [], ◌∷◌, ◌++◌, length, IfOk, OnOk, OnErr, option_copied, bytes_eq, filter, not, ◌≤◌, vec_len, vec_capacity};
+ghost use Rattle.std.specs.Prelude.{◌≡◌, ◌<◌, ◌↔◌, IsTrue, [], ◌∷◌, ◌++◌, length, IfOk, OnOk, OnErr, option_copied, bytes_eq, filter, not, ◌≤◌, vec_len, vec_capacity};
 ghost use Rattle.std.specs.String.{string_bytes};
 ghost use Rattle.smithy_core.specs.Pairs.{first_value, inserted, lower, named_values, place_of, text_pairs};
 
@@ -97,6 +97,25 @@ impl Headers {
         ensures { result ≡ length self.now }
     {
         self.pairs.len()
+    }
+
+    /// Whether there are no pairs.
+    pub fn is_empty(&self) -> bool
+        ensures { IsTrue result ↔ (self.now ≡ []) }
+    {
+        self.pairs.is_empty()
+    }
+}
+
+impl<'a> IntoIterator for &'a Headers {
+    type Item = (&'a str, &'a str);
+
+    type IntoIter = HeaderIter<'a>;
+
+    ghost into_iter_gives = { λ headers iter. iter ≡ headers.now };
+
+    fn into_iter(self) -> HeaderIter<'a> {
+        self.iter()
     }
 }
 

@@ -9,6 +9,8 @@ ghost use Rattle.smithy_core.specs.Pairs.{last_value, value_if};
 use crate::memory::Mem;
 use crate::outside::calls::Calls;
 use std::alloc::Global;
+use std::error::Error;
+use std::fmt;
 use std::marker::Model;
 
 /// Why a file wasn't read.
@@ -21,6 +23,23 @@ pub enum DiskError {
     /// Memory ran out.
     NoMemory,
 }
+
+impl fmt::Display for DiskError {
+    ghost use Rattle.std.specs.Prelude.{Some};
+    ghost use Rattle.smithy_core.specs.Faults.{disk_error_text};
+
+    ghost output = { λ fault. Some (disk_error_text fault) };
+
+    fn fmt<W: fmt::Write>(&self, f: &mut fmt::Formatter<W>) -> fmt::Result {
+        f.write_str(match self {
+            DiskError::NotFound => "no file has this path",
+            DiskError::Failed => "the disk failed",
+            DiskError::NoMemory => "no memory",
+        })
+    }
+}
+
+impl Error for DiskError {}
 
 /// Files. `answers` relates a disk before a read, the path, its answer, and the disk after it.
 pub trait Disk {

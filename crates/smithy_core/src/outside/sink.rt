@@ -5,6 +5,8 @@ ghost use Rattle.smithy_core.specs.Outside.{GainsFront, Rose};
 use crate::memory::Mem;
 use crate::outside::calls::Calls;
 use std::alloc::Global;
+use std::error::Error;
+use std::fmt;
 use std::marker::Model;
 
 /// Why a sink took nothing.
@@ -15,6 +17,22 @@ pub enum SinkError {
     /// Memory ran out.
     NoMemory,
 }
+
+impl fmt::Display for SinkError {
+    ghost use Rattle.std.specs.Prelude.{Some};
+    ghost use Rattle.smithy_core.specs.Faults.{sink_error_text};
+
+    ghost output = { λ fault. Some (sink_error_text fault) };
+
+    fn fmt<W: fmt::Write>(&self, f: &mut fmt::Formatter<W>) -> fmt::Result {
+        f.write_str(match self {
+            SinkError::Failed => "the sink failed",
+            SinkError::NoMemory => "no memory",
+        })
+    }
+}
+
+impl Error for SinkError {}
 
 /// Takes bytes to the outside.
 pub trait ByteSink {

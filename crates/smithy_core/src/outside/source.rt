@@ -4,11 +4,25 @@ ghost use Rattle.smithy_core.specs.Outside.{IsAtEnd, Rose, TakesFront};
 
 use crate::memory::Mem;
 use crate::outside::calls::Calls;
+use std::error::Error;
+use std::fmt;
 use std::marker::Model;
 
 /// A call of the outside failed.
 #[derive(Clone, Copy, Debug, PartialEq, Eq)]
 pub struct Failed;
+
+impl fmt::Display for Failed {
+    ghost use Rattle.std.specs.Prelude.{Some, codes};
+
+    ghost output = { λ _. Some (codes "a source of the outside failed") };
+
+    fn fmt<W: fmt::Write>(&self, f: &mut fmt::Formatter<W>) -> fmt::Result {
+        f.write_str("a source of the outside failed")
+    }
+}
+
+impl Error for Failed {}
 
 /// Bytes that come from outside.
 pub trait ByteSource {
