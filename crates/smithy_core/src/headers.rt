@@ -1,12 +1,12 @@
-ghost use Rattle.std.specs.Prelude.{◌≡◌, ◌<◌, ◌↔◌, IsTrue, [], ◌∷◌, ◌++◌, length, IfOk, OnOk, OnErr, option_copied, bytes_eq, filter, not, ◌≤◌, vec_len, vec_capacity};
+ghost use Rattle.std.specs.Prelude.{◌≡◌, ◌<◌, ◌↔◌, IsTrue, map, [], ◌∷◌, ◌++◌, length, IfOk, OnOk, OnErr, option_copied, bytes_eq, filter, not, ◌≤◌, vec_len, vec_capacity};
 ghost use Rattle.std.specs.String.{string_bytes};
-ghost use Rattle.smithy_core.specs.Pairs.{first_value, inserted, lower, named_values, place_of, text_pairs};
+ghost use Rattle.smithy_core.specs.Pairs.{first_value, inserted, lower, lower_name, named_values, place_of, text_pairs};
 
 use crate::header_iter::HeaderIter;
 use crate::header_values::{HeaderValues, after_named};
 use crate::memory::Mem;
 use crate::text_pairs::{copied_pairs, fmt_lengths};
-use std::alloc::Global;
+use std::alloc::{AllocError, Global};
 use std::fmt;
 use std::marker::Model;
 
@@ -117,6 +117,31 @@ impl<'a> IntoIterator for &'a Headers {
     fn into_iter(self) -> HeaderIter<'a> {
         self.iter()
     }
+}
+
+impl<'a> FromIterator<(&'a str, &'a str)> for Headers {
+    type Alloc = Global;
+
+    ghost from_iter_gives = { λ pairs headers. headers ≡ map lower_name pairs };
+
+    fn from_iter<U: IntoIterator<Item = (&'a str, &'a str)>>(
+        alloc: Global,
+        iter: U,
+    ) -> Result<Headers, AllocError> {
+        let pairs = Vec::from_iter(alloc, iter)?;
+        appended(alloc, pairs.as_slice())
+    }
+}
+
+// The pairs, appended one by one.
+fn appended(alloc: Global, pairs: &[(&str, &str)]) -> Mem<Headers>
+    ensures { IfOk result (λ headers. headers ≡ map lower_name pairs.now) }
+{
+    let mut headers = Headers::new(alloc);
+    for (name, value) in pairs {
+        headers.append(*name, *value)?;
+    }
+    Ok(headers)
 }
 
 impl fmt::Debug for Headers {
