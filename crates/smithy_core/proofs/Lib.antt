@@ -4,6 +4,7 @@ pub mod DocumentLemmas
 pub mod FormatLemmas
 pub mod GainLemmas
 pub mod InstantLemmas
+pub mod LowerLemmas
 pub mod PairLemmas
 pub mod TextLemmas
 pub mod ZeroLemmas

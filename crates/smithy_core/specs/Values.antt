@@ -1,5 +1,6 @@
 -- What contracts see of a header's value.
-use Rattle.std.specs.Prelude.{ℕ, ℤ, Bool, List, Option, Some, None}
+use Rattle.std.specs.Prelude.{ℕ, ℤ, Bool, List, ◌++◌, Option, Some, None, codes, if◌then◌else◌}
+use Rattle.std.specs.Fmt.{decimal, signed_decimal}
 use Rattle.smithy_core.specs.Instant.{Instant}
 use Rattle.smithy_core.specs.declared.header.HeaderValue.{HeaderValue}
 use Rattle.smithy_core.specs.declared.header.HeaderValue.TheVariants.{Bool as Truth, Byte, Int16, Int32, Int64, ByteArray, String, Timestamp, Uuid}
@@ -48,3 +49,15 @@ instant_of _ = None
 abbrev pub uuid_of : HeaderValue → Option ℕ
 uuid_of (Uuid bits) = Some bits
 uuid_of _ = None
+
+-- what a value prints, where that is told: of bytes it isn't
+abbrev pub value_text : HeaderValue → Option (List ℕ)
+value_text (Truth value) = Some (if value then codes "true" else codes "false")
+value_text (Byte value) = Some (signed_decimal value)
+value_text (Int16 value) = Some (signed_decimal value)
+value_text (Int32 value) = Some (signed_decimal value)
+value_text (Int64 value) = Some (signed_decimal value)
+value_text (ByteArray bytes) = None
+value_text (String text) = Some text
+value_text (Timestamp t) = Some (signed_decimal t.secs ++ (codes " " ++ decimal t.nanos))
+value_text (Uuid bits) = Some (decimal bits)

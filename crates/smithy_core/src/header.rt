@@ -5,6 +5,7 @@ use crate::memory::Mem;
 use crate::moment::DateTime;
 use crate::str_bytes::StrBytes;
 use bytes::Bytes;
+use std::fmt;
 
 /// The value of a [`Header`]: one of the nine kinds of the event stream encoding.
 #[derive(Debug, Drop)]
@@ -182,6 +183,31 @@ impl From<&'static str> for HeaderValue {
 
     fn from(text: &'static str) -> HeaderValue {
         HeaderValue::String(StrBytes::from_static(text))
+    }
+}
+
+/// Prints true or false, a number in decimal, bytes as lower-case hexadecimal digits, a text as it is, and a moment as its
+/// seconds, one space and its nanoseconds.
+impl fmt::Display for HeaderValue {
+    ghost use Rattle.smithy_core.specs.Values.{value_text};
+
+    ghost output = { value_text };
+
+    fn fmt<W: fmt::Write>(&self, f: &mut fmt::Formatter<W>) -> fmt::Result {
+        match self {
+            HeaderValue::Bool(value) => write!(f, "{value}"),
+            HeaderValue::Byte(value) => write!(f, "{value}"),
+            HeaderValue::Int16(value) => write!(f, "{value}"),
+            HeaderValue::Int32(value) => write!(f, "{value}"),
+            HeaderValue::Int64(value) => write!(f, "{value}"),
+            HeaderValue::ByteArray(value) => fmt::LowerHex::fmt(value, f),
+            HeaderValue::String(value) => f.write_str(value.as_str()),
+            HeaderValue::Timestamp(value) => {
+                let (secs, nanos) = (value.secs(), value.subsec_nanos());
+                write!(f, "{secs} {nanos}")
+            }
+            HeaderValue::Uuid(value) => write!(f, "{value}"),
+        }
     }
 }
 

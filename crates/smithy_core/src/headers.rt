@@ -1,6 +1,6 @@
-ghost use Rattle.std.specs.Prelude.{◌≡◌, ◌<◌, ◌↔◌, IsTrue, map, [], ◌∷◌, ◌++◌, length, IfOk, OnOk, OnErr, option_copied, bytes_eq, filter, not, ◌≤◌, vec_len, vec_capacity};
+ghost use Rattle.std.specs.Prelude.{◌≡◌, ◌<◌, ◌↔◌, IsSome, IsTrue, map, [], ◌∷◌, ◌++◌, length, IfOk, OnOk, OnErr, option_copied, bytes_eq, filter, not, ◌≤◌, vec_len, vec_capacity};
 ghost use Rattle.std.specs.String.{string_bytes};
-ghost use Rattle.smithy_core.specs.Pairs.{first_value, inserted, lower, lower_name, named_values, place_of, text_pairs};
+ghost use Rattle.smithy_core.specs.Pairs.{AreLower, first_value, inserted, lower, lower_name, named_values, place_of, text_pairs};
 
 use crate::header_iter::HeaderIter;
 use crate::header_values::{HeaderValues, after_named};
@@ -21,11 +21,13 @@ pub struct Headers {
 
 impl Model for Headers {
     ghost use Rattle.std.specs.Prelude.{ℕ, List};
-    ghost use Rattle.smithy_core.specs.Pairs.{text_pairs};
+    ghost use Rattle.smithy_core.specs.Pairs.{AreLower, text_pairs};
 
     ghost Value = { List (List ℕ × List ℕ) };
 
     ghost view = { λ headers. text_pairs headers.pairs.items };
+
+    ghost invariant = { λ headers. AreLower (text_pairs headers.pairs.items) };
 }
 
 impl Headers {
@@ -39,6 +41,7 @@ impl Headers {
     }
 
     /// Adds the pair at the end.
+    #[tactic(auto, using(crate::proofs::LowerLemmas::lower_pushed))]
     pub fn append(&mut self, name: &str, value: &str) -> Mem<()>
         ensures ok { OnOk result (self.new ≡ self.old ++ (lower name.now, value.now) ∷ []) }
         ensures err { OnErr result (self.new ≡ self.old) }
@@ -49,6 +52,7 @@ impl Headers {
     }
 
     /// Puts the pair at the first place of its name and drops the others of that name, or else adds it at the end.
+    #[tactic(auto, using(crate::proofs::LowerLemmas::lower_put))]
     pub fn insert(&mut self, name: &str, value: &str) -> Mem<()>
         ensures ok { OnOk result (self.new ≡ inserted self.old (lower name.now) value.now) }
         ensures err { OnErr result (self.new ≡ self.old) }
@@ -76,6 +80,14 @@ impl Headers {
         }
     }
 
+    /// Whether a pair has this name, in whatever case the name is given. Each name is kept in lower case.
+    pub fn contains_key(&self, name: &str) -> bool
+        ensures found { IsTrue result ↔ IsSome (first_value self.now (lower name.now)) }
+        ensures lower { AreLower self.now }
+    {
+        after_named(self.pairs.as_slice(), name).is_some()
+    }
+
     /// The values of this name in order, in whatever case the name is given.
     pub fn get_all<'a>(&'a self, name: &'a str) -> HeaderValues<'a>
         ensures { result ≡ named_values self.now (lower name.now) }
@@ -84,6 +96,7 @@ impl Headers {
     }
 
     /// Equal headers.
+    #[tactic(auto, using(crate::proofs::LowerLemmas::lower_copied))]
     pub fn try_clone(&self) -> Mem<Headers>
         ensures { IfOk result (λ copy. copy ≡ self.now) }
     {
