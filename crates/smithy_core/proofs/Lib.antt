@@ -1,8 +1,10 @@
 pub mod CivilTextLemmas
 pub mod CutLemmas
+pub mod DocumentLemmas
 pub mod FormatLemmas
 pub mod GainLemmas
 pub mod InstantLemmas
+pub mod LowerLemmas
 pub mod PairLemmas
 pub mod TextLemmas
 pub mod ZeroLemmas

@@ -1,5 +1,5 @@
 -- What contracts say of a clock. The list of what it gave is optional: it need not tell.
-use Rattle.std.specs.Prelude.{◌≡◌, ℕ, zero, suc, ◌-◌, ◌^◌, List, [], ◌∷◌, ◌++◌, Option, Some, None, nat_lt, if◌then◌else◌}
+use Rattle.std.specs.Prelude.{◌≡◌, ℕ, zero, suc, ◌+◌, ◌-◌, ◌^◌, min, List, [], ◌∷◌, ◌++◌, Option, Some, None, nat_lt, if◌then◌else◌}
 use Rattle.std.specs.List.{slice_index_or}
 use Rattle.smithy_core.specs.Instant.{Instant}
 
@@ -17,3 +17,18 @@ answers last moments (suc n) = answers last moments n ++ slice_index_or moments 
 -- told while the count of calls is below its greatest value
 abbrev pub given_of : Instant → List Instant → ℕ → Option (List Instant)
 given_of last moments count = if nat_lt count (2 ^ 64 - 1) then Some (answers last moments count) else None
+
+-- what contracts see of a clock: the moments that it is to give, the one that follows them again and again, and the calls made
+pub record ClockState : Type 0 where
+  pub moments : List Instant
+  pub last : Instant
+  pub calls : ℕ
+
+-- what a clock has given
+abbrev pub given : ClockState → Option (List Instant)
+given clock = given_of clock.last clock.moments clock.calls
+
+-- the next moment was given; calls are counted up to the greatest number
+pub record GivesNext (before : ClockState) (moment : Instant) (now : ClockState) : Type 0 where
+  pub next : moment ≡ slice_index_or before.moments before.calls before.last
+  pub counted : now ≡ record before { calls = min (before.calls + 1) (2 ^ 64 - 1) }

@@ -1,16 +1,10 @@
 -- What contracts say of the objects of the outside. What an object holds or has left is optional: it need not tell.
-use Rattle.std.specs.Prelude.{◌≡◌, ℕ, ◌<◌, ◌≤◌, ◌⊎◌, ◌↔◌, ◌+◌, ◌-◌, ◌^◌, min, Contains, List, [], ◌++◌, length, take, drop, Option, Some, None}
+use Rattle.std.specs.Prelude.{◌≡◌, ℕ, ◌<◌, ◌≤◌, ◌⊎◌, ◌-◌, ◌^◌, List, [], ◌++◌, length, take, drop, Option, Some, None}
 use Rattle.smithy_core.specs.Pairs.{last_value}
 
 -- the count rose, or stands at its last value
 abbrev pub Rose : ℕ → ℕ → Type 0
 Rose before now = (before < now) ⊎ (now ≡ 2 ^ 64 - 1)
-
--- the call fails exactly where its number is listed; calls are counted from 1, up to the greatest number, and the list stays
-pub record FailsAsListed (Fails : Type 0) (listed : List ℕ) (calls : ℕ) (listed_now : List ℕ) (calls_now : ℕ) : Type 0 where
-  pub fails : Fails ↔ Contains listed calls_now
-  pub counts : calls_now ≡ min (calls + 1) (2 ^ 64 - 1)
-  pub same : listed_now ≡ listed
 
 -- the first n bytes of what was left are the first n of the buffer, and are gone
 abbrev pub TakesFront : ℕ → List ℕ → Option (List ℕ) → Option (List ℕ) → Type 0

@@ -1,5 +1,7 @@
 -- Lists of pairs: headers, variables, files.
-use Rattle.std.specs.Prelude.{ℕ, zero, suc, List, [], ◌∷◌, map, filter, not, Option, Some, None, String, string_bytes, bytes_eq, if◌then◌else◌}
+use Rattle.std.specs.Prelude.{◌≡◌, ℕ, zero, suc, List, [], ◌∷◌, map, filter, not, Option, Some, None, String, string_bytes, bytes_eq, if◌then◌else◌}
+use Rattle.std.specs.Borrow.{Bor}
+use Rattle.std.specs.List.{AllByRecursion}
 use Rattle.std.specs.Option.{option_or}
 use Rattle.std.specs.Char.{to_ascii_lowercase}
 use Rattle.std.specs.declared.alloc.Global.{Global}
@@ -15,6 +17,14 @@ text_pairs pairs = map text_pair pairs
 -- a text with its ASCII letters in lower case
 abbrev pub lower : List ℕ → List ℕ
 lower text = map to_ascii_lowercase text
+
+-- each name has its ASCII letters in lower case
+abbrev pub AreLower : List (List ℕ × List ℕ) → Type 0
+AreLower pairs = AllByRecursion (λ pair. lower pair.0 ≡ pair.0) pairs
+
+-- a pair of borrowed texts, its name in lower case
+abbrev pub lower_name : Bor (List ℕ) × Bor (List ℕ) → List ℕ × List ℕ
+lower_name pair = (lower pair.0.now, pair.1.now)
 
 -- the value, where the pair has this name
 abbrev pub value_if : List ℕ × List ℕ → List ℕ → Option (List ℕ)

@@ -3,6 +3,8 @@ ghost use Rattle.http_header.specs.Token.{IsToken};
 
 use crate::memory::Mem;
 use http_header::is_token;
+use std::error::Error;
+use std::fmt;
 use std::marker::Model;
 
 /// The name of an application, as its user agent tells it: letters, digits and marks of
@@ -17,6 +19,20 @@ pub struct AppName {
 /// The text is empty, or holds a character that no application's name may hold.
 #[derive(Clone, Copy, Debug, PartialEq, Eq)]
 pub struct InvalidAppName;
+
+impl fmt::Display for InvalidAppName {
+    ghost use Rattle.std.specs.Prelude.{Some, codes};
+
+    ghost output = { λ _. Some (codes "the name of an application is empty or holds a character that no such name may hold") };
+
+    fn fmt<W: fmt::Write>(&self, f: &mut fmt::Formatter<W>) -> fmt::Result {
+        f.write_str(
+            "the name of an application is empty or holds a character that no such name may hold",
+        )
+    }
+}
+
+impl Error for InvalidAppName {}
 
 impl Model for AppName {
     ghost use Rattle.std.specs.Prelude.{ℕ, List, string_bytes};

@@ -4,14 +4,16 @@ ghost use Rattle.std.specs.String.{string_bytes};
 ghost use Rattle.smithy_core.specs.Pairs.{last_value, value_if};
 
 use crate::memory::Mem;
-use crate::text_pairs::copied_pairs;
+use crate::text_pairs::{copied_pairs, fmt_lengths};
 use std::alloc::Global;
+use std::fmt;
 use std::marker::Model;
 
-/// Environment variables. Of equal names the last one counts.
+/// Environment variables. Of equal names the last one counts. [`Debug`](std::fmt::Debug) prints names and the lengths of
+/// values, since a value may be a secret.
 ///
 /// Contracts see the list of the pairs.
-#[derive(Debug, Drop)]
+#[derive(Drop)]
 pub struct Env {
     pairs: Vec<(String, String)>,
 }
@@ -63,6 +65,12 @@ impl Env {
         ensures { option_copied result ≡ last_value self.now key.now }
     {
         last_text(self.pairs.as_slice(), key)
+    }
+}
+
+impl fmt::Debug for Env {
+    fn fmt<W: fmt::Write>(&self, f: &mut fmt::Formatter<W>) -> fmt::Result {
+        fmt_lengths(self.pairs.as_slice(), f)
     }
 }
 

@@ -12,6 +12,8 @@ use crate::civil_text::Civil;
 use crate::memory::Mem;
 use crate::moment::DateTime;
 use std::alloc::{AllocError, Global};
+use std::error::Error;
+use std::fmt;
 
 /// A form of text of a moment.
 #[derive(Clone, Copy, Debug, PartialEq, Eq)]
@@ -32,6 +34,22 @@ pub enum FormatFault {
     /// Memory ran out.
     NoMemory,
 }
+
+impl fmt::Display for FormatFault {
+    ghost use Rattle.std.specs.Prelude.{Some};
+    ghost use Rattle.smithy_core.specs.Faults.{format_fault_text};
+
+    ghost output = { λ fault. Some (format_fault_text fault) };
+
+    fn fmt<W: fmt::Write>(&self, f: &mut fmt::Formatter<W>) -> fmt::Result {
+        f.write_str(match self {
+            FormatFault::OutOfRange => "the moment lies outside the years 0 to 9999",
+            FormatFault::NoMemory => "no memory",
+        })
+    }
+}
+
+impl Error for FormatFault {}
 
 impl From<AllocError> for FormatFault {
     ghost from_gives = { λ _ fault. fault ≡ NoMemory };

@@ -1,10 +1,11 @@
 ghost use Rattle.std.specs.Prelude.{◌≡◌, IfOk, MatchResult, Some, None};
-ghost use Rattle.smithy_core.specs.Values.{string_of};
+ghost use Rattle.smithy_core.specs.Values.{bool_of, byte_of, bytes_of, instant_of, int16_of, int32_of, int64_of, string_of, uuid_of};
 
 use crate::memory::Mem;
 use crate::moment::DateTime;
 use crate::str_bytes::StrBytes;
 use bytes::Bytes;
+use std::fmt;
 
 /// The value of a [`Header`]: one of the nine kinds of the event stream encoding.
 #[derive(Debug, Drop)]
@@ -44,6 +45,118 @@ impl HeaderValue {
         }
     }
 
+    /// The truth value of a [`HeaderValue::Bool`].
+    ///
+    /// # Errors
+    ///
+    /// The value itself, where it is of another kind.
+    pub fn as_bool(&self) -> Result<bool, &HeaderValue>
+        ensures { MatchResult result (λ value. bool_of self.now ≡ Some value) (λ value. (bool_of self.now ≡ None) × (value.now ≡ self.now)) }
+    {
+        match self {
+            HeaderValue::Bool(value) => Ok(*value),
+            _ => Err(self),
+        }
+    }
+
+    /// The number of a [`HeaderValue::Byte`].
+    ///
+    /// # Errors
+    ///
+    /// The value itself, where it is of another kind.
+    pub fn as_byte(&self) -> Result<i8, &HeaderValue>
+        ensures { MatchResult result (λ value. byte_of self.now ≡ Some value) (λ value. (byte_of self.now ≡ None) × (value.now ≡ self.now)) }
+    {
+        match self {
+            HeaderValue::Byte(value) => Ok(*value),
+            _ => Err(self),
+        }
+    }
+
+    /// The number of a [`HeaderValue::Int16`].
+    ///
+    /// # Errors
+    ///
+    /// The value itself, where it is of another kind.
+    pub fn as_int16(&self) -> Result<i16, &HeaderValue>
+        ensures { MatchResult result (λ value. int16_of self.now ≡ Some value) (λ value. (int16_of self.now ≡ None) × (value.now ≡ self.now)) }
+    {
+        match self {
+            HeaderValue::Int16(value) => Ok(*value),
+            _ => Err(self),
+        }
+    }
+
+    /// The number of a [`HeaderValue::Int32`].
+    ///
+    /// # Errors
+    ///
+    /// The value itself, where it is of another kind.
+    pub fn as_int32(&self) -> Result<i32, &HeaderValue>
+        ensures { MatchResult result (λ value. int32_of self.now ≡ Some value) (λ value. (int32_of self.now ≡ None) × (value.now ≡ self.now)) }
+    {
+        match self {
+            HeaderValue::Int32(value) => Ok(*value),
+            _ => Err(self),
+        }
+    }
+
+    /// The number of a [`HeaderValue::Int64`].
+    ///
+    /// # Errors
+    ///
+    /// The value itself, where it is of another kind.
+    pub fn as_int64(&self) -> Result<i64, &HeaderValue>
+        ensures { MatchResult result (λ value. int64_of self.now ≡ Some value) (λ value. (int64_of self.now ≡ None) × (value.now ≡ self.now)) }
+    {
+        match self {
+            HeaderValue::Int64(value) => Ok(*value),
+            _ => Err(self),
+        }
+    }
+
+    /// The bytes of a [`HeaderValue::ByteArray`].
+    ///
+    /// # Errors
+    ///
+    /// The value itself, where it is of another kind.
+    pub fn as_byte_array(&self) -> Result<&Bytes, &HeaderValue>
+        ensures { MatchResult result (λ value. bytes_of self.now ≡ Some value.now) (λ value. (bytes_of self.now ≡ None) × (value.now ≡ self.now)) }
+    {
+        match self {
+            HeaderValue::ByteArray(value) => Ok(value),
+            _ => Err(self),
+        }
+    }
+
+    /// The moment of a [`HeaderValue::Timestamp`].
+    ///
+    /// # Errors
+    ///
+    /// The value itself, where it is of another kind.
+    pub fn as_timestamp(&self) -> Result<DateTime, &HeaderValue>
+        ensures { MatchResult result (λ value. instant_of self.now ≡ Some value) (λ value. (instant_of self.now ≡ None) × (value.now ≡ self.now)) }
+    {
+        match self {
+            HeaderValue::Timestamp(value) => Ok(*value),
+            _ => Err(self),
+        }
+    }
+
+    /// The bits of a [`HeaderValue::Uuid`].
+    ///
+    /// # Errors
+    ///
+    /// The value itself, where it is of another kind.
+    pub fn as_uuid(&self) -> Result<u128, &HeaderValue>
+        ensures { MatchResult result (λ value. uuid_of self.now ≡ Some value) (λ value. (uuid_of self.now ≡ None) × (value.now ≡ self.now)) }
+    {
+        match self {
+            HeaderValue::Uuid(value) => Ok(*value),
+            _ => Err(self),
+        }
+    }
+
     /// An equal value.
     pub fn try_clone(&self) -> Mem<HeaderValue>
         ensures { IfOk result (λ copy. copy ≡ self.now) }
@@ -59,6 +172,42 @@ impl HeaderValue {
             HeaderValue::Timestamp(value) => HeaderValue::Timestamp(*value),
             HeaderValue::Uuid(value) => HeaderValue::Uuid(*value),
         })
+    }
+}
+
+impl From<&'static str> for HeaderValue {
+    ghost use Rattle.std.specs.Prelude.{◌≡◌};
+    ghost use Rattle.smithy_core.specs.declared.header.HeaderValue.TheVariants as value;
+
+    ghost from_gives = { λ text result. result ≡ value.String text.now };
+
+    fn from(text: &'static str) -> HeaderValue {
+        HeaderValue::String(StrBytes::from_static(text))
+    }
+}
+
+/// Prints true or false, a number in decimal, bytes as lower-case hexadecimal digits, a text as it is, and a moment as its
+/// seconds, one space and its nanoseconds.
+impl fmt::Display for HeaderValue {
+    ghost use Rattle.smithy_core.specs.Values.{value_text};
+
+    ghost output = { value_text };
+
+    fn fmt<W: fmt::Write>(&self, f: &mut fmt::Formatter<W>) -> fmt::Result {
+        match self {
+            HeaderValue::Bool(value) => write!(f, "{value}"),
+            HeaderValue::Byte(value) => write!(f, "{value}"),
+            HeaderValue::Int16(value) => write!(f, "{value}"),
+            HeaderValue::Int32(value) => write!(f, "{value}"),
+            HeaderValue::Int64(value) => write!(f, "{value}"),
+            HeaderValue::ByteArray(value) => fmt::LowerHex::fmt(value, f),
+            HeaderValue::String(value) => f.write_str(value.as_str()),
+            HeaderValue::Timestamp(value) => {
+                let (secs, nanos) = (value.secs(), value.subsec_nanos());
+                write!(f, "{secs} {nanos}")
+            }
+            HeaderValue::Uuid(value) => write!(f, "{value}"),
+        }
     }
 }
 

@@ -1,29 +1,33 @@
-ghost use Rattle.std.specs.Prelude.{◌≡◌, ◌<◌, [], ◌∷◌, ◌++◌, length, IfOk, OnOk, OnErr, option_copied, bytes_eq, filter, not, ◌≤◌, vec_len, vec_capacity};
+ghost use Rattle.std.specs.Prelude.{◌≡◌, ◌<◌, ◌↔◌, IsSome, IsTrue, map, [], ◌∷◌, ◌++◌, length, IfOk, OnOk, OnErr, option_copied, bytes_eq, filter, not, ◌≤◌, vec_len, vec_capacity};
 ghost use Rattle.std.specs.String.{string_bytes};
-ghost use Rattle.smithy_core.specs.Pairs.{first_value, inserted, lower, named_values, place_of, text_pairs};
+ghost use Rattle.smithy_core.specs.Pairs.{AreLower, first_value, inserted, lower, lower_name, named_values, place_of, text_pairs};
 
 use crate::header_iter::HeaderIter;
 use crate::header_values::{HeaderValues, after_named};
 use crate::memory::Mem;
-use crate::text_pairs::copied_pairs;
-use std::alloc::Global;
+use crate::text_pairs::{copied_pairs, fmt_lengths};
+use std::alloc::{AllocError, Global};
+use std::fmt;
 use std::marker::Model;
 
 /// Headers of a request or a response: pairs of a name in ASCII lower case and a value, in order. Nothing is tested.
+/// [`Debug`](std::fmt::Debug) prints names and the lengths of values, since a value may be a secret.
 ///
 /// Contracts see the list of the pairs.
-#[derive(Debug, Drop)]
+#[derive(Drop)]
 pub struct Headers {
     pairs: Vec<(String, String)>,
 }
 
 impl Model for Headers {
     ghost use Rattle.std.specs.Prelude.{ℕ, List};
-    ghost use Rattle.smithy_core.specs.Pairs.{text_pairs};
+    ghost use Rattle.smithy_core.specs.Pairs.{AreLower, text_pairs};
 
     ghost Value = { List (List ℕ × List ℕ) };
 
     ghost view = { λ headers. text_pairs headers.pairs.items };
+
+    ghost invariant = { λ headers. AreLower (text_pairs headers.pairs.items) };
 }
 
 impl Headers {
@@ -37,6 +41,7 @@ impl Headers {
     }
 
     /// Adds the pair at the end.
+    #[tactic(auto, using(crate::proofs::LowerLemmas::lower_pushed))]
     pub fn append(&mut self, name: &str, value: &str) -> Mem<()>
         ensures ok { OnOk result (self.new ≡ self.old ++ (lower name.now, value.now) ∷ []) }
         ensures err { OnErr result (self.new ≡ self.old) }
@@ -47,6 +52,7 @@ impl Headers {
     }
 
     /// Puts the pair at the first place of its name and drops the others of that name, or else adds it at the end.
+    #[tactic(auto, using(crate::proofs::LowerLemmas::lower_put))]
     pub fn insert(&mut self, name: &str, value: &str) -> Mem<()>
         ensures ok { OnOk result (self.new ≡ inserted self.old (lower name.now) value.now) }
         ensures err { OnErr result (self.new ≡ self.old) }
@@ -74,6 +80,14 @@ impl Headers {
         }
     }
 
+    /// Whether a pair has this name, in whatever case the name is given. Each name is kept in lower case.
+    pub fn contains_key(&self, name: &str) -> bool
+        ensures found { IsTrue result ↔ IsSome (first_value self.now (lower name.now)) }
+        ensures lower { AreLower self.now }
+    {
+        after_named(self.pairs.as_slice(), name).is_some()
+    }
+
     /// The values of this name in order, in whatever case the name is given.
     pub fn get_all<'a>(&'a self, name: &'a str) -> HeaderValues<'a>
         ensures { result ≡ named_values self.now (lower name.now) }
@@ -82,6 +96,7 @@ impl Headers {
     }
 
     /// Equal headers.
+    #[tactic(auto, using(crate::proofs::LowerLemmas::lower_copied))]
     pub fn try_clone(&self) -> Mem<Headers>
         ensures { IfOk result (λ copy. copy ≡ self.now) }
     {
@@ -95,6 +110,56 @@ impl Headers {
         ensures { result ≡ length self.now }
     {
         self.pairs.len()
+    }
+
+    /// Whether there are no pairs.
+    pub fn is_empty(&self) -> bool
+        ensures { IsTrue result ↔ (self.now ≡ []) }
+    {
+        self.pairs.is_empty()
+    }
+}
+
+impl<'a> IntoIterator for &'a Headers {
+    type Item = (&'a str, &'a str);
+
+    type IntoIter = HeaderIter<'a>;
+
+    ghost into_iter_gives = { λ headers iter. iter ≡ headers.now };
+
+    fn into_iter(self) -> HeaderIter<'a> {
+        self.iter()
+    }
+}
+
+impl<'a> FromIterator<(&'a str, &'a str)> for Headers {
+    type Alloc = Global;
+
+    ghost from_iter_gives = { λ pairs headers. headers ≡ map lower_name pairs };
+
+    fn from_iter<U: IntoIterator<Item = (&'a str, &'a str)>>(
+        alloc: Global,
+        iter: U,
+    ) -> Result<Headers, AllocError> {
+        let pairs = Vec::from_iter(alloc, iter)?;
+        appended(alloc, pairs.as_slice())
+    }
+}
+
+// The pairs, appended one by one.
+fn appended(alloc: Global, pairs: &[(&str, &str)]) -> Mem<Headers>
+    ensures { IfOk result (λ headers. headers ≡ map lower_name pairs.now) }
+{
+    let mut headers = Headers::new(alloc);
+    for (name, value) in pairs {
+        headers.append(*name, *value)?;
+    }
+    Ok(headers)
+}
+
+impl fmt::Debug for Headers {
+    fn fmt<W: fmt::Write>(&self, f: &mut fmt::Formatter<W>) -> fmt::Result {
+        fmt_lengths(self.pairs.as_slice(), f)
     }
 }
 

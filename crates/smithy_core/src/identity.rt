@@ -87,6 +87,17 @@ pub enum Identity {
     Token(String),
 }
 
+impl From<Credentials> for Identity {
+    ghost use Rattle.std.specs.Prelude.{◌≡◌};
+    ghost use Rattle.smithy_core.specs.declared.identity.Identity.TheVariants as identity;
+
+    ghost from_gives = { λ credentials result. result ≡ identity.Credentials credentials };
+
+    fn from(credentials: Credentials) -> Identity {
+        Identity::Credentials(credentials)
+    }
+}
+
 impl Identity {
     /// The same identity.
     pub fn try_clone(&self) -> Mem<Identity>

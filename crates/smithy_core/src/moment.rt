@@ -2,6 +2,8 @@ ghost use Rattle.std.specs.Prelude.{◌≡◌, ℕ, ◌<◌, ◌/◌, FitsSigned
 ghost use Rattle.std.specs.Int.{w64};
 ghost use Rattle.smithy_core.specs.Instant.{at_ms, floor_ms};
 
+use std::error::Error;
+use std::fmt;
 use std::marker::Model;
 
 /// A moment: whole seconds since 1970-01-01T00:00:00Z, and the nanoseconds after them.
@@ -19,6 +21,18 @@ pub type Moment = DateTime;
 /// The whole milliseconds of a moment leave `i64`.
 #[derive(Clone, Copy, Debug, PartialEq, Eq)]
 pub struct TimeOutOfRange;
+
+impl fmt::Display for TimeOutOfRange {
+    ghost use Rattle.std.specs.Prelude.{Some, codes};
+
+    ghost output = { λ _. Some (codes "the milliseconds of the moment leave 64 bits") };
+
+    fn fmt<W: fmt::Write>(&self, f: &mut fmt::Formatter<W>) -> fmt::Result {
+        f.write_str("the milliseconds of the moment leave 64 bits")
+    }
+}
+
+impl Error for TimeOutOfRange {}
 
 impl Model for DateTime {
     ghost use Rattle.std.specs.Prelude.{◌<◌};

@@ -1,5 +1,8 @@
+pub mod calls;
 pub mod clock;
 pub mod disk;
+pub mod frame_part;
+pub mod frame_source;
 pub mod host;
 pub mod host_env;
 pub mod read_all;

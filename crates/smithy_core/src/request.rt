@@ -1,12 +1,15 @@
-ghost use Rattle.std.specs.Prelude.{◌≡◌, IfOk};
+ghost use Rattle.std.specs.Prelude.{◌≡◌, [], IfOk};
 ghost use Rattle.std.specs.String.{string_bytes};
 
 use crate::headers::Headers;
 use crate::memory::Mem;
 use bytes::Bytes;
+use std::alloc::Global;
+use std::fmt;
 
-/// An HTTP request.
-#[derive(Debug, Drop)]
+/// An HTTP request. [`Debug`](std::fmt::Debug) prints the method, the headers' names and lengths, since a target, a
+/// header's value or a body may hold a secret.
+#[derive(Drop)]
 pub struct HttpRequest {
     /// The method, as `GET`.
     pub method: String,
@@ -19,6 +22,20 @@ pub struct HttpRequest {
 }
 
 impl HttpRequest {
+    /// A request of this method and target, with no headers and an empty body.
+    pub fn new(alloc: Global, method: &str, target: &str) -> Mem<HttpRequest>
+        ensures method { IfOk result (λ request. string_bytes request.method ≡ method.now) }
+        ensures target { IfOk result (λ request. string_bytes request.target ≡ target.now) }
+        ensures empty { IfOk result (λ request. (request.headers ≡ []) × (request.body ≡ [])) }
+    {
+        Ok(HttpRequest {
+            method: String::from_str(alloc, method)?,
+            target: String::from_str(alloc, target)?,
+            headers: Headers::new(alloc),
+            body: Bytes::new(),
+        })
+    }
+
     /// A request with the same method, target, headers and body.
     pub fn try_clone(&self) -> Mem<HttpRequest>
         ensures method { IfOk result (λ copy. string_bytes copy.method ≡ string_bytes self.now.method) }
@@ -32,5 +49,16 @@ impl HttpRequest {
             headers: self.headers.try_clone()?,
             body: self.body.clone()?,
         })
+    }
+}
+
+impl fmt::Debug for HttpRequest {
+    fn fmt<W: fmt::Write>(&self, f: &mut fmt::Formatter<W>) -> fmt::Result {
+        f.debug_struct("HttpRequest")
+            .field("method", &self.method)
+            .field("target_len", &self.target.len())
+            .field("headers", &self.headers)
+            .field("body_len", &self.body.len())
+            .finish()
     }
 }

@@ -4,6 +4,7 @@ ghost use Rattle.std.specs.Str.{is_utf8};
 use crate::memory::Mem;
 use bytes::Bytes;
 use std::alloc::Global;
+use std::fmt;
 use std::marker::Model;
 
 /// UTF-8 text over shared bytes.
@@ -81,5 +82,23 @@ impl StrBytes {
         Ok(StrBytes {
             bytes: self.bytes.clone()?,
         })
+    }
+}
+
+impl From<&'static str> for StrBytes {
+    ghost from_gives = { λ text result. result ≡ text.now };
+
+    fn from(text: &'static str) -> StrBytes {
+        StrBytes::from_static(text)
+    }
+}
+
+impl fmt::Display for StrBytes {
+    ghost use Rattle.std.specs.Prelude.{Some};
+
+    ghost output = { λ text. Some text };
+
+    fn fmt<W: fmt::Write>(&self, f: &mut fmt::Formatter<W>) -> fmt::Result {
+        f.write_str(self.as_str())
     }
 }

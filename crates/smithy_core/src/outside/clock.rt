@@ -1,7 +1,9 @@
-ghost use Rattle.std.specs.Prelude.{◌≡◌, ℕ, ◌+◌, ◌-◌, ◌^◌, ◌<◌, min, List, [], Option, Some};
+ghost use Rattle.std.specs.Prelude.{◌≡◌, ◌-◌, ◌<◌, [], Some, IfOk};
 ghost use Rattle.std.specs.List.{slice_index_or};
 
+use crate::memory::Mem;
 use crate::moment::Moment;
+use std::marker::Model;
 
 /// Gives moments, and can't fail.
 pub trait Clock {
@@ -18,47 +20,68 @@ pub trait Clock {
 }
 
 /// Gives the listed moments in order, and then the last one again and again.
+///
+/// Contracts see a `ClockState`.
 #[derive(Debug, Drop)]
 pub struct ListClock {
     moments: Vec<Moment>,
     last: Moment,
-    count: u64,
+    calls: u64,
+}
+
+impl Model for ListClock {
+    ghost use Rattle.smithy_core.specs.Given.{ClockState};
+
+    ghost Value = { ClockState };
+
+    ghost view = { λ clock. record { moments = clock.moments.items; last = clock.last; calls = clock.calls } };
 }
 
 impl ListClock {
     ghost use Rattle.std.specs.Vec.{vec_len};
+    ghost use Rattle.smithy_core.specs.Instant.{Instant};
 
     /// A clock that has given nothing.
     pub fn new(moments: Vec<Moment>) -> ListClock
         requires { 0 < vec_len moments }
         ensures given { ⟦<ListClock as Clock>⟧.given result ≡ Some [] }
-        ensures moments { result.moments ≡ moments }
-        ensures last { result.last ≡ slice_index_or moments.items (vec_len moments - 1) result.last }
+        ensures moments { result.moments ≡ moments.items }
+        ensures last { (other : Instant) → result.last ≡ slice_index_or moments.items (vec_len moments - 1) other }
+        ensures calls { result.calls ≡ 0 }
     {
         let last = moments[moments.len() - 1];
         ListClock {
             moments,
             last,
-            count: 0,
+            calls: 0,
         }
+    }
+
+    /// A clock with the same moments, after the same calls.
+    pub fn try_clone(&self) -> Mem<ListClock>
+        ensures { IfOk result (λ copy. copy ≡ self.now) }
+    {
+        Ok(ListClock {
+            moments: self.moments.clone()?,
+            last: self.last,
+            calls: self.calls,
+        })
     }
 }
 
 impl Clock for ListClock {
-    ghost use Rattle.smithy_core.specs.Given.{GainsOne, given_of};
+    ghost use Rattle.smithy_core.specs.Given.{GainsOne, GivesNext, given};
 
-    ghost given = { λ clock. given_of clock.last clock.moments.items clock.count };
+    ghost given = { given };
 
     fn now(&mut self) -> Moment
-        ensures gains { GainsOne (given_of self.old.last self.old.moments.items self.old.count) (given_of self.new.last self.new.moments.items self.new.count) result }
-        ensures next { result ≡ slice_index_or self.old.moments.items self.old.count self.old.last }
-        ensures count { self.new.count ≡ min (self.old.count + 1) (2 ^ 64 - 1) }
-        ensures same { (self.new.moments ≡ self.old.moments) × (self.new.last ≡ self.old.last) }
+        ensures gains { GainsOne (given self.old) (given self.new) result }
+        ensures next { GivesNext self.old result self.new }
     {
-        let count = self.count;
-        self.count = count.saturating_add(1);
-        if count < self.moments.len() as u64 {
-            self.moments[count as usize]
+        let calls = self.calls;
+        self.calls = calls.saturating_add(1);
+        if calls < self.moments.len() as u64 {
+            self.moments[calls as usize]
         } else {
             self.last
         }
@@ -66,34 +89,46 @@ impl Clock for ListClock {
 }
 
 /// Always gives the same moment.
+///
+/// Contracts see a `ClockState` that lists no moment, so that the last one comes each time.
 #[derive(Clone, Copy, Debug)]
 pub struct FixedClock {
     at: Moment,
-    count: u64,
+    calls: u64,
+}
+
+impl Model for FixedClock {
+    ghost use Rattle.std.specs.Prelude.{[]};
+    ghost use Rattle.smithy_core.specs.Given.{ClockState};
+
+    ghost Value = { ClockState };
+
+    ghost view = { λ clock. record { moments = []; last = clock.at; calls = clock.calls } };
+
+    ghost inverse = { λ clock. record { at = clock.last; calls = clock.calls } };
 }
 
 impl FixedClock {
     /// A clock that has given nothing.
     pub fn new(at: Moment) -> FixedClock
         ensures given { ⟦<FixedClock as Clock>⟧.given result ≡ Some [] }
-        ensures at { result.at ≡ at }
+        ensures at { result ≡ record { moments = []; last = at; calls = 0 } }
     {
-        FixedClock { at, count: 0 }
+        FixedClock { at, calls: 0 }
     }
 }
 
 impl Clock for FixedClock {
-    ghost use Rattle.std.specs.Prelude.{[]};
-    ghost use Rattle.smithy_core.specs.Given.{GainsOne, given_of};
+    ghost use Rattle.smithy_core.specs.Given.{GainsOne, GivesNext, given};
 
-    ghost given = { λ clock. given_of clock.at [] clock.count };
+    ghost given = { given };
 
     fn now(&mut self) -> Moment
-        ensures gains { GainsOne (given_of self.old.at [] self.old.count) (given_of self.new.at [] self.new.count) result }
-        ensures at { result ≡ self.old.at }
-        ensures same { self.new.at ≡ self.old.at }
+        ensures gains { GainsOne (given self.old) (given self.new) result }
+        ensures next { GivesNext self.old result self.new }
+        ensures at { result ≡ self.old.last }
     {
-        self.count = self.count.saturating_add(1);
+        self.calls = self.calls.saturating_add(1);
         self.at
     }
 }

@@ -1,8 +1,17 @@
-ghost use Rattle.std.specs.Prelude.{◌≡◌, ℕ, ◌≤◌, List, map, Option, Some, None, IfOk, IsErrOf, option_map, option_copied};
+ghost use Rattle.std.specs.Prelude.{◌≡◌, ℕ, ◌≤◌, List, Option, Some, None, Result, IfOk, IsErrOf, option_map, option_copied};
 ghost use Rattle.std.specs.Option.{option_or};
-ghost use Rattle.std.specs.String.{string_bytes};
-ghost use Rattle.smithy_core.specs.Outside.{FailsAsListed, HasFile, LacksFile, Rose};
+ghost use Rattle.smithy_core.specs.Disks.{AnswersAsListed, FindsFile};
+ghost use Rattle.smithy_core.specs.Files.{file_pair, file_pairs};
+ghost use Rattle.smithy_core.specs.Memory.{no_calls};
+ghost use Rattle.smithy_core.specs.Outside.{HasFile, LacksFile, Rose};
 ghost use Rattle.smithy_core.specs.Pairs.{last_value, value_if};
+
+use crate::memory::Mem;
+use crate::outside::calls::Calls;
+use std::alloc::Global;
+use std::error::Error;
+use std::fmt;
+use std::marker::Model;
 
 /// Why a file wasn't read.
 #[derive(Clone, Copy, Debug, PartialEq, Eq)]
@@ -15,8 +24,31 @@ pub enum DiskError {
     NoMemory,
 }
 
-/// Files.
+impl fmt::Display for DiskError {
+    ghost use Rattle.std.specs.Prelude.{Some};
+    ghost use Rattle.smithy_core.specs.Faults.{disk_error_text};
+
+    ghost output = { λ fault. Some (disk_error_text fault) };
+
+    fn fmt<W: fmt::Write>(&self, f: &mut fmt::Formatter<W>) -> fmt::Result {
+        f.write_str(match self {
+            DiskError::NotFound => "no file has this path",
+            DiskError::Failed => "the disk failed",
+            DiskError::NoMemory => "no memory",
+        })
+    }
+}
+
+impl Error for DiskError {}
+
+/// Files. `answers` relates a disk before a read, the path, its answer, and the disk after it.
 pub trait Disk {
+    ghost use Rattle.std.specs.Global.{Vec};
+    ghost use Rattle.smithy_core.specs.declared.outside.disk.DiskError.{DiskError};
+
+    // a read of the path, where more is told of it than the clauses below say
+    ghost answers: { Self → List ℕ → Result (Vec ℕ) DiskError → Self → Type 0 } = { λ _ _ _ _. Unit {0} };
+
     // the paths and their bytes, where they are told; of equal paths the last pair counts
     ghost files: { Self → Option (List (List ℕ × List ℕ)) };
 
@@ -34,89 +66,144 @@ pub trait Disk {
         ensures cause { IsErrOf result DiskError.Failed → Rose (faults self.old) (faults self.new) }
         ensures same { files self.new ≡ files self.old }
         ensures bytes { IfOk result (λ bytes. HasFile (files self.old) path.now bytes.items) }
-        ensures lacks { IsErrOf result DiskError.NotFound → LacksFile (files self.old) path.now };
+        ensures lacks { IsErrOf result DiskError.NotFound → LacksFile (files self.old) path.now }
+        ensures answers { answers self.old path.now result self.new };
 }
 
-/// Files in memory that never fail.
-#[derive(Debug, Drop)]
+/// Files in memory that never fail. [`Debug`](std::fmt::Debug) isn't there, so that no secret is printed.
+///
+/// Contracts see the paths and the bytes.
+#[derive(Drop)]
 pub struct CalmDisk {
     files: Vec<(String, Vec<u8>)>,
+}
+
+impl Model for CalmDisk {
+    ghost use Rattle.std.specs.Prelude.{ℕ, List};
+    ghost use Rattle.smithy_core.specs.Files.{file_pairs};
+
+    ghost Value = { List (List ℕ × List ℕ) };
+
+    ghost view = { λ disk. file_pairs disk.files.items };
 }
 
 impl CalmDisk {
     /// These paths with their bytes. Of equal paths the last pair counts.
     pub fn new(files: Vec<(String, Vec<u8>)>) -> CalmDisk
-        ensures files { ⟦<CalmDisk as Disk>⟧.files result ≡ Some (map (λ file. (string_bytes file.0, file.1.items)) files.items) }
+        ensures files { ⟦<CalmDisk as Disk>⟧.files result ≡ Some (file_pairs files.items) }
         ensures faults { ⟦<CalmDisk as Disk>⟧.faults result ≡ 0 }
     {
         CalmDisk { files }
     }
+
+    /// A disk with the same files.
+    pub fn try_clone(&self) -> Mem<CalmDisk>
+        ensures { IfOk result (λ copy. copy ≡ self.now) }
+    {
+        Ok(CalmDisk {
+            files: copied_files(*self.files.allocator(), self.files.as_slice())?,
+        })
+    }
 }
 
 impl Disk for CalmDisk {
-    ghost files = { λ disk. Some (map (λ file. (string_bytes file.0, file.1.items)) disk.files.items) };
+    ghost files = { λ disk. Some disk };
 
     ghost faults = { λ _. 0 };
 
-    fn read(&mut self, path: &str) -> Result<Vec<u8>, DiskError> {
+    ghost answers = { λ old path answer new. FindsFile old path answer × (new ≡ old) };
+
+    fn read(&mut self, path: &str) -> Result<Vec<u8>, DiskError>
+        ensures bytes { IfOk result (λ bytes. last_value self.old path.now ≡ Some bytes.items) }
+        ensures lacks { IsErrOf result DiskError.NotFound → last_value self.old path.now ≡ None }
+        ensures answers { FindsFile self.old path.now result × (self.new ≡ self.old) }
+        ensures never_fails { IsErrOf result DiskError.Failed → ⊥ }
+    {
         copied_file(self.files.as_slice(), path)
     }
 }
 
-/// Files in memory, with the calls of `read` that are to fail, counted from 1.
-#[derive(Debug, Drop)]
+/// Files in memory, with the calls of `read` that are to fail, counted from 1. [`Debug`](std::fmt::Debug) isn't there, so
+/// that no secret is printed.
+///
+/// Contracts see a `DiskState`.
+#[derive(Drop)]
 pub struct FaultyDisk {
     files: Vec<(String, Vec<u8>)>,
-    calls: u64,
-    fails: Vec<u64>,
-    faults: u64,
+    calls: Calls,
+}
+
+impl Model for FaultyDisk {
+    ghost use Rattle.smithy_core.specs.Files.{file_pairs};
+    ghost use Rattle.smithy_core.specs.Memory.{DiskState};
+
+    ghost Value = { DiskState };
+
+    ghost view = { λ disk. record { files = file_pairs disk.files.items; tally = disk.calls } };
 }
 
 impl FaultyDisk {
     /// These paths with their bytes, and no call was made. Of equal paths the last pair counts.
     pub fn new(files: Vec<(String, Vec<u8>)>, fails: Vec<u64>) -> FaultyDisk
-        ensures files { ⟦<FaultyDisk as Disk>⟧.files result ≡ Some (map (λ file. (string_bytes file.0, file.1.items)) files.items) }
+        ensures files { ⟦<FaultyDisk as Disk>⟧.files result ≡ Some (file_pairs files.items) }
         ensures faults { ⟦<FaultyDisk as Disk>⟧.faults result ≡ 0 }
-        ensures fails { result.fails ≡ fails }
-        ensures calls { result.calls ≡ 0 }
+        ensures calls { result.tally ≡ no_calls fails.items }
     {
         FaultyDisk {
             files,
-            calls: 0,
-            fails,
-            faults: 0,
+            calls: Calls::new(fails),
         }
+    }
+
+    /// A disk with the same files, after the same calls.
+    pub fn try_clone(&self) -> Mem<FaultyDisk>
+        ensures { IfOk result (λ copy. copy ≡ self.now) }
+    {
+        Ok(FaultyDisk {
+            files: copied_files(*self.files.allocator(), self.files.as_slice())?,
+            calls: self.calls.try_clone()?,
+        })
     }
 }
 
 impl Disk for FaultyDisk {
-    ghost files = { λ disk. Some (map (λ file. (string_bytes file.0, file.1.items)) disk.files.items) };
+    ghost files = { λ disk. Some disk.files };
 
-    ghost faults = { λ disk. disk.faults };
+    ghost faults = { λ disk. disk.tally.faults };
+
+    ghost answers = { AnswersAsListed };
 
     fn read(&mut self, path: &str) -> Result<Vec<u8>, DiskError>
-        ensures count { self.old.faults ≤ self.new.faults }
-        ensures cause { IsErrOf result DiskError.Failed → Rose self.old.faults self.new.faults }
-        ensures steady { (IsErrOf result DiskError.Failed → ⊥) → self.new.faults ≡ self.old.faults }
-        ensures same { self.new.files ≡ self.old.files }
-        ensures bytes { IfOk result (λ bytes. HasFile (Some (map (λ file. (string_bytes file.0, file.1.items)) self.old.files.items)) path.now bytes.items) }
-        ensures lacks { IsErrOf result DiskError.NotFound → LacksFile (Some (map (λ file. (string_bytes file.0, file.1.items)) self.old.files.items)) path.now }
-        ensures listed { FailsAsListed (IsErrOf result DiskError.Failed) self.old.fails.items self.old.calls self.new.fails.items self.new.calls }
+        ensures count { self.old.tally.faults ≤ self.new.tally.faults }
+        ensures cause { IsErrOf result DiskError.Failed → Rose self.old.tally.faults self.new.tally.faults }
+        ensures same { Some self.new.files ≡ Some self.old.files }
+        ensures bytes { IfOk result (λ bytes. last_value self.old.files path.now ≡ Some bytes.items) }
+        ensures lacks { IsErrOf result DiskError.NotFound → last_value self.old.files path.now ≡ None }
+        ensures answers { AnswersAsListed self.old path.now result self.new }
     {
-        self.calls = self.calls.saturating_add(1);
-        if self.fails.contains(&self.calls) {
-            self.faults = self.faults.saturating_add(1);
+        if self.calls.count_one() {
             return Err(DiskError::Failed);
         }
         copied_file(self.files.as_slice(), path)
     }
 }
 
+// Files of the same paths and bytes.
+fn copied_files(alloc: Global, files: &[(String, Vec<u8>)]) -> Mem<Vec<(String, Vec<u8>)>>
+    ensures { IfOk result (λ copies. file_pairs copies.items ≡ file_pairs files.now) }
+{
+    let mut copies = Vec::new(alloc);
+    for file in files {
+        let bytes = Vec::from_slice(alloc, file.1.as_slice())?;
+        copies.push((file.0.clone()?, bytes))?;
+    }
+    Ok(copies)
+}
+
 // A copy of the last file at the path.
 fn copied_file(files: &[(String, Vec<u8>)], path: &str) -> Result<Vec<u8>, DiskError>
     ensures never_fails { IsErrOf result DiskError.Failed → ⊥ }
-    ensures bytes { IfOk result (λ bytes. HasFile (Some (map (λ file. (string_bytes file.0, file.1.items)) files.now)) path.now bytes.items) }
-    ensures lacks { IsErrOf result DiskError.NotFound → LacksFile (Some (map (λ file. (string_bytes file.0, file.1.items)) files.now)) path.now }
+    ensures finds { FindsFile (file_pairs files.now) path.now result }
 {
     match last_file(files, path) {
         None => Err(DiskError::NotFound),
@@ -131,7 +218,7 @@ fn copied_file(files: &[(String, Vec<u8>)], path: &str) -> Result<Vec<u8>, DiskE
 #[tactic(auto, using(crate::proofs::PairLemmas::last_value_more))]
 fn last_file<'a>(files: &'a [(String, Vec<u8>)], path: &str) -> Option<&'a Vec<u8>>
     ensures { option_map (λ bytes. bytes.items) (option_copied result)
-        ≡ last_value (map (λ file. (string_bytes file.0, file.1.items)) files.now) path.now }
+        ≡ last_value (file_pairs files.now) path.now }
 {
     let mut found = None;
     for file in files {
@@ -147,7 +234,7 @@ fn later_file<'a>(
     path: &str,
 ) -> Option<&'a Vec<u8>>
     ensures { option_map (λ bytes. bytes.items) (option_copied result)
-        ≡ option_or (value_if (string_bytes file.now.0, file.now.1.items) path.now) (option_map (λ bytes. bytes.items) (option_copied found.entry)) }
+        ≡ option_or (value_if (file_pair file.now) path.now) (option_map (λ bytes. bytes.items) (option_copied found.entry)) }
 {
     if file.0.as_str() == path {
         Some(&file.1)

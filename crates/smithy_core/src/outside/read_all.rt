@@ -5,6 +5,8 @@ ghost use Rattle.smithy_core.specs.declared.outside.read_all.ReadFault.TheVarian
 
 use crate::outside::source::ByteSource;
 use std::alloc::{AllocError, Global};
+use std::error::Error;
+use std::fmt;
 
 /// Why a source wasn't read to its end.
 #[derive(Clone, Copy, Debug, PartialEq, Eq)]
@@ -16,6 +18,23 @@ pub enum ReadFault {
     /// Memory ran out.
     NoMemory,
 }
+
+impl fmt::Display for ReadFault {
+    ghost use Rattle.std.specs.Prelude.{Some};
+    ghost use Rattle.smithy_core.specs.Faults.{read_fault_text};
+
+    ghost output = { λ fault. Some (read_fault_text fault) };
+
+    fn fmt<W: fmt::Write>(&self, f: &mut fmt::Formatter<W>) -> fmt::Result {
+        f.write_str(match self {
+            ReadFault::Failed => "the source failed",
+            ReadFault::TooLarge => "the source has more bytes than the limit",
+            ReadFault::NoMemory => "no memory",
+        })
+    }
+}
+
+impl Error for ReadFault {}
 
 impl From<AllocError> for ReadFault {
     ghost from_gives = { λ _ fault. fault ≡ NoMemory };

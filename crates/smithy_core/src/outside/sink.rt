@@ -1,7 +1,13 @@
 ghost use Rattle.std.specs.Prelude.{◌≡◌, ℕ, ◌<◌, ◌≤◌, List, [], Option, Some, length, IfOk, IfErr, OnErr, IsErrOf, ◌++◌};
-ghost use Rattle.smithy_core.specs.Outside.{FailsAsListed, GainsFront, Rose};
+ghost use Rattle.smithy_core.specs.Memory.{FailsAsListed, TakesWhole, no_calls};
+ghost use Rattle.smithy_core.specs.Outside.{GainsFront, Rose};
 
+use crate::memory::Mem;
+use crate::outside::calls::Calls;
 use std::alloc::Global;
+use std::error::Error;
+use std::fmt;
+use std::marker::Model;
 
 /// Why a sink took nothing.
 #[derive(Clone, Copy, Debug, PartialEq, Eq)]
@@ -11,6 +17,22 @@ pub enum SinkError {
     /// Memory ran out.
     NoMemory,
 }
+
+impl fmt::Display for SinkError {
+    ghost use Rattle.std.specs.Prelude.{Some};
+    ghost use Rattle.smithy_core.specs.Faults.{sink_error_text};
+
+    ghost output = { λ fault. Some (sink_error_text fault) };
+
+    fn fmt<W: fmt::Write>(&self, f: &mut fmt::Formatter<W>) -> fmt::Result {
+        f.write_str(match self {
+            SinkError::Failed => "the sink failed",
+            SinkError::NoMemory => "no memory",
+        })
+    }
+}
+
+impl Error for SinkError {}
 
 /// Takes bytes to the outside.
 pub trait ByteSink {
@@ -36,12 +58,21 @@ pub trait ByteSink {
 }
 
 /// Holds bytes in memory, with the calls of `write` that are to fail, counted from 1. It takes each piece whole.
-#[derive(Debug, Drop)]
+/// [`Debug`](std::fmt::Debug) isn't there, so that no secret is printed.
+///
+/// Contracts see a `SinkState`.
+#[derive(Drop)]
 pub struct FaultySink {
     held: Vec<u8>,
-    calls: u64,
-    fails: Vec<u64>,
-    faults: u64,
+    calls: Calls,
+}
+
+impl Model for FaultySink {
+    ghost use Rattle.smithy_core.specs.Memory.{SinkState};
+
+    ghost Value = { SinkState };
+
+    ghost view = { λ sink. record { held = sink.held.items; tally = sink.calls } };
 }
 
 impl FaultySink {
@@ -49,13 +80,11 @@ impl FaultySink {
     pub fn new(alloc: Global, fails: Vec<u64>) -> FaultySink
         ensures held { ⟦<FaultySink as ByteSink>⟧.held result ≡ Some [] }
         ensures faults { ⟦<FaultySink as ByteSink>⟧.faults result ≡ 0 }
-        ensures fails { result.fails ≡ fails }
+        ensures calls { result.tally ≡ no_calls fails.items }
     {
         FaultySink {
             held: Vec::new(alloc),
-            calls: 0,
-            fails,
-            faults: 0,
+            calls: Calls::new(fails),
         }
     }
 
@@ -65,35 +94,55 @@ impl FaultySink {
     {
         self.held.as_slice()
     }
+
+    /// A sink that holds the same bytes, after the same calls.
+    pub fn try_clone(&self) -> Mem<FaultySink>
+        ensures { IfOk result (λ copy. copy ≡ self.now) }
+    {
+        Ok(FaultySink {
+            held: self.held.clone()?,
+            calls: self.calls.try_clone()?,
+        })
+    }
 }
 
 impl ByteSink for FaultySink {
-    ghost held = { λ sink. Some sink.held.items };
+    ghost held = { λ sink. Some sink.held };
 
-    ghost faults = { λ sink. sink.faults };
+    ghost faults = { λ sink. sink.tally.faults };
 
     fn write(&mut self, piece: &[u8]) -> Result<usize, SinkError>
-        ensures count { self.old.faults ≤ self.new.faults }
-        ensures cause { IsErrOf result SinkError.Failed → Rose self.old.faults self.new.faults }
+        ensures count { self.old.tally.faults ≤ self.new.tally.faults }
+        ensures cause { IsErrOf result SinkError.Failed → Rose self.old.tally.faults self.new.tally.faults }
         ensures within { IfOk result (λ n. n ≤ length piece.now) }
         ensures progress { IfOk result (λ n. 0 < length piece.now → 0 < n) }
-        ensures gains { IfOk result (λ n. GainsFront n piece.now (Some self.old.held.items) (Some self.new.held.items)) }
-        ensures kept { OnErr result (Some self.new.held.items ≡ Some self.old.held.items) }
-        ensures listed { FailsAsListed (IsErrOf result SinkError.Failed) self.old.fails.items self.old.calls self.new.fails.items self.new.calls }
+        ensures gains { IfOk result (λ n. GainsFront n piece.now (Some self.old.held) (Some self.new.held)) }
+        ensures kept { OnErr result (Some self.new.held ≡ Some self.old.held) }
+        ensures whole { TakesWhole piece.now self.old.held self.new.held result }
+        ensures listed { FailsAsListed (IsErrOf result SinkError.Failed) self.old.tally self.new.tally }
     {
-        self.calls = self.calls.saturating_add(1);
-        if self.fails.contains(&self.calls) {
-            self.faults = self.faults.saturating_add(1);
+        if self.calls.count_one() {
             return Err(SinkError::Failed);
         }
         hold(&mut self.held, piece)
     }
 }
 
-/// Holds bytes in memory, and never fails. It takes each piece whole.
-#[derive(Debug, Drop)]
+/// Holds bytes in memory, and never fails. It takes each piece whole. [`Debug`](std::fmt::Debug) isn't there, so that no
+/// secret is printed.
+///
+/// Contracts see the bytes that are held.
+#[derive(Drop)]
 pub struct CalmSink {
     held: Vec<u8>,
+}
+
+impl Model for CalmSink {
+    ghost use Rattle.std.specs.Prelude.{ℕ, List};
+
+    ghost Value = { List ℕ };
+
+    ghost view = { λ sink. sink.held.items };
 }
 
 impl CalmSink {
@@ -113,14 +162,30 @@ impl CalmSink {
     {
         self.held.as_slice()
     }
+
+    /// A sink that holds the same bytes.
+    pub fn try_clone(&self) -> Mem<CalmSink>
+        ensures { IfOk result (λ copy. copy ≡ self.now) }
+    {
+        Ok(CalmSink {
+            held: self.held.clone()?,
+        })
+    }
 }
 
 impl ByteSink for CalmSink {
-    ghost held = { λ sink. Some sink.held.items };
+    ghost held = { λ sink. Some sink };
 
     ghost faults = { λ _. 0 };
 
-    fn write(&mut self, piece: &[u8]) -> Result<usize, SinkError> {
+    fn write(&mut self, piece: &[u8]) -> Result<usize, SinkError>
+        ensures within { IfOk result (λ n. n ≤ length piece.now) }
+        ensures progress { IfOk result (λ n. 0 < length piece.now → 0 < n) }
+        ensures gains { IfOk result (λ n. GainsFront n piece.now (Some self.old) (Some self.new)) }
+        ensures kept { OnErr result (Some self.new ≡ Some self.old) }
+        ensures whole { TakesWhole piece.now self.old self.new result }
+        ensures never_fails { IsErrOf result SinkError.Failed → ⊥ }
+    {
         hold(&mut self.held, piece)
     }
 }

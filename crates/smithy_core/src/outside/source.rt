@@ -1,9 +1,28 @@
-ghost use Rattle.std.specs.Prelude.{◌≡◌, ℕ, ◌<◌, ◌≤◌, List, [], Option, Some, drop, length, Ok, IfOk, OnErr, IsErr};
-ghost use Rattle.smithy_core.specs.Outside.{FailsAsListed, IsAtEnd, Rose, TakesFront};
+ghost use Rattle.std.specs.Prelude.{◌≡◌, ℕ, ◌<◌, ◌≤◌, List, [], Option, Some, drop, length, Ok, IfOk, OnErr, IsErr, IsOk};
+ghost use Rattle.smithy_core.specs.Memory.{FailsAsListed, no_calls};
+ghost use Rattle.smithy_core.specs.Outside.{IsAtEnd, Rose, TakesFront};
+
+use crate::memory::Mem;
+use crate::outside::calls::Calls;
+use std::error::Error;
+use std::fmt;
+use std::marker::Model;
 
 /// A call of the outside failed.
 #[derive(Clone, Copy, Debug, PartialEq, Eq)]
 pub struct Failed;
+
+impl fmt::Display for Failed {
+    ghost use Rattle.std.specs.Prelude.{Some, codes};
+
+    ghost output = { λ _. Some (codes "a source of the outside failed") };
+
+    fn fmt<W: fmt::Write>(&self, f: &mut fmt::Formatter<W>) -> fmt::Result {
+        f.write_str("a source of the outside failed")
+    }
+}
+
+impl Error for Failed {}
 
 /// Bytes that come from outside.
 pub trait ByteSource {
@@ -29,15 +48,26 @@ pub trait ByteSource {
         ensures kept { OnErr result (left self.new ≡ left self.old) };
 }
 
-/// Bytes in memory, with the calls of `read` that are to fail, counted from 1.
-#[derive(Debug, Drop)]
+/// Bytes in memory, with the calls of `read` that are to fail, counted from 1. [`Debug`](std::fmt::Debug) isn't there,
+/// so that no secret is printed.
+///
+/// Contracts see a `SourceState`.
+#[derive(Drop)]
 pub struct FaultySource {
     content: Vec<u8>,
     at: usize,
-    calls: u64,
-    fails: Vec<u64>,
-    faults: u64,
-    ghost within: { at ≤ length content.items },
+    calls: Calls,
+}
+
+impl Model for FaultySource {
+    ghost use Rattle.std.specs.Prelude.{◌≤◌, drop, length};
+    ghost use Rattle.smithy_core.specs.Memory.{SourceState};
+
+    ghost Value = { SourceState };
+
+    ghost view = { λ source. record { left = drop source.at source.content.items; tally = source.calls } };
+
+    ghost invariant = { λ source. source.at ≤ length source.content.items };
 }
 
 impl FaultySource {
@@ -45,14 +75,12 @@ impl FaultySource {
     pub fn new(content: Vec<u8>, fails: Vec<u64>) -> FaultySource
         ensures left { ⟦<FaultySource as ByteSource>⟧.left result ≡ Some content.items }
         ensures faults { ⟦<FaultySource as ByteSource>⟧.faults result ≡ 0 }
-        ensures fails { result.fails ≡ fails }
+        ensures calls { result.tally ≡ no_calls fails.items }
     {
         FaultySource {
             content,
             at: 0,
-            calls: 0,
-            fails,
-            faults: 0,
+            calls: Calls::new(fails),
         }
     }
 
@@ -62,25 +90,35 @@ impl FaultySource {
     {
         &self.content[self.at..]
     }
+
+    /// A source with the same bytes left, after the same calls.
+    pub fn try_clone(&self) -> Mem<FaultySource>
+        ensures { IfOk result (λ copy. copy ≡ self.now) }
+    {
+        Ok(FaultySource {
+            content: self.content.clone()?,
+            at: self.at,
+            calls: self.calls.try_clone()?,
+        })
+    }
 }
 
 impl ByteSource for FaultySource {
-    ghost left = { λ source. Some (drop source.at source.content.items) };
+    ghost left = { λ source. Some source.left };
 
-    ghost faults = { λ source. source.faults };
+    ghost faults = { λ source. source.tally.faults };
 
     fn read(&mut self, into: &mut [u8]) -> Result<usize, Failed>
-        ensures count { self.old.faults ≤ self.new.faults }
-        ensures cause { OnErr result (Rose self.old.faults self.new.faults) }
+        ensures count { self.old.tally.faults ≤ self.new.tally.faults }
+        ensures cause { OnErr result (Rose self.old.tally.faults self.new.tally.faults) }
         ensures within { IfOk result (λ n. n ≤ length into.old) }
-        ensures taken { IfOk result (λ n. TakesFront n into.new (Some (drop self.old.at self.old.content.items)) (Some (drop self.new.at self.new.content.items))) }
-        ensures at_end { result ≡ Ok 0 → 0 < length into.old → drop self.new.at self.new.content.items ≡ [] }
-        ensures kept { OnErr result (Some (drop self.new.at self.new.content.items) ≡ Some (drop self.old.at self.old.content.items)) }
-        ensures listed { FailsAsListed (IsErr result) self.old.fails.items self.old.calls self.new.fails.items self.new.calls }
+        ensures taken { IfOk result (λ n. TakesFront n into.new (Some self.old.left) (Some self.new.left)) }
+        ensures at_end { result ≡ Ok 0 → 0 < length into.old → IsAtEnd (Some self.new.left) }
+        ensures kept { OnErr result (Some self.new.left ≡ Some self.old.left) }
+        ensures buffer { OnErr result (into.new ≡ into.old) }
+        ensures listed { FailsAsListed (IsErr result) self.old.tally self.new.tally }
     {
-        self.calls = self.calls.saturating_add(1);
-        if self.fails.contains(&self.calls) {
-            self.faults = self.faults.saturating_add(1);
+        if self.calls.count_one() {
             return Err(Failed);
         }
         let n = copy_front(&self.content[self.at..], into);
@@ -89,12 +127,23 @@ impl ByteSource for FaultySource {
     }
 }
 
-/// Bytes in memory that never fail.
-#[derive(Debug, Drop)]
+/// Bytes in memory that never fail. [`Debug`](std::fmt::Debug) isn't there, so that no secret is printed.
+///
+/// Contracts see the bytes that are left.
+#[derive(Drop)]
 pub struct CalmSource {
     content: Vec<u8>,
     at: usize,
-    ghost within: { at ≤ length content.items },
+}
+
+impl Model for CalmSource {
+    ghost use Rattle.std.specs.Prelude.{ℕ, ◌≤◌, List, drop, length};
+
+    ghost Value = { List ℕ };
+
+    ghost view = { λ source. drop source.at source.content.items };
+
+    ghost invariant = { λ source. source.at ≤ length source.content.items };
 }
 
 impl CalmSource {
@@ -112,14 +161,29 @@ impl CalmSource {
     {
         &self.content[self.at..]
     }
+
+    /// A source with the same bytes left.
+    pub fn try_clone(&self) -> Mem<CalmSource>
+        ensures { IfOk result (λ copy. copy ≡ self.now) }
+    {
+        Ok(CalmSource {
+            content: self.content.clone()?,
+            at: self.at,
+        })
+    }
 }
 
 impl ByteSource for CalmSource {
-    ghost left = { λ source. Some (drop source.at source.content.items) };
+    ghost left = { λ source. Some source };
 
     ghost faults = { λ _. 0 };
 
-    fn read(&mut self, into: &mut [u8]) -> Result<usize, Failed> {
+    fn read(&mut self, into: &mut [u8]) -> Result<usize, Failed>
+        ensures within { IfOk result (λ n. n ≤ length into.old) }
+        ensures taken { IfOk result (λ n. TakesFront n into.new (Some self.old) (Some self.new)) }
+        ensures at_end { result ≡ Ok 0 → 0 < length into.old → IsAtEnd (Some self.new) }
+        ensures never_fails { IsOk result }
+    {
         let n = copy_front(&self.content[self.at..], into);
         self.at += n;
         Ok(n)

@@ -1,11 +1,11 @@
-use Rattle.std.proofs.Common.{◌≡◌, map, drop}
-use Rattle.std.specs.Prelude.{string_bytes, option_map, option_copied}
+use Rattle.std.proofs.Common.{◌≡◌, drop}
+use Rattle.std.specs.Prelude.{option_map, option_copied}
 use Rattle.std.specs.Option.{option_or}
+use Rattle.smithy_core.specs.Files.{file_pairs}
 use Rattle.smithy_core.specs.Pairs.{last_value}
 use Rattle.smithy_core.proofs.outside.disk.last_file.Given as goal
 
 -- what the files to come have, or else what was found
 abbrev pub invariant-loop-file : goal.invariant-loop-file
 invariant-loop-file l =
-    last_value (map (λ file. (string_bytes file.0, file.1.items)) l.files) l.path
-    ≡ option_or (last_value (map (λ file. (string_bytes file.0, file.1.items)) (drop l.file-index l.files)) l.path) (option_map (λ bytes. bytes.items) (option_copied l.found))
+    last_value (file_pairs l.files) l.path ≡ option_or (last_value (file_pairs (drop l.file-index l.files)) l.path) (option_map (λ bytes. bytes.items) (option_copied l.found))

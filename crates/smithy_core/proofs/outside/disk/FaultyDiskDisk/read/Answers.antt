@@ -1,4 +1,0 @@
-use Rattle.smithy_core.proofs.outside.disk.FaultyDiskDisk.read.Goals as goal
-
-pub returns-clause-bytes : goal.returns-clause-bytes
-returns-clause-bytes c = rw c.as_slice.ensures.value at c.copied_file.ensures.bytes

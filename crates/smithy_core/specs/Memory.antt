@@ -1,0 +1,45 @@
+-- What contracts see of the objects of the outside in memory.
+use Rattle.std.specs.Prelude.{◌≡◌, ℕ, ◌+◌, ◌-◌, ◌^◌, ◌↔◌, min, Contains, List, ◌++◌, length, Result, Ok, Err}
+use Rattle.smithy_core.specs.declared.outside.sink.SinkError.{SinkError}
+
+-- the calls of an object: the numbers of those that are to fail, how many were made, and how many failed
+pub record Tally : Type 0 where
+  pub fails : List ℕ
+  pub calls : ℕ
+  pub faults : ℕ
+
+-- these are to fail, and none was made
+abbrev pub no_calls : List ℕ → Tally
+no_calls fails = record { fails = fails; calls = 0; faults = 0 }
+
+-- one more than a count, up to the greatest number that it can have
+abbrev pub one_more : ℕ → ℕ
+one_more count = min (count + 1) (2 ^ 64 - 1)
+
+-- one call more, counted from 1: it fails exactly where its number is listed, and exactly then one fault more is counted
+pub record FailsAsListed (Fails : Type 0) (before now : Tally) : Type 0 where
+  pub fails : Fails ↔ Contains before.fails now.calls
+  pub calls : now.calls ≡ one_more before.calls
+  pub fault : Fails → now.faults ≡ one_more before.faults
+  pub no_fault : (Fails → ⊥) → now.faults ≡ before.faults
+  pub same : now.fails ≡ before.fails
+
+-- the bytes that a source has left, and its calls
+pub record SourceState : Type 0 where
+  pub left : List ℕ
+  pub tally : Tally
+
+-- the bytes that a sink holds, and its calls
+pub record SinkState : Type 0 where
+  pub held : List ℕ
+  pub tally : Tally
+
+-- the piece was taken whole, or nothing of it was
+abbrev pub TakesWhole : List ℕ → List ℕ → List ℕ → Result ℕ SinkError → Type 0
+TakesWhole piece before now (Ok n) = (n ≡ length piece) × (now ≡ before ++ piece)
+TakesWhole piece before now (Err e) = now ≡ before
+
+-- the paths and the bytes of the files on a disk, and its calls
+pub record DiskState : Type 0 where
+  pub files : List (List ℕ × List ℕ)
+  pub tally : Tally
