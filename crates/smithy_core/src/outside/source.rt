@@ -1,4 +1,4 @@
-ghost use Rattle.std.specs.Prelude.{◌≡◌, ℕ, ◌<◌, ◌≤◌, List, [], Option, Some, drop, length, Ok, IfOk, OnErr, IsErr};
+ghost use Rattle.std.specs.Prelude.{◌≡◌, ℕ, ◌<◌, ◌≤◌, List, [], Option, Some, drop, length, Ok, IfOk, OnOk, OnErr, IsErr};
 ghost use Rattle.smithy_core.specs.Outside.{FailsAsListed, IsAtEnd, Rose, TakesFront};
 
 /// A call of the outside failed.
@@ -19,10 +19,12 @@ pub trait ByteSource {
     ///
     /// # Errors
     ///
-    /// [`Failed`] where the count of faults rose, or stands at its last value; nothing is taken.
+    /// [`Failed`] where the count of faults rose, or stands at its last value; nothing is taken. Where
+    /// it answers, the count stays.
     fn read(&mut self, into: &mut [u8]) -> Result<usize, Failed>
         ensures count { faults self.old ≤ faults self.new }
         ensures cause { OnErr result (Rose (faults self.old) (faults self.new)) }
+        ensures steady { OnOk result (faults self.new ≡ faults self.old) }
         ensures within { IfOk result (λ n. n ≤ length into.old) }
         ensures taken { IfOk result (λ n. TakesFront n into.new (left self.old) (left self.new)) }
         ensures at_end { result ≡ Ok 0 → 0 < length into.old → IsAtEnd (left self.new) }
@@ -72,6 +74,7 @@ impl ByteSource for FaultySource {
     fn read(&mut self, into: &mut [u8]) -> Result<usize, Failed>
         ensures count { self.old.faults ≤ self.new.faults }
         ensures cause { OnErr result (Rose self.old.faults self.new.faults) }
+        ensures steady { OnOk result (self.new.faults ≡ self.old.faults) }
         ensures within { IfOk result (λ n. n ≤ length into.old) }
         ensures taken { IfOk result (λ n. TakesFront n into.new (Some (drop self.old.at self.old.content.items)) (Some (drop self.new.at self.new.content.items))) }
         ensures at_end { result ≡ Ok 0 → 0 < length into.old → drop self.new.at self.new.content.items ≡ [] }
