@@ -8,8 +8,8 @@ use Rattle.sigv4.specs.Case.{Case}
 use Rattle.sigv4.specs.Signed.{signature_of}
 use Rattle.signed_stream.specs.Plan.{writes}
 use Rattle.signed_stream.specs.Refusal.{Refusal}
-use Rattle.signed_stream.specs.Run.{Fits}
 use Rattle.signed_stream.specs.Sending.{Halts, Sends, ended}
+use Rattle.signed_stream.specs.Steps.{Fits}
 use Rattle.signed_stream.specs.Stream.{streamed_lines}
 use Rattle.signed_stream.specs.Written.{signed_head, written, written_before, written_until}
 use Rattle.signed_stream.specs.declared.halt.Halt.{Halt}
