@@ -3,7 +3,7 @@ use Rattle.std.proofs.Common.{◌≡◌, ℕ, ◌≤◌, ◌⊎◌, inl, inr, Li
 use Rattle.smithy_core.specs.Outside.{Rose}
 use Rattle.smithy_core.proofs.GainLemmas.{prefix_at_start, prefix_from_whole}
 use Rattle.signed_stream.specs.Plan.{Ask, ask_plan, ends, streams, Plan, stops, writes}
-use Rattle.signed_stream.specs.Run.{CountsReads, CountsWrites, EndsAsAsked, GainsAsPlanned, GoesAsPlanned, Keeps, RunsAsPlanned}
+use Rattle.signed_stream.specs.Run.{CountsReads, CountsWrites, EndsAsAsked, GainsAsPlanned, GoesAsPlanned, Keeps, MayComeFirst, RunsAsPlanned}
 use Rattle.signed_stream.proofs.RunLemmas.{ends_no_memory}
 use Rattle.signed_stream.specs.declared.status.Status.{Status}
 use Rattle.signed_stream.specs.declared.status.Status.TheVariants.{Done, BadWords, JobTooLarge, BadJob, ReadFault, Refused, OutputFault, NoMemory, NotBuilt}
@@ -34,10 +34,17 @@ cut_short (writes text fault) (NotBuilt place) before now gains = rw gains (pref
 goes_cut_short : (plan : Plan) (status : Status) (before now : Option (List ℕ)) → GoesAsPlanned plan status before now → GoesAsPlanned plan NoMemory before now
 goes_cut_short plan status before now goes = record { ends = ends_no_memory plan; gains = cut_short plan status before now goes.gains }
 
+pub said_goes : (plan : Plan) (status answer : Status) (before now : Option (List ℕ)) → GoesAsPlanned plan status before now → IsSaid status answer → GoesAsPlanned plan answer before now
+said_goes plan status answer before now goes (inl is) = rw is goes
+said_goes plan status answer before now goes (inr is) = rw is (goes_cut_short plan status before now goes)
+
+said_first : (status answer : Status) → MayComeFirst status → IsSaid status answer → MayComeFirst answer
+said_first status answer first (inl is) = rw is first
+said_first status answer first (inr is) = rw is tt
+
 pub said_runs : (asked : Ask) (bytes : List ℕ) (status answer : Status) (before now : Option (List ℕ)) → RunsAsPlanned asked bytes status before now → IsSaid status answer → RunsAsPlanned asked bytes answer before now
-said_runs asked bytes status answer before now runs (inl is) = rw is runs
-said_runs asked bytes status answer before now (inl found) (inr is) = rw is (inl (found.0, found.1, goes_cut_short (ask_plan asked bytes found.0) status before now found.2))
-said_runs asked bytes status answer before now (inr first) (inr is) = rw is (inr (tt, λ target. goes_cut_short (ask_plan asked bytes target) status before now (first.1 target)))
+said_runs asked bytes status answer before now (inl found) said = inl (found.0, found.1, said_goes (ask_plan asked bytes found.0) status answer before now found.2 said)
+said_runs asked bytes status answer before now (inr first) said = inr (said_first status answer first.0 said, λ target. said_goes (ask_plan asked bytes target) status answer before now (first.1 target) said)
 
 pub said_keeps : (status answer : Status) (before now : Option (List ℕ)) → Keeps status before now → IsSaid status answer → Keeps answer before now
 said_keeps status answer before now keeps (inl is) = rw is keeps

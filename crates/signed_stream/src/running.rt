@@ -44,8 +44,8 @@ pub fn run<S: ByteSource, D: Disk, C: Clock, K: ByteSink, E: ByteSink>(
     // Where what is asked is valid, it is done; a fault of the outside and want of memory may come in between.
     ensures complete { (bytes : List ℕ) → S.left input.old ≡ Some bytes → IsValid (map string_bytes words.now) env.now bytes → Completes result }
 
-    // It ends as words and variables ask, and as they and the input plan for what the target spells, and so did the
-    // output gain; a fault of the outside and want of memory may come in between.
+    // It ends as words and variables ask. Where the input tells its bytes, it ends and the output gains as planned for
+    // what the target in them spells. A fault of the outside and want of memory may come in between.
     ensures asked { EndsAsAsked (ask (map string_bytes words.now) env.now) result }
     ensures planned { (bytes : List ℕ) → S.left input.old ≡ Some bytes
         → RunsAsPlanned (ask (map string_bytes words.now) env.now) bytes result (K.held out.old) (K.held out.new) }
@@ -54,8 +54,8 @@ pub fn run<S: ByteSource, D: Disk, C: Clock, K: ByteSink, E: ByteSink>(
     // It is refused for the target only where the job's target isn't accepted.
     ensures target { result ≡ Status.Refused InvalidUri → (bytes : List ℕ) → S.left input.old ≡ Some bytes → ReadsNoTarget (job bytes) }
 
-    // A fault of the outside ends it, and is told: with another end no call failed before. Words and variables that
-    // end it leave input and output as they were.
+    // A fault of the outside ends it: where it ends otherwise, no call failed before, unless memory ran out while the
+    // fault was said. Where words or variables end it, input and output are as they were.
     ensures faults { CountsReads result (S.faults input.old) (S.faults input.new) × CountsWrites result (K.faults out.old) (K.faults out.new) }
     ensures untouched { IfEnds (ask (map string_bytes words.now) env.now)
         ((S.left input.new ≡ S.left input.old) × (S.faults input.new ≡ S.faults input.old)
