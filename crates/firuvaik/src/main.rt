@@ -1,9 +1,13 @@
 //! The program: makes the real objects, hands them to `run`, and ends with the number of its status.
 #![tactic(auto)]
 
-ghost use Rattle.std.specs.Prelude.{None};
+ghost use Rattle.std.specs.Prelude.{◌≡◌, ◌≤◌, None, IfSome, map};
+ghost use Rattle.std.specs.Process.{exit_status};
+ghost use Rattle.std.specs.String.{string_bytes};
+ghost use Rattle.firuvaik.specs.Asked.{text_asked};
 ghost use Rattle.signed_stream.specs.Plan.{writes};
-ghost use Rattle.signed_stream.specs.Run.{EndsAsPlanned, GainsAsPlanned};
+ghost use Rattle.signed_stream.specs.Run.{CountsWrites, GoesAsPlanned, Says};
+ghost use Rattle.signed_stream.specs.Status.{exit_code};
 
 mod help;
 
@@ -18,12 +22,16 @@ fn main(rt: HostRuntime) -> ExitCode {
     let mut out = StdSink::new(rt.stdout());
     let mut err = StdSink::new(rt.stderr());
     let status = match words_of(&rt) {
-        Ok(words) => match help::text_asked(words.as_slice()) {
-            Some(text) => say(rt.alloc(), print_text(text, &mut out), &mut err),
-            None => sign(&rt, words.as_slice(), &mut out, &mut err),
-        },
+        Ok(words) => answer(&rt, words.as_slice(), &mut out, &mut err),
         Err(status) => say(rt.alloc(), status, &mut err),
     };
+    exit_code_of(status)
+}
+
+// The exit code of a status.
+fn exit_code_of(status: Status) -> ExitCode
+    ensures { exit_status result ≡ exit_code status }
+{
     ExitCode::from(status.code())
 }
 
@@ -41,13 +49,33 @@ fn words_of<R: rt::Env + Alloc<A = Global>>(rt: &R) -> Result<Vec<String>, Statu
     }
 }
 
+// Prints the text that the words ask for, or signs what standard input gives, and says on `err` how it ended.
+fn answer<R: rt::Clock + Input + Alloc<A = Global>, K: ByteSink, E: ByteSink>(
+    rt: &R,
+    words: &[String],
+    out: &mut K,
+    err: &mut E,
+) -> Status
+    ensures printed { IfSome (text_asked (map string_bytes words.now)) (λ text. GoesAsPlanned (writes text None) result (K.held out.old) (K.held out.new)) }
+    ensures counted { CountsWrites result (K.faults out.old) (K.faults out.new) }
+    ensures said { Says result (E.held err.old) (E.held err.new) (E.faults err.old) (E.faults err.new) }
+{
+    match help::text_asked(words) {
+        Some(text) => say(rt.alloc(), print_text(text, out), err),
+        None => sign(rt, words, out, err),
+    }
+}
+
 // Signs what standard input gives.
 fn sign<R: rt::Clock + Input + Alloc<A = Global>, K: ByteSink, E: ByteSink>(
     rt: &R,
     words: &[String],
     out: &mut K,
     err: &mut E,
-) -> Status {
+) -> Status
+    ensures counted { CountsWrites result (K.faults out.old) (K.faults out.new) }
+    ensures said { Says result (E.held err.old) (E.held err.new) (E.faults err.old) (E.faults err.new) }
+{
     let alloc = rt.alloc();
     let mut input = StdSource::new(rt.reader());
     let mut disk = CalmDisk::new(Vec::new(alloc));
@@ -66,8 +94,9 @@ fn sign<R: rt::Clock + Input + Alloc<A = Global>, K: ByteSink, E: ByteSink>(
 
 // Prints a text, and answers how the run ends.
 fn print_text<K: ByteSink>(text: &str, out: &mut K) -> Status
-    ensures ends { EndsAsPlanned (writes text.now None) result }
-    ensures output { GainsAsPlanned (writes text.now None) result (K.held out.old) (K.held out.new) }
+    ensures printed { GoesAsPlanned (writes text.now None) result (K.held out.old) (K.held out.new) }
+    ensures counted { CountsWrites result (K.faults out.old) (K.faults out.new) }
+    ensures count { K.faults out.old ≤ K.faults out.new }
 {
     match write_all(out, text.as_bytes()) {
         Ok(()) => Status::Done,

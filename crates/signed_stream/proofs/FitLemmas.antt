@@ -12,10 +12,10 @@ use Rattle.signed_stream.specs.Command.{Wanted}
 use Rattle.signed_stream.specs.Job.{PlainJob, plain_job}
 use Rattle.signed_stream.specs.Plan.{Plan, stops, case_plan, job_plan, target_plan, unsigned}
 use Rattle.signed_stream.specs.Refusal.{fault_for, fault_of, first_refusal}
-use Rattle.signed_stream.specs.Run.{Fits, FitsTarget}
 use Rattle.signed_stream.specs.Sending.{Sends, ended, halted}
 use Rattle.signed_stream.specs.Signing.{Selected, case_of}
 use Rattle.signed_stream.specs.Signs.{SignsRequest}
+use Rattle.signed_stream.specs.Steps.{Fits, FitsTarget}
 use Rattle.signed_stream.specs.Stream.{streamed_lines}
 use Rattle.signed_stream.specs.Targets.{SpellsAs}
 use Rattle.signed_stream.specs.Written.{head, refusal_of}
@@ -44,9 +44,9 @@ refused_fits text case events (Some target) told held is = by_error (unfit (case
 
 pub unsigned_fits : (text : List ℕ) (case : Target → Case) (events : List Parts) (headers : List (List ℕ × List ℕ)) (halt : Halt) (held : Option (List ℕ))
     → SignsRequest text case headers (Err halt) → FitsTarget (SpellsAs text) (target_plan text case events) (halted halt) held held
-unsigned_fits text case events headers (halts.Refused told) held refused = inr (refused.0, refused.1, refused_fits text case events refused.0 told held refused.2)
+unsigned_fits text case events headers (halts.Refused told) held refused = inl (refused.0, refused.1, refused_fits text case events refused.0 told held refused.2)
 unsigned_fits text case events headers halts.OutputFault held refused = absurd refused
-unsigned_fits text case events headers halts.NoMemory held refused = inl (λ target. fits_no_memory (target_plan text case events target) held)
+unsigned_fits text case events headers halts.NoMemory held refused = inr (tt, λ target. fits_no_memory (target_plan text case events target) held)
 
 -- a request that is signed is sent, and its events after it
 pub signed_fits : {T : Type 0} (text method : List ℕ) (case : Target → Case) (events : List Parts) (target : Target) (headers : List (List ℕ × List ℕ)) (signature : List ℕ) (before now : Option (List ℕ)) (answer : Result T Halt)
@@ -57,15 +57,15 @@ pub signed_fits : {T : Type 0} (text method : List ℕ) (case : Target → Case)
 signed_fits text method case events target headers signature before now answer reads fit method_is headers_are signature_is sends =
     let c = case target in
     let sent = rw (method_is, headers_are, signature_is, ← written_lines (refusal_of c events) text c events) at sends in
-    inr (Some target, reads, rw fit (sends_fits _ _ before now answer sent))
+    inl (Some target, reads, rw fit (sends_fits _ _ before now answer sent))
 
 -- ## The job
 
 -- an answer that fits one plan fits a plan that is the same
 fits_same : (Reads : Option Target → Type 0) (one other : Option Target → Plan) (answer : Status) (before now : Option (List ℕ))
     → ((target : Option Target) → other target ≡ one target) → FitsTarget Reads one answer before now → FitsTarget Reads other answer before now
-fits_same Reads one other answer before now same (inl fits) = inl (λ target. rw (same target) (fits target))
-fits_same Reads one other answer before now same (inr found) = inr (found.0, found.1, rw (same found.0) found.2)
+fits_same Reads one other answer before now same (inl found) = inl (found.0, found.1, rw (same found.0) found.2)
+fits_same Reads one other answer before now same (inr first) = inr (first.0, λ target. rw (same target) (first.1 target))
 
 -- what the profile of a job gives
 pub record Gives (j : PlainJob) (k s r : List ℕ) : Type 0 where

@@ -11,11 +11,13 @@ use Rattle.signed_stream.specs.Command.{Command, Wanted, bad_word, unbuilt_word,
 use Rattle.signed_stream.specs.Job.{PlainJob, Reading, plain_job, bad_line, unbuilt_line, job}
 use Rattle.signed_stream.specs.Plan.{ReadsTargetOf, ends, streams, stops, writes, ask, ask_plan, case_plan, command_ask, has_later_variable, input_plan, job_plan, most_input, settings_plan, target_plan}
 use Rattle.signed_stream.specs.Refusal.{Refusal, fault_of}
-use Rattle.signed_stream.specs.Run.{Completes, EndsAsPlanned, Fits, FitsTarget, IsStreamable, IsValid, Streams, StreamsInput, streamed}
+use Rattle.signed_stream.specs.Run.{Completes, EndsAsPlanned, IsStreamable, IsValid, RunsAsPlanned, Streams, streamed}
 use Rattle.signed_stream.specs.Signing.{Selected, case_of}
+use Rattle.signed_stream.specs.Steps.{Fits, FitsTarget, StreamsInput}
 use Rattle.signed_stream.specs.Targets.{SpellsAs}
 use Rattle.signed_stream.specs.Written.{refusal_of}
 use Rattle.signed_stream.proofs.StreamLemmas.{frames_unrefused, unrefused_frames}
+use Rattle.signed_stream.proofs.TargetLemmas.{reads_one}
 use Rattle.signed_stream.proofs.YearLemmas.{in_years, years_in}
 use Rattle.signed_stream.specs.declared.status.Status.{Status}
 use Rattle.signed_stream.specs.declared.status.Status.TheVariants.{Done, NoMemory, NotBuilt, Refused}
@@ -88,13 +90,10 @@ done_job wanted bytes j target before now None secret region short spelled accep
 -- an input that is done has streamed
 pub done_streams : (wanted : Wanted) (bytes : List ℕ) (reading : Reading) (before now : Option (List ℕ)) → length bytes ≤ most_input → job bytes ≡ reading
     → FitsTarget (ReadsTargetOf reading) (λ target. job_plan wanted target reading) Done before now → StreamsInput wanted bytes before now
-done_streams wanted bytes (bad_line place) before now short spelled (inl fits) = absurd (stops_undone _ before now (λ e. cc) (fits None))
-done_streams wanted bytes (bad_line place) before now short spelled (inr found) = absurd (stops_undone _ before now (λ e. cc) found.2)
-done_streams wanted bytes (unbuilt_line place) before now short spelled (inl fits) = absurd (stops_undone _ before now (λ e. cc) (fits None))
-done_streams wanted bytes (unbuilt_line place) before now short spelled (inr found) = absurd (stops_undone _ before now (λ e. cc) found.2)
-done_streams wanted bytes (plain_job j) before now short spelled (inl fits) =
-    absurd (done_reads wanted j before now j.settings.key_id j.settings.secret j.settings.region (fits None))
-done_streams wanted bytes (plain_job j) before now short spelled (inr found) = by_target found.0 found.1 found.2
+done_streams wanted bytes reading before now short spelled (inr first) = absurd first.0
+done_streams wanted bytes (bad_line place) before now short spelled (inl found) = absurd (stops_undone _ before now (λ e. cc) found.2)
+done_streams wanted bytes (unbuilt_line place) before now short spelled (inl found) = absurd (stops_undone _ before now (λ e. cc) found.2)
+done_streams wanted bytes (plain_job j) before now short spelled (inl found) = by_target found.0 found.1 found.2
   where
     by_target : (target : Option Target) → SpellsAs j.target target → Fits (job_plan wanted target (plain_job j)) Done before now → StreamsInput wanted bytes before now
     by_target None reads fits = absurd (done_reads wanted j before now j.settings.key_id j.settings.secret j.settings.region fits)
@@ -137,9 +136,12 @@ valid_plan words env bytes valid =
     rw (valid.asked, valid.built, large, input.spelled, input.settled, years, input.fit, unrefused) refl
 
 -- what is valid completes
-pub completes : (words : List (List ℕ)) (env : List (List ℕ × List ℕ)) (bytes : List ℕ) (answer : Status) (valid : IsValid words env bytes)
-    → ((target : Option Target) → ReadsTargetOf (job bytes) target → EndsAsPlanned (ask_plan (ask words env) bytes target) answer) → Completes answer
-completes words env bytes answer valid planned =
+pub completes : (words : List (List ℕ)) (env : List (List ℕ × List ℕ)) (bytes : List ℕ) (answer : Status) (before now : Option (List ℕ)) (valid : IsValid words env bytes)
+    → RunsAsPlanned (ask words env) bytes answer before now → Completes answer
+completes words env bytes answer before now valid (inl found) =
     let input = valid.input in
-    let reads : ReadsTargetOf (job bytes) (Some input.target) = rw input.spelled input.accepted in
-    rw (valid_plan words env bytes valid) at (planned (Some input.target) reads)
+    let reads : SpellsAs input.read.target found.0 = rw input.spelled at found.1 in
+    let same = reads_one input.read.target found.0 (Some input.target) reads input.accepted in
+    let planned : EndsAsPlanned (ask_plan (ask words env) bytes (Some input.target)) answer = rw (← same) found.2.ends in
+    rw (valid_plan words env bytes valid) at planned
+completes words env bytes answer before now valid (inr first) = rw (valid_plan words env bytes valid) at (first.1 (Some valid.input.target)).ends

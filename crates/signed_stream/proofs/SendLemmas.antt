@@ -1,15 +1,15 @@
 -- A head and lines that are sent after it.
-use Rattle.std.proofs.Common.{◌≡◌, ℕ, List, [], ◌++◌, Option, Some, None, refl}
+use Rattle.std.proofs.Common.{◌≡◌, ℕ, List, ◌++◌, Option, Some, None, refl}
 use Rattle.std.specs.Prelude.{Result, Ok, Err}
 use Rattle.smithy_core.specs.Outside.{Gains}
 use Rattle.smithy_core.specs.Parts.{Parts}
-use Rattle.smithy_core.proofs.GainLemmas.{gains_front, gains_join, prefix_join, prefix_within}
+use Rattle.smithy_core.proofs.GainLemmas.{gains_front, gains_last, prefix_join, prefix_within}
 use Rattle.sigv4.specs.Case.{Case}
 use Rattle.sigv4.specs.Signed.{signature_of}
 use Rattle.signed_stream.specs.Plan.{writes}
 use Rattle.signed_stream.specs.Refusal.{Refusal}
-use Rattle.signed_stream.specs.Run.{Fits}
 use Rattle.signed_stream.specs.Sending.{Halts, Sends, ended}
+use Rattle.signed_stream.specs.Steps.{Fits}
 use Rattle.signed_stream.specs.Stream.{streamed_lines}
 use Rattle.signed_stream.specs.Written.{signed_head, written, written_before, written_until}
 use Rattle.signed_stream.specs.declared.halt.Halt.{Halt}
@@ -26,8 +26,8 @@ written_lines (Some refusal) target c events = refl
 -- a back is sent after its front
 pub back_sent : {T : Type 0} (a b c : Option (List ℕ)) (front back : List ℕ) (fault : Option StreamFault) (answer : Result T Halt)
     → Gains a b front → Sends fault back b c answer → Sends fault (front ++ back) a c answer
-back_sent a b c front back fault (Ok x) first second = (second.0, gains_join a b c [] back (front ++ back) (gains_front a b front back first) second.1)
-back_sent a b c front back fault (Err (Refused told)) first second = (second.0, gains_join a b c [] back (front ++ back) (gains_front a b front back first) second.1)
+back_sent a b c front back fault (Ok x) first second = (second.0, gains_last a b c back (front ++ back) (gains_front a b front back first) second.1)
+back_sent a b c front back fault (Err (Refused told)) first second = (second.0, gains_last a b c back (front ++ back) (gains_front a b front back first) second.1)
 back_sent a b c front back fault (Err OutputFault) first second = prefix_join a b c back (front ++ back) (gains_front a b front back first) second
 back_sent a b c front back fault (Err NoMemory) first second = prefix_join a b c back (front ++ back) (gains_front a b front back first) second
 

@@ -1,5 +1,5 @@
 -- A request that is signed for what its target spells.
-use Rattle.std.proofs.Common.{◌≡◌, ℕ, ◌⊎◌, inl, inr, List, [], ◌∷◌, Some, None, Bor, refl, sym, ap}
+use Rattle.std.proofs.Common.{◌≡◌, ℕ, ◌⊎◌, inl, inr, List, [], ◌∷◌, Option, Some, None, Bor, refl, sym, ap}
 use Rattle.std.specs.Prelude.{Result, Ok, Err, string_bytes}
 use Rattle.http_uri.specs.declared.uri.Uri.{Uri}
 use Rattle.smithy_core.specs.declared.identity.Identity.{Identity}
@@ -16,14 +16,16 @@ use Rattle.sigv4.specs.Signing.{unsignable}
 use Rattle.sigv4.specs.Targets.{IsRetargeted}
 use Rattle.sigv4.specs.declared.body.SignableBody.{SignableBody}
 use Rattle.sigv4.specs.declared.error.SigningError.{SigningError}
-use Rattle.sigv4.specs.declared.error.SigningError.TheVariants.{InvalidUri, NoMemory}
+use Rattle.sigv4.specs.declared.error.SigningError.TheVariants.{InvalidHeaderName, InvalidHeaderValue, InvalidUri, MissingHost, NoMemory}
 use Rattle.sigv4.specs.declared.instructions.SigningInstructions.{SigningInstructions}
 use Rattle.sigv4.specs.declared.output.SigningOutput.{SigningOutput}
 use Rattle.sigv4.specs.declared.request.SignableRequest.{SignableRequest}
 use Rattle.sigv4.specs.declared.settings.SigningSettings.{SigningSettings}
 use Rattle.sigv4.specs.declared.signing_params.SigningParams.TheVariants.{V4}
 use Rattle.signed_stream.specs.Signing.{case_under, payload_with, settings_with}
-use Rattle.signed_stream.specs.Signs.{SignsText, Unsigned}
+use Rattle.signed_stream.specs.Plan.{unsigned}
+use Rattle.signed_stream.specs.Signs.{IsRequestError, SignsText, Unsigned}
+use Rattle.signed_stream.proofs.TestLemmas.{IsTestError, unfit_test}
 use Rattle.signed_stream.specs.declared.words.options.StreamWords.{StreamWords}
 
 -- the case that is signed is that of the request
@@ -60,3 +62,20 @@ headers_signed c before now made given is applied = rw (applied, given, is) refl
 pub target_stays : (params : List (List ℕ × List ℕ)) (old new : List ℕ) → params ≡ [] → IsRetargeted params old new → new ≡ old
 target_stays [] old new none is = is.1
 target_stays (param ∷ params) old new none is = cc
+
+-- ## What isn't signed
+
+test_error : (error : SigningError) → IsTestError error → IsRequestError error
+test_error (InvalidHeaderName place) test = tt
+test_error (InvalidHeaderValue place) test = tt
+test_error MissingHost test = tt
+test_error error test = absurd test
+
+-- a request isn't signed for one of its errors
+pub unsigned_error : (text : List ℕ) (case : Target → Case) (error : SigningError) → Unsigned text case error → IsRequestError error
+unsigned_error text case error (inl found) = by_target found.0 found.2
+  where
+    by_target : (target : Option Target) → unsigned case target ≡ Some error → IsRequestError error
+    by_target None is = let same : error ≡ InvalidUri = cc in rw same tt
+    by_target (Some target) is = test_error error (unfit_test (case target) error is)
+unsigned_error text case error (inr is) = rw is tt

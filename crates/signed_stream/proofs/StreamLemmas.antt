@@ -8,7 +8,7 @@ use Rattle.smithy_core.specs.Instant.{Instant}
 use Rattle.smithy_core.specs.Outside.{Gains, GainsPrefix, GainsRest}
 use Rattle.smithy_core.specs.Parts.{Parts}
 use Rattle.smithy_core.specs.declared.identity.Identity.{Identity}
-use Rattle.smithy_core.proofs.GainLemmas.{gains_at_start, gains_front, gains_join, prefix_at_start, prefix_join, prefix_within}
+use Rattle.smithy_core.proofs.GainLemmas.{gains_front, gains_join, gains_last, gains_nothing, prefix_at_start, prefix_join, prefix_within}
 use Rattle.eventstream.specs.Frame.{frame, unframed}
 use Rattle.eventstream.specs.Key.{Signer}
 use Rattle.eventstream.specs.Link.{begun, link_message, link_signature}
@@ -62,7 +62,7 @@ line_sent reason place text before now answer none sends = rw none sends
 -- a message that has none is refused
 pub line_refused : (reason : Option ErrorKind) (kind : ErrorKind) (place : ℕ) (text : List ℕ) (held : Option (List ℕ))
     → reason ≡ Some kind → (option_map (fault_at place) reason ≡ Some (fault_at place kind)) × Gains held held (unless_refused reason text)
-line_refused reason kind place text held is = rw is (refl, gains_at_start held [])
+line_refused reason kind place text held is = rw is (refl, gains_nothing held)
 
 pub ruleset sending = (signed_framed, refused_for, unframed_fault, line_sent, line_refused, prefix_at_start)
 
@@ -199,7 +199,7 @@ event_halted a b c signer place event events at signature text whole halt decide
     by_reason (Some reason) (Refused told) is sends =
         let same : Some (fault_at place reason) ≡ Some told = sends.0 in (
           rw (← decided, unlinked_refusal signer place event events at signature reason is) same,
-          gains_join a b c [] [] text (rw (unlinked_lines signer place event events at signature reason is) at first) sends.1,
+          gains_last a b c [] text (rw (unlinked_lines signer place event events at signature reason is) at first) sends.1,
         )
 
 -- all events were sent: the closing line is left
@@ -214,7 +214,7 @@ closing_sent {T} a b c signer place at signature text whole answer decided first
     left = rw (chain_lines-nil signer at signature) at first
 
     by_answer : (answer : Result T Halt) → Sends None (link_line signer signature [] at) b c answer → Sends (option_map fault_of whole) text a c answer
-    by_answer (Ok x) sends = (rw (← decided) refl, gains_join a b c [] (link_line signer signature [] at) text left sends.1)
+    by_answer (Ok x) sends = (rw (← decided) refl, gains_last a b c (link_line signer signature [] at) text left sends.1)
     by_answer (Err (Refused told)) sends = let wrong : None ≡ Some told = sends.0 in cc
     by_answer (Err OutputFault) sends = prefix_join a b c (link_line signer signature [] at) text left sends
     by_answer (Err NoMemory) sends = prefix_join a b c (link_line signer signature [] at) text left sends

@@ -12,6 +12,7 @@ pub mod Sending
 pub mod Signing
 pub mod Signs
 pub mod Status
+pub mod Steps
 pub mod Stream
 pub mod Targets
 pub mod Words

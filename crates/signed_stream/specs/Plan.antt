@@ -3,6 +3,7 @@ use Rattle.std.specs.Prelude.{ℕ, Bool, ◌||◌, nat_lt, if◌then◌else◌, 
 use Rattle.smithy_core.specs.Civil.{is_in_years}
 use Rattle.smithy_core.specs.Pairs.{last_value}
 use Rattle.smithy_core.specs.Parts.{Parts}
+use Rattle.smithy_http.specs.Building.{SpellsNoTarget}
 use Rattle.smithy_http.specs.Target.{Target}
 use Rattle.sigv4.specs.Case.{Case}
 use Rattle.sigv4.specs.Refusal.{unfit}
@@ -74,6 +75,12 @@ abbrev pub ReadsTargetOf : Reading → Option Target → Type 0
 ReadsTargetOf (plain_job j) target = SpellsAs j.target target
 ReadsTargetOf (bad_line place) target = Unit {0}
 ReadsTargetOf (unbuilt_line place) target = Unit {0}
+
+-- a job was read whose target isn't accepted, or has an authority without a scheme
+abbrev pub ReadsNoTarget : Reading → Type 0
+ReadsNoTarget (plain_job j) = SpellsNoTarget j.target
+ReadsNoTarget (bad_line place) = ⊥
+ReadsNoTarget (unbuilt_line place) = ⊥
 
 -- what the words and the variables alone ask for: to end so, or to stream the input
 pub data Ask : Type 0 where

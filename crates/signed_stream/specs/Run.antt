@@ -1,21 +1,19 @@
 -- What a run promises.
-use Rattle.std.specs.Prelude.{◌≡◌, ℕ, ◌≤◌, ◌⊎◌, false, List, length, Option, Some, None, Result, Ok, Err}
+use Rattle.std.specs.Prelude.{◌≡◌, ℕ, ◌≤◌, ◌⊎◌, false, List, length, Option, Some, None}
 use Rattle.smithy_core.specs.Civil.{IsInYears}
 use Rattle.smithy_core.specs.Outside.{Gains, GainsPrefix, GainsProperPrefix, Rose}
 use Rattle.smithy_http.specs.Target.{Target}
 use Rattle.sigv4.specs.Refusal.{unfit}
 use Rattle.signed_stream.specs.Command.{Wanted, command, stream}
 use Rattle.signed_stream.specs.Job.{PlainJob, job, plain_job}
-use Rattle.signed_stream.specs.Plan.{Ask, ends, streams, Plan, stops, writes, has_later_variable, most_input}
+use Rattle.signed_stream.specs.Plan.{Ask, ReadsTargetOf, ask_plan, ends, streams, Plan, stops, writes, has_later_variable, most_input}
 use Rattle.signed_stream.specs.Signing.{Selected, case_of, profile_of}
 use Rattle.signed_stream.specs.Status.{end_with, status_line}
 use Rattle.signed_stream.specs.Targets.{SpellsAs}
-use Rattle.signed_stream.specs.Words.{wanted_of}
 use Rattle.signed_stream.specs.Written.{IsChained, written}
-use Rattle.signed_stream.specs.declared.words.options.StreamWords.{StreamWords}
 use Rattle.signed_stream.specs.declared.status.Status.{Status}
-use Rattle.signed_stream.specs.declared.status.Status.TheVariants.{Done, BadWords, ReadFault, Refused, OutputFault, NoMemory, NotBuilt}
-use Rattle.signed_stream.specs.declared.status.StreamFault.TheVariants.{InvalidHeaderNameLength, HeaderValueTooLong, TimestampValueTooLarge, HeadersTooLong, PayloadTooLong, MessageTooLong}
+use Rattle.signed_stream.specs.declared.status.Status.TheVariants.{Done, BadWords, JobTooLarge, BadJob, ReadFault, Refused, OutputFault, NoMemory, NotBuilt}
+use Rattle.signed_stream.specs.declared.status.StreamFault.TheVariants.{MissingCredentials, MissingSigningRegion, MomentOutOfRange, InvalidHeaderNameLength, HeaderValueTooLong, TimestampValueTooLarge, HeadersTooLong, PayloadTooLong, MessageTooLong}
 
 -- where the words or the variables end the run, it ends so, or for want of memory
 abbrev pub EndsAsAsked : Ask → Status → Type 0
@@ -37,6 +35,47 @@ GainsAsPlanned (writes text fault) (Refused told) before now = Gains before now 
 GainsAsPlanned (writes text fault) OutputFault before now = GainsPrefix before now text
 GainsAsPlanned (writes text fault) NoMemory before now = GainsPrefix before now text
 GainsAsPlanned (writes text fault) answer before now = now ≡ before
+
+-- how a run ends and what the output gained are as planned
+pub record GoesAsPlanned (plan : Plan) (answer : Status) (before now : Option (List ℕ)) : Type 0 where
+  pub ends : EndsAsPlanned plan answer
+  pub gains : GainsAsPlanned plan answer before now
+
+-- the ends that come before the target is read, and want of memory, which may
+abbrev pub MayComeFirst : Status → Type 0
+MayComeFirst (BadWords place) = Unit {0}
+MayComeFirst JobTooLarge = Unit {0}
+MayComeFirst (BadJob place) = Unit {0}
+MayComeFirst ReadFault = Unit {0}
+MayComeFirst (Refused MissingCredentials) = Unit {0}
+MayComeFirst (Refused MissingSigningRegion) = Unit {0}
+MayComeFirst (Refused (MomentOutOfRange moment)) = Unit {0}
+MayComeFirst NoMemory = Unit {0}
+MayComeFirst (NotBuilt place) = Unit {0}
+MayComeFirst answer = ⊥
+
+-- A run goes as planned for what the target of its job spells; one that ends before the target is read does so whatever that spells.
+abbrev pub RunsAsPlanned : Ask → List ℕ → Status → Option (List ℕ) → Option (List ℕ) → Type 0
+RunsAsPlanned asked bytes answer before now =
+    ((target : Option Target) × ReadsTargetOf (job bytes) target × GoesAsPlanned (ask_plan asked bytes target) answer before now)
+    ⊎ (MayComeFirst answer × ((target : Option Target) → GoesAsPlanned (ask_plan asked bytes target) answer before now))
+
+-- where the words or the variables end the run
+abbrev pub IfEnds : Ask → Type 0 → Type 0
+IfEnds (ends status) P = P
+IfEnds (streams wanted) P = Unit {0}
+
+-- the count of the input's faults: it rose where the input failed, and else stayed; memory may run out after a fault
+abbrev pub CountsReads : Status → ℕ → ℕ → Type 0
+CountsReads ReadFault before now = Rose before now
+CountsReads NoMemory before now = before ≤ now
+CountsReads answer before now = now ≡ before
+
+-- the count of the output's faults: it rose where the output failed, and else stayed; memory may run out after a fault
+abbrev pub CountsWrites : Status → ℕ → ℕ → Type 0
+CountsWrites OutputFault before now = Rose before now
+CountsWrites NoMemory before now = before ≤ now
+CountsWrites answer before now = now ≡ before
 
 -- what `err` gained: nothing where the run is done, a front of the line of some status for want of memory, and else the line of the
 -- status, or, where the faults of `err` rose, a front of it
@@ -84,10 +123,6 @@ pub record IsValid (words : List (List ℕ)) (env : List (List ℕ × List ℕ))
 abbrev pub streamed : (wanted : Wanted) (bytes : List ℕ) → IsStreamable wanted bytes → List ℕ
 streamed wanted bytes input = written input.read.target (case_of input.read wanted input.selected input.target) input.read.events
 
--- the input can be streamed, and the output gained exactly the head of the signed request and then the chain of the events
-abbrev pub StreamsInput : Wanted → List ℕ → Option (List ℕ) → Option (List ℕ) → Type 0
-StreamsInput wanted bytes before now = (input : IsStreamable wanted bytes) × Gains before now (streamed wanted bytes input)
-
 -- The headline: what is asked is valid, and the output gained exactly the head of the signed request and then the chain of the events.
 abbrev pub Streams : List (List ℕ) → List (List ℕ × List ℕ) → List ℕ → Option (List ℕ) → Option (List ℕ) → Type 0
 Streams words env bytes before now = (valid : IsValid words env bytes) × Gains before now (streamed valid.wanted bytes valid.input)
@@ -95,29 +130,3 @@ Streams words env bytes before now = (valid : IsValid words env bytes) × Gains 
 -- the run is done; a fault of the outside or want of memory may come in between
 abbrev pub Completes : Status → Type 0
 Completes answer = (answer ≡ Done) ⊎ (answer ≡ ReadFault) ⊎ (answer ≡ OutputFault) ⊎ (answer ≡ NoMemory)
-
--- an answer once the input is read, and what the output gained: as planned, unless the output's faults or want of memory come in between
-abbrev pub Fits : Plan → Status → Option (List ℕ) → Option (List ℕ) → Type 0
-Fits (stops status) answer before now = ((answer ≡ status) ⊎ (answer ≡ NoMemory)) × (now ≡ before)
-Fits (writes text fault) Done before now = (fault ≡ None) × Gains before now text
-Fits (writes text fault) (Refused told) before now = (fault ≡ Some told) × Gains before now text
-Fits (writes text fault) OutputFault before now = GainsPrefix before now text
-Fits (writes text fault) NoMemory before now = GainsPrefix before now text
-Fits (writes text fault) answer before now = ⊥
-
--- an answer that fits whatever the target spells, or fits for what it spells
-abbrev pub FitsTarget : (Option Target → Type 0) → (Option Target → Plan) → Status → Option (List ℕ) → Option (List ℕ) → Type 0
-FitsTarget Reads plan answer before now =
-    ((target : Option Target) → Fits (plan target) answer before now)
-    ⊎ ((target : Option Target) × Reads target × Fits (plan target) answer before now)
-
--- what a reader of words and variables answers
-abbrev pub ask_told : Result StreamWords Status → Ask
-ask_told (Ok words) = streams (wanted_of words)
-ask_told (Err status) = ends status
-
--- the ends that words and variables alone can bring
-abbrev pub IsEarly : Status → Type 0
-IsEarly (BadWords place) = Unit {0}
-IsEarly (NotBuilt place) = Unit {0}
-IsEarly status = ⊥

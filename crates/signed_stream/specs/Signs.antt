@@ -16,6 +16,15 @@ use Rattle.signed_stream.specs.Targets.{SpellsAs}
 use Rattle.signed_stream.specs.declared.halt.Halt.{Halt}
 use Rattle.signed_stream.specs.declared.halt.Halt.TheVariants.{Refused, OutputFault, NoMemory}
 
+-- the errors of signing a request whose identity signs at its moment
+abbrev pub IsRequestError : SigningError → Type 0
+IsRequestError errors.InvalidUri = Unit {0}
+IsRequestError (errors.InvalidHeaderName place) = Unit {0}
+IsRequestError (errors.InvalidHeaderValue place) = Unit {0}
+IsRequestError errors.MissingHost = Unit {0}
+IsRequestError errors.NoMemory = Unit {0}
+IsRequestError error = ⊥
+
 -- how an error of signing a request halts the stream
 abbrev pub halt_for : SigningError → Halt
 halt_for errors.NoMemory = NoMemory

@@ -2,7 +2,6 @@ ghost use Rattle.std.specs.Prelude.{◌≡◌};
 ghost use Rattle.signed_stream.specs.Sending.{ended};
 
 use crate::status::{Status, StreamFault};
-use sigv4::SigningError;
 use std::alloc::AllocError;
 
 /// Why an output isn't whole.
@@ -36,32 +35,5 @@ impl From<AllocError> for Halt {
 
     fn from(_e: AllocError) -> Halt {
         Halt::NoMemory
-    }
-}
-
-impl From<SigningError> for Halt {
-    ghost use Rattle.std.specs.Prelude.{◌≡◌};
-    ghost use Rattle.signed_stream.specs.Signs.{halt_for};
-
-    ghost from_gives = { λ error halt. halt ≡ halt_for error };
-
-    // A request of credentials has an identity that signs, and no message.
-    fn from(error: SigningError) -> Halt {
-        match error {
-            SigningError::MomentOutOfRange(moment) => {
-                Halt::Refused(StreamFault::MomentOutOfRange(moment))
-            }
-            SigningError::InvalidUri
-            | SigningError::UnsupportedIdentityType
-            | SigningError::FailedToEncodeMessage(_) => Halt::Refused(StreamFault::InvalidUri),
-            SigningError::InvalidHeaderName(place) => {
-                Halt::Refused(StreamFault::InvalidHeaderName(place))
-            }
-            SigningError::InvalidHeaderValue(place) => {
-                Halt::Refused(StreamFault::InvalidHeaderValue(place))
-            }
-            SigningError::MissingHost => Halt::Refused(StreamFault::MissingHost),
-            SigningError::NoMemory => Halt::NoMemory,
-        }
     }
 }

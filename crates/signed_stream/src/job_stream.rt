@@ -1,16 +1,16 @@
-ghost use Rattle.std.specs.Prelude.{◌≡◌, ◌≤◌, ◌++◌, ℕ, List, Option, Some, None, option_map, IsErrOf};
+ghost use Rattle.std.specs.Prelude.{◌≡◌, ◌≤◌, ◌++◌, ℕ, List, Some, None, option_map, IsErrOf};
 ghost use Rattle.std.specs.String.{string_bytes};
 ghost use Rattle.smithy_core.specs.Civil.{IsInYears, is_in_years};
-ghost use Rattle.smithy_core.specs.Outside.{IsAtEnd, Rose};
-ghost use Rattle.smithy_http.specs.Target.{Target};
+ghost use Rattle.smithy_core.specs.Outside.{IsAtEnd, IsRestOf, Rose};
 ghost use Rattle.sigv4.specs.Signing.{unsignable};
 ghost use Rattle.signed_stream.specs.Job.{job, plain_job};
-ghost use Rattle.signed_stream.specs.Plan.{ReadsTargetOf, input_plan, job_plan, most_input, target_plan};
+ghost use Rattle.signed_stream.specs.Plan.{ReadsTargetOf, job_plan, most_input, streams, target_plan};
 ghost use Rattle.signed_stream.specs.Reading.{plain_of};
 ghost use Rattle.signed_stream.specs.Refusal.{fault_of, first_refusal};
-ghost use Rattle.signed_stream.specs.Run.{EndsAsPlanned, FitsTarget, GainsAsPlanned, Keeps, StreamsInput};
+ghost use Rattle.signed_stream.specs.Run.{Keeps, RunsAsPlanned};
 ghost use Rattle.signed_stream.specs.Sending.{Sends, ended};
 ghost use Rattle.signed_stream.specs.Signing.{case_under, signer_under};
+ghost use Rattle.signed_stream.specs.Steps.{FitsTarget, StreamsInput};
 ghost use Rattle.signed_stream.specs.Stream.{streamed_lines};
 ghost use Rattle.signed_stream.specs.Targets.{SpellsAs};
 ghost use Rattle.signed_stream.specs.Words.{wanted_of};
@@ -43,14 +43,14 @@ pub fn stream_input<S: ByteSource, K: ByteSink>(
     ensures never_bad_words { (place : ℕ) → result ≡ Status.BadWords place → ⊥ }
     ensures streamed { result ≡ Status.Done → (bytes : List ℕ) → S.left input.old ≡ Some bytes
         → StreamsInput (wanted_of words.now) bytes (K.held out.old) (K.held out.new) }
-    ensures planned { (bytes : List ℕ) (target : Option Target) → S.left input.old ≡ Some bytes → ReadsTargetOf (job bytes) target
-        → EndsAsPlanned (input_plan (wanted_of words.now) bytes target) result }
-    ensures output { (bytes : List ℕ) (target : Option Target) → S.left input.old ≡ Some bytes → ReadsTargetOf (job bytes) target
-        → GainsAsPlanned (input_plan (wanted_of words.now) bytes target) result (K.held out.old) (K.held out.new) }
+    ensures planned { (bytes : List ℕ) → S.left input.old ≡ Some bytes
+        → RunsAsPlanned (streams (wanted_of words.now)) bytes result (K.held out.old) (K.held out.new) }
     ensures kept { Keeps result (K.held out.old) (K.held out.new) }
     ensures read_fault { result ≡ Status.ReadFault → Rose (S.faults input.old) (S.faults input.new) }
+    ensures read_steady { (result ≡ Status.ReadFault → ⊥) → S.faults input.new ≡ S.faults input.old }
     ensures output_fault { result ≡ Status.OutputFault → Rose (K.faults out.old) (K.faults out.new) }
-    ensures outside { (result ≡ Status.Done → IsAtEnd (S.left input.new))
+    ensures output_steady { (result ≡ Status.OutputFault → ⊥) → K.faults out.new ≡ K.faults out.old }
+    ensures outside { (result ≡ Status.Done → IsAtEnd (S.left input.new)) × IsRestOf (S.left input.old) (S.left input.new)
         × (S.faults input.old ≤ S.faults input.new) × (K.faults out.old ≤ K.faults out.new) }
 {
     match read_all(alloc, input, MOST_INPUT) {
@@ -72,6 +72,7 @@ fn stream_bytes<K: ByteSink>(
     ensures never_read_fault { result ≡ Status.ReadFault → ⊥ }
     ensures planned { FitsTarget (ReadsTargetOf (job bytes.now)) (λ target. job_plan (wanted_of words.now) target (job bytes.now)) result (K.held out.old) (K.held out.new) }
     ensures output_fault { result ≡ Status.OutputFault → Rose (K.faults out.old) (K.faults out.new) }
+    ensures output_steady { (result ≡ Status.OutputFault → ⊥) → K.faults out.new ≡ K.faults out.old }
     ensures count { K.faults out.old ≤ K.faults out.new }
 {
     match read_job(alloc, bytes) {
@@ -89,6 +90,7 @@ fn stream_job<K: ByteSink>(alloc: Global, job: Job, words: &StreamWords<'_>, out
     ensures planned { FitsTarget (SpellsAs (string_bytes job.request.target)) (λ target. job_plan (wanted_of words.now) target (plain_job (plain_of job)))
         result (K.held out.old) (K.held out.new) }
     ensures output_fault { result ≡ Status.OutputFault → Rose (K.faults out.old) (K.faults out.new) }
+    ensures output_steady { (result ≡ Status.OutputFault → ⊥) → K.faults out.new ≡ K.faults out.old }
     ensures count { K.faults out.old ≤ K.faults out.new }
 {
     let Job {
@@ -147,6 +149,7 @@ fn stream_request<K: ByteSink>(
         (target_plan (string_bytes request.target) (case_under request identity.now region.now words.now) events.now)
         (ended result) (K.held out.old) (K.held out.new) }
     ensures failed { IsErrOf result Halt.OutputFault → Rose (K.faults out.old) (K.faults out.new) }
+    ensures steady { (IsErrOf result Halt.OutputFault → ⊥) → K.faults out.new ≡ K.faults out.old }
 {
     let signature = sign_request(alloc, &mut request, identity, region, words)?;
     stream_signed(
@@ -176,6 +179,7 @@ fn stream_signed<K: ByteSink>(
         ++ streamed_lines signer events.now words.now.at (string_bytes signature) refusal)
         (K.held out.old) (K.held out.new) result }
     ensures failed { IsErrOf result Halt.OutputFault → Rose (K.faults out.old) (K.faults out.new) }
+    ensures steady { (IsErrOf result Halt.OutputFault → ⊥) → K.faults out.new ≡ K.faults out.old }
 {
     let head = head_of(alloc, request)?;
     write_text(out, head.as_slice())?;

@@ -1,10 +1,11 @@
-ghost use Rattle.std.specs.Prelude.{◌≡◌, ◌≤◌, ℕ, List, Option, Some, map, IfErr};
+ghost use Rattle.std.specs.Prelude.{◌≡◌, ◌≤◌, ℕ, List, Some, map, IfErr};
 ghost use Rattle.std.specs.String.{string_bytes};
-ghost use Rattle.smithy_core.specs.Outside.{IsAtEnd, Rose};
-ghost use Rattle.smithy_http.specs.Target.{Target};
+ghost use Rattle.smithy_core.specs.Outside.{IsAtEnd, IsRestOf, Rose};
 ghost use Rattle.signed_stream.specs.Job.{job};
-ghost use Rattle.signed_stream.specs.Plan.{ReadsTargetOf, ask, ask_plan, has_later_variable};
-ghost use Rattle.signed_stream.specs.Run.{Completes, EndsAsAsked, EndsAsPlanned, GainsAsPlanned, IsEarly, IsValid, Keeps, Says, Streams, ask_told};
+ghost use Rattle.signed_stream.specs.Plan.{ReadsNoTarget, ask, has_later_variable};
+ghost use Rattle.signed_stream.specs.Run.{Completes, CountsReads, CountsWrites, EndsAsAsked, IfEnds, IsValid, Keeps, RunsAsPlanned, Says, Streams};
+ghost use Rattle.signed_stream.specs.Steps.{IsEarly, ask_told};
+ghost use Rattle.signed_stream.specs.declared.status.StreamFault.TheVariants.{InvalidUri};
 
 use crate::job_stream::stream_input;
 use crate::saying::say;
@@ -43,22 +44,28 @@ pub fn run<S: ByteSource, D: Disk, C: Clock, K: ByteSink, E: ByteSink>(
     // Where what is asked is valid, it is done; a fault of the outside and want of memory may come in between.
     ensures complete { (bytes : List ℕ) → S.left input.old ≡ Some bytes → IsValid (map string_bytes words.now) env.now bytes → Completes result }
 
-    // It ends as words, variables and input ask, and what the target in it spells; a fault of the outside and want
-    // of memory may come in between.
+    // It ends as words and variables ask. Where the input tells its bytes, it ends and the output gains as planned for
+    // what the target in them spells. A fault of the outside and want of memory may come in between.
     ensures asked { EndsAsAsked (ask (map string_bytes words.now) env.now) result }
-    ensures planned { (bytes : List ℕ) (target : Option Target) → S.left input.old ≡ Some bytes → ReadsTargetOf (job bytes) target
-        → EndsAsPlanned (ask_plan (ask (map string_bytes words.now) env.now) bytes target) result }
-    ensures faults { (result ≡ Status.ReadFault → Rose (S.faults input.old) (S.faults input.new))
-        × (result ≡ Status.OutputFault → Rose (K.faults out.old) (K.faults out.new)) }
-
-    // What the output and `err` gained, whatever the end.
-    ensures output { (bytes : List ℕ) (target : Option Target) → S.left input.old ≡ Some bytes → ReadsTargetOf (job bytes) target
-        → GainsAsPlanned (ask_plan (ask (map string_bytes words.now) env.now) bytes target) result (K.held out.old) (K.held out.new) }
+    ensures planned { (bytes : List ℕ) → S.left input.old ≡ Some bytes
+        → RunsAsPlanned (ask (map string_bytes words.now) env.now) bytes result (K.held out.old) (K.held out.new) }
     ensures kept { Keeps result (K.held out.old) (K.held out.new) }
+
+    // It is refused for the target only where the job's target isn't accepted.
+    ensures target { result ≡ Status.Refused InvalidUri → (bytes : List ℕ) → S.left input.old ≡ Some bytes → ReadsNoTarget (job bytes) }
+
+    // A fault of the outside ends it: where it ends otherwise, no call failed before, unless memory ran out while the
+    // fault was said. Where words or variables end it, input and output are as they were.
+    ensures faults { CountsReads result (S.faults input.old) (S.faults input.new) × CountsWrites result (K.faults out.old) (K.faults out.new) }
+    ensures untouched { IfEnds (ask (map string_bytes words.now) env.now)
+        ((S.left input.new ≡ S.left input.old) × (S.faults input.new ≡ S.faults input.old)
+        × (K.held out.new ≡ K.held out.old) × (K.faults out.new ≡ K.faults out.old)) }
+
+    // What `err` gained, whatever the end.
     ensures said { Says result (E.held err.old) (E.held err.new) (E.faults err.old) (E.faults err.new) }
 
-    // The input was read to its end, no count fell, and disk and clock weren't asked.
-    ensures outside { (result ≡ Status.Done → IsAtEnd (S.left input.new))
+    // The input was read to its end, a rest of it is left, no count fell, and disk and clock weren't asked.
+    ensures outside { (result ≡ Status.Done → IsAtEnd (S.left input.new)) × IsRestOf (S.left input.old) (S.left input.new)
         × (S.faults input.old ≤ S.faults input.new) × (K.faults out.old ≤ K.faults out.new) × (E.faults err.old ≤ E.faults err.new)
         × (D.files disk.new ≡ D.files disk.old) × (D.faults disk.new ≡ D.faults disk.old) × (C.given clock.new ≡ C.given clock.old) }
 {
@@ -78,14 +85,17 @@ fn answer<S: ByteSource, K: ByteSink>(
     ensures streamed { result ≡ Status.Done → (bytes : List ℕ) → S.left input.old ≡ Some bytes
         → Streams (map string_bytes words.now) env.now bytes (K.held out.old) (K.held out.new) }
     ensures asked { EndsAsAsked (ask (map string_bytes words.now) env.now) result }
-    ensures planned { (bytes : List ℕ) (target : Option Target) → S.left input.old ≡ Some bytes → ReadsTargetOf (job bytes) target
-        → EndsAsPlanned (ask_plan (ask (map string_bytes words.now) env.now) bytes target) result }
-    ensures output { (bytes : List ℕ) (target : Option Target) → S.left input.old ≡ Some bytes → ReadsTargetOf (job bytes) target
-        → GainsAsPlanned (ask_plan (ask (map string_bytes words.now) env.now) bytes target) result (K.held out.old) (K.held out.new) }
+    ensures planned { (bytes : List ℕ) → S.left input.old ≡ Some bytes
+        → RunsAsPlanned (ask (map string_bytes words.now) env.now) bytes result (K.held out.old) (K.held out.new) }
     ensures kept { Keeps result (K.held out.old) (K.held out.new) }
     ensures read_fault { result ≡ Status.ReadFault → Rose (S.faults input.old) (S.faults input.new) }
+    ensures read_steady { (result ≡ Status.ReadFault → ⊥) → S.faults input.new ≡ S.faults input.old }
     ensures output_fault { result ≡ Status.OutputFault → Rose (K.faults out.old) (K.faults out.new) }
-    ensures outside { (result ≡ Status.Done → IsAtEnd (S.left input.new))
+    ensures output_steady { (result ≡ Status.OutputFault → ⊥) → K.faults out.new ≡ K.faults out.old }
+    ensures untouched { IfEnds (ask (map string_bytes words.now) env.now)
+        ((S.left input.new ≡ S.left input.old) × (S.faults input.new ≡ S.faults input.old)
+        × (K.held out.new ≡ K.held out.old) × (K.faults out.new ≡ K.faults out.old)) }
+    ensures outside { (result ≡ Status.Done → IsAtEnd (S.left input.new)) × IsRestOf (S.left input.old) (S.left input.new)
         × (S.faults input.old ≤ S.faults input.new) × (K.faults out.old ≤ K.faults out.new) }
 {
     match read_ask(words, env) {

@@ -36,10 +36,11 @@ fn say_line<E: ByteSink>(status: Status, line: &str, err: &mut E) -> Status
 }
 
 fn line_of(alloc: Global, status: Status) -> Mem<String>
+    requires { status ≡ Status.Done → ⊥ }
     ensures { IfOk result (λ line. string_bytes line ≡ status_line status) }
 {
     match status {
-        Status::Done => Ok(String::new(alloc)),
+        Status::Done => unreachable!(),
         Status::BadWords(place) => format!(in alloc; "bad word {place}\n"),
         Status::JobTooLarge => String::from_str(alloc, "input over 67108864 bytes\n"),
         Status::BadJob(place) => format!(in alloc; "bad line {place}\n"),

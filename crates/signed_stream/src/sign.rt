@@ -5,10 +5,11 @@ ghost use Rattle.sigv4.specs.Settings.{settings_of};
 ghost use Rattle.sigv4.specs.Signing.{unsignable};
 ghost use Rattle.sigv4.specs.declared.signing_params.SigningParams.TheVariants.{V4};
 ghost use Rattle.signed_stream.specs.Signing.{case_under, payload_with, settings_with};
-ghost use Rattle.signed_stream.specs.Signs.{SignsRequest, SignsText};
+ghost use Rattle.signed_stream.specs.Signs.{IsRequestError, SignsRequest, SignsText, halt_for};
 
 use crate::halt::Halt;
 use crate::signing_options::SigningOptions;
+use crate::status::StreamFault;
 use crate::words::StreamWords;
 use sigv4::{
     PayloadChecksumKind, PercentEncodingMode, SignableBody, SignableRequest, SigningError,
@@ -36,10 +37,34 @@ pub fn sign_request(
     ensures target { string_bytes request.new.target ≡ string_bytes request.old.target }
     ensures signs { SignsRequest (string_bytes request.old.target) (case_under request.old identity.now region.now words.now) request.new.headers result }
 {
-    let signed = sign_text(alloc, request, identity, region, words)?;
+    let signed = match sign_text(alloc, request, identity, region, words) {
+        Ok(signed) => signed,
+        Err(error) => return Err(halt_of(error)),
+    };
     let (instructions, signature) = signed.into_parts();
-    instructions.apply_to_request(request)?;
-    Ok(signature)
+    match instructions.apply_to_request(request) {
+        Ok(()) => Ok(signature),
+        Err(error) => Err(halt_of(error)),
+    }
+}
+
+// How an error of signing a request halts the stream.
+fn halt_of(error: SigningError) -> Halt
+    requires { IsRequestError error }
+    ensures { result ≡ halt_for error }
+{
+    match error {
+        SigningError::InvalidUri => Halt::Refused(StreamFault::InvalidUri),
+        SigningError::InvalidHeaderName(place) => {
+            Halt::Refused(StreamFault::InvalidHeaderName(place))
+        }
+        SigningError::InvalidHeaderValue(place) => {
+            Halt::Refused(StreamFault::InvalidHeaderValue(place))
+        }
+        SigningError::MissingHost => Halt::Refused(StreamFault::MissingHost),
+        SigningError::NoMemory => Halt::NoMemory,
+        _ => unreachable!(),
+    }
 }
 
 // What the signature adds to the request, and the signature.

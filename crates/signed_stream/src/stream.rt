@@ -42,6 +42,7 @@ pub fn stream_events<K: ByteSink>(
         Sends (option_map fault_of refusal) (streamed_lines (signer_of params.now) events.now params.now.time (string_bytes seed) refusal)
         (K.held sink.old) (K.held sink.new) result }
     ensures failed { IsErrOf result Halt.OutputFault → Rose (K.faults sink.old) (K.faults sink.new) }
+    ensures steady { (IsErrOf result Halt.OutputFault → ⊥) → K.faults sink.new ≡ K.faults sink.old }
 {
     let mut signature = seed;
     let mut place = 1;
@@ -69,6 +70,7 @@ fn send_event<K: ByteSink>(
         Sends (option_map (fault_at place) reason) (unless_refused reason (link_line (signer_of params.now) signature.now (frame event.now) params.now.time))
         (K.held sink.old) (K.held sink.new) result }
     ensures failed { IsErrOf result Halt.OutputFault → Rose (K.faults sink.old) (K.faults sink.new) }
+    ensures steady { (IsErrOf result Halt.OutputFault → ⊥) → K.faults sink.new ≡ K.faults sink.old }
 {
     match sign_message(alloc, event, signature, params) {
         Ok(signed) => {
@@ -97,6 +99,7 @@ fn send_closing<K: ByteSink>(
     ensures count { K.faults sink.old ≤ K.faults sink.new }
     ensures sends { Sends None (link_line (signer_of params.now) signature.now [] params.now.time) (K.held sink.old) (K.held sink.new) result }
     ensures failed { IsErrOf result Halt.OutputFault → Rose (K.faults sink.old) (K.faults sink.new) }
+    ensures steady { (IsErrOf result Halt.OutputFault → ⊥) → K.faults sink.new ≡ K.faults sink.old }
 {
     match sign_empty_message(alloc, signature, params) {
         Ok(signed) => {
@@ -121,6 +124,7 @@ fn write_frame<K: ByteSink>(
     ensures sends { Sends (option_map (fault_at place) (unframed message.now)) (unless_refused (unframed message.now) (line (encode_lower (frame message.now))))
         (K.held sink.old) (K.held sink.new) result }
     ensures failed { IsErrOf result Halt.OutputFault → Rose (K.faults sink.old) (K.faults sink.new) }
+    ensures steady { (IsErrOf result Halt.OutputFault → ⊥) → K.faults sink.new ≡ K.faults sink.old }
 {
     let mut frame = Vec::new(alloc);
     match write_message_to(alloc, message, &mut frame) {
@@ -154,6 +158,7 @@ fn write_line<K: ByteSink>(alloc: Global, bytes: &[u8], sink: &mut K) -> Result<
     ensures count { K.faults sink.old ≤ K.faults sink.new }
     ensures sends { Sends None (line (encode_lower bytes.now)) (K.held sink.old) (K.held sink.new) result }
     ensures failed { IsErrOf result Halt.OutputFault → Rose (K.faults sink.old) (K.faults sink.new) }
+    ensures steady { (IsErrOf result Halt.OutputFault → ⊥) → K.faults sink.new ≡ K.faults sink.old }
 {
     let mut text = hex::encode(alloc, bytes)?;
     text.push('\n')?;
@@ -171,6 +176,7 @@ pub fn write_text<K: ByteSink>(sink: &mut K, text: &[u8]) -> Result<(), Halt>
     ensures count { K.faults sink.old ≤ K.faults sink.new }
     ensures sends { Sends None text.now (K.held sink.old) (K.held sink.new) result }
     ensures failed { IsErrOf result Halt.OutputFault → Rose (K.faults sink.old) (K.faults sink.new) }
+    ensures steady { (IsErrOf result Halt.OutputFault → ⊥) → K.faults sink.new ≡ K.faults sink.old }
 {
     match write_all(sink, text) {
         Ok(()) => Ok(()),

@@ -40,15 +40,16 @@ abbrev pub GainsFront : ℕ → List ℕ → Option (List ℕ) → Option (List 
 GainsFront n piece None now = now ≡ None
 GainsFront n piece (Some before) now = now ≡ Some (before ++ take n piece)
 
--- with this rest, what is held now is what was held before and the whole text
-abbrev pub GainsRest : Option (List ℕ) → Option (List ℕ) → List ℕ → List ℕ → Type 0
-GainsRest None now rest text = now ≡ None
-GainsRest (Some before) None rest text = ⊥
-GainsRest (Some before) (Some now) rest text = now ++ rest ≡ before ++ text
-
 -- what is held has gained the text
 abbrev pub Gains : Option (List ℕ) → Option (List ℕ) → List ℕ → Type 0
-Gains before now text = GainsRest before now [] text
+Gains None now text = now ≡ None
+Gains (Some before) now text = now ≡ Some (before ++ text)
+
+-- what is held has gained the text but for this rest of it
+pub record GainsRest (before now : Option (List ℕ)) (rest text : List ℕ) : Type 0 where
+  pub front : List ℕ
+  pub gained : Gains before now front
+  pub whole : text ≡ front ++ rest
 
 -- what is held has gained a front of the text
 abbrev pub GainsPrefix : Option (List ℕ) → Option (List ℕ) → List ℕ → Type 0

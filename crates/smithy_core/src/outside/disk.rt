@@ -60,10 +60,12 @@ pub trait Disk {
     /// # Errors
     ///
     /// [`DiskError::NotFound`] where there is no such file, [`DiskError::Failed`] where the count of faults rose, or
-    /// stands at its last value, and [`DiskError::NoMemory`] for want of memory.
+    /// stands at its last value, and [`DiskError::NoMemory`] for want of memory. But for a
+    /// failure the count stays.
     fn read(&mut self, path: &str) -> Result<Vec<u8>, DiskError>
         ensures count { faults self.old ≤ faults self.new }
         ensures cause { IsErrOf result DiskError.Failed → Rose (faults self.old) (faults self.new) }
+        ensures steady { (IsErrOf result DiskError.Failed → ⊥) → faults self.new ≡ faults self.old }
         ensures same { files self.new ≡ files self.old }
         ensures bytes { IfOk result (λ bytes. HasFile (files self.old) path.now bytes.items) }
         ensures lacks { IsErrOf result DiskError.NotFound → LacksFile (files self.old) path.now }

@@ -50,7 +50,7 @@ impl From<AllocError> for ReadFault {
 ///
 /// [`ReadFault::Failed`] where the source's count of faults rose, [`ReadFault::TooLarge`] where the
 /// source has more bytes than the limit, [`ReadFault::NoMemory`] for want of memory. After each the source
-/// has a rest of its bytes left.
+/// has a rest of its bytes left, and but for the first the count stays.
 #[tactic(auto, using(crate::proofs::CutLemmas::cuts))]
 pub fn read_all<S: ByteSource>(
     alloc: Global,
@@ -62,6 +62,7 @@ pub fn read_all<S: ByteSource>(
     ensures short { IfOk result (λ bytes. vec_len bytes ≤ limit) }
     ensures rest { IsRestOf (S.left source.old) (S.left source.new) }
     ensures count { S.faults source.old ≤ S.faults source.new }
+    ensures steady { (IsErrOf result ReadFault.Failed → ⊥) → S.faults source.new ≡ S.faults source.old }
     ensures failed { IsErrOf result ReadFault.Failed → Rose (S.faults source.old) (S.faults source.new) }
     ensures too_large { IsErrOf result ReadFault.TooLarge → IsLongerThan (S.left source.old) limit }
 {

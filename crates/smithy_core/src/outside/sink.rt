@@ -47,10 +47,12 @@ pub trait ByteSink {
     /// # Errors
     ///
     /// [`SinkError::Failed`] where the count of faults rose, or stands at its last value;
-    /// [`SinkError::NoMemory`] for want of memory. Both leave what is held.
+    /// [`SinkError::NoMemory`] for want of memory. Both leave what is held, and
+    /// but for the first the count stays.
     fn write(&mut self, piece: &[u8]) -> Result<usize, SinkError>
         ensures count { faults self.old ≤ faults self.new }
         ensures cause { IsErrOf result SinkError.Failed → Rose (faults self.old) (faults self.new) }
+        ensures steady { (IsErrOf result SinkError.Failed → ⊥) → faults self.new ≡ faults self.old }
         ensures within { IfOk result (λ n. n ≤ length piece.now) }
         ensures progress { IfOk result (λ n. 0 < length piece.now → 0 < n) }
         ensures gains { IfOk result (λ n. GainsFront n piece.now (held self.old) (held self.new)) }
@@ -114,6 +116,7 @@ impl ByteSink for FaultySink {
     fn write(&mut self, piece: &[u8]) -> Result<usize, SinkError>
         ensures count { self.old.tally.faults ≤ self.new.tally.faults }
         ensures cause { IsErrOf result SinkError.Failed → Rose self.old.tally.faults self.new.tally.faults }
+        ensures steady { (IsErrOf result SinkError.Failed → ⊥) → self.new.tally.faults ≡ self.old.tally.faults }
         ensures within { IfOk result (λ n. n ≤ length piece.now) }
         ensures progress { IfOk result (λ n. 0 < length piece.now → 0 < n) }
         ensures gains { IfOk result (λ n. GainsFront n piece.now (Some self.old.held) (Some self.new.held)) }

@@ -1,4 +1,4 @@
-ghost use Rattle.std.specs.Prelude.{◌≡◌, ℕ, ◌<◌, ◌≤◌, List, [], Option, Some, drop, length, Ok, IfOk, OnErr, IsErr, IsOk};
+ghost use Rattle.std.specs.Prelude.{◌≡◌, ℕ, ◌<◌, ◌≤◌, List, [], Option, Some, drop, length, Ok, IfOk, OnOk, OnErr, IsErr, IsOk};
 ghost use Rattle.smithy_core.specs.Memory.{FailsAsListed, no_calls};
 ghost use Rattle.smithy_core.specs.Outside.{IsAtEnd, Rose, TakesFront};
 
@@ -38,10 +38,12 @@ pub trait ByteSource {
     ///
     /// # Errors
     ///
-    /// [`Failed`] where the count of faults rose, or stands at its last value; nothing is taken.
+    /// [`Failed`] where the count of faults rose, or stands at its last value; nothing is taken. Where
+    /// it answers, the count stays.
     fn read(&mut self, into: &mut [u8]) -> Result<usize, Failed>
         ensures count { faults self.old ≤ faults self.new }
         ensures cause { OnErr result (Rose (faults self.old) (faults self.new)) }
+        ensures steady { OnOk result (faults self.new ≡ faults self.old) }
         ensures within { IfOk result (λ n. n ≤ length into.old) }
         ensures taken { IfOk result (λ n. TakesFront n into.new (left self.old) (left self.new)) }
         ensures at_end { result ≡ Ok 0 → 0 < length into.old → IsAtEnd (left self.new) }
@@ -111,6 +113,7 @@ impl ByteSource for FaultySource {
     fn read(&mut self, into: &mut [u8]) -> Result<usize, Failed>
         ensures count { self.old.tally.faults ≤ self.new.tally.faults }
         ensures cause { OnErr result (Rose self.old.tally.faults self.new.tally.faults) }
+        ensures steady { OnOk result (self.new.tally.faults ≡ self.old.tally.faults) }
         ensures within { IfOk result (λ n. n ≤ length into.old) }
         ensures taken { IfOk result (λ n. TakesFront n into.new (Some self.old.left) (Some self.new.left)) }
         ensures at_end { result ≡ Ok 0 → 0 < length into.old → IsAtEnd (Some self.new.left) }

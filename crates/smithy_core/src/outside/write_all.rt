@@ -8,10 +8,11 @@ use crate::outside::sink::{ByteSink, SinkError};
 /// # Errors
 ///
 /// [`SinkError::Failed`] where the sink's count of faults rose, [`SinkError::NoMemory`] for want of memory.
-/// After both the sink has gained a front of the piece, and not all of it.
+/// After both the sink has gained a front of the piece, and not all of it. But for a failure the count stays.
 #[tactic(auto, using(crate::proofs::GainLemmas::writes))]
 pub fn write_all<K: ByteSink>(sink: &mut K, piece: &[u8]) -> Result<(), SinkError>
     ensures count { K.faults sink.old ≤ K.faults sink.new }
+    ensures steady { (IsErrOf result SinkError.Failed → ⊥) → K.faults sink.new ≡ K.faults sink.old }
     ensures ok { OnOk result (Gains (K.held sink.old) (K.held sink.new) piece.now) }
     ensures failed { IsErrOf result SinkError.Failed → Rose (K.faults sink.old) (K.faults sink.new) }
     ensures err { OnErr result (GainsProperPrefix (K.held sink.old) (K.held sink.new) piece.now) }

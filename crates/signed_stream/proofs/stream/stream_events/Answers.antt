@@ -1,4 +1,4 @@
-use Rattle.std.proofs.Common.{◌≡◌, [], ◌+◌, drop, arith}
+use Rattle.std.proofs.Common.{◌≡◌, [], ◌+◌, drop, arith, ◌∙◌}
 use Rattle.std.proofs.Math.ListN.{drop_of_length-le}
 use Rattle.std.proofs.lemmas.Result.{err_from_is_err_and}
 use Rattle.std.specs.Prelude.{string_bytes}
@@ -24,7 +24,7 @@ events-preserved g c =
     let sent = event_sent _ _ _ (signer_of c.args.params.now) c.events.place c.event-item.result (drop (c.events.event-index + 1) c.args.events.now) c.args.params.now.time
     (string_bytes c.events.signature) (string_bytes c.in_ok-signature.signature) _ _ next (rw front at c.events.invariant.refusal) (rw front at c.events.invariant.gained) sends in
     record {
-      count = omega (arith, c.events.invariant.count, c.send_event.ensures.count);
+      count = c.in_ok-signature.ensures.steady (λ failed. cc) ∙ c.events.invariant.count;
       place = omega (arith, c.events.invariant.place);
       refusal = sent.0;
       gained = sent.1;

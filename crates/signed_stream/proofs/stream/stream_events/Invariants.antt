@@ -1,4 +1,4 @@
-use Rattle.std.proofs.Common.{◌≡◌, ◌≤◌, ◌+◌, drop}
+use Rattle.std.proofs.Common.{◌≡◌, ◌+◌, drop}
 use Rattle.std.specs.Prelude.{string_bytes}
 use Rattle.smithy_core.specs.Outside.{GainsRest}
 use Rattle.sigv4.specs.Params.{signer_of}
@@ -13,7 +13,7 @@ invariant-events g l =
     let signer = signer_of l.params in
     let events = drop l.event-index l.events in
     record {
-      count : sink.faults l.fn.sink ≤ sink.faults l.sink;
+      count : sink.faults l.sink ≡ sink.faults l.fn.sink;
       place : l.place ≡ l.event-index + 1;
       refusal : first_refusal signer l.place events l.params.time (string_bytes l.signature) ≡ first_refusal signer 1 l.events l.params.time (string_bytes l.fn.seed);
       gained : GainsRest (sink.held l.fn.sink) (sink.held l.sink)

@@ -1,4 +1,4 @@
-use Rattle.std.proofs.Common.{◌≤◌, ◌+◌, ◌-◌, vec_len}
+use Rattle.std.proofs.Common.{◌≡◌, ◌+◌, ◌-◌, vec_len}
 use Rattle.smithy_core.specs.Outside.{IsCutOf}
 use Rattle.smithy_core.proofs.outside.read_all.read_all.Given as goal
 
@@ -8,7 +8,7 @@ invariant-reads g l =
     let source = g.S.ByteSource in
     record {
       cut : IsCutOf (source.left l.fn.source) l.bytes.items (source.left l.source);
-      count : source.faults l.fn.source ≤ source.faults l.source;
+      count : source.faults l.source ≡ source.faults l.fn.source;
     }
 
 abbrev pub decreases-reads : goal.decreases-reads

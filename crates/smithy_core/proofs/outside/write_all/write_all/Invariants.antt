@@ -1,4 +1,4 @@
-use Rattle.std.proofs.Common.{◌≤◌, length}
+use Rattle.std.proofs.Common.{◌≡◌, length}
 use Rattle.smithy_core.specs.Outside.{GainsRest}
 use Rattle.smithy_core.proofs.outside.write_all.write_all.Given as goal
 
@@ -8,7 +8,7 @@ invariant-writes g l =
     let sink = g.K.ByteSink in
     record {
       gained : GainsRest (sink.held l.fn.sink) (sink.held l.sink) l.rest l.fn.piece;
-      count : sink.faults l.fn.sink ≤ sink.faults l.sink;
+      count : sink.faults l.sink ≡ sink.faults l.fn.sink;
     }
 
 abbrev pub decreases-writes : goal.decreases-writes
