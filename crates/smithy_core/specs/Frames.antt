@@ -77,7 +77,8 @@ is_end _ = false
 pub record PollsAsListed (before : FramesState) (answer : Polled) (now : FramesState) : Type 0 where
   pub fails : FailsAsListed (answer ≡ Failed) before.tally now.tally
   pub waits : (answer ≡ NotYet) ↔ ((answer ≡ Failed → ⊥) × Contains before.waiting now.tally.calls)
-  pub count : now.waits ≡ if is_wait answer then one_more before.waits else before.waits
+  pub waited : now.waits ≡ if is_wait answer then one_more before.waits else before.waits
+  pub count : before.waits ≤ now.waits
   pub gives : GivesFrame (Some before.left) (Some now.left) answer
   pub ended : now.ended ≡ is_end answer
   pub same : now.waiting ≡ before.waiting

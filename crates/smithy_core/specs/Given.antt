@@ -1,7 +1,8 @@
 -- What contracts say of a clock. The list of what it gave is optional: it need not tell.
-use Rattle.std.specs.Prelude.{◌≡◌, ℕ, zero, suc, ◌+◌, ◌-◌, ◌^◌, min, List, [], ◌∷◌, ◌++◌, Option, Some, None, nat_lt, if◌then◌else◌}
+use Rattle.std.specs.Prelude.{◌≡◌, ℕ, zero, suc, ◌-◌, ◌^◌, List, [], ◌∷◌, ◌++◌, Option, Some, None, nat_lt, if◌then◌else◌}
 use Rattle.std.specs.List.{slice_index_or}
 use Rattle.smithy_core.specs.Instant.{Instant}
+use Rattle.smithy_core.specs.Memory.{one_more}
 
 -- the answer was appended, where the list is told afterwards
 abbrev pub GainsOne : Option (List Instant) → Option (List Instant) → Instant → Type 0
@@ -31,4 +32,4 @@ given clock = given_of clock.last clock.moments clock.calls
 -- the next moment was given; calls are counted up to the greatest number
 pub record GivesNext (before : ClockState) (moment : Instant) (now : ClockState) : Type 0 where
   pub next : moment ≡ slice_index_or before.moments before.calls before.last
-  pub counted : now ≡ record before { calls = min (before.calls + 1) (2 ^ 64 - 1) }
+  pub counted : now ≡ record before { calls = one_more before.calls }

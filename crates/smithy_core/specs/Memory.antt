@@ -1,5 +1,5 @@
 -- What contracts see of the objects of the outside in memory.
-use Rattle.std.specs.Prelude.{◌≡◌, ℕ, ◌+◌, ◌-◌, ◌^◌, ◌↔◌, min, Contains, List, ◌++◌, length, Result, Ok, Err}
+use Rattle.std.specs.Prelude.{◌≡◌, ℕ, ◌+◌, ◌-◌, ◌^◌, ◌↔◌, ◌≤◌, min, Contains, List, ◌++◌, length, Result, Ok, Err}
 use Rattle.smithy_core.specs.declared.outside.sink.SinkError.{SinkError}
 
 -- the calls of an object: the numbers of those that are to fail, how many were made, and how many failed
@@ -22,6 +22,7 @@ pub record FailsAsListed (Fails : Type 0) (before now : Tally) : Type 0 where
   pub calls : now.calls ≡ one_more before.calls
   pub fault : Fails → now.faults ≡ one_more before.faults
   pub no_fault : (Fails → ⊥) → now.faults ≡ before.faults
+  pub count : before.faults ≤ now.faults
   pub same : now.fails ≡ before.fails
 
 -- the bytes that a source has left, and its calls

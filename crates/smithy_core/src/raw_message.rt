@@ -25,3 +25,11 @@ impl RawMessage {
         })
     }
 }
+
+impl Clone for RawMessage {
+    ghost is_clone = { λ raw copy. copy ≡ raw };
+
+    fn clone(&self) -> Mem<RawMessage> {
+        self.try_clone()
+    }
+}

@@ -1,3 +1,7 @@
+ghost use Rattle.std.specs.Prelude.{IfOk};
+ghost use Rattle.smithy_core.specs.SdkErrors.{IsErrorCopy};
+
+use crate::memory::Mem;
 use std::alloc::AllocError;
 use std::error::Error;
 use std::fmt;
@@ -26,6 +30,27 @@ pub enum SdkError<E, F, R> {
     },
     /// Memory ran out.
     NoMemory,
+}
+
+impl<E: Clone + Drop, F: Clone + Drop, R: Clone + Drop> SdkError<E, F, R> {
+    /// An equal error, of copies of what it holds.
+    pub fn try_clone(&self) -> Mem<SdkError<E, F, R>>
+        ensures { IfOk result (λ copy. IsErrorCopy E.is_clone F.is_clone R.is_clone self.now copy) }
+    {
+        Ok(match self {
+            SdkError::ConstructionFailure(fault) => SdkError::ConstructionFailure(fault.clone()?),
+            SdkError::DispatchFailure => SdkError::DispatchFailure,
+            SdkError::ResponseError { source, raw } => SdkError::ResponseError {
+                source: source.clone()?,
+                raw: raw.clone()?,
+            },
+            SdkError::ServiceError { source, raw } => SdkError::ServiceError {
+                source: source.clone()?,
+                raw: raw.clone()?,
+            },
+            SdkError::NoMemory => SdkError::NoMemory,
+        })
+    }
 }
 
 impl<E, F, R> From<AllocError> for SdkError<E, F, R> {

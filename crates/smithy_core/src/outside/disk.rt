@@ -116,8 +116,6 @@ impl Disk for CalmDisk {
     ghost answers = { λ old path answer new. FindsFile old path answer × (new ≡ old) };
 
     fn read(&mut self, path: &str) -> Result<Vec<u8>, DiskError>
-        ensures bytes { IfOk result (λ bytes. last_value self.old path.now ≡ Some bytes.items) }
-        ensures lacks { IsErrOf result DiskError.NotFound → last_value self.old path.now ≡ None }
         ensures answers { FindsFile self.old path.now result × (self.new ≡ self.old) }
         ensures never_fails { IsErrOf result DiskError.Failed → ⊥ }
     {
@@ -176,11 +174,6 @@ impl Disk for FaultyDisk {
     ghost answers = { AnswersAsListed };
 
     fn read(&mut self, path: &str) -> Result<Vec<u8>, DiskError>
-        ensures count { self.old.tally.faults ≤ self.new.tally.faults }
-        ensures cause { IsErrOf result DiskError.Failed → Rose self.old.tally.faults self.new.tally.faults }
-        ensures same { Some self.new.files ≡ Some self.old.files }
-        ensures bytes { IfOk result (λ bytes. last_value self.old.files path.now ≡ Some bytes.items) }
-        ensures lacks { IsErrOf result DiskError.NotFound → last_value self.old.files path.now ≡ None }
         ensures answers { AnswersAsListed self.old path.now result self.new }
     {
         if self.calls.count_one() {

@@ -109,13 +109,8 @@ impl FrameSource for FaultyFrames {
     ghost ended = { λ frames. frames.ended ≡ true };
 
     fn poll_frame(&mut self) -> Polled
-        ensures count { self.old.tally.faults ≤ self.new.tally.faults }
-        ensures cause { result ≡ polled.Failed → Rose self.old.tally.faults self.new.tally.faults }
-        ensures waits { self.old.waits ≤ self.new.waits }
-        ensures waited { result ≡ polled.NotYet → Rose self.old.waits self.new.waits }
         ensures gives { GivesFrame (Some self.old.left) (Some self.new.left) result }
         ensures short { GivesShort result }
-        ensures ends { result ≡ polled.End → self.new.ended ≡ true }
         ensures again { self.old.ended ≡ true → result ≡ polled.End }
         ensures polls { self.old.ended ≡ false → PollsAsListed self.old result self.new }
         ensures over { self.old.ended ≡ true → self.new ≡ self.old }

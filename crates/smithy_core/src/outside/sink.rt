@@ -114,13 +114,6 @@ impl ByteSink for FaultySink {
     ghost faults = { λ sink. sink.tally.faults };
 
     fn write(&mut self, piece: &[u8]) -> Result<usize, SinkError>
-        ensures count { self.old.tally.faults ≤ self.new.tally.faults }
-        ensures cause { IsErrOf result SinkError.Failed → Rose self.old.tally.faults self.new.tally.faults }
-        ensures steady { (IsErrOf result SinkError.Failed → ⊥) → self.new.tally.faults ≡ self.old.tally.faults }
-        ensures within { IfOk result (λ n. n ≤ length piece.now) }
-        ensures progress { IfOk result (λ n. 0 < length piece.now → 0 < n) }
-        ensures gains { IfOk result (λ n. GainsFront n piece.now (Some self.old.held) (Some self.new.held)) }
-        ensures kept { OnErr result (Some self.new.held ≡ Some self.old.held) }
         ensures whole { TakesWhole piece.now self.old.held self.new.held result }
         ensures listed { FailsAsListed (IsErrOf result SinkError.Failed) self.old.tally self.new.tally }
     {
@@ -182,10 +175,6 @@ impl ByteSink for CalmSink {
     ghost faults = { λ _. 0 };
 
     fn write(&mut self, piece: &[u8]) -> Result<usize, SinkError>
-        ensures within { IfOk result (λ n. n ≤ length piece.now) }
-        ensures progress { IfOk result (λ n. 0 < length piece.now → 0 < n) }
-        ensures gains { IfOk result (λ n. GainsFront n piece.now (Some self.old) (Some self.new)) }
-        ensures kept { OnErr result (Some self.new ≡ Some self.old) }
         ensures whole { TakesWhole piece.now self.old self.new result }
         ensures never_fails { IsErrOf result SinkError.Failed → ⊥ }
     {

@@ -111,9 +111,6 @@ impl ByteSource for FaultySource {
     ghost faults = { λ source. source.tally.faults };
 
     fn read(&mut self, into: &mut [u8]) -> Result<usize, Failed>
-        ensures count { self.old.tally.faults ≤ self.new.tally.faults }
-        ensures cause { OnErr result (Rose self.old.tally.faults self.new.tally.faults) }
-        ensures steady { OnOk result (self.new.tally.faults ≡ self.old.tally.faults) }
         ensures within { IfOk result (λ n. n ≤ length into.old) }
         ensures taken { IfOk result (λ n. TakesFront n into.new (Some self.old.left) (Some self.new.left)) }
         ensures at_end { result ≡ Ok 0 → 0 < length into.old → IsAtEnd (Some self.new.left) }
