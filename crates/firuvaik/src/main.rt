@@ -1,7 +1,7 @@
 //! The program: makes the real objects, hands them to `run`, and ends with the number of its status.
 #![tactic(auto)]
 
-ghost use Rattle.std.specs.Prelude.{◌≡◌, ◌≤◌, None, IfSome, map};
+ghost use Rattle.std.specs.Prelude.{◌≡◌, ◌≤◌, ◌⊎◌, None, IfErr, IfSome, map};
 ghost use Rattle.std.specs.Process.{exit_status};
 ghost use Rattle.std.specs.String.{string_bytes};
 ghost use Rattle.firuvaik.specs.Asked.{text_asked};
@@ -36,7 +36,9 @@ fn exit_code_of(status: Status) -> ExitCode
 }
 
 // The words after the program's name, or how the run ends without them.
-fn words_of<R: rt::Env + Alloc<A = Global>>(rt: &R) -> Result<Vec<String>, Status> {
+fn words_of<R: rt::Env + Alloc<A = Global>>(rt: &R) -> Result<Vec<String>, Status>
+    ensures { IfErr result (λ status. (status ≡ Status.NoMemory) ⊎ (status ≡ Status.BadWords 1)) }
+{
     let mut args = match env::args(rt) {
         Ok(args) => args,
         Err(e) if e.kind() == ErrorKind::OutOfMemory => return Err(Status::NoMemory),

@@ -15,10 +15,6 @@ gains_twice (Some before) b c front back first second =
     let later : Gains (Some (before ++ front)) c back = rw (let some : b ≡ Some (before ++ front) = first in some) at second in
     later ∙ ap Some (append_assoc before front back)
 
-front_gained : (n : ℕ) (piece : List ℕ) (before now : Option (List ℕ)) → GainsFront n piece before now → Gains before now (take n piece)
-front_gained n piece None now gained = gained
-front_gained n piece (Some before) now gained = gained
-
 -- before any write all of the text is the rest
 pub gains_at_start : (held : Option (List ℕ)) (text : List ℕ) → GainsRest held held text text
 gains_at_start held text = record { front = []; gained = gains_nothing held; whole = refl }
@@ -27,7 +23,7 @@ gains_at_start held text = record { front = []; gained = gains_nothing held; who
 pub gains_more : (before mid now : Option (List ℕ)) (n : ℕ) (rest text : List ℕ) → GainsRest before mid rest text → GainsFront n rest mid now → GainsRest before now (drop n rest) text
 gains_more before mid now n rest text so_far front = record {
   front = so_far.front ++ take n rest;
-  gained = gains_twice before mid now so_far.front (take n rest) so_far.gained (front_gained n rest mid now front);
+  gained = gains_twice before mid now so_far.front (take n rest) so_far.gained front;
   whole = so_far.whole ∙ ap (λ x. so_far.front ++ x) (sym (take-append-drop n rest)) ∙ sym (append_assoc so_far.front (take n rest) (drop n rest));
 }
 

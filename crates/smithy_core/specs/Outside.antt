@@ -35,15 +35,14 @@ IsCutOf (Some all) read now = (rest : List ℕ) × (now ≡ Some rest) × (all �
 abbrev pub IsRestOf : Option (List ℕ) → Option (List ℕ) → Type 0
 IsRestOf all now = (read : List ℕ) × IsCutOf all read now
 
--- the first n bytes of the piece came to what was held
-abbrev pub GainsFront : ℕ → List ℕ → Option (List ℕ) → Option (List ℕ) → Type 0
-GainsFront n piece None now = now ≡ None
-GainsFront n piece (Some before) now = now ≡ Some (before ++ take n piece)
-
 -- what is held has gained the text
 abbrev pub Gains : Option (List ℕ) → Option (List ℕ) → List ℕ → Type 0
 Gains None now text = now ≡ None
 Gains (Some before) now text = now ≡ Some (before ++ text)
+
+-- what is held has gained the first n bytes of the piece
+abbrev pub GainsFront : ℕ → List ℕ → Option (List ℕ) → Option (List ℕ) → Type 0
+GainsFront n piece before now = Gains before now (take n piece)
 
 -- what is held has gained the text but for this rest of it
 pub record GainsRest (before now : Option (List ℕ)) (rest text : List ℕ) : Type 0 where
