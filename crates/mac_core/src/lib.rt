@@ -7,8 +7,6 @@
 
 mod crc;
 mod hmac;
-#[cfg(test)]
-mod tests;
 
 pub use crate::crc::{Crc, crc32};
 pub use crate::hmac::{HmacSha256, hmac_sha256, sha256_hex};
