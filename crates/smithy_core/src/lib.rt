@@ -29,8 +29,6 @@ mod outside;
 mod request;
 mod response;
 mod str_bytes;
-#[cfg(test)]
-mod tests;
 mod text;
 mod text_pairs;
 
