@@ -17,17 +17,26 @@ pub fn answer<R: Runtime>(runtime: &R, process: u32, alloc: Global, call: &[&str
         ["disk", paths @ ..] => { read_paths(alloc, &mut HostDisk::new(alloc, runtime), paths) }
         ["new_file", content, len] => {
             let path = format!(in alloc; "/tmp/frame_cases-{process}")?;
-            let content = bytes_of(alloc, content)?;
-            let made = make(runtime, path.as_str(), content.as_slice(), size_of(len));
-            match made {
-                Ok(()) => read_new(runtime, alloc, path.as_str()),
-                Err(_) => String::from_str(alloc, "no new file"),
-            }
+            new_file(runtime, alloc, path.as_str(), content, size_of(len))
         }
         ["variable", name] => variable(runtime, alloc, name),
         ["listed_variable", entries @ .., name] => listed_variable(alloc, entries, name),
         ["clock", secs] => clock(runtime, alloc, number(secs)),
         _ => String::from_str(alloc, "no such call"),
+    }
+}
+
+fn new_file<R: Runtime>(
+    runtime: &R,
+    alloc: Global,
+    path: &str,
+    content: &str,
+    len: usize,
+) -> Mem<String> {
+    let content = bytes_of(alloc, content)?;
+    match make(runtime, path, content.as_slice(), len) {
+        Ok(()) => read_new(runtime, alloc, path),
+        Err(_) => String::from_str(alloc, "no new file"),
     }
 }
 

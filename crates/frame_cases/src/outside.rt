@@ -18,14 +18,9 @@ pub fn answer(alloc: Global, call: &[&str]) -> Mem<String> {
         ["std_sink", steps @ ..] => std_sink(alloc, steps),
         ["full_sink", room, steps @ ..] => full_sink(alloc, size_of(room), steps),
         ["faulty_disk", files, fails, paths @ ..] => faulty_disk(alloc, files, fails, paths),
-        ["calm_disk", files, paths @ ..] => {
-            read_paths(alloc, &mut CalmDisk::new(files_of(alloc, files)?), paths)
-        }
+        ["calm_disk", files, paths @ ..] => calm_disk(alloc, files, paths),
         ["list_clock", moments @ .., count] => list_clock(alloc, moments, size_of(count)),
-        ["fixed_clock", moment, count] => {
-            let mut clock = FixedClock::new(moment_of(moment));
-            given(alloc, &mut clock, size_of(count))
-        }
+        ["fixed_clock", moment, count] => fixed_clock(alloc, moment, size_of(count)),
         _ => String::from_str(alloc, "no such call"),
     }
 }
@@ -135,6 +130,11 @@ fn faulty_disk(alloc: Global, files: &str, fails: &str, paths: &[&str]) -> Mem<S
     read_paths(alloc, &mut disk, paths)
 }
 
+fn calm_disk(alloc: Global, files: &str, paths: &[&str]) -> Mem<String> {
+    let mut disk = CalmDisk::new(files_of(alloc, files)?);
+    read_paths(alloc, &mut disk, paths)
+}
+
 // The files between `;`, each a path and its bytes.
 fn files_of(alloc: Global, word: &str) -> Mem<Vec<(String, Vec<u8>)>> {
     let mut files = Vec::new(alloc);
@@ -166,6 +166,11 @@ fn list_clock(alloc: Global, words: &[&str], count: usize) -> Mem<String> {
         return String::from_str(alloc, "no moments");
     }
     given(alloc, &mut ListClock::new(moments), count)
+}
+
+fn fixed_clock(alloc: Global, moment: &str, count: usize) -> Mem<String> {
+    let mut clock = FixedClock::new(moment_of(moment));
+    given(alloc, &mut clock, count)
 }
 
 // What so many calls of a clock give.

@@ -16,17 +16,15 @@ pub fn answer(alloc: Global, call: &[&str]) -> Mem<String> {
             copied_response(alloc, status, skew, steps)
         }
         ["copied_credentials", key_id, secret, token, expiry] => {
-            let signer = credentials(alloc, [key_id, secret, token, expiry])?;
-            parts_of(alloc, &signer.try_clone()?)
+            copied_credentials(alloc, [key_id, secret, token, expiry])
         }
         ["copied_identity", token] => {
-            copied_identity(alloc, &Identity::Token(String::from_str(alloc, token)?))
+            copied_identity(alloc, Identity::Token(String::from_str(alloc, token)?))
         }
         ["copied_identity", key_id, secret, token, expiry] => {
-            let signer = credentials(alloc, [key_id, secret, token, expiry])?;
-            copied_identity(alloc, &Identity::Credentials(signer))
+            copied_signer(alloc, [key_id, secret, token, expiry])
         }
-        ["max_attempts"] => format!(in alloc; "{}", RetryConfig::standard().max_attempts),
+        ["max_attempts"] => max_attempts(alloc),
         _ => String::from_str(alloc, "no such call"),
     }
 }
@@ -144,7 +142,21 @@ fn parts_of(alloc: Global, signer: &Credentials) -> Mem<String> {
     )
 }
 
-fn copied_identity(alloc: Global, identity: &Identity) -> Mem<String> {
+fn copied_credentials(alloc: Global, words: [&str; 4]) -> Mem<String> {
+    let copy = credentials(alloc, words)?.try_clone()?;
+    parts_of(alloc, &copy)
+}
+
+fn copied_signer(alloc: Global, words: [&str; 4]) -> Mem<String> {
+    copied_identity(alloc, Identity::Credentials(credentials(alloc, words)?))
+}
+
+fn max_attempts(alloc: Global) -> Mem<String> {
+    let attempts = RetryConfig::standard().max_attempts;
+    format!(in alloc; "{attempts}")
+}
+
+fn copied_identity(alloc: Global, identity: Identity) -> Mem<String> {
     match identity.try_clone()? {
         Identity::Credentials(signer) => parts_of(alloc, &signer),
         Identity::Token(token) => format!(in alloc; "token {token}"),

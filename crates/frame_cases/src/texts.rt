@@ -1,30 +1,59 @@
 use crate::shown::{digits, header, message, quoted, value};
 use crate::words::{bytes_of, header_of, headers_of, shared, text_of};
 use smithy_core::{
-    AppName, Blob, Env, ErrorMetadata, HeaderValue, Mem, Message, StrBytes, copied_pairs,
-    is_header_name, is_header_value, is_lower_of, push_line,
+    AppName, Blob, Env, ErrorMetadata, Mem, Message, StrBytes, copied_pairs, is_header_name,
+    is_header_value, is_lower_of, push_line,
 };
 use std::alloc::Global;
 
 pub fn answer(alloc: Global, call: &[&str]) -> Mem<String> {
     match call {
-        ["is_header_name", text] => { truth(alloc, is_header_name(text_of(alloc, text)?.as_str())) }
-        ["static_text"] => String::from_str(alloc, StrBytes::from_static("text").as_str()),
-        ["is_header_value", text] => truth(alloc, is_header_value(text)),
-        ["is_lower_of", text, name] => truth(alloc, is_lower_of(text, name)),
-        ["copied_text", text] => copied_text(alloc, text),
-        ["text_of_bytes", bytes] => text_of_bytes(alloc, bytes),
-        ["copied_blob", bytes] => copied_blob(alloc, bytes),
-        ["copied_header", word] => header(alloc, &header_of(alloc, word)?.try_clone()?),
-        ["as_string", word] => as_string(alloc, header_of(alloc, word)?.value()),
         ["copied_message", headers @ .., payload] => copied_message(alloc, headers, payload),
-        ["copied_metadata", code, text] => copied_metadata(alloc, code, text),
-        ["app_name", text] => app_name(alloc, text),
         ["variable", sets @ .., name] => variable(alloc, sets, name),
-        ["copied_pair", name, text] => copied_pair(alloc, name, text),
-        ["push_line", front, line] => lines(alloc, front, line),
+        ["static_text"] => static_text(alloc),
+        [call, word] => of_one(alloc, call, word),
+        [call, first, second] => of_two(alloc, call, first, second),
         _ => String::from_str(alloc, "no such call"),
     }
+}
+
+fn of_one(alloc: Global, call: &str, word: &str) -> Mem<String> {
+    match call {
+        "is_header_name" => header_name(alloc, word),
+        "is_header_value" => truth(alloc, is_header_value(word)),
+        "copied_text" => copied_text(alloc, word),
+        "text_of_bytes" => text_of_bytes(alloc, word),
+        "copied_blob" => copied_blob(alloc, word),
+        "copied_header" => copied_header(alloc, word),
+        "as_string" => as_string(alloc, word),
+        "app_name" => app_name(alloc, word),
+        _ => String::from_str(alloc, "no such call"),
+    }
+}
+
+fn of_two(alloc: Global, call: &str, first: &str, second: &str) -> Mem<String> {
+    match call {
+        "is_lower_of" => truth(alloc, is_lower_of(first, second)),
+        "copied_metadata" => copied_metadata(alloc, first, second),
+        "copied_pair" => copied_pair(alloc, first, second),
+        "push_line" => lines(alloc, first, second),
+        _ => String::from_str(alloc, "no such call"),
+    }
+}
+
+fn header_name(alloc: Global, word: &str) -> Mem<String> {
+    let text = text_of(alloc, word)?;
+    truth(alloc, is_header_name(text.as_str()))
+}
+
+fn static_text(alloc: Global) -> Mem<String> {
+    let text = StrBytes::from_static("text");
+    String::from_str(alloc, text.as_str())
+}
+
+fn copied_header(alloc: Global, word: &str) -> Mem<String> {
+    let copy = header_of(alloc, word)?.try_clone()?;
+    header(alloc, &copy)
 }
 
 fn truth(alloc: Global, holds: bool) -> Mem<String> {
@@ -53,8 +82,9 @@ fn copied_blob(alloc: Global, bytes: &str) -> Mem<String> {
     )
 }
 
-fn as_string(alloc: Global, whole: &HeaderValue) -> Mem<String> {
-    match whole.as_string() {
+fn as_string(alloc: Global, word: &str) -> Mem<String> {
+    let header = header_of(alloc, word)?;
+    match header.value().as_string() {
         Ok(text) => String::from_str(alloc, text.as_str()),
         Err(other) => {
             let other = value(alloc, other)?;
@@ -107,11 +137,12 @@ fn variable(alloc: Global, sets: &[&str], name: &str) -> Mem<String> {
 }
 
 fn copied_pair(alloc: Global, name: &str, text: &str) -> Mem<String> {
-    let pair = (
+    let mut pairs = Vec::new(alloc);
+    pairs.push((
         String::from_str(alloc, name)?,
         String::from_str(alloc, text)?,
-    );
-    let copies = copied_pairs(alloc, [pair].as_slice())?;
+    ))?;
+    let copies = copied_pairs(alloc, pairs.as_slice())?;
     format!(in alloc; "{copies:?}")
 }
 
