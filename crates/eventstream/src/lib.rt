@@ -19,8 +19,6 @@ mod laws;
 mod read;
 mod response_headers;
 mod size_hint;
-#[cfg(test)]
-mod tests;
 mod texts;
 mod write;
 

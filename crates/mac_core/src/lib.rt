@@ -10,8 +10,6 @@ mod crc;
 mod hmac;
 mod laws;
 mod tables;
-#[cfg(test)]
-mod tests;
 
 pub use crate::crc::{Crc, crc32};
 pub use crate::hmac::{HmacSha256, hmac_sha256, sha256_hex};

@@ -5,7 +5,5 @@
 #![tactic(auto)]
 
 mod seg_buf;
-#[cfg(test)]
-mod tests;
 
 pub use crate::seg_buf::SegBuf;

@@ -34,8 +34,6 @@ mod request;
 mod response;
 mod sdk_error;
 mod str_bytes;
-#[cfg(test)]
-mod tests;
 mod text;
 mod text_pairs;
 

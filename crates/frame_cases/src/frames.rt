@@ -1,0 +1,94 @@
+use crate::shown::{digits, message, quoted};
+use crate::words::{bytes_of, headers_of, message_of, shared};
+use bytes::Bytes;
+use eventstream::{
+    Error, MessageSizeHint, frame_of, read_message_from, write_headers_to, write_message_to,
+};
+use smithy_core::Mem;
+use std::alloc::Global;
+
+pub fn answer(alloc: Global, call: &[&str]) -> Mem<String> {
+    match call {
+        ["read", bytes] => read(alloc, shared(alloc, bytes)?),
+        ["write", list, headers @ .., payload] => write(alloc, list, headers, payload),
+        ["write_headers", list, headers @ ..] => write_headers(alloc, list, headers),
+        ["frame_of", headers @ .., payload] => whole(alloc, headers, payload),
+        ["read_back", headers @ .., payload] => read_back(alloc, headers, payload),
+        ["size_hint", headers @ .., payload] => {
+            let hint = message_of(alloc, headers, payload)?.size_hint();
+            format!(in alloc; "{hint}")
+        }
+        ["write_hinted", headers @ .., payload] => write_hinted(alloc, headers, payload),
+        _ => String::from_str(alloc, "no such call"),
+    }
+}
+
+// The message or the fault, and what is left of the bytes.
+fn read(alloc: Global, bytes: Bytes) -> Mem<String> {
+    let mut rest = bytes.clone()?;
+    let read = match read_message_from(alloc, &mut rest) {
+        Ok(read) => message(alloc, &read)?,
+        Err(error) => error.to_string(alloc)?,
+    };
+    if rest.as_slice() == bytes.as_slice() {
+        return format!(in alloc; "{read} | all left");
+    }
+    format!(in alloc; "{read} | {} left", rest.len())
+}
+
+// The list with what was appended to it.
+fn write(alloc: Global, list: &str, headers: &[&str], payload: &str) -> Mem<String> {
+    let message = message_of(alloc, headers, payload)?;
+    let mut list = bytes_of(alloc, list)?;
+    let written = write_message_to(alloc, &message, &mut list);
+    after(alloc, written, list.as_slice())
+}
+
+fn write_headers(alloc: Global, list: &str, headers: &[&str]) -> Mem<String> {
+    let headers = headers_of(alloc, headers)?;
+    let mut list = bytes_of(alloc, list)?;
+    let written = write_headers_to(alloc, headers.as_slice(), &mut list);
+    after(alloc, written, list.as_slice())
+}
+
+// The list, and before it why nothing was written and whether the message itself is at fault.
+fn after(alloc: Global, written: Result<(), Error>, list: &[u8]) -> Mem<String> {
+    match written {
+        Ok(()) => digits(alloc, list),
+        Err(error) => {
+            let list = quoted(alloc, list)?;
+            let invalid = error.is_invalid_message();
+            format!(in alloc; "{error} | {invalid} | {list}")
+        }
+    }
+}
+
+// The frame by the call that takes only a message that has one.
+fn whole(alloc: Global, headers: &[&str], payload: &str) -> Mem<String> {
+    let message = message_of(alloc, headers, payload)?;
+    match write_message_to(alloc, &message, &mut Vec::new(alloc)) {
+        Ok(()) => digits(alloc, frame_of(alloc, &message)?.as_slice()),
+        Err(error) => error.to_string(alloc),
+    }
+}
+
+// What is read of what was written.
+fn read_back(alloc: Global, headers: &[&str], payload: &str) -> Mem<String> {
+    let message = message_of(alloc, headers, payload)?;
+    let mut frame = Vec::new(alloc);
+    match write_message_to(alloc, &message, &mut frame) {
+        Ok(()) => read(alloc, Bytes::from_vec(frame)?),
+        Err(error) => error.to_string(alloc),
+    }
+}
+
+// The room that the hint makes, and the room and the length once the message is written.
+fn write_hinted(alloc: Global, headers: &[&str], payload: &str) -> Mem<String> {
+    let message = message_of(alloc, headers, payload)?;
+    let mut list = Vec::with_capacity(alloc, message.size_hint())?;
+    let room = list.capacity();
+    match write_message_to(alloc, &message, &mut list) {
+        Ok(()) => format!(in alloc; "{room} | {} | {}", list.capacity(), list.len()),
+        Err(error) => error.to_string(alloc),
+    }
+}

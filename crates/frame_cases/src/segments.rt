@@ -1,0 +1,90 @@
+use crate::shown::{digits, nothing, push_answer};
+use crate::words::{parts, shared, size_of};
+use bytes::Bytes;
+use seg_buf::SegBuf;
+use std::alloc::{AllocError, Global};
+
+// The answers of these steps on one buffer.
+pub fn answer(alloc: Global, steps: &[&str]) -> Result<String, AllocError> {
+    let mut buffer = SegBuf::new(alloc);
+    let mut answers = String::new(alloc);
+    for step in steps {
+        push_answer(&mut answers, after(alloc, &mut buffer, step)?.as_str())?;
+    }
+    Ok(answers)
+}
+
+fn after(alloc: Global, buffer: &mut SegBuf, step: &str) -> Result<String, AllocError> {
+    let (step, word) = parts(step);
+    match step {
+        "push" => push(alloc, buffer, shared(alloc, word)?),
+        "left" => left(alloc, buffer),
+        "peek" => peek(alloc, buffer, size_of(word)),
+        "advance" => advance(alloc, buffer, size_of(word)),
+        "front" => front(alloc, buffer, size_of(word)),
+        "take" => take(alloc, buffer, size_of(word)),
+        "prelude" => prelude(alloc, buffer),
+        "copy" => copy(alloc, buffer),
+        _ => String::from_str(alloc, "no such step"),
+    }
+}
+
+// Appends a piece.
+pub fn push(alloc: Global, buffer: &mut SegBuf, piece: Bytes) -> Result<String, AllocError> {
+    if buffer.remaining().checked_add(piece.len()).is_none() {
+        return String::from_str(alloc, "too long");
+    }
+    buffer.reserve_one()?;
+    buffer.push(piece);
+    nothing(alloc)
+}
+
+pub fn left(alloc: Global, buffer: &SegBuf) -> Result<String, AllocError> {
+    let left = buffer.remaining();
+    format!(in alloc; "{left} left")
+}
+
+fn peek(alloc: Global, buffer: &SegBuf, at: usize) -> Result<String, AllocError> {
+    if at >= buffer.remaining() {
+        return String::from_str(alloc, "past the end");
+    }
+    let byte = buffer.peek(at);
+    format!(in alloc; "{byte:02x}")
+}
+
+fn advance(alloc: Global, buffer: &mut SegBuf, n: usize) -> Result<String, AllocError> {
+    if n > buffer.remaining() {
+        return String::from_str(alloc, "past the end");
+    }
+    buffer.advance(n);
+    nothing(alloc)
+}
+
+fn front(alloc: Global, buffer: &SegBuf, n: usize) -> Result<String, AllocError> {
+    if n > buffer.remaining() {
+        return String::from_str(alloc, "past the end");
+    }
+    digits(alloc, buffer.copy_front(n)?.as_slice())
+}
+
+fn take(alloc: Global, buffer: &mut SegBuf, n: usize) -> Result<String, AllocError> {
+    if n > buffer.remaining() {
+        return String::from_str(alloc, "past the end");
+    }
+    digits(alloc, buffer.copy_to_bytes(n)?.as_slice())
+}
+
+fn prelude(alloc: Global, buffer: &mut SegBuf) -> Result<String, AllocError> {
+    if buffer.remaining() < 12 {
+        return String::from_str(alloc, "past the end");
+    }
+    digits(alloc, buffer.take_prelude().as_slice())
+}
+
+// Goes on with a copy, once the first buffer was emptied.
+fn copy(alloc: Global, buffer: &mut SegBuf) -> Result<String, AllocError> {
+    let copy = buffer.try_clone()?;
+    buffer.advance(buffer.remaining());
+    *buffer = copy;
+    nothing(alloc)
+}

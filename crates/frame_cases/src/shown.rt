@@ -1,0 +1,98 @@
+use mac_core::sha256_hex;
+use smithy_core::{DateTime, Header, HeaderValue, Message};
+use std::alloc::{AllocError, Global};
+use std::str;
+
+// The most bytes that are told one by one.
+const MOST: usize = 400;
+
+// The hexadecimal digits of bytes, or the length and the SHA-256 of many.
+pub fn digits(alloc: Global, bytes: &[u8]) -> Result<String, AllocError> {
+    if bytes.len() > MOST {
+        return digest(alloc, bytes);
+    }
+    hex::encode(alloc, bytes)
+}
+
+// A text as it stands, or the length and the SHA-256 of a long one.
+pub fn text(alloc: Global, text: &str) -> Result<String, AllocError> {
+    if text.len() > MOST {
+        return digest(alloc, text.as_bytes());
+    }
+    String::from_str(alloc, text)
+}
+
+fn digest(alloc: Global, bytes: &[u8]) -> Result<String, AllocError> {
+    let count = bytes.len();
+    let digest = sha256_hex(alloc, bytes)?;
+    format!(in alloc; "{count} bytes, SHA-256 {digest}")
+}
+
+// Bytes that spell a text as that text in double quotes, and others as digits.
+pub fn quoted(alloc: Global, bytes: &[u8]) -> Result<String, AllocError> {
+    match str::from_utf8(bytes) {
+        Ok(text) if text.len() <= MOST => format!(in alloc; "\"{text}\""),
+        _ => digits(alloc, bytes),
+    }
+}
+
+pub fn moment(alloc: Global, moment: DateTime) -> Result<String, AllocError> {
+    let (secs, nanos) = (moment.secs(), moment.subsec_nanos());
+    format!(in alloc; "{secs} {nanos}")
+}
+
+pub fn value(alloc: Global, value: &HeaderValue) -> Result<String, AllocError> {
+    match value {
+        HeaderValue::Bool(value) => format!(in alloc; "bool {value}"),
+        HeaderValue::Byte(value) => format!(in alloc; "i8 {value}"),
+        HeaderValue::Int16(value) => format!(in alloc; "i16 {value}"),
+        HeaderValue::Int32(value) => format!(in alloc; "i32 {value}"),
+        HeaderValue::Int64(value) => format!(in alloc; "i64 {value}"),
+        HeaderValue::ByteArray(bytes) => {
+            let bytes = digits(alloc, bytes.as_slice())?;
+            format!(in alloc; "bytes {bytes}")
+        }
+        HeaderValue::String(value) => {
+            let value = text(alloc, value.as_str())?;
+            format!(in alloc; "text {value}")
+        }
+        HeaderValue::Timestamp(time) => {
+            let time = moment(alloc, *time)?;
+            format!(in alloc; "time {time}")
+        }
+        HeaderValue::Uuid(value) => format!(in alloc; "uuid {value:032x}"),
+    }
+}
+
+pub fn header(alloc: Global, header: &Header) -> Result<String, AllocError> {
+    let name = text(alloc, header.name().as_str())?;
+    let value = value(alloc, header.value())?;
+    format!(in alloc; "{name} {value}")
+}
+
+// The headers and the payload, with `;` between them.
+pub fn message(alloc: Global, message: &Message) -> Result<String, AllocError> {
+    let mut text = String::new(alloc);
+    for each in message.headers() {
+        text.push_str(header(alloc, each)?.as_str())?;
+        text.push_str("; ")?;
+    }
+    text.push_str(quoted(alloc, message.payload().as_slice())?.as_str())?;
+    Ok(text)
+}
+
+// Adds the answer of one step more, where it has one.
+pub fn push_answer(answers: &mut String, answer: &str) -> Result<(), AllocError> {
+    if answer.is_empty() {
+        return Ok(());
+    }
+    if !answers.is_empty() {
+        answers.push_str(" | ")?;
+    }
+    answers.push_str(answer)
+}
+
+// No answer.
+pub fn nothing(alloc: Global) -> Result<String, AllocError> {
+    Ok(String::new(alloc))
+}

@@ -1,0 +1,153 @@
+use crate::shown::{digits, header, message, quoted, value};
+use crate::words::{bytes_of, header_of, headers_of, shared, text_of};
+use smithy_core::{
+    AppName, Blob, Env, ErrorMetadata, Mem, Message, StrBytes, copied_pairs, is_header_name,
+    is_header_value, is_lower_of, push_line,
+};
+use std::alloc::Global;
+
+pub fn answer(alloc: Global, call: &[&str]) -> Mem<String> {
+    match call {
+        ["copied_message", headers @ .., payload] => copied_message(alloc, headers, payload),
+        ["variable", sets @ .., name] => variable(alloc, sets, name),
+        ["static_text"] => static_text(alloc),
+        [call, word] => of_one(alloc, call, word),
+        [call, first, second] => of_two(alloc, call, first, second),
+        _ => String::from_str(alloc, "no such call"),
+    }
+}
+
+fn of_one(alloc: Global, call: &str, word: &str) -> Mem<String> {
+    match call {
+        "is_header_name" => header_name(alloc, word),
+        "is_header_value" => truth(alloc, is_header_value(word)),
+        "copied_text" => copied_text(alloc, word),
+        "text_of_bytes" => text_of_bytes(alloc, word),
+        "copied_blob" => copied_blob(alloc, word),
+        "copied_header" => copied_header(alloc, word),
+        "as_string" => as_string(alloc, word),
+        "app_name" => app_name(alloc, word),
+        _ => String::from_str(alloc, "no such call"),
+    }
+}
+
+fn of_two(alloc: Global, call: &str, first: &str, second: &str) -> Mem<String> {
+    match call {
+        "is_lower_of" => truth(alloc, is_lower_of(first, second)),
+        "copied_metadata" => copied_metadata(alloc, first, second),
+        "copied_pair" => copied_pair(alloc, first, second),
+        "push_line" => lines(alloc, first, second),
+        _ => String::from_str(alloc, "no such call"),
+    }
+}
+
+fn header_name(alloc: Global, word: &str) -> Mem<String> {
+    let text = text_of(alloc, word)?;
+    truth(alloc, is_header_name(text.as_str()))
+}
+
+fn static_text(alloc: Global) -> Mem<String> {
+    let text = StrBytes::from_static("text");
+    String::from_str(alloc, text.as_str())
+}
+
+fn copied_header(alloc: Global, word: &str) -> Mem<String> {
+    let copy = header_of(alloc, word)?.try_clone()?;
+    header(alloc, &copy)
+}
+
+fn truth(alloc: Global, holds: bool) -> Mem<String> {
+    format!(in alloc; "{holds}")
+}
+
+fn copied_text(alloc: Global, text: &str) -> Mem<String> {
+    let text = StrBytes::copy_from_str(alloc, text)?.try_clone()?;
+    String::from_str(alloc, text.as_str())
+}
+
+fn text_of_bytes(alloc: Global, bytes: &str) -> Mem<String> {
+    match StrBytes::try_from_bytes(shared(alloc, bytes)?) {
+        Ok(text) => String::from_str(alloc, text.as_str()),
+        Err(bytes) => {
+            let bytes = digits(alloc, bytes.as_slice())?;
+            format!(in alloc; "refused {bytes}")
+        }
+    }
+}
+
+fn copied_blob(alloc: Global, bytes: &str) -> Mem<String> {
+    quoted(
+        alloc,
+        Blob::new(shared(alloc, bytes)?).try_clone()?.as_ref(),
+    )
+}
+
+fn as_string(alloc: Global, word: &str) -> Mem<String> {
+    let header = header_of(alloc, word)?;
+    match header.value().as_string() {
+        Ok(text) => String::from_str(alloc, text.as_str()),
+        Err(other) => {
+            let other = value(alloc, other)?;
+            format!(in alloc; "refused {other}")
+        }
+    }
+}
+
+// A copy of a message to which the headers were added one by one.
+fn copied_message(alloc: Global, headers: &[&str], payload: &str) -> Mem<String> {
+    let mut built = Message::new(alloc, shared(alloc, payload)?);
+    for header in headers_of(alloc, headers)? {
+        built = built.add_header(header)?;
+    }
+    message(alloc, &built.try_clone()?)
+}
+
+fn copied_metadata(alloc: Global, code: &str, message: &str) -> Mem<String> {
+    let error = ErrorMetadata {
+        code: unless_empty(alloc, code)?,
+        message: unless_empty(alloc, message)?,
+    };
+    let copy = error.try_clone()?;
+    format!(in alloc; "{:?}, {:?}", copy.code, copy.message)
+}
+
+pub fn unless_empty(alloc: Global, text: &str) -> Mem<Option<String>> {
+    if text.is_empty() {
+        return Ok(None);
+    }
+    Ok(Some(String::from_str(alloc, text)?))
+}
+
+fn app_name(alloc: Global, text: &str) -> Mem<String> {
+    match AppName::new(String::from_str(alloc, text)?) {
+        Ok(name) => String::from_str(alloc, name.try_clone()?.as_str()),
+        Err(fault) => format!(in alloc; "{fault:?}"),
+    }
+}
+
+// The value of a name in a copy of the variables that were set.
+fn variable(alloc: Global, sets: &[&str], name: &str) -> Mem<String> {
+    let mut env = Env::new(alloc);
+    for set in sets {
+        let (key, value) = set.split_once('=').unwrap_or((set, ""));
+        env.set(key, value)?;
+    }
+    let copy = env.try_clone()?;
+    format!(in alloc; "{:?}", copy.get(name))
+}
+
+fn copied_pair(alloc: Global, name: &str, text: &str) -> Mem<String> {
+    let mut pairs = Vec::new(alloc);
+    pairs.push((
+        String::from_str(alloc, name)?,
+        String::from_str(alloc, text)?,
+    ))?;
+    let copies = copied_pairs(alloc, pairs.as_slice())?;
+    format!(in alloc; "{copies:?}")
+}
+
+fn lines(alloc: Global, front: &str, line: &str) -> Mem<String> {
+    let mut buffer = bytes_of(alloc, front)?;
+    push_line(&mut buffer, bytes_of(alloc, line)?.as_slice())?;
+    digits(alloc, buffer.as_slice())
+}
