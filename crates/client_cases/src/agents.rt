@@ -9,27 +9,35 @@ use aws_intercept::{
 use smithy_core::{AppName, Mem};
 use std::alloc::Global;
 
-// The text of an agent that was given parts, by the calls that hand it on, by those that lend it on, or copied then.
 pub fn answer(alloc: Global, words: &[&str]) -> Mem<String> {
     match words {
-        ["with", base, words @ ..] => {
-            let parts = parts_of(alloc, words)?;
-            told(alloc, &with_parts(agent_of(alloc, base)?, parts)?)
-        }
-        ["add", base, words @ ..] => {
-            let parts = parts_of(alloc, words)?;
-            let mut agent = agent_of(alloc, base)?;
-            added(alloc, &mut agent, parts)
-        }
-        ["copy", base, words @ ..] => {
-            let parts = parts_of(alloc, words)?;
-            told(
-                alloc,
-                &with_parts(agent_of(alloc, base)?, parts)?.try_clone()?,
-            )
-        }
+        ["with", base, words @ ..] => with(alloc, base, words),
+        ["add", base, words @ ..] => add(alloc, base, words),
+        ["copy", base, words @ ..] => copy(alloc, base, words),
         _ => unknown(alloc),
     }
+}
+
+// The text of an agent that was given parts by the calls that hand it on.
+fn with(alloc: Global, base: &str, words: &[&str]) -> Mem<String> {
+    let parts = parts_of(alloc, words)?;
+    told(alloc, &with_parts(agent_of(alloc, base)?, parts)?)
+}
+
+// The text of one that was given them by the calls that lend it on.
+fn add(alloc: Global, base: &str, words: &[&str]) -> Mem<String> {
+    let parts = parts_of(alloc, words)?;
+    let mut agent = agent_of(alloc, base)?;
+    added(alloc, &mut agent, parts)
+}
+
+// The text of a copy.
+fn copy(alloc: Global, base: &str, words: &[&str]) -> Mem<String> {
+    let parts = parts_of(alloc, words)?;
+    told(
+        alloc,
+        &with_parts(agent_of(alloc, base)?, parts)?.try_clone()?,
+    )
 }
 
 // What both headers tell.

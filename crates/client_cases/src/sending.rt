@@ -10,36 +10,41 @@ use case_lines::shown;
 use smithy_core::Mem;
 use std::alloc::Global;
 
-// The headers of a request that was empty, once an interceptor saw it with a bag of these entries.
+// The headers of a request that had none, once an interceptor saw it with a bag of these entries.
 pub fn answer(alloc: Global, words: &[&str]) -> Mem<String> {
     match words {
-        ["agent", words @ ..] => {
-            let entries = entries_of(alloc, words)?;
-            let mut bag = ConfigBag::new(alloc);
-            shown(alloc, agent_sent(alloc, &mut bag, entries))
-        }
-        ["agent_alone", words @ ..] => {
-            let entries = entries_of(alloc, words)?;
-            let mut bag = ConfigBag::new(alloc);
-            shown(alloc, agent_signed(alloc, &mut bag, entries))
-        }
-        ["attempt", moment, words @ ..] => {
-            let entries = entries_of(alloc, words)?;
-            let mut bag = ConfigBag::new(alloc);
-            attempt_told(alloc, moment, &mut bag, entries)
-        }
-        ["id", words @ ..] => {
-            let entries = entries_of(alloc, words)?;
-            let mut bag = ConfigBag::new(alloc);
-            id_sent(alloc, &mut bag, entries)
-        }
-        ["copy", words @ ..] => {
-            let entries = entries_of(alloc, words)?;
-            let mut bag = ConfigBag::new(alloc);
-            copied(alloc, &mut bag, entries)
-        }
+        ["agent", words @ ..] => agent(alloc, entries_of(alloc, words)?),
+        ["agent_alone", words @ ..] => agent_alone(alloc, entries_of(alloc, words)?),
+        ["attempt", moment, words @ ..] => attempt(alloc, moment, entries_of(alloc, words)?),
+        ["id", words @ ..] => id(alloc, entries_of(alloc, words)?),
+        ["copy", words @ ..] => copy(alloc, entries_of(alloc, words)?),
         _ => unknown(alloc),
     }
+}
+
+fn agent(alloc: Global, entries: Vec<Entry>) -> Mem<String> {
+    let mut bag = ConfigBag::new(alloc);
+    shown(alloc, agent_sent(alloc, &mut bag, entries))
+}
+
+fn agent_alone(alloc: Global, entries: Vec<Entry>) -> Mem<String> {
+    let mut bag = ConfigBag::new(alloc);
+    shown(alloc, agent_signed(alloc, &mut bag, entries))
+}
+
+fn attempt(alloc: Global, moment: &str, entries: Vec<Entry>) -> Mem<String> {
+    let mut bag = ConfigBag::new(alloc);
+    attempt_told(alloc, moment, &mut bag, entries)
+}
+
+fn id(alloc: Global, entries: Vec<Entry>) -> Mem<String> {
+    let mut bag = ConfigBag::new(alloc);
+    id_sent(alloc, &mut bag, entries)
+}
+
+fn copy(alloc: Global, entries: Vec<Entry>) -> Mem<String> {
+    let mut bag = ConfigBag::new(alloc);
+    copied(alloc, &mut bag, entries)
 }
 
 // Makes the bag's agent where it has none, and sends it.
