@@ -19,8 +19,6 @@ mod invocation_id;
 mod nanos;
 mod recursion;
 mod request_info;
-#[cfg(test)]
-pub(crate) mod tests;
 mod user_agent;
 
 pub use crate::bag::ConfigBag;

@@ -23,8 +23,6 @@ mod sections;
 mod service_config;
 mod service_id;
 mod source;
-#[cfg(test)]
-mod tests;
 mod text;
 mod texts;
 mod value;

@@ -2,8 +2,6 @@ ghost use Rattle.std.specs.Prelude.{◌≡◌, [], ◌∷◌, ◌++◌, IfOk, On
 ghost use Rattle.smithy_core.specs.Pairs.{last_value};
 ghost use Rattle.aws_intercept.specs.Agent.{agent_for_tests, agent_from};
 
-#[cfg(test)]
-mod tests;
 mod text;
 
 use crate::copied::{copied_name, copied_text};

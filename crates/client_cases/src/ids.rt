@@ -1,0 +1,97 @@
+use crate::sending::id_told;
+use crate::texts::{text, unknown, visible};
+use aws_intercept::{
+    ConfigBag, DefaultInvocationIdGenerator, IdFault, InvalidInvocationId, InvocationId,
+    InvocationIdGenerator, InvocationIdInterceptor, NoInvocationIdGenerator,
+    PredefinedInvocationIdGenerator,
+};
+use case_lines::shown;
+use rand_pcg::Pcg32;
+use smithy_core::Mem;
+use std::alloc::Global;
+
+pub fn answer(alloc: Global, words: &[&str]) -> Mem<String> {
+    match words {
+        ["random", seed, stream, count] => {
+            let rng = Pcg32::new(whole(seed), whole(stream));
+            let mut generator = DefaultInvocationIdGenerator::new(alloc, rng);
+            invoked(alloc, &mut generator, whole(count))
+        }
+        ["given", ids, count] => {
+            let ids = ids_of(alloc, ids)?;
+            let mut generator = PredefinedInvocationIdGenerator::new(ids);
+            invoked(alloc, &mut generator, whole(count))
+        }
+        ["copy", ids, count] => {
+            let ids = ids_of(alloc, ids)?;
+            let mut generator = PredefinedInvocationIdGenerator::new(ids).try_clone()?;
+            invoked(alloc, &mut generator, whole(count))
+        }
+        ["none", count] => invoked(alloc, &mut NoInvocationIdGenerator::new(), whole(count)),
+        ["text", id] => copied(alloc, InvocationId::new(text(alloc, id)?)),
+        _ => unknown(alloc),
+    }
+}
+
+fn whole(word: &str) -> u64 {
+    word.parse().unwrap_or(0)
+}
+
+// The ids, with commas between.
+fn ids_of(alloc: Global, words: &str) -> Mem<Vec<InvocationId>> {
+    let mut ids = Vec::new(alloc);
+    for word in words.split(',') {
+        if let Ok(id) = InvocationId::new(text(alloc, word)?) {
+            ids.push(id)?;
+        }
+    }
+    Ok(ids)
+}
+
+// The headers of so many invocations, or the faults, in turn.
+fn invoked<G: InvocationIdGenerator>(alloc: Global, generator: &mut G, count: u64) -> Mem<String> {
+    let mut told = String::new(alloc);
+    for at in 0..count {
+        if at > 0 {
+            told.push_str(" | ")?;
+        }
+        let sent = shown(alloc, sent_with(alloc, generator))?;
+        told.push_str(sent.as_str())?;
+    }
+    Ok(told)
+}
+
+// The header of an invocation with the generator's next id, which is the bag's then.
+fn sent_with<G: InvocationIdGenerator>(
+    alloc: Global,
+    generator: &mut G,
+) -> Result<String, IdFault> {
+    let mut bag = ConfigBag::new(alloc);
+    begun(alloc, generator, &mut bag)
+}
+
+fn begun<G: InvocationIdGenerator>(
+    alloc: Global,
+    generator: &mut G,
+    bag: &mut ConfigBag,
+) -> Result<String, IdFault> {
+    InvocationIdInterceptor::new().modify_before_retry_loop(generator, bag)?;
+    Ok(id_told(alloc, bag)?)
+}
+
+// An equal copy of the id, or the refusal.
+fn copied(alloc: Global, id: Result<InvocationId, InvalidInvocationId>) -> Mem<String> {
+    match id {
+        Ok(id) => equal_copy(alloc, &id),
+        Err(fault) => format!(in alloc; "{fault:?}"),
+    }
+}
+
+fn equal_copy(alloc: Global, id: &InvocationId) -> Mem<String> {
+    let copy = id.try_clone()?;
+    if copy == *id {
+        visible(alloc, copy.as_str())
+    } else {
+        text(alloc, "another id")
+    }
+}

@@ -1,0 +1,263 @@
+use crate::texts::{text, unknown};
+use aws_intercept::{
+    AwsCredentialFeature, AwsSdkFeature, AwsUserAgent, BusinessMetric, SmithySdkFeature,
+};
+use smithy_core::Mem;
+use std::alloc::Global;
+
+pub fn answer(alloc: Global, words: &[&str]) -> Mem<String> {
+    match words {
+        ["ids", counts @ ..] => ids(alloc, counts),
+        ["smithy", name] => match smithy_named(alloc, name)? {
+            Some(feature) => metric_told(alloc, feature.business_metric()),
+            None => unknown(alloc),
+        },
+        ["aws", name] => match aws_named(alloc, name)? {
+            Some(feature) => metric_told(alloc, feature.business_metric()),
+            None => unknown(alloc),
+        },
+        ["credentials", name] => match credentials_named(alloc, name)? {
+            Some(feature) => metric_told(alloc, feature.business_metric()),
+            None => unknown(alloc),
+        },
+        _ => unknown(alloc),
+    }
+}
+
+fn metric_told(alloc: Global, metric: BusinessMetric) -> Mem<String> {
+    format!(in alloc; "{metric:?}")
+}
+
+// The ids that an agent tells of the metrics `COUNT NAME`.
+fn ids(alloc: Global, counts: &[&str]) -> Mem<String> {
+    let agent = counted(alloc, AwsUserAgent::for_tests(alloc)?, counts)?;
+    let told = agent.ua_header()?;
+    match told.as_str().split_once(" m/") {
+        Some((_, ids)) => text(alloc, ids),
+        None => text(alloc, "-"),
+    }
+}
+
+fn counted(alloc: Global, agent: AwsUserAgent, counts: &[&str]) -> Mem<AwsUserAgent> {
+    let mut agent = agent;
+    for count in counts {
+        agent = with_count(alloc, agent, count)?;
+    }
+    Ok(agent)
+}
+
+// The agent with so many of the metric.
+fn with_count(alloc: Global, agent: AwsUserAgent, count: &str) -> Mem<AwsUserAgent> {
+    let (count, name) = count.split_once(' ').unwrap_or(("0", count));
+    match metric_named(alloc, name)? {
+        Some(metric) => repeated(agent, metric, count.parse().unwrap_or(0)),
+        None => Ok(agent),
+    }
+}
+
+fn repeated(agent: AwsUserAgent, metric: BusinessMetric, count: u32) -> Mem<AwsUserAgent> {
+    let mut agent = agent;
+    for _ in 0..count {
+        agent = agent.with_business_metric(metric)?;
+    }
+    Ok(agent)
+}
+
+pub fn metric_named(alloc: Global, name: &str) -> Mem<Option<BusinessMetric>> {
+    for metric in METRICS {
+        if format!(in alloc; "{metric:?}")?.as_str() == name {
+            return Ok(Some(metric));
+        }
+    }
+    Ok(None)
+}
+
+pub fn smithy_named(alloc: Global, name: &str) -> Mem<Option<SmithySdkFeature>> {
+    for feature in SMITHY_FEATURES {
+        if format!(in alloc; "{feature:?}")?.as_str() == name {
+            return Ok(Some(feature));
+        }
+    }
+    Ok(None)
+}
+
+pub fn aws_named(alloc: Global, name: &str) -> Mem<Option<AwsSdkFeature>> {
+    for feature in AWS_FEATURES {
+        if format!(in alloc; "{feature:?}")?.as_str() == name {
+            return Ok(Some(feature));
+        }
+    }
+    Ok(None)
+}
+
+pub fn credentials_named(alloc: Global, name: &str) -> Mem<Option<AwsCredentialFeature>> {
+    for feature in CREDENTIAL_FEATURES {
+        if format!(in alloc; "{feature:?}")?.as_str() == name {
+            return Ok(Some(feature));
+        }
+    }
+    Ok(None)
+}
+
+const METRICS: [BusinessMetric; 98] = [
+    BusinessMetric::ResourceModel,
+    BusinessMetric::Waiter,
+    BusinessMetric::Paginator,
+    BusinessMetric::RetryModeLegacy,
+    BusinessMetric::RetryModeStandard,
+    BusinessMetric::RetryModeAdaptive,
+    BusinessMetric::S3Transfer,
+    BusinessMetric::S3CryptoV1n,
+    BusinessMetric::S3CryptoV2,
+    BusinessMetric::S3ExpressBucket,
+    BusinessMetric::S3AccessGrants,
+    BusinessMetric::GzipRequestCompression,
+    BusinessMetric::ProtocolRpcV2Cbor,
+    BusinessMetric::EndpointOverride,
+    BusinessMetric::AccountIdEndpoint,
+    BusinessMetric::AccountIdModePreferred,
+    BusinessMetric::AccountIdModeDisabled,
+    BusinessMetric::AccountIdModeRequired,
+    BusinessMetric::Sigv4aSigning,
+    BusinessMetric::ResolvedAccountId,
+    BusinessMetric::FlexibleChecksumsReqCrc32,
+    BusinessMetric::FlexibleChecksumsReqCrc32c,
+    BusinessMetric::FlexibleChecksumsReqCrc64,
+    BusinessMetric::FlexibleChecksumsReqSha1,
+    BusinessMetric::FlexibleChecksumsReqSha256,
+    BusinessMetric::FlexibleChecksumsReqWhenSupported,
+    BusinessMetric::FlexibleChecksumsReqWhenRequired,
+    BusinessMetric::FlexibleChecksumsResWhenSupported,
+    BusinessMetric::FlexibleChecksumsResWhenRequired,
+    BusinessMetric::DdbMapper,
+    BusinessMetric::CredentialsCode,
+    BusinessMetric::CredentialsJvmSystemProperties,
+    BusinessMetric::CredentialsEnvVars,
+    BusinessMetric::CredentialsEnvVarsStsWebIdToken,
+    BusinessMetric::CredentialsStsAssumeRole,
+    BusinessMetric::CredentialsStsAssumeRoleSaml,
+    BusinessMetric::CredentialsStsAssumeRoleWebId,
+    BusinessMetric::CredentialsStsFederationToken,
+    BusinessMetric::CredentialsStsSessionToken,
+    BusinessMetric::CredentialsProfile,
+    BusinessMetric::CredentialsProfileSourceProfile,
+    BusinessMetric::CredentialsProfileNamedProvider,
+    BusinessMetric::CredentialsProfileStsWebIdToken,
+    BusinessMetric::CredentialsProfileSso,
+    BusinessMetric::CredentialsSso,
+    BusinessMetric::CredentialsProfileSsoLegacy,
+    BusinessMetric::CredentialsSsoLegacy,
+    BusinessMetric::CredentialsProfileProcess,
+    BusinessMetric::CredentialsProcess,
+    BusinessMetric::CredentialsBoto2ConfigFile,
+    BusinessMetric::CredentialsAwsSdkStore,
+    BusinessMetric::CredentialsHttp,
+    BusinessMetric::CredentialsImds,
+    BusinessMetric::SsoLoginDevice,
+    BusinessMetric::SsoLoginAuth,
+    BusinessMetric::BearerServiceEnvVars,
+    BusinessMetric::ObservabilityTracing,
+    BusinessMetric::ObservabilityMetrics,
+    BusinessMetric::ObservabilityOtelTracing,
+    BusinessMetric::ObservabilityOtelMetrics,
+    BusinessMetric::CredentialsCognito,
+    BusinessMetric::S3TransferUploadDirectory,
+    BusinessMetric::S3TransferDownloadDirectory,
+    BusinessMetric::CliV1ToV2MigrationDebugMode,
+    BusinessMetric::LoginSameDevice,
+    BusinessMetric::LoginCrossDevice,
+    BusinessMetric::CredentialsProfileLogin,
+    BusinessMetric::CredentialsLogin,
+    BusinessMetric::FlexibleChecksumsReqMd5,
+    BusinessMetric::FlexibleChecksumsReqSha512,
+    BusinessMetric::FlexibleChecksumsReqXxhash3,
+    BusinessMetric::FlexibleChecksumsReqXxhash64,
+    BusinessMetric::FlexibleChecksumsReqXxhash128,
+    BusinessMetric::HttpClientAuto,
+    BusinessMetric::HttpClientExplicitInstance,
+    BusinessMetric::HttpClientExplicitFactory,
+    BusinessMetric::SsoLoginVanityUrl,
+    BusinessMetric::AgenticCallerClaudeCode,
+    BusinessMetric::AgenticCallerGeminiCli,
+    BusinessMetric::AgenticCallerCodex,
+    BusinessMetric::AgenticCallerKiro,
+    BusinessMetric::AgenticCallerOpenCode,
+    BusinessMetric::AgenticCallerAntigravity,
+    BusinessMetric::AgenticCallerAmp,
+    BusinessMetric::AgenticCallerPi,
+    BusinessMetric::AgenticCallerCopilotCli,
+    BusinessMetric::AgenticCallerCursor,
+    BusinessMetric::S3CustomPartSize,
+    BusinessMetric::S3CustomThroughput,
+    BusinessMetric::S3CustomMemoryLimit,
+    BusinessMetric::S3OnEc2,
+    BusinessMetric::S3FilePath,
+    BusinessMetric::DynamodbMapperV2,
+    BusinessMetric::S3TransferClassicExplicit,
+    BusinessMetric::S3TransferCrtExplicit,
+    BusinessMetric::S3TransferClassicAuto,
+    BusinessMetric::S3TransferCrtAuto,
+    BusinessMetric::S3RegionRedirect,
+];
+
+const SMITHY_FEATURES: [SmithySdkFeature; 16] = [
+    SmithySdkFeature::Waiter,
+    SmithySdkFeature::Paginator,
+    SmithySdkFeature::GzipRequestCompression,
+    SmithySdkFeature::ProtocolRpcV2Cbor,
+    SmithySdkFeature::RetryModeStandard,
+    SmithySdkFeature::RetryModeAdaptive,
+    SmithySdkFeature::FlexibleChecksumsReqCrc32,
+    SmithySdkFeature::FlexibleChecksumsReqCrc32c,
+    SmithySdkFeature::FlexibleChecksumsReqCrc64,
+    SmithySdkFeature::FlexibleChecksumsReqSha1,
+    SmithySdkFeature::FlexibleChecksumsReqSha256,
+    SmithySdkFeature::FlexibleChecksumsReqWhenSupported,
+    SmithySdkFeature::FlexibleChecksumsReqWhenRequired,
+    SmithySdkFeature::FlexibleChecksumsResWhenSupported,
+    SmithySdkFeature::FlexibleChecksumsResWhenRequired,
+    SmithySdkFeature::ObservabilityOtelMetrics,
+];
+
+const AWS_FEATURES: [AwsSdkFeature; 14] = [
+    AwsSdkFeature::AccountIdModePreferred,
+    AwsSdkFeature::AccountIdModeDisabled,
+    AwsSdkFeature::AccountIdModeRequired,
+    AwsSdkFeature::S3Transfer,
+    AwsSdkFeature::SsoLoginDevice,
+    AwsSdkFeature::SsoLoginAuth,
+    AwsSdkFeature::EndpointOverride,
+    AwsSdkFeature::S3TransferUploadDirectory,
+    AwsSdkFeature::S3TransferDownloadDirectory,
+    AwsSdkFeature::S3CustomPartSize,
+    AwsSdkFeature::S3CustomThroughput,
+    AwsSdkFeature::S3CustomMemoryLimit,
+    AwsSdkFeature::S3OnEc2,
+    AwsSdkFeature::S3FilePath,
+];
+
+const CREDENTIAL_FEATURES: [AwsCredentialFeature; 23] = [
+    AwsCredentialFeature::CredentialsCode,
+    AwsCredentialFeature::CredentialsEnvVars,
+    AwsCredentialFeature::CredentialsEnvVarsStsWebIdToken,
+    AwsCredentialFeature::CredentialsStsAssumeRole,
+    AwsCredentialFeature::CredentialsStsAssumeRoleSaml,
+    AwsCredentialFeature::CredentialsStsAssumeRoleWebId,
+    AwsCredentialFeature::CredentialsStsFederationToken,
+    AwsCredentialFeature::CredentialsStsSessionToken,
+    AwsCredentialFeature::CredentialsProfile,
+    AwsCredentialFeature::CredentialsProfileSourceProfile,
+    AwsCredentialFeature::CredentialsProfileNamedProvider,
+    AwsCredentialFeature::CredentialsProfileStsWebIdToken,
+    AwsCredentialFeature::CredentialsProfileSso,
+    AwsCredentialFeature::CredentialsSso,
+    AwsCredentialFeature::CredentialsProfileProcess,
+    AwsCredentialFeature::CredentialsProcess,
+    AwsCredentialFeature::CredentialsHttp,
+    AwsCredentialFeature::CredentialsImds,
+    AwsCredentialFeature::ResolvedAccountId,
+    AwsCredentialFeature::BearerServiceEnvVars,
+    AwsCredentialFeature::S3ExpressBucket,
+    AwsCredentialFeature::CredentialsProfileLogin,
+    AwsCredentialFeature::CredentialsLogin,
+];

@@ -1,0 +1,176 @@
+use crate::files::sections_of;
+use crate::profiles::fault_told;
+use crate::texts::{env_of, given, text, unknown};
+use env_config::{
+    EnvConfigSections, EnvConfigSource, EnvConfigValue, Origin, Os, ServiceConfigKey,
+    ValidateFault, get_service_env_config, home_dir,
+};
+use smithy_core::{Env, Mem};
+use std::alloc::Global;
+
+pub fn answer(alloc: Global, words: &[&str]) -> Mem<String> {
+    match words {
+        ["home", "Windows", variables] => home(alloc, Os::Windows, variables),
+        ["home", "Unix", variables] => home(alloc, Os::Unix, variables),
+        ["home", "here", variables] => home(alloc, Os::real(), variables),
+        [call, asked, variables, "-"] => {
+            value(alloc, call, asked, &env_of(alloc, variables)?, None)
+        }
+        [call, asked, variables, file] => {
+            match &sections_of(alloc, "default", &[*file]) {
+                Ok(sections) => {
+                    value(
+                        alloc,
+                        call,
+                        asked,
+                        &env_of(alloc, variables)?,
+                        Some(sections),
+                    )
+                }
+                Err(fault) => fault_told(alloc, fault),
+            }
+        }
+        _ => unknown(alloc),
+    }
+}
+
+fn home(alloc: Global, os: Os, variables: &str) -> Mem<String> {
+    match home_dir(alloc, &env_of(alloc, variables)?, os)? {
+        Some(dir) => Ok(dir),
+        None => text(alloc, "-"),
+    }
+}
+
+// What a call answers for the value `VARIABLE,KEY,SERVICE`.
+fn value(
+    alloc: Global,
+    call: &str,
+    asked: &str,
+    env: &Env,
+    sections: Option<&EnvConfigSections>,
+) -> Mem<String> {
+    let value = value_of(asked);
+    match call {
+        "load" => load(alloc, value, env, sections),
+        "accept" => checked(alloc, value.validate(alloc, env, sections, accepts)),
+        "refuse" => checked(alloc, value.validate(alloc, env, sections, refuses)),
+        "reason" => reason(alloc, value.validate(alloc, env, sections, refuses)),
+        "origin" => origin(alloc, value, env, sections),
+        "service" => service(alloc, env, sections),
+        _ => unknown(alloc),
+    }
+}
+
+fn value_of<'a>(asked: &'a str) -> EnvConfigValue<'a> {
+    let (variable, others) = asked.split_once(',').unwrap_or((asked, "-"));
+    let (key, service) = others.split_once(',').unwrap_or((others, "-"));
+    with_service(
+        with_key(with_variable(EnvConfigValue::new(), variable), key),
+        service,
+    )
+}
+
+fn with_variable<'a>(value: EnvConfigValue<'a>, word: &'a str) -> EnvConfigValue<'a> {
+    match given(word) {
+        Some(variable) => value.env(variable),
+        None => value,
+    }
+}
+
+fn with_key<'a>(value: EnvConfigValue<'a>, word: &'a str) -> EnvConfigValue<'a> {
+    match given(word) {
+        Some(key) => value.profile(key),
+        None => value,
+    }
+}
+
+fn with_service<'a>(value: EnvConfigValue<'a>, word: &'a str) -> EnvConfigValue<'a> {
+    match given(word) {
+        Some(service) => value.service_id(service),
+        None => value,
+    }
+}
+
+// The value, the kind of its place, and what a copy of the place prints.
+fn load(
+    alloc: Global,
+    value: EnvConfigValue<'_>,
+    env: &Env,
+    sections: Option<&EnvConfigSections>,
+) -> Mem<String> {
+    match value.load(alloc, env, sections)? {
+        Some((value, source)) => place_told(alloc, value.as_str(), &source.try_clone()?),
+        None => text(alloc, "-"),
+    }
+}
+
+fn place_told(alloc: Global, value: &str, source: &EnvConfigSource) -> Mem<String> {
+    let origin = Origin::from(source);
+    format!(in alloc; "{value} ({origin:?}) {source}")
+}
+
+// Gives the number of bytes.
+fn accepts(value: &str) -> Result<usize, &'static str> {
+    Ok(value.len())
+}
+
+// Refuses every text.
+fn refuses(_value: &str) -> Result<usize, &'static str> {
+    Err("bad")
+}
+
+// The accepted number, or what a copy of the fault prints.
+fn checked(
+    alloc: Global,
+    answer: Result<Option<usize>, ValidateFault<&'static str>>,
+) -> Mem<String> {
+    match answer {
+        Ok(Some(length)) => format!(in alloc; "{length}"),
+        Ok(None) => text(alloc, "-"),
+        Err(fault) => {
+            let copy = fault.try_clone()?;
+            format!(in alloc; "{copy}")
+        }
+    }
+}
+
+// Why the value was refused, and what a copy of the error prints.
+fn reason(
+    alloc: Global,
+    answer: Result<Option<usize>, ValidateFault<&'static str>>,
+) -> Mem<String> {
+    match answer {
+        Err(ValidateFault::Invalid(error)) => {
+            let (copy, err) = (error.try_clone()?, error.err());
+            format!(in alloc; "{err} | {copy}")
+        }
+        _ => text(alloc, "-"),
+    }
+}
+
+// The accepted number and the kind of its place.
+fn origin(
+    alloc: Global,
+    value: EnvConfigValue<'_>,
+    env: &Env,
+    sections: Option<&EnvConfigSections>,
+) -> Mem<String> {
+    match value.validate_and_return_origin(alloc, env, sections, accepts) {
+        Ok((Some(length), origin)) => format!(in alloc; "{length} ({origin:?})"),
+        Ok((None, origin)) => format!(in alloc; "- ({origin:?})"),
+        Err(fault) => format!(in alloc; "{fault}"),
+    }
+}
+
+// The region of the service.
+fn service(alloc: Global, env: &Env, sections: Option<&EnvConfigSections>) -> Mem<String> {
+    let key = ServiceConfigKey {
+        env: "AWS_REGION",
+        profile: "region",
+        service_id: "Dynamo DB",
+    };
+    checked(
+        alloc,
+        get_service_env_config(alloc, &key, env, sections, accepts),
+    )
+}
