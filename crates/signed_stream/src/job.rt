@@ -9,8 +9,6 @@ mod event;
 mod event_header;
 mod fault;
 mod lines;
-#[cfg(test)]
-mod tests;
 
 pub use crate::job::credentials::PlainSettings;
 use crate::job::draft::Draft;

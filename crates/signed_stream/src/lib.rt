@@ -19,8 +19,6 @@ mod sign;
 mod signing_options;
 mod status;
 mod stream;
-#[cfg(test)]
-mod tests;
 mod words;
 mod written;
 

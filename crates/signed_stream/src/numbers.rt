@@ -5,9 +5,6 @@ ghost use Rattle.std.specs.List.{list_all};
 ghost use Rattle.std.specs.Int.{w8, w16, w32, w64};
 ghost use Rattle.signed_stream.specs.Numbers.{is_digit, is_natural, is_negative, natural_below, number};
 
-#[cfg(test)]
-mod tests;
-
 /// The number that a text spells, where an `i64` holds it.
 #[tactic(auto, using(crate::proofs::NumberLemmas::parsed, crate::proofs::NumberLemmas::unparsed))]
 pub fn parse_i64(text: &str) -> Option<i64>

@@ -4,8 +4,6 @@ ghost use Rattle.signed_stream.specs.Command.{command, no_options, options_from}
 ghost use Rattle.signed_stream.specs.Words.{command_told};
 
 mod options;
-#[cfg(test)]
-mod tests;
 
 use crate::words::options::GivenOptions;
 pub use crate::words::options::StreamWords;

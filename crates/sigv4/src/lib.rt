@@ -38,8 +38,6 @@ mod settings;
 mod signature;
 mod signing;
 mod signing_params;
-#[cfg(test)]
-mod tests;
 mod trim;
 pub mod v4;
 

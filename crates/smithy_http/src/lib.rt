@@ -21,8 +21,6 @@ mod query_writer;
 mod resolve_error;
 mod set_header;
 mod target;
-#[cfg(test)]
-mod tests;
 mod uri_fault;
 
 pub use crate::endpoint::apply_endpoint;

@@ -1,0 +1,70 @@
+//! What a run is given, from the words of its line: a line of the job each, but for those that begin with `@`.
+use crate::texts::with_repeats;
+use case_lines::bytes_of_hex;
+use smithy_core::{Env, Mem};
+use std::alloc::Global;
+
+// A job with one event is these three, one after another.
+const REQUEST: &[u8] = b"method POST
+target https://transcribe.us-east-1.amazonaws.com/stream
+header content-type: application/vnd.amazon.eventstream
+";
+
+const PROFILE: &[u8] = b"credentials [default]
+credentials aws_access_key_id = AKIDEXAMPLE
+credentials aws_secret_access_key = wJalrXUtnFEMI/K7MDENG+bPxRfiCYEXAMPLEKEY
+credentials region = us-east-1
+";
+
+const EVENT: &[u8] = b"event
+h :message-type text event
+payload 68656c6c6f
+";
+
+/// The bytes of the input.
+pub fn input_of(alloc: Global, lines: &[&str]) -> Mem<Vec<u8>> {
+    let mut input = Vec::new(alloc);
+    for line in lines {
+        push_line(alloc, &mut input, line)?;
+    }
+    Ok(input)
+}
+
+fn push_line(alloc: Global, input: &mut Vec<u8>, line: &str) -> Mem<()> {
+    match line.split_once(' ').unwrap_or((line, "")) {
+        ("@request", _) => input.extend_from_slice(REQUEST),
+        ("@profile", _) => input.extend_from_slice(PROFILE),
+        ("@event", _) => input.extend_from_slice(EVENT),
+        ("@hex", digits) => input.extend_from_slice(bytes_of_hex(alloc, digits)?.as_slice()),
+        ("@text", text) => input.extend_from_slice(text.as_bytes()),
+        ("@env" | "@read" | "@out" | "@err", _) => Ok(()),
+        _ => {
+            input.extend_from_slice(with_repeats(alloc, line)?.as_bytes())?;
+            input.extend_from_slice(b"\n")
+        }
+    }
+}
+
+/// The variables.
+pub fn env_of(alloc: Global, lines: &[&str]) -> Mem<Env> {
+    let mut env = Env::new(alloc);
+    for line in lines {
+        if let Some(("@env", pair)) = line.split_once(' ') {
+            let (name, value) = pair.split_once('=').unwrap_or((pair, ""));
+            env.set(name, value)?;
+        }
+    }
+    Ok(env)
+}
+
+/// The calls that fail on an object of the outside.
+pub fn fails_of(alloc: Global, lines: &[&str], object: &str) -> Mem<Vec<u64>> {
+    let mut fails = Vec::new(alloc);
+    for line in lines {
+        let (key, place) = line.split_once(' ').unwrap_or((line, ""));
+        if key == object {
+            fails.push(place.parse().unwrap_or(0))?;
+        }
+    }
+    Ok(fails)
+}

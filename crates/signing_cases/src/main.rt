@@ -1,0 +1,63 @@
+//! Answers cases on requests, signatures, signed messages and whole runs: `stdin` says what each line means.
+#![tactic(auto)]
+
+mod builders;
+mod copies;
+mod endpoints;
+mod escapes;
+mod headers;
+mod instructions;
+mod jobs;
+mod keys;
+mod merges;
+mod messages;
+mod moments;
+mod parts;
+mod queries;
+mod requests;
+mod runs;
+mod signatures;
+mod texts;
+
+use case_lines::{Answers, run_cases};
+use smithy_core::Mem;
+use std::alloc::Global;
+use std::io;
+use std::process::ExitCode;
+
+fn main(rt: HostRuntime) -> io::Result<ExitCode> {
+    run_cases(rt, &Calls)
+}
+
+// The calls of the cases, each by the first word of its line.
+struct Calls;
+
+impl Answers for Calls {
+    fn answer(&self, alloc: Global, words: &[&str]) -> Mem<String> {
+        match words {
+            ["copy", kind, rest @ ..] => copies::answer(alloc, kind, rest),
+            [call, rest @ ..] => answer(alloc, call, rest),
+            [] => texts::unknown(alloc),
+        }
+    }
+}
+
+fn answer(alloc: Global, call: &str, words: &[&str]) -> Mem<String> {
+    match call {
+        "label" | "label_time" | "query" | "query_time" => escapes::answer(alloc, call, words),
+        "write" | "target" | "target_length" | "target_query" | "target_text" => {
+            queries::answer(alloc, call, words)
+        }
+        "endpoint" | "endpoint_length" | "resolve_error" => endpoints::answer(alloc, call, words),
+        "request_header" | "response_header" => headers::answer(alloc, call, words),
+        "merge" | "merge_into" => merges::answer(alloc, call, words),
+        "path" | "stamp" | "scope" | "key" | "code" | "request_code" => {
+            keys::answer(alloc, call, words)
+        }
+        "canonical" | "signature" => signatures::answer(alloc, call, words),
+        "instructions" | "apply" => instructions::answer(alloc, call, words),
+        "build" | "change" => builders::answer(alloc, call, words),
+        "link" | "link_headers" | "closing" => messages::answer(alloc, call, words),
+        _ => runs::answer(alloc, call, words),
+    }
+}

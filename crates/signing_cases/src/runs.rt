@@ -1,0 +1,108 @@
+use crate::jobs::{env_of, fails_of, input_of};
+use crate::texts::{bytes_on_one_line, unknown};
+use bytes::Bytes;
+use case_lines::bytes_of_hex;
+use eventstream::read_message_from;
+use mac_core::sha256_hex;
+use signed_stream::{Status, run};
+use smithy_core::{CalmDisk, FaultySink, FaultySource, FixedClock, Mem, Moment};
+use std::alloc::Global;
+
+/// The answer of a run.
+pub fn answer(alloc: Global, call: &str, words: &[&str]) -> Mem<String> {
+    match (call, words) {
+        ("run", [command, lines @ ..]) => whole(alloc, command, lines),
+        ("run_digest", [command, lines @ ..]) => digest(alloc, command, lines),
+        ("run_events", [command, lines @ ..]) => events(alloc, command, lines),
+        ("run_status", [command, lines @ ..]) => status(alloc, command, lines),
+        _ => unknown(alloc),
+    }
+}
+
+// The number of the status, what `err` holds, and what the output holds.
+fn whole(alloc: Global, command: &str, lines: &[&str]) -> Mem<String> {
+    let mut out = FaultySink::new(alloc, fails_of(alloc, lines, "@out")?);
+    let ending = ending(alloc, command, lines, &mut out)?;
+    let held = bytes_on_one_line(alloc, out.held())?;
+    format!(in alloc; "{ending}|{held}")
+}
+
+// The number of the status, what `err` holds, and length and digest of what the output holds.
+fn digest(alloc: Global, command: &str, lines: &[&str]) -> Mem<String> {
+    let mut out = FaultySink::new(alloc, fails_of(alloc, lines, "@out")?);
+    let ending = ending(alloc, command, lines, &mut out)?;
+    let digest = sha256_hex(alloc, out.held())?;
+    format!(in alloc; "{ending}|{} {digest}", out.held().len())
+}
+
+// The number of the status, what `err` holds, and the frames of the events, each from the payload of its signed one.
+fn events(alloc: Global, command: &str, lines: &[&str]) -> Mem<String> {
+    let mut out = FaultySink::new(alloc, fails_of(alloc, lines, "@out")?);
+    let mut text = ending(alloc, command, lines, &mut out)?;
+    let held = std::str::from_utf8(out.held()).unwrap_or("");
+    let (_, frames) = held.split_once("\n\n").unwrap_or(("", ""));
+    for frame in frames.split('\n') {
+        text.push('|')?;
+        text.push_str(payload_of(alloc, frame)?.as_str())?;
+    }
+    Ok(text)
+}
+
+// The payload of a frame in hexadecimal.
+fn payload_of(alloc: Global, frame: &str) -> Mem<String> {
+    let mut frame = Bytes::from_vec(bytes_of_hex(alloc, frame)?)?;
+    match read_message_from(alloc, &mut frame) {
+        Ok(message) => hex::encode(alloc, message.payload().as_slice()),
+        Err(_) => Ok(String::new(alloc)),
+    }
+}
+
+// How a run ended, with its place.
+fn status(alloc: Global, command: &str, lines: &[&str]) -> Mem<String> {
+    let mut out = FaultySink::new(alloc, Vec::new(alloc));
+    let mut err = FaultySink::new(alloc, Vec::new(alloc));
+    let status = ended(alloc, command, lines, &mut out, &mut err)?;
+    format!(in alloc; "{status:?}")
+}
+
+// The number that a run ends with, and what `err` holds.
+fn ending(alloc: Global, command: &str, lines: &[&str], out: &mut FaultySink) -> Mem<String> {
+    let mut err = FaultySink::new(alloc, fails_of(alloc, lines, "@err")?);
+    let status = ended(alloc, command, lines, out, &mut err)?;
+    let said = bytes_on_one_line(alloc, err.held())?;
+    format!(in alloc; "{} {said}", status.code())
+}
+
+fn ended(
+    alloc: Global,
+    command: &str,
+    lines: &[&str],
+    out: &mut FaultySink,
+    err: &mut FaultySink,
+) -> Mem<Status> {
+    let words = words_of(alloc, command)?;
+    let env = env_of(alloc, lines)?;
+    let fails = fails_of(alloc, lines, "@read")?;
+    let mut input = FaultySource::new(input_of(alloc, lines)?, fails);
+    let mut disk = CalmDisk::new(Vec::new(alloc));
+    let mut clock = FixedClock::new(Moment::new(0, 0));
+    Ok(run(
+        alloc,
+        words.as_slice(),
+        &env,
+        &mut input,
+        &mut disk,
+        &mut clock,
+        out,
+        err,
+    ))
+}
+
+// The words between single spaces.
+fn words_of(alloc: Global, command: &str) -> Mem<Vec<String>> {
+    let mut words = Vec::new(alloc);
+    for word in command.split_whitespace() {
+        words.push(String::from_str(alloc, word)?)?;
+    }
+    Ok(words)
+}

@@ -1,0 +1,84 @@
+use crate::requests::{
+    identity_of, name_of, params_of, region_of, request_of, settings_of, signable_of, time_of,
+};
+use crate::texts::{on_one_line, unknown};
+use sigv4::{SigningError, SigningInstructions, SigningOutput, canonical_text, sign};
+use smithy_core::{HttpRequest, Mem};
+use std::alloc::Global;
+
+/// The answer of a call on canonical texts and signatures.
+pub fn answer(alloc: Global, call: &str, words: &[&str]) -> Mem<String> {
+    match (call, words) {
+        ("canonical", [part, request, parts @ ..]) => canonical(alloc, part, request, parts),
+        ("signature", [request, parts @ ..]) => signature(alloc, request, parts),
+        _ => unknown(alloc),
+    }
+}
+
+// A part of the canonical text: `whole`, `path`, `query`, the value of a header `NAME:`, `signed` or `payload`.
+fn canonical(alloc: Global, part: &str, request: &str, parts: &[&str]) -> Mem<String> {
+    match text_of(alloc, request, parts) {
+        Ok(text) => on_one_line(alloc, part_of(text.as_str(), part)),
+        Err(error) => refusal(alloc, &error),
+    }
+}
+
+fn text_of(alloc: Global, request: &str, parts: &[&str]) -> Result<String, SigningError> {
+    let request = request_of(alloc, request, parts)?;
+    let identity = identity_of(alloc, parts)?;
+    let settings = settings_of(alloc, parts)?;
+    let (region, name, time) = (region_of(parts), name_of(parts), time_of(parts));
+    let params = params_of(&identity, region, name, time, settings);
+    let signable = signable_of(alloc, &request, parts)?;
+    canonical_text(alloc, &signable, &params)
+}
+
+fn part_of<'a>(text: &'a str, part: &str) -> &'a str {
+    match part {
+        "whole" => text,
+        "path" => text.split('\n').nth(1).unwrap_or("none"),
+        "query" => text.split('\n').nth(2).unwrap_or("none"),
+        "signed" => text.rsplit('\n').nth(1).unwrap_or("none"),
+        "payload" => text.rsplit('\n').next().unwrap_or("none"),
+        name => value_of(text, name),
+    }
+}
+
+// The value of the header whose line begins so.
+fn value_of<'a>(text: &'a str, name: &str) -> &'a str {
+    for line in text.split('\n') {
+        if let Some(value) = line.strip_prefix(name) {
+            return value;
+        }
+    }
+    "none"
+}
+
+// The signature of a request.
+fn signature(alloc: Global, request: &str, parts: &[&str]) -> Mem<String> {
+    let request = request_of(alloc, request, parts)?;
+    match signed(alloc, &request, parts) {
+        Ok(output) => String::from_str(alloc, output.signature()),
+        Err(error) => refusal(alloc, &error),
+    }
+}
+
+/// What a signature adds to a request, and the signature.
+pub fn signed(
+    alloc: Global,
+    request: &HttpRequest,
+    parts: &[&str],
+) -> Result<SigningOutput<SigningInstructions>, SigningError> {
+    let identity = identity_of(alloc, parts)?;
+    let settings = settings_of(alloc, parts)?;
+    let (region, name, time) = (region_of(parts), name_of(parts), time_of(parts));
+    let params = params_of(&identity, region, name, time, settings);
+    let signable = signable_of(alloc, request, parts)?;
+    sign(alloc, signable, &params)
+}
+
+/// The error with its place, and what it prints.
+pub fn refusal(alloc: Global, error: &SigningError) -> Mem<String> {
+    let text = format!(in alloc; "{error:?}: {error}")?;
+    on_one_line(alloc, text.as_str())
+}
