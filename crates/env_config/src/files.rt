@@ -7,9 +7,10 @@ ghost use Rattle.env_config.specs.declared.source.EnvConfigFileKind.TheVariants.
 use crate::source::EnvConfigFileKind;
 use smithy_core::Mem;
 use std::alloc::{AllocError, AllocFailed, Global};
+use std::fmt;
 
 /// A file that is to be loaded.
-#[derive(Debug, Drop)]
+#[derive(Drop)]
 pub enum EnvConfigFile {
     /// The default file of this kind.
     Default(EnvConfigFileKind),
@@ -39,6 +40,25 @@ impl EnvConfigFile {
                 kind: *kind,
                 contents: contents.clone()?,
             }),
+        }
+    }
+}
+
+// Shows the length of the contents, and none of them: they may hold credentials.
+impl fmt::Debug for EnvConfigFile {
+    fn fmt<W: fmt::Write>(&self, f: &mut fmt::Formatter<W>) -> fmt::Result {
+        match self {
+            EnvConfigFile::Default(kind) => f.debug_tuple("Default").field(kind).finish(),
+            EnvConfigFile::FilePath { kind, path } => f
+                .debug_struct("FilePath")
+                .field("kind", kind)
+                .field("path", path)
+                .finish(),
+            EnvConfigFile::FileContents { kind, contents } => f
+                .debug_struct("FileContents")
+                .field("kind", kind)
+                .field("length", &contents.len())
+                .finish(),
         }
     }
 }

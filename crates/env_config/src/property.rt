@@ -3,9 +3,10 @@ ghost use Rattle.std.specs.String.{string_bytes};
 ghost use Rattle.env_config.specs.Words.{pair_of};
 
 use smithy_core::Mem;
+use std::fmt;
 
 /// A key and its value.
-#[derive(Debug, PartialEq, Eq, Drop)]
+#[derive(PartialEq, Eq, Drop)]
 pub struct Property {
     key: String,
     value: String,
@@ -42,6 +43,16 @@ impl Property {
             key: self.key.clone()?,
             value: self.value.clone()?,
         })
+    }
+}
+
+// Shows the value's length, and none of it: it may be a secret.
+impl fmt::Debug for Property {
+    fn fmt<W: fmt::Write>(&self, f: &mut fmt::Formatter<W>) -> fmt::Result {
+        f.debug_struct("Property")
+            .field("key", &self.key)
+            .field("length", &self.value.len())
+            .finish()
     }
 }
 
