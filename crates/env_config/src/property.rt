@@ -15,22 +15,22 @@ pub struct Property {
 impl Property {
     /// This key with this value.
     pub fn new(key: String, value: String) -> Property
-        ensures key { result.key ≡ key }
-        ensures value { result.value ≡ value }
+        ensures key { (pair_of result).0 ≡ string_bytes key }
+        ensures value { (pair_of result).1 ≡ string_bytes value }
     {
         Property { key, value }
     }
 
     /// The key.
     pub fn key(&self) -> &str
-        ensures { result.now ≡ string_bytes self.now.key }
+        ensures { result.now ≡ (pair_of self.now).0 }
     {
         self.key.as_str()
     }
 
     /// The value.
     pub fn value(&self) -> &str
-        ensures { result.now ≡ string_bytes self.now.value }
+        ensures { result.now ≡ (pair_of self.now).1 }
     {
         self.value.as_str()
     }
