@@ -6,7 +6,7 @@ use Rattle.smithy_core.specs.Pairs.{last_value}
 use Rattle.env_config.specs.Home.{home}
 use Rattle.env_config.specs.Line.{after_byte}
 use Rattle.env_config.specs.Sections.{FileText}
-use Rattle.env_config.specs.Words.{fault_of, file_of}
+use Rattle.env_config.specs.Words.{fault_of, file_of, parse_error_text}
 use Rattle.env_config.specs.declared.home.Os.TheVariants.{Unix}
 use Rattle.env_config.specs.declared.source.File.{File}
 use Rattle.env_config.specs.declared.source.Source.{Source}
@@ -18,6 +18,7 @@ use Rattle.env_config.specs.declared.files.BuildFault.TheVariants as build
 use Rattle.env_config.specs.declared.files.EnvConfigFile.{EnvConfigFile}
 use Rattle.env_config.specs.declared.files.EnvConfigFile.TheVariants.{Default, FileContents, FilePath}
 use Rattle.env_config.specs.declared.files.EnvConfigFiles.{EnvConfigFiles}
+use Rattle.env_config.specs.declared.load_fault.CouldNotReadConfigFile.{CouldNotReadConfigFile}
 use Rattle.env_config.specs.declared.load_fault.EnvConfigFileLoadError.{EnvConfigFileLoadError}
 use Rattle.env_config.specs.declared.load_fault.EnvConfigFileLoadError.TheVariants.{CouldNotReadFile, NoMemory, ParseError}
 
@@ -45,13 +46,13 @@ usual_if on kind = if on then Usual kind ∷ [] else []
 abbrev pub added : Builder → List Place
 added builder = map place_of builder.files.items
 
--- the same default files are asked for
-abbrev pub AsksAlike : Builder → Builder → Type 0
-AsksAlike builder other = (other.config ≡ builder.config) × (other.credentials ≡ builder.credentials)
+-- whether the default config file and the default credentials file are loaded
+abbrev pub defaults_of : Builder → Bool × Bool
+defaults_of builder = (builder.config, builder.credentials)
 
 -- the default config file, the default credentials file, and then those that were added
 abbrev pub chosen : Builder → List Place
-chosen builder = usual_if builder.config Config ++ (usual_if builder.credentials Credentials ++ added builder)
+chosen builder = usual_if (defaults_of builder).0 Config ++ (usual_if (defaults_of builder).1 Credentials ++ added builder)
 
 -- the files, or none are chosen
 abbrev pub BuildsFiles : List Place → Result EnvConfigFiles BuildFault → Type 0
@@ -161,7 +162,14 @@ IsSameLoadFault (CouldNotReadFile fault) (ParseError copy) = ⊥
 
 -- ## Texts of faults
 
+abbrev pub build_fault_text : BuildFault → List ℕ
+build_fault_text build.NoFiles = codes "no profile files to load"
+build_fault_text build.NoMemory = codes "no memory"
+
+abbrev pub unread_text : CouldNotReadConfigFile → List ℕ
+unread_text fault = codes "could not read file `" ++ (string_bytes fault.path ++ codes "`")
+
 abbrev pub load_fault_text : EnvConfigFileLoadError → List ℕ
-load_fault_text (ParseError error) = codes "could not parse profile file"
-load_fault_text (CouldNotReadFile fault) = codes "could not read file `" ++ (string_bytes fault.path ++ codes "`")
+load_fault_text (ParseError error) = codes "could not parse profile file: " ++ parse_error_text error
+load_fault_text (CouldNotReadFile fault) = unread_text fault
 load_fault_text NoMemory = codes "no memory"

@@ -66,6 +66,14 @@ origin_of (Some found) = origin_at found.at.reach found.at.holder
 
 -- ## Validated values
 
+-- why the value was refused
+abbrev pub refusal_of : {E : Type 0} → EnvConfigError E → E
+refusal_of error = error.err
+
+-- where it was found
+abbrev pub refused_at : {E : Type 0} → EnvConfigError E → FoundAt
+refused_at error = at_of error.source
+
 -- nothing where nothing was found, and else what the validator answered for the value that was found: its value, or its fault with the place
 abbrev pub Validates : {T E : Type 0} → (List ℕ → Result T E → Type 0) → Option Found → Result (Option T) (ValidateFault E) → Type 0
 Validates Gives None (Ok None) = Unit {0}
@@ -73,7 +81,7 @@ Validates Gives None (Ok (Some x)) = ⊥
 Validates Gives (Some found) (Ok None) = ⊥
 Validates Gives (Some found) (Ok (Some x)) = Gives found.value (Ok x)
 Validates Gives None (Err (Invalid error)) = ⊥
-Validates Gives (Some found) (Err (Invalid error)) = Gives found.value (Err error.err) × (at_of error.source ≡ found.at)
+Validates Gives (Some found) (Err (Invalid error)) = Gives found.value (Err (refusal_of error)) × (refused_at error ≡ found.at)
 Validates Gives found (Err NoMemory) = Unit {0}
 
 -- the same, with the kind of place
@@ -85,7 +93,7 @@ ValidatesAt Gives found (Err fault) = Validates Gives found (Err fault)
 
 -- the same place, with a copy of what the validator said
 abbrev pub IsErrorCopy : {E : Type 0} → (E → E → Type 0) → EnvConfigError E → EnvConfigError E → Type 0
-IsErrorCopy IsCopy error copy = (at_of copy.source ≡ at_of error.source) × IsCopy error.err copy.err
+IsErrorCopy IsCopy error copy = (refused_at copy ≡ refused_at error) × IsCopy (refusal_of error) (refusal_of copy)
 
 -- the same refusal, or want of memory both times
 abbrev pub IsFaultCopy : {E : Type 0} → (E → E → Type 0) → ValidateFault E → ValidateFault E → Type 0
@@ -98,7 +106,7 @@ IsFaultCopy IsCopy NoMemory NoMemory = Unit {0}
 
 -- the text of the fault, and where its value was found
 abbrev pub invalid_text : {E : Type 0} → (E → Option (List ℕ)) → EnvConfigError E → Option (List ℕ)
-invalid_text text error = option_map (λ t. t ++ (codes ". source: " ++ found_text (at_of error.source))) (text error.err)
+invalid_text text error = option_map (λ t. t ++ (codes ". source: " ++ found_text (refused_at error))) (text (refusal_of error))
 
 abbrev pub validate_fault_text : {E : Type 0} → (E → Option (List ℕ)) → ValidateFault E → Option (List ℕ)
 validate_fault_text text (Invalid error) = invalid_text text error

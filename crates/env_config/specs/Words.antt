@@ -38,17 +38,25 @@ profile_of profile = record { name = string_bytes profile.name; properties = val
 abbrev pub session_of : SsoSession → Section
 session_of session = record { name = string_bytes session.name; properties = values_of session.properties.entries }
 
+-- all that the properties of a profile hold
+abbrev pub profile_contents : Profile → List (List ℕ × (List ℕ × List ℕ))
+profile_contents profile = contents_of profile.properties.entries
+
+-- and those of a session
+abbrev pub session_contents : SsoSession → List (List ℕ × (List ℕ × List ℕ))
+session_contents session = contents_of session.properties.entries
+
 -- each property stands under its own key
 abbrev pub IsKeyed : List (List ℕ × (List ℕ × List ℕ)) → Type 0
 IsKeyed contents = AllByRecursion (λ e. e.1.0 ≡ e.0) contents
 
 -- the same of a profile's properties
 abbrev pub IsKeyedProfile : Profile → Type 0
-IsKeyedProfile profile = IsKeyed (contents_of profile.properties.entries)
+IsKeyedProfile profile = IsKeyed (profile_contents profile)
 
 -- and of a session's
 abbrev pub IsKeyedSession : SsoSession → Type 0
-IsKeyedSession session = IsKeyed (contents_of session.properties.entries)
+IsKeyedSession session = IsKeyed (session_contents session)
 
 -- the values under their names, as f sees them
 abbrev pub named_as : {X Y : Type 0} → (X → Y) → Named X → Named Y
@@ -80,10 +88,20 @@ sessions_in sections = sections.sessions.values
 abbrev pub AreKeyed : EnvConfigSections → Type 0
 AreKeyed sections = EachValue IsKeyedProfile (profiles_in sections) × EachValue IsKeyedSession (sessions_in sections)
 
--- the parts of a builder
-abbrev pub parts_of : PropertiesKeyBuilder → Option (List ℕ) × (Option (List ℕ) × (Option (List ℕ) × Option (List ℕ)))
-parts_of builder =
-    (option_map string_bytes builder.section_key, (option_map string_bytes builder.section_name, (option_map string_bytes builder.property_name, option_map string_bytes builder.sub_property_name)))
+-- the parts of a key, each where it was set
+pub record Parts : Type 0 where
+  pub section_key : Option (List ℕ)
+  pub section_name : Option (List ℕ)
+  pub property_name : Option (List ℕ)
+  pub sub_property_name : Option (List ℕ)
+
+abbrev pub parts_of : PropertiesKeyBuilder → Parts
+parts_of builder = record {
+  section_key = option_map string_bytes builder.section_key;
+  section_name = option_map string_bytes builder.section_name;
+  property_name = option_map string_bytes builder.property_name;
+  sub_property_name = option_map string_bytes builder.sub_property_name;
+}
 
 -- the name of the selected profile
 abbrev pub selected_of : EnvConfigSections → List ℕ
@@ -97,10 +115,10 @@ fault_of error = record { path = string_bytes error.path; line_number = error.li
 
 -- the same name with the same properties
 abbrev pub SameProfile : Profile → Profile → Type 0
-SameProfile profile copy = (string_bytes copy.name ≡ string_bytes profile.name) × (contents_of copy.properties.entries ≡ contents_of profile.properties.entries)
+SameProfile profile copy = (string_bytes copy.name ≡ string_bytes profile.name) × (profile_contents copy ≡ profile_contents profile)
 
 abbrev pub SameSession : SsoSession → SsoSession → Type 0
-SameSession session copy = (string_bytes copy.name ≡ string_bytes session.name) × (contents_of copy.properties.entries ≡ contents_of session.properties.entries)
+SameSession session copy = (string_bytes copy.name ≡ string_bytes session.name) × (session_contents copy ≡ session_contents session)
 
 -- the same profiles and sessions, property by property
 abbrev pub HasCopies : EnvConfigSections → EnvConfigSections → Type 0

@@ -1,15 +1,16 @@
 ghost use Rattle.std.specs.Prelude.{◌≡◌, [], ◌∷◌, ◌++◌, IfOk, false, map};
 ghost use Rattle.std.specs.String.{string_bytes};
-ghost use Rattle.env_config.specs.Files.{AsksAlike, BuildsFiles, added, chosen, place_of, places_of};
+ghost use Rattle.env_config.specs.Files.{BuildsFiles, added, chosen, defaults_of, place_of, places_of};
 ghost use Rattle.env_config.specs.Files.Place.{At, Given, Usual};
 ghost use Rattle.env_config.specs.declared.source.EnvConfigFileKind.TheVariants.{Config, Credentials};
 
 use crate::source::EnvConfigFileKind;
 use smithy_core::Mem;
 use std::alloc::{AllocError, AllocFailed, Global};
+use std::fmt;
 
 /// A file that is to be loaded.
-#[derive(Debug, Drop)]
+#[derive(Drop)]
 pub enum EnvConfigFile {
     /// The default file of this kind.
     Default(EnvConfigFileKind),
@@ -39,6 +40,25 @@ impl EnvConfigFile {
                 kind: *kind,
                 contents: contents.clone()?,
             }),
+        }
+    }
+}
+
+// Shows the length of the contents, and none of them: they may hold credentials.
+impl fmt::Debug for EnvConfigFile {
+    fn fmt<W: fmt::Write>(&self, f: &mut fmt::Formatter<W>) -> fmt::Result {
+        match self {
+            EnvConfigFile::Default(kind) => f.debug_tuple("Default").field(kind).finish(),
+            EnvConfigFile::FilePath { kind, path } => f
+                .debug_struct("FilePath")
+                .field("kind", kind)
+                .field("path", path)
+                .finish(),
+            EnvConfigFile::FileContents { kind, contents } => f
+                .debug_struct("FileContents")
+                .field("kind", kind)
+                .field("length", &contents.len())
+                .finish(),
         }
     }
 }
@@ -106,9 +126,8 @@ pub struct Builder {
 impl Builder {
     /// No files.
     pub fn new(alloc: Global) -> Builder
-        ensures config { result.config ≡ false }
-        ensures credentials { result.credentials ≡ false }
-        ensures files { result.files.items ≡ [] }
+        ensures added { added result ≡ [] }
+        ensures defaults { defaults_of result ≡ (false, false) }
     {
         Builder {
             config: false,
@@ -119,7 +138,8 @@ impl Builder {
 
     /// Whether the default config file is loaded, before all others.
     pub fn include_default_config_file(mut self, on: bool) -> Builder
-        ensures { result ≡ record self { config = on } }
+        ensures added { added result ≡ added self }
+        ensures defaults { defaults_of result ≡ (on, (defaults_of self).1) }
     {
         self.config = on;
         self
@@ -127,7 +147,8 @@ impl Builder {
 
     /// Whether the default credentials file is loaded, after the default config file and before the others.
     pub fn include_default_credentials_file(mut self, on: bool) -> Builder
-        ensures { result ≡ record self { credentials = on } }
+        ensures added { added result ≡ added self }
+        ensures defaults { defaults_of result ≡ ((defaults_of self).0, on) }
     {
         self.credentials = on;
         self
@@ -136,7 +157,7 @@ impl Builder {
     /// Adds the file at a path, which is taken as it is written.
     pub fn with_file(mut self, kind: EnvConfigFileKind, path: String) -> Mem<Builder>
         ensures added { IfOk result (λ builder. added builder ≡ added self ++ At kind (string_bytes path) ∷ []) }
-        ensures defaults { IfOk result (AsksAlike self) }
+        ensures defaults { IfOk result (λ builder. defaults_of builder ≡ defaults_of self) }
     {
         self.files.push(EnvConfigFile::FilePath { kind, path })?;
         Ok(self)
@@ -145,7 +166,7 @@ impl Builder {
     /// Adds a text that is given, in place of a file.
     pub fn with_contents(mut self, kind: EnvConfigFileKind, contents: String) -> Mem<Builder>
         ensures added { IfOk result (λ builder. added builder ≡ added self ++ Given kind (string_bytes contents) ∷ []) }
-        ensures defaults { IfOk result (AsksAlike self) }
+        ensures defaults { IfOk result (λ builder. defaults_of builder ≡ defaults_of self) }
     {
         self.files
             .push(EnvConfigFile::FileContents { kind, contents })?;
@@ -155,7 +176,7 @@ impl Builder {
     /// An equal builder.
     pub fn try_clone(&self) -> Mem<Builder>
         ensures added { IfOk result (λ copy. added copy ≡ added self.now) }
-        ensures defaults { IfOk result (AsksAlike self.now) }
+        ensures defaults { IfOk result (λ copy. defaults_of copy ≡ defaults_of self.now) }
     {
         Ok(Builder {
             config: self.config,
@@ -198,6 +219,22 @@ pub enum BuildFault {
     /// Memory ran out.
     NoMemory,
 }
+
+impl fmt::Display for BuildFault {
+    ghost use Rattle.std.specs.Prelude.{Some};
+    ghost use Rattle.env_config.specs.Files.{build_fault_text};
+
+    ghost output = { λ fault. Some (build_fault_text fault) };
+
+    fn fmt<W: fmt::Write>(&self, f: &mut fmt::Formatter<W>) -> fmt::Result {
+        match self {
+            BuildFault::NoFiles => f.write_str("no profile files to load"),
+            BuildFault::NoMemory => f.write_str("no memory"),
+        }
+    }
+}
+
+impl std::error::Error for BuildFault {}
 
 impl From<AllocError> for BuildFault {
     ghost use Rattle.std.specs.Prelude.{◌≡◌};

@@ -36,6 +36,20 @@ impl CouldNotReadConfigFile {
     }
 }
 
+impl fmt::Display for CouldNotReadConfigFile {
+    ghost use Rattle.std.specs.Prelude.{Some};
+    ghost use Rattle.env_config.specs.Files.{unread_text};
+
+    ghost output = { λ fault. Some (unread_text fault) };
+
+    fn fmt<W: fmt::Write>(&self, f: &mut fmt::Formatter<W>) -> fmt::Result {
+        let path = self.path.as_str();
+        write!(f, "could not read file `{path}`")
+    }
+}
+
+impl std::error::Error for CouldNotReadConfigFile {}
+
 impl EnvConfigFileLoadError {
     /// An equal error.
     pub fn try_clone(&self) -> Mem<EnvConfigFileLoadError>
@@ -61,11 +75,10 @@ impl fmt::Display for EnvConfigFileLoadError {
 
     fn fmt<W: fmt::Write>(&self, f: &mut fmt::Formatter<W>) -> fmt::Result {
         match self {
-            EnvConfigFileLoadError::ParseError(_) => f.write_str("could not parse profile file"),
-            EnvConfigFileLoadError::CouldNotReadFile(fault) => {
-                let path = fault.path.as_str();
-                write!(f, "could not read file `{path}`")
+            EnvConfigFileLoadError::ParseError(error) => {
+                write!(f, "could not parse profile file: {error}")
             }
+            EnvConfigFileLoadError::CouldNotReadFile(fault) => fault.fmt(f),
             EnvConfigFileLoadError::NoMemory => f.write_str("no memory"),
         }
     }

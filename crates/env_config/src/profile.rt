@@ -2,7 +2,7 @@ ghost use Rattle.std.specs.Prelude.{◌≡◌, IfOk, option_copied};
 ghost use Rattle.std.specs.String.{string_bytes};
 ghost use Rattle.smithy_core.specs.Pairs.{lower};
 ghost use Rattle.env_config.specs.Texts.{value_at};
-ghost use Rattle.env_config.specs.Words.{SameProfile, SameSession, contents_of, profile_of, session_of, values_of};
+ghost use Rattle.env_config.specs.Words.{SameProfile, SameSession, contents_of, profile_contents, profile_of, session_contents, session_of, values_of};
 
 use crate::property::Property;
 use smithy_core::{Mem, is_lower_of};
@@ -18,8 +18,8 @@ pub struct Profile {
 impl Profile {
     /// This name with these properties by their keys.
     pub fn new(name: String, properties: BTreeMap<String, Property>) -> Profile
-        ensures name { result.name ≡ name }
-        ensures properties { result.properties ≡ properties }
+        ensures section { profile_of result ≡ record { name = string_bytes name; properties = values_of properties.entries } }
+        ensures contents { profile_contents result ≡ contents_of properties.entries }
     {
         Profile { name, properties }
     }
@@ -76,8 +76,8 @@ pub struct SsoSession {
 impl SsoSession {
     // This name with these properties by their keys.
     pub(crate) fn new(name: String, properties: BTreeMap<String, Property>) -> SsoSession
-        ensures name { result.name ≡ name }
-        ensures properties { result.properties ≡ properties }
+        ensures section { session_of result ≡ record { name = string_bytes name; properties = values_of properties.entries } }
+        ensures contents { session_contents result ≡ contents_of properties.entries }
     {
         SsoSession { name, properties }
     }

@@ -7,9 +7,10 @@ use crate::properties_key::PropertiesKey;
 use smithy_core::Mem;
 use std::alloc::Global;
 use std::collections::BTreeMap;
+use std::fmt;
 
 /// The properties of sections that are neither profiles nor sessions.
-#[derive(Debug, PartialEq, Eq, Drop)]
+#[derive(PartialEq, Eq, Drop)]
 pub struct Properties {
     entries: BTreeMap<PropertiesKey, String>,
 }
@@ -50,5 +51,14 @@ impl Properties {
             Some(value) => Some(value.as_str()),
             None => None,
         }
+    }
+}
+
+// Shows how many values there are, and none of them: they may be secrets.
+impl fmt::Debug for Properties {
+    fn fmt<W: fmt::Write>(&self, f: &mut fmt::Formatter<W>) -> fmt::Result {
+        f.debug_struct("Properties")
+            .field("count", &self.entries.len())
+            .finish()
     }
 }

@@ -1,4 +1,5 @@
 ghost use Rattle.std.specs.Prelude.{◌≡◌, IfOk};
+ghost use Rattle.std.specs.String.{string_bytes};
 ghost use Rattle.env_config.specs.Words.{Builds, key_of, parts_of};
 
 use crate::text::copied;
@@ -33,7 +34,7 @@ impl PropertiesKey {
 
     /// A builder with no parts.
     pub fn builder() -> PropertiesKeyBuilder
-        ensures { result ≡ record { section_key = None; section_name = None; property_name = None; sub_property_name = None } }
+        ensures { parts_of result ≡ record { section_key = None; section_name = None; property_name = None; sub_property_name = None } }
     {
         PropertiesKeyBuilder {
             section_key: None,
@@ -95,7 +96,7 @@ pub struct PropertiesKeyBuilder {
 impl PropertiesKeyBuilder {
     /// Sets what stands before the section's name, as `services`.
     pub fn section_key(mut self, section_key: String) -> PropertiesKeyBuilder
-        ensures { result ≡ record self { section_key = Some section_key } }
+        ensures { parts_of result ≡ record (parts_of self) { section_key = Some (string_bytes section_key) } }
     {
         self.section_key = Some(section_key);
         self
@@ -103,7 +104,7 @@ impl PropertiesKeyBuilder {
 
     /// Sets the section's name.
     pub fn section_name(mut self, section_name: String) -> PropertiesKeyBuilder
-        ensures { result ≡ record self { section_name = Some section_name } }
+        ensures { parts_of result ≡ record (parts_of self) { section_name = Some (string_bytes section_name) } }
     {
         self.section_name = Some(section_name);
         self
@@ -111,7 +112,7 @@ impl PropertiesKeyBuilder {
 
     /// Sets the property's name.
     pub fn property_name(mut self, property_name: String) -> PropertiesKeyBuilder
-        ensures { result ≡ record self { property_name = Some property_name } }
+        ensures { parts_of result ≡ record (parts_of self) { property_name = Some (string_bytes property_name) } }
     {
         self.property_name = Some(property_name);
         self
@@ -119,7 +120,7 @@ impl PropertiesKeyBuilder {
 
     /// Sets the sub-property's name.
     pub fn sub_property_name(mut self, sub_property_name: String) -> PropertiesKeyBuilder
-        ensures { result ≡ record self { sub_property_name = Some sub_property_name } }
+        ensures { parts_of result ≡ record (parts_of self) { sub_property_name = Some (string_bytes sub_property_name) } }
     {
         self.sub_property_name = Some(sub_property_name);
         self

@@ -3,9 +3,10 @@ ghost use Rattle.std.specs.String.{string_bytes};
 ghost use Rattle.env_config.specs.Words.{pair_of};
 
 use smithy_core::Mem;
+use std::fmt;
 
 /// A key and its value.
-#[derive(Debug, PartialEq, Eq, Drop)]
+#[derive(PartialEq, Eq, Drop)]
 pub struct Property {
     key: String,
     value: String,
@@ -14,22 +15,22 @@ pub struct Property {
 impl Property {
     /// This key with this value.
     pub fn new(key: String, value: String) -> Property
-        ensures key { result.key ≡ key }
-        ensures value { result.value ≡ value }
+        ensures key { (pair_of result).0 ≡ string_bytes key }
+        ensures value { (pair_of result).1 ≡ string_bytes value }
     {
         Property { key, value }
     }
 
     /// The key.
     pub fn key(&self) -> &str
-        ensures { result.now ≡ string_bytes self.now.key }
+        ensures { result.now ≡ (pair_of self.now).0 }
     {
         self.key.as_str()
     }
 
     /// The value.
     pub fn value(&self) -> &str
-        ensures { result.now ≡ string_bytes self.now.value }
+        ensures { result.now ≡ (pair_of self.now).1 }
     {
         self.value.as_str()
     }
@@ -42,6 +43,16 @@ impl Property {
             key: self.key.clone()?,
             value: self.value.clone()?,
         })
+    }
+}
+
+// Shows the value's length, and none of it: it may be a secret.
+impl fmt::Debug for Property {
+    fn fmt<W: fmt::Write>(&self, f: &mut fmt::Formatter<W>) -> fmt::Result {
+        f.debug_struct("Property")
+            .field("key", &self.key)
+            .field("length", &self.value.len())
+            .finish()
     }
 }
 

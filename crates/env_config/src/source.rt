@@ -5,6 +5,7 @@ ghost use Rattle.env_config.specs.Words.{file_of};
 use crate::text::copied;
 use smithy_core::Mem;
 use std::alloc::Global;
+use std::fmt;
 
 /// Whether a file is read as config or as credentials.
 #[derive(Clone, Copy, Debug, PartialEq, Eq)]
@@ -49,7 +50,7 @@ fn copied_files(alloc: Global, files: &[File]) -> Mem<Vec<File>>
 }
 
 /// The text of a profile file.
-#[derive(Debug, Drop)]
+#[derive(Drop)]
 pub struct File {
     /// How it is read.
     pub kind: EnvConfigFileKind,
@@ -69,5 +70,16 @@ impl File {
             path: copied(&self.path)?,
             contents: self.contents.clone()?,
         })
+    }
+}
+
+// Shows the length of the contents, and none of them: they may hold credentials.
+impl fmt::Debug for File {
+    fn fmt<W: fmt::Write>(&self, f: &mut fmt::Formatter<W>) -> fmt::Result {
+        f.debug_struct("File")
+            .field("kind", &self.kind)
+            .field("path", &self.path)
+            .field("length", &self.contents.len())
+            .finish()
     }
 }

@@ -11,7 +11,7 @@ use std::marker::Model;
 /// Values by their keys.
 ///
 /// Contracts see the pairs in the order of their keys.
-#[derive(Debug, Drop)]
+#[derive(Drop)]
 pub struct Texts {
     pairs: BTreeMap<String, String>,
 }

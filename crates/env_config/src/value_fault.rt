@@ -1,5 +1,5 @@
 ghost use Rattle.std.specs.Prelude.{◌≡◌, IfOk};
-ghost use Rattle.env_config.specs.Values.{IsFaultCopy, at_of};
+ghost use Rattle.env_config.specs.Values.{IsErrorCopy, IsFaultCopy, refusal_of};
 
 use crate::value_source::EnvConfigSource;
 use smithy_core::Mem;
@@ -24,7 +24,7 @@ impl<E> EnvConfigError<E> {
 
     /// Why the value was refused.
     pub fn err(&self) -> &E
-        ensures { result.now ≡ self.now.err }
+        ensures { result.now ≡ refusal_of self.now }
     {
         &self.err
     }
@@ -33,8 +33,7 @@ impl<E> EnvConfigError<E> {
 impl<E: Clone + Drop> EnvConfigError<E> {
     /// An equal error.
     pub fn try_clone(&self) -> Mem<EnvConfigError<E>>
-        ensures source { IfOk result (λ copy. at_of copy.source ≡ at_of self.now.source) }
-        ensures err { IfOk result (λ copy. E.is_clone self.now.err copy.err) }
+        ensures { IfOk result (IsErrorCopy E.is_clone self.now) }
     {
         Ok(EnvConfigError {
             source: self.source.try_clone()?,
@@ -53,6 +52,8 @@ impl<E: fmt::Display> fmt::Display for EnvConfigError<E> {
         write!(f, "{err}. source: {source}")
     }
 }
+
+impl<E: fmt::Debug + fmt::Display + Drop> std::error::Error for EnvConfigError<E> {}
 
 /// Why no value was answered.
 #[derive(Debug, Drop)]
@@ -87,6 +88,8 @@ impl<E: fmt::Display> fmt::Display for ValidateFault<E> {
         }
     }
 }
+
+impl<E: fmt::Debug + fmt::Display + Drop> std::error::Error for ValidateFault<E> {}
 
 impl<E> From<AllocError> for ValidateFault<E> {
     ghost use Rattle.std.specs.Prelude.{◌≡◌};

@@ -1,7 +1,6 @@
-use Rattle.std.proofs.Common.{◌∙◌, sym, subst, ap, ap₂, List, ℕ, String, string_bytes, Global, BTreeMap}
-use Rattle.env_config.specs.declared.property.Property.{Property}
+use Rattle.std.proofs.Common.{◌∙◌, sym, subst, ap, List, ℕ}
 use Rattle.env_config.specs.Sections.{Section, put_identifiers}
-use Rattle.env_config.specs.Words.{IsKeyed, IsKeyedSession, contents_of, session_of, values_of}
+use Rattle.env_config.specs.Words.{IsKeyed, IsKeyedSession, session_of, values_of}
 use Rattle.env_config.proofs.KeyedLemmas.{put_passes, value_passes}
 use Rattle.env_config.proofs.MergeLemmas.{merged}
 use Rattle.env_config.proofs.merge.merge_session.Goals as goal
@@ -13,7 +12,7 @@ returns-clause-merged c =
     let make : List ℕ → List (List ℕ × List ℕ) → Section = λ name properties. record { name = name; properties = properties } in
     merged session_of c.args.sessions.now c.take.new.self c.replace.new.self c.args.name.now c.args.pairs.now before properties c.new-filled.result c.in_ok-take.field-0
     c.in_ok-take.ensures.later c.in_ok-take.ensures.before c.session_properties-properties.ensures.values (c.in_ok-put_pairs.ensures.values ∙ ap (put_identifiers before) c.pairs.ensures)
-    (ap₂ make (ap string_bytes c.new-filled.ensures.name ∙ c.in_ok-from_str.ensures.ok) (ap (λ (m : BTreeMap (String Global) Property). values_of m.entries) c.new-filled.ensures.properties))
+    (c.new-filled.ensures.section ∙ ap (λ (name : List ℕ). make name properties) c.in_ok-from_str.ensures.ok)
     c.in_ok-replace.ensures.now
 
 pub returns-clause-keys : goal.returns-clause-keys
@@ -21,4 +20,4 @@ returns-clause-keys c each =
     let before = value_passes IsKeyedSession c.args.sessions.now c.args.name.now c.in_ok-take.field-0 c.in_ok-take.ensures.before each in
     let keyed = c.in_ok-put_pairs.ensures.keys (c.session_properties-properties.ensures.keys before) in
     put_passes IsKeyedSession c.args.sessions.now c.take.new.self c.replace.new.self c.args.name.now c.new-filled.result c.in_ok-take.ensures.later c.in_ok-replace.ensures.now each
-    (subst (λ (m : BTreeMap (String Global) Property). IsKeyed (contents_of m.entries)) (sym c.new-filled.ensures.properties) keyed)
+    (subst IsKeyed (sym c.new-filled.ensures.contents) keyed)
