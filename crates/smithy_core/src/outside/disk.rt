@@ -60,8 +60,8 @@ pub trait Disk {
     /// # Errors
     ///
     /// [`DiskError::NotFound`] where there is no such file, [`DiskError::Failed`] where the count of faults rose, or
-    /// stands at its last value, and [`DiskError::NoMemory`] for want of memory. But for a
-    /// failure the count stays.
+    /// stands at its last value, and [`DiskError::NoMemory`] for want of memory. Any answer but
+    /// a failure leaves the count.
     fn read(&mut self, path: &str) -> Result<Vec<u8>, DiskError>
         ensures count { faults self.old ≤ faults self.new }
         ensures cause { IsErrOf result DiskError.Failed → Rose (faults self.old) (faults self.new) }

@@ -50,7 +50,7 @@ impl From<AllocError> for ReadFault {
 ///
 /// [`ReadFault::Failed`] where the source's count of faults rose, [`ReadFault::TooLarge`] where the
 /// source has more bytes than the limit, [`ReadFault::NoMemory`] for want of memory. After each the source
-/// has a rest of its bytes left, and but for the first the count stays.
+/// has a rest of its bytes left. Any answer but the first leaves the count.
 #[tactic(auto, using(crate::proofs::CutLemmas::cuts))]
 pub fn read_all<S: ByteSource>(
     alloc: Global,

@@ -47,8 +47,8 @@ pub trait ByteSink {
     /// # Errors
     ///
     /// [`SinkError::Failed`] where the count of faults rose, or stands at its last value;
-    /// [`SinkError::NoMemory`] for want of memory. Both leave what is held, and
-    /// but for the first the count stays.
+    /// [`SinkError::NoMemory`] for want of memory. Both leave what is held. Any answer but the
+    /// first leaves the count.
     fn write(&mut self, piece: &[u8]) -> Result<usize, SinkError>
         ensures count { faults self.old ≤ faults self.new }
         ensures cause { IsErrOf result SinkError.Failed → Rose (faults self.old) (faults self.new) }

@@ -38,8 +38,8 @@ pub trait ByteSource {
     ///
     /// # Errors
     ///
-    /// [`Failed`] where the count of faults rose, or stands at its last value; nothing is taken. Where
-    /// it answers, the count stays.
+    /// [`Failed`] where the count of faults rose, or stands at its last value; nothing is taken. Any other
+    /// answer leaves the count.
     fn read(&mut self, into: &mut [u8]) -> Result<usize, Failed>
         ensures count { faults self.old ≤ faults self.new }
         ensures cause { OnErr result (Rose (faults self.old) (faults self.new)) }
