@@ -4,7 +4,7 @@ use bytes::Bytes;
 use case_lines::bytes_of_hex;
 use eventstream::read_message_from;
 use mac_core::sha256_hex;
-use signed_stream::{Status, run};
+use signed_stream::{Status, StreamFault, run};
 use smithy_core::{CalmDisk, FaultySink, FaultySource, FixedClock, Mem, Moment};
 use std::alloc::Global;
 
@@ -14,7 +14,7 @@ pub fn answer(alloc: Global, call: &str, words: &[&str]) -> Mem<String> {
         ("run", [command, lines @ ..]) => whole(alloc, command, lines),
         ("run_digest", [command, lines @ ..]) => digest(alloc, command, lines),
         ("run_events", [command, lines @ ..]) => events(alloc, command, lines),
-        ("run_status", [command, lines @ ..]) => status(alloc, command, lines),
+        ("run_refusal", [command, lines @ ..]) => refusal(alloc, command, lines),
         _ => unknown(alloc),
     }
 }
@@ -57,20 +57,40 @@ fn payload_of(alloc: Global, frame: &str) -> Mem<String> {
     }
 }
 
-// How a run ended, with its place.
-fn status(alloc: Global, command: &str, lines: &[&str]) -> Mem<String> {
+// Why a run refused, with the place.
+fn refusal(alloc: Global, command: &str, lines: &[&str]) -> Mem<String> {
     let mut out = FaultySink::new(alloc, Vec::new(alloc));
     let mut err = FaultySink::new(alloc, Vec::new(alloc));
-    let status = ended(alloc, command, lines, &mut out, &mut err)?;
-    format!(in alloc; "{status:?}")
+    match ended(alloc, command, lines, &mut out, &mut err)? {
+        Status::Refused(fault) => fault_text(alloc, fault),
+        _ => String::from_str(alloc, "not refused"),
+    }
+}
+
+fn fault_text(alloc: Global, fault: StreamFault) -> Mem<String> {
+    format!(in alloc; "{fault:?}")
 }
 
 // The number that a run ends with, and what `err` holds.
 fn ending(alloc: Global, command: &str, lines: &[&str], out: &mut FaultySink) -> Mem<String> {
     let mut err = FaultySink::new(alloc, fails_of(alloc, lines, "@err")?);
-    let status = ended(alloc, command, lines, out, &mut err)?;
+    let number = number_of(alloc, command, lines, out, &mut err)?;
     let said = bytes_on_one_line(alloc, err.held())?;
-    format!(in alloc; "{} {said}", status.code())
+    format!(in alloc; "{number} {said}")
+}
+
+fn number_of(
+    alloc: Global,
+    command: &str,
+    lines: &[&str],
+    out: &mut FaultySink,
+    err: &mut FaultySink,
+) -> Mem<u8> {
+    match ended(alloc, command, lines, out, err)? {
+        // By this arm the prover is told of the fault's type.
+        Status::Refused(fault) => Ok(Status::Refused(fault).code()),
+        status => Ok(status.code()),
+    }
 }
 
 fn ended(
