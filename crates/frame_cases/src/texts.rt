@@ -1,8 +1,8 @@
 use crate::shown::{digits, header, message, quoted, value};
 use crate::words::{bytes_of, header_of, headers_of, shared, text_of};
 use smithy_core::{
-    AppName, Blob, Env, ErrorMetadata, Mem, Message, StrBytes, copied_pairs, is_header_name,
-    is_header_value, is_lower_of, push_line,
+    AppName, Blob, Env, ErrorMetadata, Mem, Message, StrBytes, is_header_name, is_header_value,
+    is_lower_of, push_line,
 };
 use std::alloc::Global;
 
@@ -35,7 +35,6 @@ fn of_two(alloc: Global, call: &str, first: &str, second: &str) -> Mem<String> {
     match call {
         "is_lower_of" => truth(alloc, is_lower_of(first, second)),
         "copied_metadata" => copied_metadata(alloc, first, second),
-        "copied_pair" => copied_pair(alloc, first, second),
         "push_line" => lines(alloc, first, second),
         _ => String::from_str(alloc, "no such call"),
     }
@@ -134,16 +133,6 @@ fn variable(alloc: Global, sets: &[&str], name: &str) -> Mem<String> {
     }
     let copy = env.try_clone()?;
     format!(in alloc; "{:?}", copy.get(name))
-}
-
-fn copied_pair(alloc: Global, name: &str, text: &str) -> Mem<String> {
-    let mut pairs = Vec::new(alloc);
-    pairs.push((
-        String::from_str(alloc, name)?,
-        String::from_str(alloc, text)?,
-    ))?;
-    let copies = copied_pairs(alloc, pairs.as_slice())?;
-    format!(in alloc; "{copies:?}")
 }
 
 fn lines(alloc: Global, front: &str, line: &str) -> Mem<String> {
