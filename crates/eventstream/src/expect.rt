@@ -1,6 +1,6 @@
 ghost use Rattle.std.specs.Prelude.{codes, string_bytes};
-ghost use Rattle.smithy_core.specs.Values.{string_of};
-ghost use Rattle.eventstream.specs.Expect.{bool_of, byte_of, bytes_of, expected, instant_of, int16_of, int32_of, int64_of};
+ghost use Rattle.smithy_core.specs.Values.{bool_of, byte_of, bytes_of, instant_of, int16_of, int32_of, int64_of, string_of};
+ghost use Rattle.eventstream.specs.Expect.{expected};
 ghost use Rattle.eventstream.specs.Texts.{Answers, AnswersAtOnce, Tells, unexpected_text};
 
 use crate::error::Error;
