@@ -1,4 +1,6 @@
+pub mod DecodeAllLemmas
 pub mod DecodeLemmas
+pub mod EndLemmas
 pub mod FrameLemmas
 pub mod FrontLemmas
 pub mod HeadersLemmas

@@ -11,7 +11,8 @@ use Rattle.eventstream.specs.declared.error.ErrorKind.TheVariants.{InvalidMessag
 use Rattle.eventstream.specs.Frame.{frame, unframed}
 use Rattle.eventstream.specs.Laws.{IsProper, floored_message}
 use Rattle.eventstream.specs.Read.{big_endian, read}
-use Rattle.eventstream.specs.Reading.{First, nothing, leftover, fault, begins, announced, as_first, first_of, onto, read_on, reading, reading_within}
+use Rattle.eventstream.specs.Reading.{First, nothing, leftover, fault, begins, announced, as_first, first_of, Begin, Read, onto, read_on, reading, reading_within}
+use Rattle.eventstream.specs.Decoding.{IsUnfinished}
 use Rattle.eventstream.proofs.FrameLemmas.{frame_again, length-frame, u32-frame}
 use Rattle.eventstream.proofs.FrontLemmas.{IsTold, first_more, short_is, told, told_is}
 
@@ -80,7 +81,7 @@ fault_stays bytes kind more first = told_followed bytes more (told_from bytes (s
 -- ## What goes on after a message
 
 -- a message takes some bytes
-shorter : (bytes : List ℕ) (message : Parts) (rest : List ℕ) → first_of bytes ≡ begins message rest → length rest < length bytes
+pub shorter : (bytes : List ℕ) (message : Parts) (rest : List ℕ) → first_of bytes ≡ begins message rest → length rest < length bytes
 shorter bytes message rest first =
     let is = told_from bytes (subst IsDecided (sym first) tt) in
     by_least is (nat_lt (announced bytes) 12) refl (sym (told_is bytes is) ∙ first)
@@ -156,3 +157,47 @@ frames_again (m ∷ ms) proper none = frame_read m (flat_map frame ms) proper.0 
 pub frames_read : (ms : List Parts) → All IsProper ms → AllByRecursion (λ m. unframed m ≡ None) ms
     → reading (flat_map frame ms) ≡ record { messages = map floored_message ms; end = nothing }
 frames_read ms proper none = frames_again ms (recursion_from_All IsProper ms proper) none
+
+-- ## Messages that come first
+
+-- others after them
+pub begin_join : (messages others : List Parts) (bytes between rest : List ℕ) → Begin messages bytes between → Begin others between rest → Begin (messages ++ others) bytes rest
+begin_join [] others bytes between rest first second = subst (λ (all : List ℕ). Begin others all rest) first second
+begin_join (message ∷ messages) others bytes between rest first second = (first.0, first.1, begin_join messages others first.0 between rest first.2 second)
+
+-- they stay the first
+pub begin_stays : (messages : List Parts) (bytes rest more : List ℕ) → Begin messages bytes rest → Begin messages (bytes ++ more) (rest ++ more)
+begin_stays [] bytes rest more is = ap (λ (all : List ℕ). all ++ more) is
+begin_stays (message ∷ messages) bytes rest more is = (is.0 ++ more, first_stays bytes message is.0 more is.1, begin_stays messages is.0 rest more is.2)
+
+-- they are read first
+pub begin_read : (messages : List Parts) (bytes rest : List ℕ) → Begin messages bytes rest
+    → reading bytes ≡ record { messages = messages ++ (reading rest).messages; end = (reading rest).end }
+begin_read [] bytes rest is = ap reading (sym is)
+begin_read (message ∷ messages) bytes rest is = goes_on bytes message is.0 is.1 ∙ ap (onto message) (begin_read messages is.0 rest is.2)
+
+-- what comes in place of a first message ends the reading
+read_first : (bytes : List ℕ) → (others : List ℕ → Read) × (reading bytes ≡ read_on others (first_of bytes))
+unfolding reading reading_within
+read_first [] = (λ rest. record { messages = []; end = nothing }, refl)
+read_first (byte ∷ bytes) = (reading_within (length bytes), refl)
+
+unfinished_read : (first : First) (others : List ℕ → Read) → IsUnfinished first → read_on others first ≡ record { messages = []; end = first }
+unfinished_read nothing others is = refl
+unfinished_read (leftover bytes) others is = refl
+unfinished_read (fault kind) others is = absurd is
+unfinished_read (begins message rest) others is = absurd is
+
+pub begin_unfinished : (messages : List Parts) (bytes rest : List ℕ) → Begin messages bytes rest → IsUnfinished (first_of rest)
+    → reading bytes ≡ record { messages = messages; end = first_of rest }
+begin_unfinished messages bytes rest is less =
+    let last = read_first rest in
+    let ends : reading rest ≡ record { messages = []; end = first_of rest } = last.1 ∙ unfinished_read (first_of rest) last.0 less in
+    begin_read messages bytes rest is ∙ rw (ends, append-nil messages) refl
+
+pub begin_fault : (messages : List Parts) (bytes rest : List ℕ) (kind : ErrorKind) → Begin messages bytes rest → first_of rest ≡ fault kind
+    → reading bytes ≡ record { messages = messages; end = fault kind }
+begin_fault messages bytes rest kind is faulty =
+    let last = read_first rest in
+    let ends : reading rest ≡ record { messages = []; end = fault kind } = last.1 ∙ ap (read_on last.0) faulty in
+    begin_read messages bytes rest is ∙ rw (ends, append-nil messages) refl

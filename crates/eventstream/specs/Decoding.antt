@@ -1,12 +1,14 @@
 -- What a decoder of frames promises: one step of the reading on its prelude and its buffer, joined.
-use Rattle.std.specs.Prelude.{◌≡◌, ◌≢◌, ℕ, ◌<◌, ◌≤◌, nat_lt, if◌then◌else◌, ◌⊎◌, List, ◌++◌, length, take, drop, Option, Some, None, Result, Ok, Err}
+use Rattle.std.specs.Prelude.{◌≡◌, ◌≢◌, ℕ, ◌<◌, ◌≤◌, nat_lt, if◌then◌else◌, ◌⊎◌, List, [], ◌∷◌, ◌++◌, length, take, drop, Option, Some, None, Result, Ok, Err}
 use Rattle.smithy_core.specs.Parts.{Parts}
 use Rattle.seg_buf.specs.Segments.{Segments}
 use Rattle.eventstream.specs.declared.decode.DecodedFrame.{DecodedFrame}
 use Rattle.eventstream.specs.declared.decode.DecodedFrame.TheVariants.{Incomplete, Complete}
+use Rattle.eventstream.specs.declared.decode.StreamEnd.{StreamEnd}
+use Rattle.eventstream.specs.declared.decode.StreamEnd.TheVariants.{Clean, Leftover, Undecoded}
 use Rattle.eventstream.specs.declared.error.ErrorKind.TheVariants.{NoMemory}
 use Rattle.eventstream.specs.declared.error.Error.{Error}
-use Rattle.eventstream.specs.Reading.{First, nothing, leftover, fault, begins, announced, first_of}
+use Rattle.eventstream.specs.Reading.{First, nothing, leftover, fault, begins, announced, first_of, Begin}
 
 -- the prelude that is kept, and then the bytes of the buffer
 abbrev pub joined : Option (List ℕ) → List ℕ → List ℕ
@@ -50,3 +52,30 @@ Steps kept old prelude new (Ok (Complete message)) =
 Steps kept old prelude new (Err e) =
     ((first_of (joined kept old.bytes) ≡ fault e.kind) × LeavesFault (joined kept old.bytes) prelude new.bytes)
     ⊎ ((e.kind ≡ NoMemory) × (prelude ≡ kept) × (new ≡ old))
+
+-- what was added at the end of a list
+abbrev pub added : List Parts → List Parts → List Parts
+added old new = drop (length old) new
+
+-- these messages were taken, and nothing else; without one nothing has changed
+abbrev pub Takes : List Parts → Option (List ℕ) → Segments → Option (List ℕ) → Segments → Type 0
+Takes [] kept old prelude new = (prelude ≡ kept) × (new ≡ old)
+Takes (message ∷ messages) kept old prelude new = (prelude ≡ None) × Begin (message ∷ messages) (joined kept old.bytes) new.bytes
+
+-- the messages that the bytes begin with, until less than a frame is there, or a fault; for want of memory, some of them
+abbrev pub Decodes : List Parts → Option (List ℕ) → Segments → Option (List ℕ) → Segments → Result (Unit {0}) Error → Type 0
+Decodes messages kept old prelude new (Ok _) =
+    (rest : List ℕ) × Begin messages (joined kept old.bytes) rest × IsUnfinished (first_of rest) × Keeps rest prelude new.bytes
+Decodes messages kept old prelude new (Err e) =
+    ((rest : List ℕ) × Begin messages (joined kept old.bytes) rest × (first_of rest ≡ fault e.kind) × LeavesFault rest prelude new.bytes)
+    ⊎ ((e.kind ≡ NoMemory) × Takes messages kept old prelude new)
+
+-- how a stream ends that begins with this
+abbrev pub end_of : First → StreamEnd
+end_of nothing = Clean
+end_of (leftover bytes) = Leftover (length bytes)
+end_of first = Undecoded
+
+-- how many bytes the frame at the front has at least: what it announces, and a prelude before that is there
+abbrev pub least_len : List ℕ → ℕ
+least_len bytes = if nat_lt (length bytes) 12 then 12 else announced bytes

@@ -1,5 +1,5 @@
 -- What a stream of bytes is read as: messages, and how the stream ends.
-use Rattle.std.specs.Prelude.{ℕ, zero, suc, ◌==◌, nat_lt, if◌then◌else◌, List, [], ◌∷◌, length, take, drop, Result, Ok, Err}
+use Rattle.std.specs.Prelude.{◌≡◌, ℕ, zero, suc, ◌==◌, nat_lt, if◌then◌else◌, List, [], ◌∷◌, length, take, drop, Result, Ok, Err}
 use Rattle.smithy_core.specs.Parts.{Parts}
 use Rattle.eventstream.specs.declared.error.ErrorKind.{ErrorKind}
 use Rattle.eventstream.specs.declared.error.ErrorKind.TheVariants.{InvalidMessageLength}
@@ -31,6 +31,11 @@ first_of bytes =
     else if nat_lt (announced bytes) 12 then fault InvalidMessageLength
     else if nat_lt (length bytes) (announced bytes) then leftover bytes
     else as_first bytes (read (take (announced bytes) bytes))
+
+-- the bytes begin with these messages, one after another, and then these bytes follow
+abbrev pub Begin : List Parts → List ℕ → List ℕ → Type 0
+Begin [] bytes rest = rest ≡ bytes
+Begin (message ∷ messages) bytes rest = (others : List ℕ) × (first_of bytes ≡ begins message others) × Begin messages others rest
 
 -- messages in order, and how the stream ends
 pub record Read : Type 0 where

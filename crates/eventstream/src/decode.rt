@@ -1,6 +1,6 @@
-ghost use Rattle.std.specs.Prelude.{◌≡◌, ◌+◌, ◌-◌, ◌≤◌, ◌<◌, length, drop, None, Some, IfOk};
-ghost use Rattle.eventstream.specs.Decoding.{Finishes, Steps};
-ghost use Rattle.eventstream.specs.Reading.{announced};
+ghost use Rattle.std.specs.Prelude.{◌≡◌, ℕ, List, ◌+◌, ◌-◌, ◌≤◌, ◌<◌, ◌++◌, length, drop, None, Some, IfOk};
+ghost use Rattle.eventstream.specs.Decoding.{Decodes, Finishes, Steps, added, end_of, joined, least_len};
+ghost use Rattle.eventstream.specs.Reading.{announced, first_of};
 
 use crate::error::{Error, ErrorKind};
 use crate::read::{PRELUDE, announced, read_after, read_message_from};
@@ -46,6 +46,17 @@ impl Model for MessageFrameDecoder {
     ghost view = { λ decoder. decoder.prelude };
 }
 
+/// How a stream ends.
+#[derive(Clone, Copy, Debug, PartialEq, Eq)]
+pub enum StreamEnd {
+    /// After a whole frame: no byte is left.
+    Clean,
+    /// Within a frame, of which so many bytes came.
+    Leftover(usize),
+    /// A frame or a fault is there, which wasn't decoded yet.
+    Undecoded,
+}
+
 impl MessageFrameDecoder {
     /// A decoder at the begin of a stream.
     pub fn new() -> Self
@@ -63,6 +74,14 @@ impl MessageFrameDecoder {
 
     /// Takes the next frame from the buffer, once it is there. Till then the decoder keeps its prelude.
     ///
+    /// ```rust
+    /// buffer.push_slice(piece)?;
+    /// match decoder.decode_frame(alloc, &mut buffer)? {
+    ///     DecodedFrame::Complete(message) => println!(rt; "{message:?}")?,
+    ///     DecodedFrame::Incomplete => println!(rt; "more bytes are needed")?,
+    /// }
+    /// ```
+    ///
     /// # Errors
     ///
     /// Those of [`read_message_from`](crate::read_message_from) for the bytes of the frame, which is taken
@@ -79,6 +98,56 @@ impl MessageFrameDecoder {
         match self.prelude {
             Some(prelude) => self.decode_rest(alloc, prelude, buffer),
             None => self.decode_whole(alloc, buffer),
+        }
+    }
+
+    /// Takes all messages that are there, and appends them.
+    ///
+    /// ```rust
+    /// let mut messages = Vec::new(alloc);
+    /// for piece in pieces {
+    ///     buffer.push_slice(piece)?;
+    ///     decoder.decode_all(alloc, &mut buffer, &mut messages)?;
+    /// }
+    /// if let StreamEnd::Leftover(count) = decoder.end(&buffer) {
+    ///     println!(rt; "the stream breaks off, {count} bytes after its last message")?;
+    /// }
+    /// ```
+    ///
+    /// # Errors
+    ///
+    /// Those of [`decode_frame`](MessageFrameDecoder::decode_frame). The messages before a fault are
+    /// appended. After [`ErrorKind::NoMemory`] each message is appended or still in the buffer.
+    #[tactic(auto, using(crate::proofs::DecodeAllLemmas::taken))]
+    pub fn decode_all(
+        &mut self,
+        alloc: Global,
+        buffer: &mut SegBuf,
+        messages: &mut Vec<Message>,
+    ) -> Result<(), Error>
+        ensures appended { messages.new.items ≡ messages.old.items ++ added messages.old.items messages.new.items }
+        ensures decoded { Decodes (added messages.old.items messages.new.items) self.old buffer.old self.new buffer.new result }
+        ensures spare { buffer.old.spare ≤ buffer.new.spare }
+    {
+        loop {
+            // A message that left the buffer is lost where it has no place.
+            messages.reserve(1)?;
+            match self.decode_frame(alloc, buffer)? {
+                DecodedFrame::Incomplete => return Ok(()),
+                DecodedFrame::Complete(message) => messages.push_reserved(message),
+            }
+        }
+    }
+
+    /// How the stream ends, where no byte follows those of the buffer.
+    pub fn end(&self, buffer: &SegBuf) -> StreamEnd
+        ensures { result ≡ end_of (first_of (joined self.now buffer.now.bytes)) }
+    {
+        let left = buffer.remaining();
+        match self.prelude {
+            Some(prelude) => end_within(announced(&prelude), PRELUDE, left),
+            None if left < PRELUDE => end_within(PRELUDE, 0, left),
+            None => end_within(front_announced(buffer), 0, left),
         }
     }
 
@@ -179,4 +248,18 @@ fn front_announced(buffer: &SegBuf) -> usize
         buffer.peek(3),
     ];
     u32::from_be_bytes(front) as usize
+}
+
+// How a stream ends with `kept` and then `left` bytes of a frame that has at least `least` bytes.
+fn end_within(least: usize, kept: usize, left: usize) -> StreamEnd
+    requires { kept ≤ 12 }
+    ensures { (bytes : List ℕ) → length bytes ≡ kept + left → least ≡ least_len bytes → result ≡ end_of (first_of bytes) }
+{
+    if least < PRELUDE || least - kept <= left {
+        return StreamEnd::Undecoded;
+    }
+    match kept + left {
+        0 => StreamEnd::Clean,
+        there => StreamEnd::Leftover(there),
+    }
 }

@@ -2,10 +2,11 @@ ghost use Rattle.std.specs.Prelude.{◌≡◌, ℕ, List, [], ◌++◌, length, 
 ghost use Rattle.std.specs.List.{AllByRecursion};
 ghost use Rattle.smithy_core.specs.Parts.{Parts};
 ghost use Rattle.eventstream.specs.declared.error.ErrorKind.{ErrorKind};
+ghost use Rattle.eventstream.specs.Decoding.{IsUnfinished};
 ghost use Rattle.eventstream.specs.Frame.{frame, unframed};
 ghost use Rattle.eventstream.specs.Laws.{IsProper, IsProperHeader, IsProperValue, floored_message};
 ghost use Rattle.eventstream.specs.Read.{read};
-ghost use Rattle.eventstream.specs.Reading.{begins, fault, first_of, nothing, onto, reading};
+ghost use Rattle.eventstream.specs.Reading.{Begin, begins, fault, first_of, nothing, onto, reading};
 
 use smithy_core::{Header, HeaderValue, Message};
 
@@ -50,6 +51,23 @@ pub fn frames_read_back(messages: &[Message])
 #[tactic(auto, using(crate::proofs::ReadingLemmas::goes_on))]
 pub fn reading_goes_on()
     ensures { (bytes : List ℕ) (message : Parts) (rest : List ℕ) → first_of bytes ≡ begins message rest → reading bytes ≡ onto message (reading rest) }
+{}
+
+/// Messages that a stream begins with are its first, and what follows them is read after them: no other
+/// message where less than a frame is left, or a fault stands there.
+#[tactic(auto, using(crate::proofs::ReadingLemmas::begin_read, crate::proofs::ReadingLemmas::begin_unfinished, crate::proofs::ReadingLemmas::begin_fault))]
+pub fn messages_come_first()
+    ensures others { (messages : List Parts) (bytes rest : List ℕ) → Begin messages bytes rest → reading bytes ≡ record { messages = messages ++ (reading rest).messages; end = (reading rest).end } }
+    ensures unfinished { (messages : List Parts) (bytes rest : List ℕ) → Begin messages bytes rest → IsUnfinished (first_of rest) → reading bytes ≡ record { messages = messages; end = first_of rest } }
+    ensures fault { (messages : List Parts) (bytes rest : List ℕ) (kind : ErrorKind) → Begin messages bytes rest → first_of rest ≡ fault kind → reading bytes ≡ record { messages = messages; end = fault kind } }
+{}
+
+/// Messages that a stream begins with stay its first, however it goes on, and join with those that the
+/// rest begins with.
+#[tactic(auto, using(crate::proofs::ReadingLemmas::begin_stays, crate::proofs::ReadingLemmas::begin_join))]
+pub fn messages_join()
+    ensures stay { (messages : List Parts) (bytes rest more : List ℕ) → Begin messages bytes rest → Begin messages (bytes ++ more) (rest ++ more) }
+    ensures join { (messages others : List Parts) (bytes between rest : List ℕ) → Begin messages bytes between → Begin others between rest → Begin (messages ++ others) bytes rest }
 {}
 
 /// What a stream begins with stays, however it goes on: its first message, and a fault in place of one.

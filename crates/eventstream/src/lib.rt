@@ -4,7 +4,7 @@
 //! and the first reason why it has none (`specs/Frame.antt`, `specs/Writing.antt`); that
 //! [`read_message_from`] takes the message of one frame, or nothing and the first fault
 //! (`specs/Read.antt`); that [`MessageFrameDecoder`] makes one step of the reading on the bytes that came,
-//! in whatever pieces (`specs/Reading.antt`, `specs/Decoding.antt`); and that a frame, whatever follows
+//! or all of them, in whatever pieces (`specs/Reading.antt`, `specs/Decoding.antt`); and that a frame, whatever follows
 //! it, is read back as its message ([`frame_reads_back`]). [`MessageSizeHint`] tells how long a frame
 //! will be, [`parse_response_headers`] and the calls that expect a value read headers
 //! (`specs/SizeHint.antt`, `specs/ResponseHeaders.antt`, `specs/Expect.antt`). The definitions of the
@@ -24,15 +24,15 @@ mod tests;
 mod texts;
 mod write;
 
-pub use crate::decode::{DecodedFrame, MessageFrameDecoder};
+pub use crate::decode::{DecodedFrame, MessageFrameDecoder, StreamEnd};
 pub use crate::error::{Error, ErrorKind};
 pub use crate::expect::{
     expect_bool, expect_byte, expect_byte_array, expect_int16, expect_int32, expect_int64,
     expect_string, expect_timestamp,
 };
 pub use crate::laws::{
-    first_stays, frame_comes_first, frame_reads_back, frames_read_back, no_frame_begins_another,
-    reading_goes_on,
+    first_stays, frame_comes_first, frame_reads_back, frames_read_back, messages_come_first,
+    messages_join, no_frame_begins_another, reading_goes_on,
 };
 pub use crate::read::read_message_from;
 pub use crate::response_headers::{ResponseHeaders, parse_response_headers};
