@@ -78,3 +78,6 @@ pub takes_bytes : (prelude : Option (List ℕ)) (between : Segments) (after : Op
 takes_bytes prelude between after new message answer complete step =
     let one = step_complete prelude between after new message answer complete step in
     rw one.1 (shorter (joined prelude between.bytes) message new.bytes one.0)
+
+-- what a loop that takes messages needs
+pub ruleset taken = (none_added, none_taken, still_added, takes_more, takes_bytes, ends_unfinished, ends_fault)

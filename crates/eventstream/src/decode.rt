@@ -118,7 +118,7 @@ impl MessageFrameDecoder {
     ///
     /// Those of [`decode_frame`](MessageFrameDecoder::decode_frame). The messages before a fault are
     /// appended. After [`ErrorKind::NoMemory`] each message is appended or still in the buffer.
-    #[tactic(auto, using(crate::proofs::DecodeAllLemmas::none_added, crate::proofs::DecodeAllLemmas::none_taken, crate::proofs::DecodeAllLemmas::still_added, crate::proofs::DecodeAllLemmas::takes_more, crate::proofs::DecodeAllLemmas::takes_bytes, crate::proofs::DecodeAllLemmas::ends_unfinished, crate::proofs::DecodeAllLemmas::ends_fault))]
+    #[tactic(auto, using(crate::proofs::DecodeAllLemmas::taken))]
     pub fn decode_all(
         &mut self,
         alloc: Global,
