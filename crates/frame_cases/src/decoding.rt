@@ -39,6 +39,8 @@ fn after(alloc: Global, stream: &mut Stream, step: &str) -> Mem<String> {
         ("push", bytes) => push(alloc, &mut stream.buffer, shared(alloc, bytes)?),
         ("push_each", bytes) => push_each(alloc, stream, bytes_of(alloc, bytes)?.as_slice()),
         ("decode", _) => decode(alloc, stream),
+        ("decode_all", _) => decode_all(alloc, stream),
+        ("end", _) => end(alloc, stream),
         ("left", _) => left(alloc, &stream.buffer),
         ("prelude", _) => prelude(alloc, stream),
         _ => String::from_str(alloc, "no such step"),
@@ -50,6 +52,27 @@ fn decode(alloc: Global, stream: &mut Stream) -> Mem<String> {
         Ok(decoded) => answered(alloc, &decoded.try_clone()?),
         Err(error) => error.to_string(alloc),
     }
+}
+
+// What the decoder takes in one call: the messages, and the fault that comes then.
+fn decode_all(alloc: Global, stream: &mut Stream) -> Mem<String> {
+    let mut messages = Vec::new(alloc);
+    let decoded = stream
+        .decoder
+        .decode_all(alloc, &mut stream.buffer, &mut messages);
+    let mut answers = format!(in alloc; "{} taken", messages.len())?;
+    for taken in &messages {
+        push_answer(&mut answers, message(alloc, taken)?.as_str())?;
+    }
+    if let Err(error) = decoded {
+        push_answer(&mut answers, error.to_string(alloc)?.as_str())?;
+    }
+    Ok(answers)
+}
+
+fn end(alloc: Global, stream: &Stream) -> Mem<String> {
+    let end = stream.decoder.end(&stream.buffer);
+    format!(in alloc; "{end:?}")
 }
 
 fn answered(alloc: Global, decoded: &DecodedFrame) -> Mem<String> {
@@ -91,15 +114,15 @@ fn in_pieces_of(alloc: Global, bytes: &[u8], size: usize) -> Mem<String> {
             &mut answers,
             push(alloc, &mut stream.buffer, piece)?.as_str(),
         )?;
-        decode_all(alloc, &mut stream, &mut answers)?;
+        decode_each(alloc, &mut stream, &mut answers)?;
     }
     push_answer(&mut answers, left(alloc, &stream.buffer)?.as_str())?;
     push_answer(&mut answers, prelude(alloc, &stream)?.as_str())?;
     Ok(answers)
 }
 
-// The messages that are there whole, or those before a fault and the fault.
-fn decode_all(alloc: Global, stream: &mut Stream, answers: &mut String) -> Mem<()> {
+// The messages that are there whole, or those before a fault and the fault, one call for each.
+fn decode_each(alloc: Global, stream: &mut Stream, answers: &mut String) -> Mem<()> {
     for _ in 0..stream.buffer.remaining() {
         match stream.decoder.decode_frame(alloc, &mut stream.buffer) {
             Ok(DecodedFrame::Incomplete) => return Ok(()),
