@@ -11,3 +11,4 @@ pub mod CloneLemmas
 pub mod LaterLemmas
 pub mod LowerLemmas
 pub mod KeyedLemmas
+pub mod ApartLemmas

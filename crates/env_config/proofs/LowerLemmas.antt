@@ -29,7 +29,7 @@ lower_lower (b ∷ text) = ap₂ (λ (c : ℕ) (cs : List ℕ). c ∷ cs) (lower
 pub tied_same : (a b : List ℕ) → is_eq (text_cmp a b) ≡ true → a ≡ b
 tied_same a b tied = (bytes_eq-Decides a b).0 (sym (is_eq-slice_cmp a b) ∙ tied)
 
-either : {X : Type 0} (P : X → Type 0) (b : Bool) (x y : X) → P x → P y → P (cond b x y)
+pub either : {X : Type 0} (P : X → Type 0) (b : Bool) (x y : X) → P x → P y → P (cond b x y)
 either P true x y here there = here
 either P false x y here there = there
 
@@ -82,7 +82,7 @@ record LowerState (state : State) : Type 0 where
   pub each : EachValue LowerKeys state.sections.values
   pub at : OfSome (λ (at : Open). OfSome (λ (last : Last). IsLower last.key) at.last) state.open_section
 
-abbrev OfOk : {X E : Type 0} → (X → Type 0) → Result X E → Type 0
+abbrev pub OfOk : {X E : Type 0} → (X → Type 0) → Result X E → Type 0
 OfOk P (Ok x) = P x
 OfOk P (Err e) = Unit {0}
 

@@ -1,7 +1,8 @@
 -- Finite maps from texts, and values by their names.
-use Rattle.std.specs.Prelude.{◌≡◌, ◌&&◌, ℕ, Bool, List, [], ◌∷◌, ◌++◌, Option, is_some, if◌then◌else◌, bytes_eq}
+use Rattle.std.specs.Prelude.{◌≡◌, ◌&&◌, ℕ, Bool, false, List, [], ◌∷◌, ◌++◌, map, Option, is_some, if◌then◌else◌, bytes_eq, String, string_bytes}
+use Rattle.std.specs.declared.alloc.Global.{Global}
 use Rattle.std.specs.declared.cmp.Ordering.{Ordering}
-use Rattle.std.specs.Ordering.{nat_cmp}
+use Rattle.std.specs.Ordering.{is_eq, nat_cmp}
 use Rattle.std.specs.Cmp.Lexicographic.{pointwise, slice_cmp}
 use Rattle.std.specs.BTreeMap.{insert_entry, is_at}
 use Rattle.std.specs.List.{AllByRecursion}
@@ -33,6 +34,15 @@ put_named named name value = record {
   names = if is_some (value_at named.values name) then named.names else named.names ++ name ∷ [];
   values = put named.values name value;
 }
+
+-- no name stands twice
+abbrev pub IsApart : List (List ℕ) → Type 0
+IsApart [] = Unit {0}
+IsApart (name ∷ names) = AllByRecursion (λ other. is_eq (text_cmp other name) ≡ false) names × IsApart names
+
+-- the values under the texts of their keys
+abbrev pub by_text : {X : Type 0} → List (String Global × X) → List (List ℕ × X)
+by_text entries = map (λ e. (string_bytes e.0, e.1)) entries
 
 -- P holds of each value
 abbrev pub EachValue : {X : Type 0} → (X → Type 0) → List (List ℕ × X) → Type 0

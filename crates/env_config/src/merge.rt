@@ -1,5 +1,6 @@
 ghost use Rattle.std.specs.Prelude.{◌≡◌, ◌≤◌, ◌∷◌, length, nat_eq, Option, option_map, OnOk, IfOk, IfSome, map, if◌then◌else◌};
 ghost use Rattle.std.specs.List.{slice_split};
+ghost use Rattle.std.specs.String.{string_bytes};
 ghost use Rattle.env_config.specs.Drafting.{pairs_of};
 ghost use Rattle.env_config.specs.Sections.{is_identifier, merged_into, put_identifiers, put_others, put_sub, put_subs, section_properties};
 ghost use Rattle.env_config.specs.Texts.{EachValue, put};
@@ -23,14 +24,14 @@ pub fn merge_profile(
     alloc: Global,
     profiles: &mut ByName<Profile>,
     name: &str,
-    pairs: &Texts,
+    pairs: Texts,
 ) -> Mem<()>
-    ensures merged { OnOk result (named_as profile_of profiles.new ≡ merged_into (named_as profile_of profiles.old) name.now pairs.now) }
+    ensures merged { OnOk result (named_as profile_of profiles.new ≡ merged_into (named_as profile_of profiles.old) name.now pairs) }
     ensures keys { EachValue IsKeyedProfile profiles.old.values → OnOk result (EachValue IsKeyedProfile profiles.new.values) }
 {
     let empty = Profile::new(String::new(alloc), BTreeMap::new(alloc));
     let mut properties = profile_properties(alloc, profiles.take(name, empty)?);
-    put_pairs(alloc, &mut properties, pairs.pairs())?;
+    put_pairs(&mut properties, pairs.into_pairs())?;
     let filled = Profile::new(String::from_str(alloc, name)?, properties);
     profiles.replace(name, filled)?;
     Ok(())
@@ -51,14 +52,14 @@ pub fn merge_session(
     alloc: Global,
     sessions: &mut ByName<SsoSession>,
     name: &str,
-    pairs: &Texts,
+    pairs: Texts,
 ) -> Mem<()>
-    ensures merged { OnOk result (named_as session_of sessions.new ≡ merged_into (named_as session_of sessions.old) name.now pairs.now) }
+    ensures merged { OnOk result (named_as session_of sessions.new ≡ merged_into (named_as session_of sessions.old) name.now pairs) }
     ensures keys { EachValue IsKeyedSession sessions.old.values → OnOk result (EachValue IsKeyedSession sessions.new.values) }
 {
     let empty = SsoSession::new(String::new(alloc), BTreeMap::new(alloc));
     let mut properties = session_properties(alloc, sessions.take(name, empty)?);
-    put_pairs(alloc, &mut properties, pairs.pairs())?;
+    put_pairs(&mut properties, pairs.into_pairs())?;
     let filled = SsoSession::new(String::from_str(alloc, name)?, properties);
     sessions.replace(name, filled)?;
     Ok(())
@@ -76,36 +77,27 @@ fn session_properties(alloc: Global, before: Option<SsoSession>) -> BTreeMap<Str
 
 // Puts the pairs whose keys are identifiers.
 fn put_pairs(
-    alloc: Global,
     properties: &mut BTreeMap<String, Property>,
-    pairs: &BTreeMap<String, String>,
+    pairs: BTreeMap<String, String>,
 ) -> Mem<()>
     ensures keys { IsKeyed (contents_of properties.old.entries) → OnOk result (IsKeyed (contents_of properties.new.entries)) }
-    ensures values { OnOk result (values_of properties.new.entries ≡ put_identifiers (values_of properties.old.entries) (pairs_of pairs.now.entries)) }
+    ensures values { OnOk result (values_of properties.new.entries ≡ put_identifiers (values_of properties.old.entries) (pairs_of pairs.entries)) }
 {
     for (key, value) in pairs {
-        put_pair(alloc, properties, key.as_str(), value.as_str())?;
+        put_pair(properties, key, value)?;
     }
     Ok(())
 }
 
-fn put_pair(
-    alloc: Global,
-    properties: &mut BTreeMap<String, Property>,
-    key: &str,
-    value: &str,
-) -> Mem<()>
+fn put_pair(properties: &mut BTreeMap<String, Property>, key: String, value: String) -> Mem<()>
     ensures keys { IsKeyed (contents_of properties.old.entries) → OnOk result (IsKeyed (contents_of properties.new.entries)) }
-    ensures values { OnOk result (values_of properties.new.entries ≡ (if is_identifier key.now then put (values_of properties.old.entries) key.now value.now else values_of properties.old.entries)) }
+    ensures values { OnOk result (values_of properties.new.entries ≡ (if is_identifier (string_bytes key) then put (values_of properties.old.entries) (string_bytes key) (string_bytes value) else values_of properties.old.entries)) }
 {
-    if !is_identifier(key) {
+    if !is_identifier(key.as_str()) {
         return Ok(());
     }
-    let property = Property::new(
-        String::from_str(alloc, key)?,
-        String::from_str(alloc, value)?,
-    );
-    properties.insert(String::from_str(alloc, key)?, property)?;
+    let property = Property::new(key.clone()?, value);
+    properties.insert(key, property)?;
     Ok(())
 }
 

@@ -1,5 +1,7 @@
+ghost use Rattle.std.specs.Prelude.{IfOk};
 ghost use Rattle.env_config.specs.Drafting.{ReadsRaw};
 ghost use Rattle.env_config.specs.Raw.{raw};
+ghost use Rattle.env_config.specs.Texts.{IsApart};
 
 use crate::by_name::ByName;
 use crate::draft::Draft;
@@ -15,7 +17,8 @@ use std::alloc::Global;
 /// [`RawFault::Line`] with the number of the first line outside the grammar, and the message.
 #[tactic(auto, unfolding(crate::specs::Raw::raw))]
 pub fn read_raw(alloc: Global, text: &str) -> Result<ByName<Texts>, RawFault>
-    ensures { ReadsRaw (raw text.now) result }
+    ensures reads { ReadsRaw (raw text.now) result }
+    ensures apart { IfOk result (λ sections. IsApart sections.names) }
 {
     let mut draft = Draft::new(alloc);
     let mut number = 1;

@@ -1,9 +1,9 @@
-ghost use Rattle.std.specs.Prelude.{◌≡◌, ◌==◌, [], IfOk, OnOk, codes, length, map, option_copied, option_map, unwrap_or};
+ghost use Rattle.std.specs.Prelude.{◌≡◌, ◌==◌, ℕ, List, [], false, IfOk, OnOk, codes, length, map, option_copied, option_map, unwrap_or};
+ghost use Rattle.std.specs.Ordering.{is_eq};
 ghost use Rattle.std.specs.String.{string_bytes};
 ghost use Rattle.env_config.specs.Headings.{heading_seen};
 ghost use Rattle.env_config.specs.Sections.{heading_of, no_sections, sections, with_file, with_raw, with_section};
-ghost use Rattle.env_config.specs.Raw.{properties_of};
-ghost use Rattle.env_config.specs.Texts.{value_at};
+ghost use Rattle.env_config.specs.Texts.{IsApart, by_text, text_cmp, value_at};
 ghost use Rattle.env_config.specs.Value.{selected_value};
 ghost use Rattle.env_config.specs.Values.{chosen_of};
 ghost use Rattle.env_config.specs.Words.{AreKeyed, HasCopies, MergesText, Parses, TellsLine, fault_of, file_of, others_of, profile_of, profiles_in, sections_of, selected_of, session_of, sessions_in};
@@ -20,6 +20,7 @@ use crate::source::{EnvConfigFileKind, File, Source};
 use crate::texts::Texts;
 use smithy_core::Mem;
 use std::alloc::Global;
+use std::collections::BTreeMap;
 
 /// Profiles, sessions and other sections, and the name of the selected profile.
 ///
@@ -155,7 +156,7 @@ impl EnvConfigSections {
         ensures keys { AreKeyed self.old → OnOk result (AreKeyed self.new) }
     {
         match read_raw(alloc, file.contents.as_str()) {
-            Ok(raw) => Ok(self.merge_file(alloc, file.kind, &raw)?),
+            Ok(raw) => Ok(self.merge_file(alloc, file.kind, raw)?),
             Err(RawFault::Line(number, message)) => Err(line_fault(alloc, file, number, message)),
             Err(RawFault::NoMemory) => Err(ParseFault::NoMemory),
         }
@@ -163,43 +164,45 @@ impl EnvConfigSections {
 
     // Merges the raw sections of a file.
     #[tactic(auto, unfolding(crate::specs::Sections::with_file))]
-    fn merge_file(&mut self, alloc: Global, kind: EnvConfigFileKind, raw: &ByName<Texts>) -> Mem<()>
-        ensures sections { OnOk result (sections_of self.new ≡ with_file (sections_of self.old) kind raw.now) }
+    fn merge_file(&mut self, alloc: Global, kind: EnvConfigFileKind, raw: ByName<Texts>) -> Mem<()>
+        requires { IsApart raw.names }
+        ensures sections { OnOk result (sections_of self.new ≡ with_file (sections_of self.old) kind raw) }
         ensures selected { selected_of self.new ≡ selected_of self.old }
         ensures keys { AreKeyed self.old → OnOk result (AreKeyed self.new) }
     {
         let overridden = has_profile_default(raw.names());
-        for name in raw.names() {
-            self.merge_named(alloc, kind, overridden, raw, name.as_str())?;
+        let (names, mut texts) = raw.into_parts();
+        for name in &names {
+            self.merge_named(alloc, kind, overridden, &mut texts, name.as_str())?;
         }
         Ok(())
     }
 
+    // Merges the raw section of this name, and takes it from the others.
     fn merge_named(
         &mut self,
         alloc: Global,
         kind: EnvConfigFileKind,
         overridden: bool,
-        raw: &ByName<Texts>,
+        texts: &mut BTreeMap<String, Texts>,
         name: &str,
     ) -> Mem<()>
-        ensures sections { OnOk result (sections_of self.new ≡ with_raw (sections_of self.old) kind overridden (heading_of name.now) (properties_of raw.now name.now)) }
+        ensures sections { OnOk result (sections_of self.new ≡ with_raw (sections_of self.old) kind overridden (heading_of name.now) (unwrap_or (value_at (by_text texts.old.entries) name.now) [])) }
         ensures selected { selected_of self.new ≡ selected_of self.old }
         ensures keys { AreKeyed self.old → OnOk result (AreKeyed self.new) }
+        ensures others { OnOk result ((other : List ℕ) → is_eq (text_cmp other name.now) ≡ false → value_at (by_text texts.new.entries) other ≡ value_at (by_text texts.old.entries) other) }
     {
+        let pairs = taken(alloc, texts, name);
         let heading = Heading::of(name);
         if !heading.is_taken_from(kind, overridden) {
             return Ok(());
         }
-        match raw.get(name) {
-            Some(pairs) => self.merge_section(alloc, heading, pairs),
-            None => self.merge_section(alloc, heading, &Texts::new(alloc)),
-        }
+        self.merge_section(alloc, heading, pairs)
     }
 
     // Merges a raw section with this heading.
-    fn merge_section(&mut self, alloc: Global, heading: Heading<'_>, pairs: &Texts) -> Mem<()>
-        ensures sections { OnOk result (sections_of self.new ≡ with_section (sections_of self.old) (heading_seen heading.entry).prefix (heading_seen heading.entry).name pairs.now) }
+    fn merge_section(&mut self, alloc: Global, heading: Heading<'_>, pairs: Texts) -> Mem<()>
+        ensures sections { OnOk result (sections_of self.new ≡ with_section (sections_of self.old) (heading_seen heading.entry).prefix (heading_seen heading.entry).name pairs) }
         ensures selected { selected_of self.new ≡ selected_of self.old }
         ensures keys { AreKeyed self.old → OnOk result (AreKeyed self.new) }
     {
@@ -216,6 +219,17 @@ impl EnvConfigSections {
                 pairs.pairs(),
             ),
         }
+    }
+}
+
+// The texts under the name, taken from the others.
+fn taken(alloc: Global, texts: &mut BTreeMap<String, Texts>, name: &str) -> Texts
+    ensures texts { result ≡ unwrap_or (value_at (by_text texts.old.entries) name.now) [] }
+    ensures others { (other : List ℕ) → is_eq (text_cmp other name.now) ≡ false → value_at (by_text texts.new.entries) other ≡ value_at (by_text texts.old.entries) other }
+{
+    match texts.remove(name) {
+        Some(pairs) => pairs,
+        None => Texts::new(alloc),
     }
 }
 

@@ -43,6 +43,13 @@ impl Texts {
         Ok(())
     }
 
+    /// The pairs, to take them.
+    pub fn into_pairs(self) -> BTreeMap<String, String>
+        ensures { pairs_of result.entries ≡ self }
+    {
+        self.pairs
+    }
+
     /// The pairs.
     pub fn pairs(&self) -> &BTreeMap<String, String>
         ensures { pairs_of result.now.entries ≡ self.now }

@@ -10,8 +10,8 @@ returns-clause-merged c =
     let before = values_of c.session_properties-properties.result.entries in
     let properties = values_of c.put_pairs.new.properties.entries in
     let make : List ℕ → List (List ℕ × List ℕ) → Section = λ name properties. record { name = name; properties = properties } in
-    merged session_of c.args.sessions.now c.take.new.self c.replace.new.self c.args.name.now c.args.pairs.now before properties c.new-filled.result c.in_ok-take.field-0
-    c.in_ok-take.ensures.later c.in_ok-take.ensures.before c.session_properties-properties.ensures.values (c.in_ok-put_pairs.ensures.values ∙ ap (put_identifiers before) c.pairs.ensures)
+    merged session_of c.args.sessions.now c.take.new.self c.replace.new.self c.args.name.now c.args.pairs before properties c.new-filled.result c.in_ok-take.field-0
+    c.in_ok-take.ensures.later c.in_ok-take.ensures.before c.session_properties-properties.ensures.values (c.in_ok-put_pairs.ensures.values ∙ ap (put_identifiers before) c.into_pairs.ensures)
     (c.new-filled.ensures.section ∙ ap (λ (name : List ℕ). make name properties) c.in_ok-from_str.ensures.ok)
     c.in_ok-replace.ensures.now
 

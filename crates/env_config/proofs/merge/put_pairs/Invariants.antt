@@ -7,6 +7,6 @@ use Rattle.env_config.proofs.merge.put_pairs.Given as goal
 -- the pairs to come give what all pairs give
 abbrev pub invariant-loop-key : goal.invariant-loop-key
 invariant-loop-key l = record {
-  to_come : put_identifiers (values_of l.properties.entries) (pairs_of l.key-iterator) ≡ put_identifiers (values_of l.fn.properties.entries) (pairs_of l.pairs.entries);
+  to_come : put_identifiers (values_of l.properties.entries) (pairs_of l.key-iterator) ≡ put_identifiers (values_of l.fn.properties.entries) (pairs_of l.fn.pairs.entries);
   keys : IsKeyed (contents_of l.fn.properties.entries) → IsKeyed (contents_of l.properties.entries);
 }

@@ -3,11 +3,12 @@ use Rattle.env_config.specs.Drafting.{state_of}
 use Rattle.env_config.specs.Line.{lines_of}
 use Rattle.env_config.specs.Raw.{raw, raw_from}
 use Rattle.env_config.specs.Texts.{Named}
+use Rattle.env_config.proofs.ApartLemmas.{read_apart}
 use Rattle.env_config.proofs.RawLemmas.{raw_over, raw_refused}
 use Rattle.env_config.proofs.raw.read_raw.Goals as goal
 
-pub returns-in-Err : goal.returns-in-Err
-returns-in-Err c =
+pub returns-in-Err-clause-reads : goal.returns-in-Err-clause-reads
+returns-in-Err-clause-reads c =
     let draft = state_of c.loop-rest.draft in
     let number = c.loop-rest.number in
     let line = c.cut_line.result.0.now in
@@ -15,9 +16,12 @@ returns-in-Err c =
     rw c.at.ensures (raw_refused number draft (state_of c.take_line.new.self) line lines c.in-Err.fault (raw c.args.text.now)
     (ap (raw_from number draft) (sym c.cut_line.ensures.lines) ∙ c.loop-rest.invariant.to_come) c.in-Err.ensures)
 
-pub returns-in-Ok : goal.returns-in-Ok
-returns-in-Ok c =
+pub returns-in-Ok-clause-reads : goal.returns-in-Ok-clause-reads
+returns-in-Ok-clause-reads c =
     let rest = c.loop-rest.rest.now in
     let none : length rest ≡ 0 = eqb-true (length rest) 0 (sym c.is_empty.ensures ∙ c.loop-rest-test.false) in
     sym c.loop-rest.invariant.to_come ∙ raw_over c.loop-rest.number (state_of c.loop-rest.draft) rest none
     ∙ sym (ap (λ (sections : Named (List (List ℕ × List ℕ))). Ok sections) c.in-Ok.ensures)
+
+pub returns-in-Ok-clause-apart : goal.returns-in-Ok-clause-apart
+returns-in-Ok-clause-apart c = read_apart c.args.text.now c.in-Ok.sections (returns-in-Ok-clause-reads c)

@@ -1,0 +1,171 @@
+-- The names of raw sections are apart, so that each section may be taken from the others when its name comes.
+use Rattle.std.proofs.Common.{◌≡◌, ℕ, ◌+◌, ◌<◌, Bool, true, false, cond, List, [], ◌∷◌, ◌++◌, length, map, drop, get_or, is_eq, add-one, String, string_bytes, Global, refl, sym, ap, subst, ◌∙◌}
+use Rattle.std.proofs.Math.Seq.{drop-cons}
+use Rattle.std.specs.Prelude.{Option, Some, None, is_some, unwrap_or, Result, Ok, Err, nat_eq, slice_index}
+use Rattle.std.specs.BTreeMap.{is_at}
+use Rattle.std.specs.Cmp.Lexicographic.{nat_list_cmp_total}
+use Rattle.std.specs.List.{AllByRecursion}
+use Rattle.std.specs.Map.{remove_entry}
+use Rattle.env_config.specs.declared.source.EnvConfigFileKind.{EnvConfigFileKind}
+use Rattle.env_config.specs.Line.{is_blank, is_skipped, lines_of, property_of, section_name}
+use Rattle.env_config.specs.Raw.{Last, Open, State, after_line, begun, continued_or, last_step, line_step, properties_of, raw, raw_from, section_step, start, within_section}
+use Rattle.env_config.specs.Sections.{Sections, heading_of, with_names, with_raw}
+use Rattle.env_config.specs.Texts.{IsApart, Named, by_text, put, put_named, text_cmp, value_at}
+use Rattle.env_config.proofs.LaterLemmas.{at_put}
+use Rattle.env_config.proofs.LowerLemmas.{OfOk, either, tied_same}
+use Rattle.env_config.proofs.TextsLemmas.{value_put}
+
+-- ## Maps
+
+all_more : {X : Type 0} (P : X → Type 0) (xs : List X) (x : X) → AllByRecursion P xs → P x → AllByRecursion P (xs ++ x ∷ [])
+all_more P [] x all is = (is, tt)
+all_more P (y ∷ xs) x all is = (all.0, all_more P xs x all.1 is)
+
+apart_more : (names : List (List ℕ)) (name : List ℕ) → IsApart names → AllByRecursion (λ (other : List ℕ). is_eq (text_cmp name other) ≡ false) names → IsApart (names ++ name ∷ [])
+apart_more [] name apart new = (tt, tt)
+apart_more (other ∷ names) name apart new =
+    (all_more (λ (later : List ℕ). is_eq (text_cmp later other) ≡ false) names name apart.0 new.0, apart_more names name apart.1 new.1)
+
+-- each name has a value
+abbrev HasEach : {X : Type 0} → List (List ℕ × X) → List (List ℕ) → Type 0
+HasEach values names = AllByRecursion (λ (name : List ℕ). is_some (value_at values name) ≡ true) names
+
+-- so a name without one is none of them
+none_of : {X : Type 0} (values : List (List ℕ × X)) (names : List (List ℕ)) (name : List ℕ) → HasEach values names → is_some (value_at values name) ≡ false
+    → AllByRecursion (λ (other : List ℕ). is_eq (text_cmp name other) ≡ false) names
+none_of values [] name has lacks = tt
+none_of {X} values (other ∷ names) name has lacks = (by (is_eq (text_cmp name other)) refl, none_of values names name has.1 lacks)
+  where
+    by : (b : Bool) → is_eq (text_cmp name other) ≡ b → b ≡ false
+    by false is = refl
+    by true is =
+        let known : is_some (value_at values name) ≡ true = ap (λ (n : List ℕ). is_some (value_at values n)) (tied_same name other is) ∙ has.0 in
+        sym known ∙ lacks
+
+has_put : {X : Type 0} (values : List (List ℕ × X)) (key : List ℕ) (value : X) (names : List (List ℕ)) → HasEach values names → HasEach (put values key value) names
+has_put values key value [] has = tt
+has_put {X} values key value (name ∷ names) has =
+    (ap is_some (at_put text_cmp nat_list_cmp_total values key value name) ∙ by (is_eq (text_cmp name key)), has_put values key value names has.1)
+  where
+    by : (b : Bool) → is_some (cond b (Some value) (value_at values name)) ≡ true
+    by true = refl
+    by false = has.0
+
+-- the names are apart, and each has a value
+record IsSound {X : Type 0} (named : Named X) : Type 0 where
+  pub apart : IsApart named.names
+  pub has : HasEach named.values named.names
+
+put_sound : {X : Type 0} (named : Named X) (name : List ℕ) (value : X) → IsSound named → IsSound (put_named named name value)
+put_sound {X} named name value is = by (is_some (value_at named.values name)) refl
+  where
+    kept : HasEach (put named.values name value) named.names
+    kept = has_put named.values name value named.names is.has
+
+    by : (b : Bool) → is_some (value_at named.values name) ≡ b → IsSound (record { names = cond b named.names (named.names ++ name ∷ []); values = put named.values name value })
+    by true known = record { apart = is.apart; has = kept }
+    by false known = record {
+      apart = apart_more named.names name is.apart (none_of named.values named.names name is.has known);
+      has = all_more (λ (n : List ℕ). is_some (value_at (put named.values name value) n) ≡ true) named.names name kept (ap is_some (value_put named.values name value));
+    }
+
+-- ## Lines
+
+abbrev IsSoundState : State → Type 0
+IsSoundState state = IsSound state.sections
+
+section_sound : (state : State) (name : Option (List ℕ)) → IsSoundState state → OfOk IsSoundState (section_step state name)
+section_sound state None is = tt
+section_sound state (Some name) is = put_sound state.sections name (properties_of state.sections name) is
+
+last_sound : (state : State) (name : List ℕ) (step : Result Last (List ℕ)) → IsSoundState state → OfOk IsSoundState (last_step state name step)
+last_sound state name (Err message) is = tt
+last_sound state name (Ok last) is = put_sound state.sections name (put (properties_of state.sections name) last.key last.value) is
+
+within_sound : (state : State) (at : Option Open) (step : Open → Result Last (List ℕ)) → IsSoundState state → OfOk IsSoundState (within_section state at step)
+within_sound state None step is = tt
+within_sound state (Some at) step is = last_sound state at.name (step at) is
+
+line_sound : (state : State) (line : List ℕ) → IsSoundState state → OfOk IsSoundState (line_step state line)
+unfolding line_step
+line_sound state line is =
+    let P : Result State (List ℕ) → Type 0 = OfOk IsSoundState in
+    let more = within_section state state.open_section (λ at. continued_or at.last line) in
+    let new = within_section state state.open_section (λ _. begun (property_of line)) in
+    let later = cond (is_blank (slice_index line 0)) more new in
+    let marked = cond (nat_eq (slice_index line 0) 91) (section_step state (section_name line)) later in
+    either P (is_skipped line) (Ok state) marked is
+    (either P (nat_eq (slice_index line 0) 91) (section_step state (section_name line)) later (section_sound state (section_name line) is)
+    (either P (is_blank (slice_index line 0)) more new
+    (within_sound state state.open_section (λ at. continued_or at.last line) is)
+    (within_sound state state.open_section (λ _. begun (property_of line)) is)))
+
+abbrev IsSoundRead : Named (List (List ℕ × List ℕ)) → Type 0
+IsSoundRead read = IsSound read
+
+lines_sound : (number : ℕ) (state : State) (lines : List (List ℕ)) → IsSoundState state → OfOk IsSoundRead (raw_from number state lines)
+lines_sound number state [] is = is
+lines_sound number state (line ∷ lines) is = by (line_step state line) (line_sound state line is) (λ next sound. lines_sound (number + 1) next lines sound)
+  where
+    by : (step : Result State (List ℕ)) → OfOk IsSoundState step → ((next : State) → IsSoundState next → OfOk IsSoundRead (raw_from (number + 1) next lines))
+        → OfOk IsSoundRead (after_line number (λ next. raw_from (number + 1) next lines) step)
+    by (Ok next) sound more = more next sound
+    by (Err message) sound more = tt
+
+raw_sound : (text : List ℕ) → OfOk IsSoundRead (raw text)
+unfolding raw
+raw_sound text = lines_sound 1 start (lines_of text) (record { apart = tt; has = tt })
+
+pub read_apart : (text : List ℕ) (read : Named (List (List ℕ × List ℕ))) → raw text ≡ Ok read → IsApart read.names
+read_apart text read is = (subst (OfOk IsSoundRead) is (raw_sound text)).apart
+
+-- ## Taking
+
+abbrev without : {X : Type 0} → List ℕ → List (String Global × X) → List (String Global × X)
+without name es = remove_entry (is_at (λ (key : String Global). text_cmp name (string_bytes key))) es
+
+others_stay : {X : Type 0} (es : List (String Global × X)) (name other : List ℕ) → is_eq (text_cmp other name) ≡ false → value_at (by_text (without name es)) other ≡ value_at (by_text es) other
+others_stay [] name other apart = refl
+others_stay {X} (e ∷ es) name other apart = by (is_eq (text_cmp name (string_bytes e.0))) refl (others_stay es name other apart)
+  where
+    by : (b : Bool) → is_eq (text_cmp name (string_bytes e.0)) ≡ b → value_at (by_text (without name es)) other ≡ value_at (by_text es) other
+        → value_at (by_text (cond b es (e ∷ without name es))) other ≡ value_at (by_text (e ∷ es)) other
+    by true tied later =
+        sym (ap (λ (b : Bool). cond b (Some e.1) (value_at (by_text es) other)) (ap (λ (key : List ℕ). is_eq (text_cmp other key)) (sym (tied_same name (string_bytes e.0) tied)) ∙ apart))
+    by false tied later = ap (λ (found : Option X). cond (is_eq (text_cmp other (string_bytes e.0))) (Some e.1) found) later
+
+-- a value that is taken leaves the others
+pub removed_others : {X : Type 0} (es now : List (String Global × X)) (name : List ℕ) → now ≡ without name es → (other : List ℕ) → is_eq (text_cmp other name) ≡ false → value_at (by_text now) other ≡ value_at (by_text es) other
+removed_others {X} es now name is other apart = ap (λ (ds : List (String Global × X)). value_at (by_text ds) other) is ∙ others_stay es name other apart
+
+all_of : {X : Type 0} (P Q : X → Type 0) → ((x : X) → P x → Q x) → (xs : List X) → AllByRecursion P xs → AllByRecursion Q xs
+all_of P Q more [] all = tt
+all_of P Q more (x ∷ xs) all = (more x all.0, all_of P Q more xs all.1)
+
+pub all_always : {X : Type 0} (P : X → Type 0) → ((x : X) → P x) → (xs : List X) → AllByRecursion P xs
+all_always P always [] = tt
+all_always P always (x ∷ xs) = (always x, all_always P always xs)
+
+-- names with the same values give the same
+pub names_alike : (sections : Sections) (kind : EnvConfigFileKind) (overridden : Bool) (file now : Named (List (List ℕ × List ℕ))) (names : List (List ℕ))
+    → AllByRecursion (λ (name : List ℕ). value_at now.values name ≡ value_at file.values name) names → with_names sections kind overridden now names ≡ with_names sections kind overridden file names
+names_alike sections kind overridden file now [] same = refl
+names_alike sections kind overridden file now (name ∷ names) same =
+    ap (λ (found : Option (List (List ℕ × List ℕ))). with_names (with_raw sections kind overridden (heading_of name) (unwrap_or found [])) kind overridden now names) same.0
+    ∙ names_alike (with_raw sections kind overridden (heading_of name) (properties_of file name)) kind overridden file now names same.1
+
+-- the first name was merged, and its section taken
+pub name_merged : (before after : Sections) (kind : EnvConfigFileKind) (overridden : Bool) (file now : Named (List (List ℕ × List ℕ))) (name : List ℕ) (names : List (List ℕ))
+    → after ≡ with_raw before kind overridden (heading_of name) (properties_of file name) → ((other : List ℕ) → is_eq (text_cmp other name) ≡ false → value_at now.values other ≡ value_at file.values other)
+    → IsApart (name ∷ names) → with_names after kind overridden now names ≡ with_names before kind overridden file (name ∷ names)
+name_merged before after kind overridden file now name names is stay apart =
+    let others = all_of (λ (other : List ℕ). is_eq (text_cmp other name) ≡ false) (λ (other : List ℕ). value_at now.values other ≡ value_at file.values other) stay names apart.0 in
+    ap (λ (sections : Sections). with_names sections kind overridden now names) is
+    ∙ names_alike (with_raw before kind overridden (heading_of name) (properties_of file name)) kind overridden file now names others
+
+-- the name at an index, and those after it
+pub names_front : (items : List (String Global)) (i : ℕ) (item : String Global) (name : List ℕ) → i < length items → item ≡ get_or items i item → name ≡ string_bytes item
+    → map string_bytes (drop i items) ≡ name ∷ map string_bytes (drop (i + 1) items)
+names_front items i item name within is name_is =
+    let front : drop i items ≡ item ∷ drop (i + 1) items = drop-cons items i item within ∙ rw (← is, add-one) refl in
+    ap (map string_bytes) front ∙ ap (λ (n : List ℕ). n ∷ map string_bytes (drop (i + 1) items)) (sym name_is)
