@@ -58,6 +58,13 @@ impl EnvConfigSections {
 
     /// The sections of the files, merged, with the profile of the source selected.
     ///
+    /// ```rust
+    /// let files = EnvConfigFiles::default_files(alloc)?;
+    /// let source = load(alloc, &env, &mut disk, &files)?;
+    /// let sections = EnvConfigSections::parse(alloc, &source)?;
+    /// let region = sections.get("region");
+    /// ```
+    ///
     /// # Errors
     ///
     /// [`ParseFault::Parse`] with the first line outside the grammar in the first faulty file.

@@ -25,7 +25,8 @@ pub enum ValuePlace {
 /// Why nothing is signed.
 #[derive(Debug, Drop)]
 pub enum SigningError {
-    /// The text isn't accepted as a target, or has an authority without a scheme.
+    /// The text isn't accepted as a target, or has an authority without a scheme. Texts from outside are escaped before
+    /// they go into a target: by `smithy_http::label::fmt_string` in its path, by `QueryWriter::insert` in its query.
     InvalidUri,
     /// The name of the header at this place, counted from 1, is outside the grammar of header names.
     InvalidHeaderName(usize),

@@ -26,7 +26,19 @@ use std::alloc::{AllocError, Global};
 pub type SigningParams<'a> = crate::v4::SigningParams<'a, ()>;
 
 /// Signs a message over the signature before it: a message with the frame of the given one as its
-/// payload, and the new signature.
+/// payload, and the new signature. The first message of a stream is signed over the signature of its request.
+///
+/// ```rust
+/// let params = event_stream::SigningParams::new(&identity, "us-east-1", "transcribe", at, ());
+/// let (_, mut signature) = sign(alloc, request, &request_params)?.into_parts();
+/// for event in events {
+///     let (signed, next) = sign_message(alloc, event, signature.as_str(), &params)?.into_parts();
+///     write_message_to(alloc, &signed, &mut frames)?;
+///     signature = next;
+/// }
+/// let (closing, _) = sign_empty_message(alloc, signature.as_str(), &params)?.into_parts();
+/// write_message_to(alloc, &closing, &mut frames)?;
+/// ```
 ///
 /// # Errors
 ///
@@ -105,7 +117,7 @@ fn link(
         (output.output ≡ link_message (signer_of params.now) last_signature.now bytes.items params.now.time)
         × (string_bytes output.signature ≡ link_signature (signer_of params.now) last_signature.now bytes.items params.now.time)) }
 {
-    let text = text_to_sign(alloc, bytes.as_slice(), last_signature, params)?;
+    let text = string_to_sign(alloc, bytes.as_slice(), last_signature, params)?;
     let code = hmac_sha256(key, text.as_slice());
     let signature = hex::encode(alloc, code.as_slice())?;
     let mut headers = Vec::new(alloc);
@@ -117,7 +129,7 @@ fn link(
 
 // The string to sign of bytes over the signature before them.
 #[tactic(auto, unfolding(smithy_core::specs::Civil::stamp, eventstream::specs::Link::string_to_sign))]
-pub(crate) fn text_to_sign(
+fn string_to_sign(
     alloc: Global,
     bytes: &[u8],
     last_signature: &str,

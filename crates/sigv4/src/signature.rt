@@ -34,14 +34,14 @@ pub fn request_signature(
     ensures { IfOk result (λ text. string_bytes text
         ≡ signature (record { secret = secret.now; region = region.now; name = name.now }) time canonical_text.now) }
 {
-    let text = request_text(alloc, canonical_text, time, region, name)?;
+    let text = string_to_sign(alloc, canonical_text, time, region, name)?;
     let key = generate_signing_key(secret, time, region, name);
     calculate_signature(alloc, key.as_slice(), text.as_slice())
 }
 
 // The string to sign of a canonical text.
 #[tactic(auto, unfolding(smithy_core::specs::Civil::stamp, crate::specs::Signature::string_to_sign))]
-fn request_text(
+fn string_to_sign(
     alloc: Global,
     canonical_text: &[u8],
     time: Moment,

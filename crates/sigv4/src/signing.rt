@@ -21,6 +21,15 @@ use std::alloc::Global;
 ///
 /// The settings have to put the signature into headers, and to leave the token's header its usual name.
 ///
+/// ```rust
+/// let settings = SigningSettings::new(alloc)?;
+/// let params = v4::SigningParams::new(&identity, "us-east-1", "service", at, settings);
+/// let signable = SignableRequest::from_http_request(alloc, &request)?;
+/// let signed = sign(alloc, signable, &SigningParams::V4(params))?;
+/// let (instructions, signature) = signed.into_parts();
+/// instructions.apply_to_request(&mut request)?;
+/// ```
+///
 /// # Errors
 ///
 /// The first of these: [`SigningError::UnsupportedIdentityType`] where the identity has no secret;
