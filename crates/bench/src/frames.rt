@@ -1,6 +1,7 @@
 use crate::digest::Digest;
+use anyhow::bail;
 use bytes::Bytes;
-use eventstream::{DecodedFrame, MessageFrameDecoder, write_message_to};
+use eventstream::{MessageFrameDecoder, write_message_to};
 use seg_buf::SegBuf;
 use smithy_core::Message;
 use std::alloc::Global;
@@ -41,14 +42,26 @@ pub fn with_frame(
 
 /// Decodes a stream of frames so many times, as it comes in pieces.
 pub fn decoded(alloc: Global, count: u32) -> anyhow::Result<Digest> {
-    let stream = stream_of_frames(alloc)?;
+    let pieces = pieces_of_stream(alloc)?;
     let mut decoder = MessageFrameDecoder::new();
     let mut buffer = SegBuf::new(alloc);
     let mut digest = Digest::new();
     for _ in 0..count {
-        digest = with_stream(alloc, digest, &stream, &mut decoder, &mut buffer)?;
+        for piece in &pieces {
+            push(&mut buffer, piece.clone()?)?;
+            digest = with_messages(alloc, digest, &mut decoder, &mut buffer)?;
+        }
     }
     Ok(digest)
+}
+
+fn pieces_of_stream(alloc: Global) -> anyhow::Result<Vec<Bytes>> {
+    let stream = stream_of_frames(alloc)?;
+    let mut pieces = Vec::new(alloc);
+    for piece in stream.as_slice().chunks(PIECE) {
+        pieces.push(Bytes::copy_from_slice(alloc, piece)?)?;
+    }
+    Ok(pieces)
 }
 
 fn stream_of_frames(alloc: Global) -> anyhow::Result<Bytes> {
@@ -60,41 +73,32 @@ fn stream_of_frames(alloc: Global) -> anyhow::Result<Bytes> {
     Ok(Bytes::from_vec(stream)?)
 }
 
-// The digest of all messages of a stream more.
-fn with_stream(
-    alloc: Global,
-    digest: Digest,
-    stream: &Bytes,
-    decoder: &mut MessageFrameDecoder,
-    buffer: &mut SegBuf,
-) -> anyhow::Result<Digest> {
-    let mut digest = digest;
-    let mut start = 0;
-    while start < stream.len() {
-        let end = stream.len().min(start + PIECE);
-        buffer.reserve_one()?;
-        buffer.push(stream.slice(start..end)?);
-        digest = with_messages(alloc, digest, decoder, buffer)?;
-        start = end;
+fn push(buffer: &mut SegBuf, piece: Bytes) -> anyhow::Result<()> {
+    if buffer.remaining().checked_add(piece.len()).is_none() {
+        bail!("the buffer is full");
     }
-    Ok(digest)
+    buffer.reserve_one()?;
+    buffer.push(piece);
+    Ok(())
 }
 
-// The digest of the messages more that are there.
+// The digest of the messages more that are there, by the first byte of each.
 fn with_messages(
     alloc: Global,
     digest: Digest,
     decoder: &mut MessageFrameDecoder,
     buffer: &mut SegBuf,
 ) -> anyhow::Result<Digest> {
-    let mut digest = digest;
-    for _ in 0..FRAMES {
-        match decoder.decode_frame(alloc, buffer)? {
-            DecodedFrame::Complete(message) => digest = digest.with(&[message.payload()[0]]),
-            DecodedFrame::Incomplete => break,
-        }
+    let mut messages = Vec::new(alloc);
+    decoder.decode_all(alloc, buffer, &mut messages)?;
+    Ok(messages.iter().fold(digest, with_message))
+}
+
+fn with_message(digest: Digest, message: &Message) -> Digest {
+    match message.payload().as_slice().first() {
+        Some(byte) => digest.with(&[*byte]),
+        None => digest,
     }
-    Ok(digest)
 }
 
 fn message_of(alloc: Global, size: usize) -> anyhow::Result<Message> {
