@@ -14,17 +14,22 @@
 #![tactic(auto)]
 
 mod checksums;
+mod copies;
 mod decoding;
+mod documents;
 mod faults;
 mod frames;
 mod host;
 mod moments;
 mod outside;
+mod prints;
 mod requests;
 mod responses;
 mod segments;
 mod shown;
+mod sources;
 mod texts;
+mod values;
 mod words;
 
 use case_lines::{Answers, run_cases};
@@ -47,8 +52,13 @@ impl<R: Runtime> Answers for Cases<R> {
             ["segments", steps @ ..] => segments::answer(alloc, steps),
             ["moment", call @ ..] => moments::answer(alloc, call),
             ["text", call @ ..] => texts::answer(alloc, call),
+            ["value", call @ ..] => values::answer(alloc, call),
+            ["document", call @ ..] => documents::answer(alloc, call),
+            ["print", call @ ..] => prints::answer(alloc, call),
             ["request", call @ ..] => requests::answer(alloc, call),
             ["outside", call @ ..] => outside::answer(alloc, call),
+            ["copy", call @ ..] => copies::answer(alloc, call),
+            ["source", call @ ..] => sources::answer(alloc, call),
             ["host", call @ ..] => host::answer(&self.runtime, self.process, alloc, call),
             ["frame", call @ ..] => frames::answer(alloc, call),
             ["decoder", steps @ ..] => decoding::answer(alloc, steps),

@@ -46,22 +46,34 @@ fn std_source(alloc: Global, content: &str, steps: &[&str]) -> Mem<String> {
     reads(alloc, &mut StdSource::new(content.as_slice()), steps)
 }
 
-fn push_left(answers: &mut String, alloc: Global, left: &[u8]) -> Mem<()> {
+pub fn push_left(answers: &mut String, alloc: Global, left: &[u8]) -> Mem<()> {
     let left = quoted(alloc, left)?;
     push_answer(answers, format!(in alloc; "left {left}")?.as_str())
 }
 
-// Each step reads once into so much room, or all up to a limit.
-fn reads<S: ByteSource>(alloc: Global, source: &mut S, steps: &[&str]) -> Mem<String> {
+// Each step reads once into so much room or into a buffer, or all up to a limit.
+pub fn reads<S: ByteSource>(alloc: Global, source: &mut S, steps: &[&str]) -> Mem<String> {
     let mut answers = String::new(alloc);
     for step in steps {
-        let answer = match parts(step) {
-            ("all", limit) => read_whole(alloc, source, size_of(limit))?,
-            (_, room) => read_once(alloc, source, size_of(room))?,
-        };
-        push_answer(&mut answers, answer.as_str())?;
+        push_answer(&mut answers, read_by(alloc, source, step)?.as_str())?;
     }
     Ok(answers)
+}
+
+pub fn read_by<S: ByteSource>(alloc: Global, source: &mut S, step: &str) -> Mem<String> {
+    match parts(step) {
+        ("all", limit) => read_whole(alloc, source, size_of(limit)),
+        ("into", content) => read_into(alloc, source, content),
+        (_, room) => read_once(alloc, source, size_of(room)),
+    }
+}
+
+// The answer of a read into a buffer of this content, and what the buffer then holds.
+fn read_into<S: ByteSource>(alloc: Global, source: &mut S, content: &str) -> Mem<String> {
+    let mut into = bytes_of(alloc, content)?;
+    let answer = source.read(into.as_mut_slice());
+    let into = quoted(alloc, into.as_slice())?;
+    format!(in alloc; "{answer:?} {into}")
 }
 
 fn read_once<S: ByteSource>(alloc: Global, source: &mut S, room: usize) -> Mem<String> {
@@ -110,18 +122,21 @@ fn full_sink(alloc: Global, room: usize, steps: &[&str]) -> Mem<String> {
 }
 
 // Each step writes a piece once, or the whole of it.
-fn writes<K: ByteSink>(alloc: Global, sink: &mut K, steps: &[&str]) -> Mem<String> {
+pub fn writes<K: ByteSink>(alloc: Global, sink: &mut K, steps: &[&str]) -> Mem<String> {
     let mut answers = String::new(alloc);
     for step in steps {
-        let (step, piece) = parts(step);
-        let piece = bytes_of(alloc, piece)?;
-        let answer = match step {
-            "all" => format!(in alloc; "{:?}", write_all(sink, piece.as_slice()))?,
-            _ => format!(in alloc; "{:?}", sink.write(piece.as_slice()))?,
-        };
-        push_answer(&mut answers, answer.as_str())?;
+        push_answer(&mut answers, write_by(alloc, sink, step)?.as_str())?;
     }
     Ok(answers)
+}
+
+pub fn write_by<K: ByteSink>(alloc: Global, sink: &mut K, step: &str) -> Mem<String> {
+    let (step, piece) = parts(step);
+    let piece = bytes_of(alloc, piece)?;
+    match step {
+        "all" => format!(in alloc; "{:?}", write_all(sink, piece.as_slice())),
+        _ => format!(in alloc; "{:?}", sink.write(piece.as_slice())),
+    }
 }
 
 fn faulty_disk(alloc: Global, files: &str, fails: &str, paths: &[&str]) -> Mem<String> {
@@ -136,7 +151,7 @@ fn calm_disk(alloc: Global, files: &str, paths: &[&str]) -> Mem<String> {
 }
 
 // The files between `;`, each a path and its bytes.
-fn files_of(alloc: Global, word: &str) -> Mem<Vec<(String, Vec<u8>)>> {
+pub fn files_of(alloc: Global, word: &str) -> Mem<Vec<(String, Vec<u8>)>> {
     let mut files = Vec::new(alloc);
     for file in word.split(';') {
         let (path, bytes) = parts(file);
@@ -148,24 +163,32 @@ fn files_of(alloc: Global, word: &str) -> Mem<Vec<(String, Vec<u8>)>> {
 pub fn read_paths<D: Disk>(alloc: Global, disk: &mut D, paths: &[&str]) -> Mem<String> {
     let mut answers = String::new(alloc);
     for path in paths {
-        let answer = match disk.read(path) {
-            Ok(bytes) => quoted(alloc, bytes.as_slice())?,
-            Err(fault) => format!(in alloc; "{fault:?}")?,
-        };
-        push_answer(&mut answers, answer.as_str())?;
+        push_answer(&mut answers, read_path(alloc, disk, path)?.as_str())?;
     }
     Ok(answers)
 }
 
-fn list_clock(alloc: Global, words: &[&str], count: usize) -> Mem<String> {
-    let mut moments: Vec<DateTime> = Vec::new(alloc);
-    for word in words {
-        moments.push(moment_of(word))?;
+pub fn read_path<D: Disk>(alloc: Global, disk: &mut D, path: &str) -> Mem<String> {
+    match disk.read(path) {
+        Ok(bytes) => quoted(alloc, bytes.as_slice()),
+        Err(fault) => format!(in alloc; "{fault:?}"),
     }
+}
+
+fn list_clock(alloc: Global, words: &[&str], count: usize) -> Mem<String> {
+    let moments = moments_of(alloc, words)?;
     if moments.is_empty() {
         return String::from_str(alloc, "no moments");
     }
     given(alloc, &mut ListClock::new(moments), count)
+}
+
+pub fn moments_of(alloc: Global, words: &[&str]) -> Mem<Vec<DateTime>> {
+    let mut moments = Vec::new(alloc);
+    for word in words {
+        moments.push(moment_of(word))?;
+    }
+    Ok(moments)
 }
 
 fn fixed_clock(alloc: Global, moment: &str, count: usize) -> Mem<String> {
@@ -174,7 +197,7 @@ fn fixed_clock(alloc: Global, moment: &str, count: usize) -> Mem<String> {
 }
 
 // What so many calls of a clock give.
-fn given<C: Clock>(alloc: Global, clock: &mut C, count: usize) -> Mem<String> {
+pub fn given<C: Clock>(alloc: Global, clock: &mut C, count: usize) -> Mem<String> {
     let mut answers = String::new(alloc);
     for _ in 0..count {
         push_answer(&mut answers, moment(alloc, clock.now())?.as_str())?;

@@ -1,4 +1,4 @@
-use crate::shown::{push_answer, quoted};
+use crate::shown::{push_answer, quoted, truth};
 use crate::texts::unless_empty;
 use crate::words::{moment_of, parts, shared};
 use smithy_core::{
@@ -9,6 +9,8 @@ use std::alloc::Global;
 pub fn answer(alloc: Global, call: &[&str]) -> Mem<String> {
     match call {
         ["headers", steps @ ..] => headers(alloc, steps),
+        ["collected", words @ ..] => collected(alloc, words),
+        ["new", method, target] => new_request(alloc, method, target),
         ["copied_request", method, target, body, steps @ ..] => {
             copied_request(alloc, [method, target, body], steps)
         }
@@ -23,6 +25,9 @@ pub fn answer(alloc: Global, call: &[&str]) -> Mem<String> {
         }
         ["copied_identity", key_id, secret, token, expiry] => {
             copied_signer(alloc, [key_id, secret, token, expiry])
+        }
+        ["identity_from", key_id, secret, token, expiry] => {
+            identity_from(alloc, [key_id, secret, token, expiry])
         }
         ["max_attempts"] => max_attempts(alloc),
         _ => String::from_str(alloc, "no such call"),
@@ -45,7 +50,10 @@ fn after(alloc: Global, headers: &mut Headers, step: &str) -> Mem<String> {
         "get" => format!(in alloc; "{:?}", headers.get(word)),
         "get_all" => values(alloc, headers, word),
         "len" => format!(in alloc; "{}", headers.len()),
+        "is_empty" => truth(alloc, headers.is_empty()),
+        "contains_key" => truth(alloc, headers.contains_key(word)),
         "iter" => pairs(alloc, headers),
+        "for" => looped(alloc, headers),
         "copy" => pairs(alloc, &headers.try_clone()?),
         _ => {
             put(headers, step, word)?;
@@ -71,12 +79,31 @@ fn values(alloc: Global, headers: &Headers, name: &str) -> Mem<String> {
     Ok(answers)
 }
 
-fn pairs(alloc: Global, headers: &Headers) -> Mem<String> {
+pub fn pairs(alloc: Global, headers: &Headers) -> Mem<String> {
     let mut answers = String::new(alloc);
     for (name, value) in headers.iter() {
         push_answer(&mut answers, format!(in alloc; "{name}={value}")?.as_str())?;
     }
     Ok(answers)
+}
+
+// The pairs that a loop over the headers gives.
+fn looped(alloc: Global, headers: &Headers) -> Mem<String> {
+    let mut answers = String::new(alloc);
+    for (name, value) in headers {
+        push_answer(&mut answers, format!(in alloc; "{name}={value}")?.as_str())?;
+    }
+    Ok(answers)
+}
+
+// The headers that are collected from pairs.
+fn collected(alloc: Global, words: &[&str]) -> Mem<String> {
+    let mut given: Vec<(&str, &str)> = Vec::new(alloc);
+    for word in words {
+        given.push(parts(word))?;
+    }
+    let headers: Headers = given.into_iter().collect(alloc)?;
+    pairs(alloc, &headers)
 }
 
 fn put_all(alloc: Global, steps: &[&str]) -> Mem<Headers> {
@@ -96,10 +123,17 @@ fn copied_request(alloc: Global, front: [&str; 3], steps: &[&str]) -> Mem<String
         headers: put_all(alloc, steps)?,
         body: shared(alloc, body)?,
     };
-    let copy = request.try_clone()?;
-    let body = quoted(alloc, copy.body.as_slice())?;
-    let mut answers = format!(in alloc; "{} {} {body}", copy.method, copy.target)?;
-    push_answer(&mut answers, pairs(alloc, &copy.headers)?.as_str())?;
+    whole(alloc, &request.try_clone()?)
+}
+
+fn new_request(alloc: Global, method: &str, target: &str) -> Mem<String> {
+    whole(alloc, &HttpRequest::new(alloc, method, target)?)
+}
+
+fn whole(alloc: Global, request: &HttpRequest) -> Mem<String> {
+    let body = quoted(alloc, request.body.as_slice())?;
+    let mut answers = format!(in alloc; "{} {} {body}", request.method, request.target)?;
+    push_answer(&mut answers, pairs(alloc, &request.headers)?.as_str())?;
     Ok(answers)
 }
 
@@ -157,8 +191,16 @@ fn max_attempts(alloc: Global) -> Mem<String> {
 }
 
 fn copied_identity(alloc: Global, identity: Identity) -> Mem<String> {
-    match identity.try_clone()? {
-        Identity::Credentials(signer) => parts_of(alloc, &signer),
+    signer(alloc, &identity.try_clone()?)
+}
+
+fn identity_from(alloc: Global, words: [&str; 4]) -> Mem<String> {
+    signer(alloc, &Identity::from(credentials(alloc, words)?))
+}
+
+fn signer(alloc: Global, identity: &Identity) -> Mem<String> {
+    match identity {
+        Identity::Credentials(signer) => parts_of(alloc, signer),
         Identity::Token(token) => format!(in alloc; "token {token}"),
     }
 }

@@ -19,6 +19,8 @@ fn after(alloc: Global, buffer: &mut SegBuf, step: &str) -> Result<String, Alloc
     match step {
         "push" => push(alloc, buffer, shared(alloc, word)?),
         "left" => left(alloc, buffer),
+        "push_slice" => push_slice(alloc, buffer, shared(alloc, word)?.as_slice()),
+        "first" => first(alloc, buffer),
         "peek" => peek(alloc, buffer, size_of(word)),
         "advance" => advance(alloc, buffer, size_of(word)),
         "front" => front(alloc, buffer, size_of(word)),
@@ -37,6 +39,22 @@ pub fn push(alloc: Global, buffer: &mut SegBuf, piece: Bytes) -> Result<String, 
     buffer.reserve_one()?;
     buffer.push(piece);
     nothing(alloc)
+}
+
+// Appends a copy of a piece.
+fn push_slice(alloc: Global, buffer: &mut SegBuf, piece: &[u8]) -> Result<String, AllocError> {
+    if buffer.remaining().checked_add(piece.len()).is_none() {
+        return String::from_str(alloc, "too long");
+    }
+    buffer.push_slice(piece)?;
+    nothing(alloc)
+}
+
+fn first(alloc: Global, buffer: &SegBuf) -> Result<String, AllocError> {
+    match buffer.first() {
+        Some(segment) => digits(alloc, segment),
+        None => String::from_str(alloc, "none"),
+    }
 }
 
 pub fn left(alloc: Global, buffer: &SegBuf) -> Result<String, AllocError> {

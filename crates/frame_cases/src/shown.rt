@@ -92,6 +92,10 @@ pub fn push_answer(answers: &mut String, answer: &str) -> Result<(), AllocError>
     answers.push_str(answer)
 }
 
+pub fn truth(alloc: Global, holds: bool) -> Result<String, AllocError> {
+    format!(in alloc; "{holds}")
+}
+
 // No answer.
 pub fn nothing(alloc: Global) -> Result<String, AllocError> {
     Ok(String::new(alloc))

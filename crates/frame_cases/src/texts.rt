@@ -1,14 +1,18 @@
-use crate::shown::{digits, header, message, quoted, value};
-use crate::words::{bytes_of, header_of, headers_of, shared, text_of};
+use crate::shown::{digits, header, message, quoted, truth};
+use crate::words::{bytes_of, header_of, headers_of, message_of, shared, text_of};
 use smithy_core::{
-    AppName, Blob, Env, ErrorMetadata, Mem, Message, StrBytes, is_header_name, is_header_value,
-    is_lower_of, push_line,
+    AppName, Blob, Env, ErrorMetadata, Mem, Message, RawMessage, Region, SigningName, StrBytes,
+    is_header_name, is_header_value, is_lower_of, push_line,
 };
 use std::alloc::Global;
 
 pub fn answer(alloc: Global, call: &[&str]) -> Mem<String> {
     match call {
         ["copied_message", headers @ .., payload] => copied_message(alloc, headers, payload),
+        ["copied_decoded", headers @ .., payload] => copied_decoded(alloc, headers, payload),
+        ["copied_unread"] => copied_raw(alloc, &RawMessage::Invalid(None)),
+        ["shown_variables", sets @ ..] => shown_variables(alloc, sets),
+        ["push_lines", lines @ ..] => push_lines(alloc, lines),
         ["variable", sets @ .., name] => variable(alloc, sets, name),
         ["static_text"] => static_text(alloc),
         [call, word] => of_one(alloc, call, word),
@@ -25,8 +29,10 @@ fn of_one(alloc: Global, call: &str, word: &str) -> Mem<String> {
         "text_of_bytes" => text_of_bytes(alloc, word),
         "copied_blob" => copied_blob(alloc, word),
         "copied_header" => copied_header(alloc, word),
-        "as_string" => as_string(alloc, word),
         "app_name" => app_name(alloc, word),
+        "region" => region(alloc, word),
+        "signing_name" => signing_name(alloc, word),
+        "copied_invalid" => copied_invalid(alloc, word),
         _ => String::from_str(alloc, "no such call"),
     }
 }
@@ -55,10 +61,6 @@ fn copied_header(alloc: Global, word: &str) -> Mem<String> {
     header(alloc, &copy)
 }
 
-fn truth(alloc: Global, holds: bool) -> Mem<String> {
-    format!(in alloc; "{holds}")
-}
-
 fn copied_text(alloc: Global, text: &str) -> Mem<String> {
     let text = StrBytes::copy_from_str(alloc, text)?.try_clone()?;
     String::from_str(alloc, text.as_str())
@@ -81,17 +83,6 @@ fn copied_blob(alloc: Global, bytes: &str) -> Mem<String> {
     )
 }
 
-fn as_string(alloc: Global, word: &str) -> Mem<String> {
-    let header = header_of(alloc, word)?;
-    match header.value().as_string() {
-        Ok(text) => String::from_str(alloc, text.as_str()),
-        Err(other) => {
-            let other = value(alloc, other)?;
-            format!(in alloc; "refused {other}")
-        }
-    }
-}
-
 // A copy of a message to which the headers were added one by one.
 fn copied_message(alloc: Global, headers: &[&str], payload: &str) -> Mem<String> {
     let mut built = Message::new(alloc, shared(alloc, payload)?);
@@ -99,6 +90,29 @@ fn copied_message(alloc: Global, headers: &[&str], payload: &str) -> Mem<String>
         built = built.add_header(header)?;
     }
     message(alloc, &built.try_clone()?)
+}
+
+fn copied_decoded(alloc: Global, headers: &[&str], payload: &str) -> Mem<String> {
+    let message = message_of(alloc, headers, payload)?;
+    copied_raw(alloc, &RawMessage::Decoded(message))
+}
+
+fn copied_invalid(alloc: Global, bytes: &str) -> Mem<String> {
+    let bytes = shared(alloc, bytes)?;
+    copied_raw(alloc, &RawMessage::Invalid(Some(bytes)))
+}
+
+fn copied_raw(alloc: Global, raw: &RawMessage) -> Mem<String> {
+    match raw.try_clone()? {
+        RawMessage::Decoded(decoded) => message(alloc, &decoded),
+        RawMessage::Invalid(Some(bytes)) => invalid(alloc, bytes.as_slice()),
+        RawMessage::Invalid(None) => String::from_str(alloc, "invalid"),
+    }
+}
+
+fn invalid(alloc: Global, bytes: &[u8]) -> Mem<String> {
+    let bytes = quoted(alloc, bytes)?;
+    format!(in alloc; "invalid {bytes}")
 }
 
 fn copied_metadata(alloc: Global, code: &str, message: &str) -> Mem<String> {
@@ -124,19 +138,50 @@ fn app_name(alloc: Global, text: &str) -> Mem<String> {
     }
 }
 
+// The name and its copy.
+fn region(alloc: Global, text: &str) -> Mem<String> {
+    let region = Region::new(String::from_str(alloc, text)?);
+    let copy = region.try_clone()?;
+    format!(in alloc; "{} {}", region.as_str(), copy.as_str())
+}
+
+fn signing_name(alloc: Global, text: &str) -> Mem<String> {
+    let name = SigningName::new(String::from_str(alloc, text)?);
+    let copy = name.try_clone()?;
+    format!(in alloc; "{} {}", name.as_str(), copy.as_str())
+}
+
 // The value of a name in a copy of the variables that were set.
 fn variable(alloc: Global, sets: &[&str], name: &str) -> Mem<String> {
+    let copy = variables_of(alloc, sets)?.try_clone()?;
+    format!(in alloc; "{:?}", copy.get(name))
+}
+
+fn shown_variables(alloc: Global, sets: &[&str]) -> Mem<String> {
+    let env = variables_of(alloc, sets)?;
+    format!(in alloc; "{env:?}")
+}
+
+fn variables_of(alloc: Global, sets: &[&str]) -> Mem<Env> {
     let mut env = Env::new(alloc);
     for set in sets {
         let (key, value) = set.split_once('=').unwrap_or((set, ""));
         env.set(key, value)?;
     }
-    let copy = env.try_clone()?;
-    format!(in alloc; "{:?}", copy.get(name))
+    Ok(env)
 }
 
 fn lines(alloc: Global, front: &str, line: &str) -> Mem<String> {
     let mut buffer = bytes_of(alloc, front)?;
     push_line(&mut buffer, bytes_of(alloc, line)?.as_slice())?;
+    digits(alloc, buffer.as_slice())
+}
+
+// The lines, pushed to one buffer.
+fn push_lines(alloc: Global, lines: &[&str]) -> Mem<String> {
+    let mut buffer = Vec::new(alloc);
+    for line in lines {
+        push_line(&mut buffer, bytes_of(alloc, line)?.as_slice())?;
+    }
     digits(alloc, buffer.as_slice())
 }
