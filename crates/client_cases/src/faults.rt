@@ -1,12 +1,14 @@
 use crate::files::sections_of;
 use crate::texts::{text, unknown, visible};
+use aws_intercept::{IdFault, InvalidInvocationId, InvalidMetadataValue, UserAgentFault};
 use env_config::{
-    CouldNotReadConfigFile, EnvConfigFileLoadError, EnvConfigParseError, ParseFault, ValidateFault,
+    BuildFault, CouldNotReadConfigFile, EnvConfigFileLoadError, EnvConfigParseError, ParseFault,
+    ValidateFault,
 };
 use smithy_core::Mem;
 use std::alloc::Global;
 
-// What the faults print, each copied before.
+// What the faults print, those of files and values copied before.
 pub fn answer(alloc: Global, words: &[&str]) -> Mem<String> {
     match words {
         ["parse", files @ ..] => parse(alloc, files),
@@ -19,6 +21,12 @@ pub fn answer(alloc: Global, words: &[&str]) -> Mem<String> {
             )
         }
         ["load", "file", path] => load(alloc, unread(alloc, path)?),
+        ["file", path] => unread_file(alloc, path),
+        ["build", name] => build_fault(alloc, name),
+        ["id", name] => id_fault(alloc, name),
+        ["invocation"] => invalid_id(alloc),
+        ["agent", name] => user_agent_fault(alloc, name),
+        ["metadata"] => invalid_metadata(alloc),
         ["memory", "parse"] => text_of_parse_fault(alloc, &ParseFault::NoMemory),
         ["memory", "value"] => no_memory_for_value(alloc),
         _ => unknown(alloc),
@@ -53,19 +61,64 @@ fn error_of(alloc: Global, path: &str, line: &str, message: &str) -> Mem<EnvConf
 }
 
 fn unread(alloc: Global, path: &str) -> Mem<EnvConfigFileLoadError> {
-    let fault = CouldNotReadConfigFile {
+    Ok(EnvConfigFileLoadError::CouldNotReadFile(unread_of(alloc, path)?.try_clone()?))
+}
+
+fn unread_of(alloc: Global, path: &str) -> Mem<CouldNotReadConfigFile> {
+    Ok(CouldNotReadConfigFile {
         path: text(alloc, path)?,
-    };
-    Ok(EnvConfigFileLoadError::CouldNotReadFile(fault.try_clone()?))
+    })
+}
+
+fn unread_file(alloc: Global, path: &str) -> Mem<String> {
+    let copy = unread_of(alloc, path)?.try_clone()?;
+    format!(in alloc; "{copy}")
 }
 
 fn load(alloc: Global, fault: EnvConfigFileLoadError) -> Mem<String> {
     let copy = fault.try_clone()?;
-    format!(in alloc; "{copy}")
+    visible(alloc, format!(in alloc; "{copy}")?.as_str())
 }
 
 fn no_memory_for_value(alloc: Global) -> Mem<String> {
     let fault: ValidateFault<&str> = ValidateFault::NoMemory;
     let copy = fault.try_clone()?;
     format!(in alloc; "{copy}")
+}
+
+fn build_fault(alloc: Global, name: &str) -> Mem<String> {
+    let fault = match name {
+        "NoFiles" => BuildFault::NoFiles,
+        _ => BuildFault::NoMemory,
+    };
+    format!(in alloc; "{fault}")
+}
+
+fn id_fault(alloc: Global, name: &str) -> Mem<String> {
+    let fault = match name {
+        "UsedUp" => IdFault::UsedUp,
+        _ => IdFault::NoMemory,
+    };
+    format!(in alloc; "{fault}")
+}
+
+fn invalid_id(alloc: Global) -> Mem<String> {
+    let fault = InvalidInvocationId;
+    format!(in alloc; "{fault}")
+}
+
+fn user_agent_fault(alloc: Global, name: &str) -> Mem<String> {
+    let fault = match name {
+        "MissingApiMetadata" => UserAgentFault::MissingApiMetadata,
+        "MissingUserAgent" => UserAgentFault::MissingUserAgent,
+        "InvalidMetadataValue" => UserAgentFault::InvalidMetadataValue,
+        "InvalidHeaderValue" => UserAgentFault::InvalidHeaderValue,
+        _ => UserAgentFault::NoMemory,
+    };
+    format!(in alloc; "{fault}")
+}
+
+fn invalid_metadata(alloc: Global) -> Mem<String> {
+    let fault = InvalidMetadataValue;
+    format!(in alloc; "{fault}")
 }

@@ -27,8 +27,10 @@ pub fn answer(alloc: Global, words: &[&str]) -> Mem<String> {
             let mut generator = PredefinedInvocationIdGenerator::new(ids).try_clone()?;
             invoked(alloc, &mut generator, whole(count))
         }
+        ["copied", seed, stream] => copied_generator(alloc, whole(seed), whole(stream)),
         ["none", count] => invoked(alloc, &mut NoInvocationIdGenerator::new(), whole(count)),
         ["text", id] => copied(alloc, InvocationId::new(text(alloc, id)?)),
+        ["equal", id, other] => equal(alloc, id, other),
         _ => unknown(alloc),
     }
 }
@@ -93,5 +95,27 @@ fn equal_copy(alloc: Global, id: &InvocationId) -> Mem<String> {
         visible(alloc, copy.as_str())
     } else {
         text(alloc, "another id")
+    }
+}
+
+// The header of an invocation with the generator's first id, and those with the next id of a copy and with its own.
+fn copied_generator(alloc: Global, seed: u64, stream: u64) -> Mem<String> {
+    let mut generator = DefaultInvocationIdGenerator::new(alloc, Pcg32::new(seed, stream));
+    let first = invoked(alloc, &mut generator, 1)?;
+    let mut copy = generator.try_clone()?;
+    let copy_next = invoked(alloc, &mut copy, 1)?;
+    let next = invoked(alloc, &mut generator, 1)?;
+    format!(in alloc; "{first} | {copy_next} | {next}")
+}
+
+// Whether the ids of two texts are equal.
+fn equal(alloc: Global, id: &str, other: &str) -> Mem<String> {
+    let (id, other) = (
+        InvocationId::new(text(alloc, id)?),
+        InvocationId::new(text(alloc, other)?),
+    );
+    match (&id, &other) {
+        (Ok(id), Ok(other)) => text(alloc, if id == other { "yes" } else { "no" }),
+        _ => text(alloc, "no ids"),
     }
 }

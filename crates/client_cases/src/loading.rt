@@ -75,7 +75,8 @@ fn chosen(alloc: Global, steps: &str) -> Result<EnvConfigFiles, BuildFault> {
     }
 }
 
-fn stepped(alloc: Global, steps: &str) -> Mem<Builder> {
+// A builder after these steps, ` + ` between.
+pub fn stepped(alloc: Global, steps: &str) -> Mem<Builder> {
     let mut builder = EnvConfigFiles::builder(alloc);
     for step in steps.split(" + ") {
         builder = with_step(alloc, builder, step)?;

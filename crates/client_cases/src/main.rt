@@ -6,6 +6,7 @@
 mod agents;
 mod bags;
 mod classes;
+mod debugs;
 mod faults;
 mod files;
 mod headers;
@@ -44,6 +45,7 @@ impl Answers for Clients {
             ["values", words @ ..] => values::answer(alloc, words),
             ["files", words @ ..] => loading::answer(alloc, words),
             ["faults", words @ ..] => faults::answer(alloc, words),
+            ["debugs", words @ ..] => debugs::answer(alloc, words),
             ["metadata", words @ ..] => metadata::answer(alloc, words),
             ["metrics", words @ ..] => metrics::answer(alloc, words),
             ["agents", words @ ..] => agents::answer(alloc, words),

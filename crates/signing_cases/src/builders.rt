@@ -1,6 +1,7 @@
 use crate::parts::{has_part, part};
-use crate::requests::identity_of;
+use crate::requests::{identity_of, name_of, region_of, time_of};
 use crate::texts::unknown;
+use case_lines::number;
 use sigv4::v4::{Builder, SigningParams};
 use sigv4::{SigningParams as RequestParams, SigningSettings};
 use smithy_core::{Identity, Mem, Moment};
@@ -11,6 +12,7 @@ pub fn answer(alloc: Global, call: &str, words: &[&str]) -> Mem<String> {
     match call {
         "build" => build(alloc, words),
         "change" => change(alloc, words),
+        "whole" => whole(alloc, words),
         _ => unknown(alloc),
     }
 }
@@ -78,4 +80,25 @@ fn change(alloc: Global, parts: &[&str]) -> Mem<String> {
     text.push_str(copy.algorithm())?;
     text.push_str(format!(in alloc; " {}", copy.signature_version())?.as_str())?;
     Ok(text)
+}
+
+// The parameters of all parts: who signs, and what they show, under the settings `settings N` and then those of
+// `again N`.
+fn whole(alloc: Global, parts: &[&str]) -> Mem<String> {
+    let identity = identity_of(alloc, parts)?;
+    let (region, name, time) = (region_of(parts), name_of(parts), time_of(parts));
+    let settings = number(part(parts, "settings").unwrap_or(""));
+    let params = SigningParams::new(&identity, region, name, time, settings);
+    let who = key_id(params.identity());
+    let first = shown_params(alloc, &params)?;
+    let params = params.with_settings(number(part(parts, "again").unwrap_or("")));
+    let second = shown_params(alloc, &params)?;
+    format!(in alloc; "{who} {first}, {second}")
+}
+
+fn key_id<'a>(identity: &'a Identity) -> &'a str {
+    match identity {
+        Identity::Credentials(credentials) => credentials.access_key_id(),
+        Identity::Token(_) => "a token",
+    }
 }

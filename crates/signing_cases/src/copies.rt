@@ -1,4 +1,5 @@
 //! Copies, each compared with what it was made of by what both show.
+use crate::faults::endpoint_error_of;
 use crate::instructions::{told, told_header};
 use crate::requests::{
     identity_of, name_of, params_of, payload_of, region_of, request_of, settings_of, signable_of,
@@ -56,14 +57,7 @@ fn prefix(alloc: Global, text: &str) -> Result<String, InvalidEndpointError> {
 }
 
 fn endpoint_error(alloc: Global, text: &str) -> Mem<String> {
-    let error = match text {
-        "scheme" => InvalidEndpointError::endpoint_must_have_scheme(),
-        "uri" => InvalidEndpointError::failed_to_construct_uri(),
-        "memory" => InvalidEndpointError::NoMemory,
-        authority => {
-            InvalidEndpointError::failed_to_construct_authority(String::from_str(alloc, authority)?)
-        }
-    };
+    let error = endpoint_error_of(alloc, text)?;
     let copy = error.try_clone()?;
     compared(
         alloc,

@@ -5,6 +5,7 @@ mod builders;
 mod copies;
 mod endpoints;
 mod escapes;
+mod faults;
 mod headers;
 mod instructions;
 mod jobs;
@@ -36,6 +37,7 @@ impl Answers for Calls {
     fn answer(&self, alloc: Global, words: &[&str]) -> Mem<String> {
         match words {
             ["copy", kind, rest @ ..] => copies::answer(alloc, kind, rest),
+            ["fault", kind, name] => faults::answer(alloc, kind, name),
             [call, rest @ ..] => answer(alloc, call, rest),
             [] => texts::unknown(alloc),
         }
@@ -54,9 +56,9 @@ fn answer(alloc: Global, call: &str, words: &[&str]) -> Mem<String> {
         "path" | "stamp" | "scope" | "key" | "code" | "request_code" => {
             keys::answer(alloc, call, words)
         }
-        "canonical" | "signature" => signatures::answer(alloc, call, words),
+        "canonical" | "signature" | "s3" | "bytes" => signatures::answer(alloc, call, words),
         "instructions" | "apply" => instructions::answer(alloc, call, words),
-        "build" | "change" => builders::answer(alloc, call, words),
+        "build" | "change" | "whole" => builders::answer(alloc, call, words),
         "link" | "link_headers" | "closing" => messages::answer(alloc, call, words),
         _ => runs::answer(alloc, call, words),
     }

@@ -53,10 +53,14 @@ pub fn identity_of(alloc: Global, parts: &[&str]) -> Mem<Identity> {
     )))
 }
 
-/// The settings: `encode-once`, `keep-path`, `payload-header` and `omit-token` change the usual ones.
+/// The settings: `encode-once`, `keep-path`, `payload-header`, `omit-token` and `exclude-none` change the usual ones, and
+/// `for-s3` gives those for Amazon S3.
 pub fn settings_of(alloc: Global, parts: &[&str]) -> Mem<SigningSettings>
     ensures { IfOk result (λ settings. IsHeaderForm (settings_of settings)) }
 {
+    if has_part(parts, "for-s3") {
+        return SigningSettings::for_s3(alloc);
+    }
     let mut settings = SigningSettings::new(alloc)?;
     if has_part(parts, "encode-once") {
         settings.percent_encoding_mode = PercentEncodingMode::Single;
@@ -113,12 +117,15 @@ pub fn time_of(parts: &[&str]) -> Moment {
     moment_of(part(parts, "at").unwrap_or("1440938160"))
 }
 
-/// The request with its body as it is signed: `payload TEXT` in place of the body's bytes.
+/// The request with its body as it is signed: `as-it-stands`, or with `payload TEXT` in place of the body's bytes.
 pub fn signable_of<'a>(
     alloc: Global,
     request: &'a HttpRequest,
     parts: &[&str],
 ) -> Result<SignableRequest<'a>, SigningError> {
+    if has_part(parts, "as-it-stands") {
+        return SignableRequest::from_http_request(alloc, request);
+    }
     let body = match part(parts, "payload") {
         Some(text) => payload_of(alloc, text)?,
         None => SignableBody::Bytes(request.body.as_slice()),

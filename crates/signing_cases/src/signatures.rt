@@ -2,7 +2,10 @@ use crate::requests::{
     identity_of, name_of, params_of, region_of, request_of, settings_of, signable_of, time_of,
 };
 use crate::texts::{on_one_line, unknown};
-use sigv4::{SigningError, SigningInstructions, SigningOutput, canonical_text, sign};
+use sigv4::{
+    SignableBody, SigningError, SigningInstructions, SigningOutput, SigningSettings,
+    canonical_text, sign,
+};
 use smithy_core::{HttpRequest, Mem};
 use std::alloc::Global;
 
@@ -11,6 +14,8 @@ pub fn answer(alloc: Global, call: &str, words: &[&str]) -> Mem<String> {
     match (call, words) {
         ("canonical", [part, request, parts @ ..]) => canonical(alloc, part, request, parts),
         ("signature", [request, parts @ ..]) => signature(alloc, request, parts),
+        ("s3", parts) => s3(alloc, parts),
+        ("bytes", [text]) => bytes(alloc, text),
         _ => unknown(alloc),
     }
 }
@@ -81,4 +86,17 @@ pub fn signed(
 pub fn refusal(alloc: Global, error: &SigningError) -> Mem<String> {
     let text = format!(in alloc; "{error:?}: {error}")?;
     on_one_line(alloc, text.as_str())
+}
+
+// Whether the settings are those for Amazon S3.
+fn s3(alloc: Global, parts: &[&str]) -> Mem<String> {
+    let settings = settings_of(alloc, parts)?;
+    let s3_settings = SigningSettings::for_s3(alloc)?;
+    format!(in alloc; "equal: {}", settings == s3_settings)
+}
+
+// What a body of these bytes shows.
+fn bytes(alloc: Global, text: &str) -> Mem<String> {
+    let body = SignableBody::Bytes(text.as_bytes());
+    format!(in alloc; "{body:?}")
 }
