@@ -120,7 +120,7 @@ fn link(
     let text = string_to_sign(alloc, bytes.as_slice(), last_signature, params)?;
     let code = hmac_sha256(key, text.as_slice());
     let signature = hex::encode(alloc, code.as_slice())?;
-    let mut headers = Vec::new(alloc);
+    let mut headers = Vec::with_capacity(alloc, 2)?;
     headers.push(code_header(alloc, code.as_slice())?)?;
     headers.push(date_header(params.time()))?;
     let message = Message::new_from_parts(headers, Bytes::from_vec(bytes)?);
@@ -144,7 +144,7 @@ fn string_to_sign(
     let scope = scope_bytes(alloc, date, params.region(), params.name())?;
     let date_digest = date_digest(alloc, params.time())?;
     let digest = sha256_hex(alloc, bytes)?;
-    let mut text = Vec::new(alloc);
+    let mut text = Vec::with_capacity(alloc, 320)?;
     push_line(&mut text, b"AWS4-HMAC-SHA256-PAYLOAD")?;
     push_line(&mut text, stamp.as_slice())?;
     push_line(&mut text, scope.as_slice())?;
@@ -161,7 +161,7 @@ fn date_digest(alloc: Global, time: Moment) -> Mem<String>
     ensures { IfOk result (λ text. string_bytes text ≡ encode_lower (sha256 (spelling (date_header (floor_secs time))))) }
 {
     let headers = [date_header(time)];
-    let mut spelled = Vec::new(alloc);
+    let mut spelled = Vec::with_capacity(alloc, 15)?;
     match write_headers_to(alloc, headers.as_slice(), &mut spelled) {
         Ok(()) => sha256_hex(alloc, spelled.as_slice()),
         Err(error) => match error.kind() {

@@ -219,7 +219,7 @@ pub(crate) fn joined_names(alloc: Global, heads: &BTreeMap<String, String>) -> M
     ensures names { IfOk result (λ names. string_bytes names ≡ joined_names (map (λ entry. entry.0) (texts heads.now))) }
     ensures ordered { IfOk result (λ _. IsOrdered string_cmp heads.now) }
 {
-    let mut names = String::new(alloc);
+    let mut names = String::with_capacity(alloc, 64)?;
     let mut is_first = true;
     for (name, _) in heads.iter() {
         push_name(&mut names, is_first, name.as_str())?;

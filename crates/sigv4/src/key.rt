@@ -41,7 +41,7 @@ pub(crate) fn scope_bytes(alloc: Global, time: Moment, region: &str, name: &str)
     ensures { IfOk result (λ text. text.items ≡ scope time region.now name.now) }
 {
     let date = civil(time).unwrap().date();
-    let mut scope = Vec::new(alloc);
+    let mut scope = Vec::with_capacity(alloc, 64)?;
     scope.extend_from_slice(date.as_slice())?;
     scope.extend_from_slice(b"/")?;
     scope.extend_from_slice(region.as_bytes())?;

@@ -46,7 +46,7 @@ fn join_segments(alloc: Global, kept: &[&str], ends_open: bool) -> Mem<String>
     if kept.is_empty() {
         return String::from_str(alloc, "/");
     }
-    let mut text = String::new(alloc);
+    let mut text = String::with_capacity(alloc, 64)?;
     push_segments(&mut text, kept)?;
     text.push_str(if ends_open { "/" } else { "" })?;
     Ok(text)

@@ -54,7 +54,7 @@ fn string_to_sign(
     let stamp = civil(time).unwrap().stamp();
     let scope = scope_bytes(alloc, time, region, name)?;
     let digest = sha256_hex(alloc, canonical_text)?;
-    let mut text = Vec::new(alloc);
+    let mut text = Vec::with_capacity(alloc, 192)?;
     push_line(&mut text, b"AWS4-HMAC-SHA256")?;
     push_line(&mut text, stamp.as_slice())?;
     push_line(&mut text, scope.as_slice())?;
