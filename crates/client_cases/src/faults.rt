@@ -8,7 +8,7 @@ use env_config::{
 use smithy_core::Mem;
 use std::alloc::Global;
 
-// What the faults print, those of files and values copied before.
+// What the faults print. A fault of files or values that can be copied is copied before.
 pub fn answer(alloc: Global, words: &[&str]) -> Mem<String> {
     match words {
         ["parse", files @ ..] => parse(alloc, files),
