@@ -1,3 +1,4 @@
+use hex::FromHexError;
 use percent_encoding::percent_decode_str;
 use std::alloc::{AllocError, Global};
 use std::fmt;
@@ -30,6 +31,7 @@ pub fn shown<E: fmt::Debug + Drop>(
 pub fn bytes_of_hex(alloc: Global, word: &str) -> Result<Vec<u8>, AllocError> {
     match hex::decode(alloc, word) {
         Ok(bytes) => Ok(bytes),
+        Err(FromHexError::OutOfMemory) => Err(AllocError),
         Err(_) => Ok(Vec::new(alloc)),
     }
 }
