@@ -2,7 +2,7 @@
 use Rattle.std.proofs.Common.{◌≡◌, ℕ, ◌<◌, List, [], ◌∷◌, ◌++◌, length, drop, Option, None, Result, Ok, Err, inl, inr, ap, subst, refl, sym, ◌∙◌, append-nil, append_assoc}
 use Rattle.std.proofs.lemmas.List.{drop_at}
 use Rattle.std.proofs.Math.Seq.{drop-length}
-use Rattle.smithy_core.specs.Parts.{Parts}
+use Rattle.smithy_core.specs.Message.{Parts}
 use Rattle.seg_buf.specs.Segments.{Segments}
 use Rattle.eventstream.specs.declared.decode.DecodedFrame.{DecodedFrame}
 use Rattle.eventstream.specs.declared.decode.DecodedFrame.TheVariants.{Incomplete, Complete}

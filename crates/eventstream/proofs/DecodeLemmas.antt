@@ -4,7 +4,7 @@ use Rattle.std.specs.Prelude.{◌≢◌, ◌⊎◌}
 use Rattle.std.proofs.lemmas.Bool.{le-ltb, lt-ltb}
 use Rattle.std.proofs.lemmas.List.{take_at, take-append-drop, length-append}
 use Rattle.std.proofs.Math.Seq.{take-append-add, drop-append-add}
-use Rattle.smithy_core.specs.Parts.{Parts}
+use Rattle.smithy_core.specs.Message.{Parts}
 use Rattle.seg_buf.specs.Segments.{Segments}
 use Rattle.eventstream.specs.declared.decode.DecodedFrame.{DecodedFrame}
 use Rattle.eventstream.specs.declared.error.ErrorKind.{ErrorKind}

@@ -4,8 +4,8 @@ use Rattle.std.specs.Prelude.{if◌then◌else◌, IfSome}
 use Rattle.std.specs.Int.{w64, saturate_signed}
 use Rattle.std.specs.Option.{option_or}
 use Rattle.std.specs.Ordering.{int_eq}
-use Rattle.smithy_core.specs.Instant.{floor_ms}
-use Rattle.smithy_core.specs.Parts.{Parts}
+use Rattle.smithy_core.specs.Moment.{floor_ms}
+use Rattle.smithy_core.specs.Message.{Parts}
 use Rattle.smithy_core.specs.declared.header.Header.{Header}
 use Rattle.smithy_core.specs.declared.header.HeaderValue.{HeaderValue}
 use Rattle.smithy_core.specs.declared.header.HeaderValue.TheVariants.{ByteArray, String as Text, Timestamp}

@@ -1,6 +1,6 @@
 ghost use Rattle.std.specs.Prelude.{◌≡◌, IfOk, option_copied, option_map};
 ghost use Rattle.std.specs.String.{string_bytes};
-ghost use Rattle.smithy_core.specs.Signers.{IsSameCredentials, IsSameIdentity};
+ghost use Rattle.smithy_core.specs.Identity.{IsSameCredentials, IsSameIdentity};
 
 use crate::memory::Mem;
 use crate::moment::Moment;

@@ -16,7 +16,7 @@ pub struct Message {
 }
 
 impl Model for Message {
-    ghost use Rattle.smithy_core.specs.Parts.{Parts};
+    ghost use Rattle.smithy_core.specs.Message.{Parts};
 
     ghost Value = { Parts };
 

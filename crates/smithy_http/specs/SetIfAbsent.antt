@@ -1,6 +1,6 @@
 -- What setting a header promises, where headers are pairs of a name in lower case and a value.
 use Rattle.std.specs.Prelude.{◌≡◌, ℕ, List, [], ◌∷◌, ◌++◌, Result, Ok, Err, IsNone, MatchOption}
-use Rattle.smithy_core.specs.Pairs.{first_value, lower}
+use Rattle.smithy_core.specs.TextPairs.{first_value, lower}
 use Rattle.smithy_core.specs.HeaderGrammar.{IsHeaderName, IsHeaderValue}
 use Rattle.smithy_http.specs.declared.set_header.HeaderFault.{HeaderFault}
 use Rattle.smithy_http.specs.declared.set_header.HeaderFault.TheVariants.{InvalidHeaderName, InvalidHeaderValue, NoMemory}

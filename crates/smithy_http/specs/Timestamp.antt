@@ -2,7 +2,7 @@
 use Rattle.std.specs.Prelude.{◌≡◌, Result, Ok, Err, String, string_bytes}
 use Rattle.std.specs.declared.alloc.Global.{Global}
 use Rattle.smithy_core.specs.Format.{Formats, HasText, formatted}
-use Rattle.smithy_core.specs.Instant.{Instant}
+use Rattle.smithy_core.specs.Moment.{Instant}
 use Rattle.smithy_core.specs.declared.format.Format.{Format}
 use Rattle.smithy_core.specs.declared.format.FormatFault.{FormatFault}
 use Rattle.smithy_http.specs.Escape.{base_set, escaped}

@@ -1,10 +1,10 @@
 ghost use Rattle.std.specs.Prelude.{◌≡◌, ℕ, ◌≤◌, List, Option, Some, None, Result, IfOk, IsErrOf, option_map, option_copied};
 ghost use Rattle.std.specs.Option.{option_or};
-ghost use Rattle.smithy_core.specs.Disks.{AnswersAsListed, FindsFile};
+ghost use Rattle.smithy_core.specs.Disk.{AnswersAsListed, FindsFile};
 ghost use Rattle.smithy_core.specs.Files.{file_pair, file_pairs};
-ghost use Rattle.smithy_core.specs.Memory.{no_calls};
-ghost use Rattle.smithy_core.specs.Outside.{HasFile, LacksFile, Rose};
-ghost use Rattle.smithy_core.specs.Pairs.{last_value, value_if};
+ghost use Rattle.smithy_core.specs.Calls.{no_calls};
+ghost use Rattle.smithy_core.specs.Outside.{HasFile, LacksFile, RoseOrStands};
+ghost use Rattle.smithy_core.specs.TextPairs.{last_value, value_if};
 
 use crate::memory::Mem;
 use crate::outside::calls::Calls;
@@ -64,7 +64,7 @@ pub trait Disk {
     /// a failure leaves the count.
     fn read(&mut self, path: &str) -> Result<Vec<u8>, DiskError>
         ensures count { faults self.old ≤ faults self.new }
-        ensures cause { IsErrOf result DiskError.Failed → Rose (faults self.old) (faults self.new) }
+        ensures cause { IsErrOf result DiskError.Failed → RoseOrStands (faults self.old) (faults self.new) }
         ensures steady { (IsErrOf result DiskError.Failed → ⊥) → faults self.new ≡ faults self.old }
         ensures same { files self.new ≡ files self.old }
         ensures bytes { IfOk result (λ bytes. HasFile (files self.old) path.now bytes.items) }
@@ -135,7 +135,7 @@ pub struct FaultyDisk {
 
 impl Model for FaultyDisk {
     ghost use Rattle.smithy_core.specs.Files.{file_pairs};
-    ghost use Rattle.smithy_core.specs.Memory.{DiskState};
+    ghost use Rattle.smithy_core.specs.Calls.{DiskState};
 
     ghost Value = { DiskState };
 

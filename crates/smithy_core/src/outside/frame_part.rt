@@ -60,7 +60,7 @@ impl Polled {
 
 impl From<FramePart> for Polled {
     ghost use Rattle.std.specs.Prelude.{◌≡◌};
-    ghost use Rattle.smithy_core.specs.Frames.{answer_of};
+    ghost use Rattle.smithy_core.specs.FrameSource.{answer_of};
 
     ghost from_gives = { λ frame answer. answer ≡ answer_of frame };
 

@@ -1,8 +1,8 @@
 -- What contracts say of a read of a disk in memory.
 use Rattle.std.specs.Prelude.{◌≡◌, ℕ, List, Some, None, Result, Ok, Err}
 use Rattle.std.specs.Global.{Vec}
-use Rattle.smithy_core.specs.Memory.{DiskState, FailsAsListed}
-use Rattle.smithy_core.specs.Pairs.{last_value}
+use Rattle.smithy_core.specs.Calls.{DiskState, FailsAsListed}
+use Rattle.smithy_core.specs.TextPairs.{last_value}
 use Rattle.smithy_core.specs.declared.outside.disk.DiskError.{DiskError}
 use Rattle.smithy_core.specs.declared.outside.disk.DiskError.TheVariants.{NotFound, Failed, NoMemory}
 

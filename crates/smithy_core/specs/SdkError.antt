@@ -12,10 +12,10 @@ sdk_error_text (ServiceError source raw) = codes "service error"
 sdk_error_text NoMemory = codes "no memory"
 
 -- the same error, of copies of what it holds
-abbrev pub IsErrorCopy : {E F R : Type 0} → (E → E → Type 0) → (F → F → Type 0) → (R → R → Type 0) → SdkError E F R → SdkError E F R → Type 0
-IsErrorCopy e f r (ConstructionFailure fault) (ConstructionFailure copy) = f fault copy
-IsErrorCopy e f r DispatchFailure DispatchFailure = Unit {0}
-IsErrorCopy e f r (ResponseError source raw) (ResponseError source_copy raw_copy) = f source source_copy × r raw raw_copy
-IsErrorCopy e f r (ServiceError source raw) (ServiceError source_copy raw_copy) = e source source_copy × r raw raw_copy
-IsErrorCopy e f r NoMemory NoMemory = Unit {0}
-IsErrorCopy e f r _ _ = ⊥
+abbrev pub IsSdkErrorCopy : {E F R : Type 0} → (E → E → Type 0) → (F → F → Type 0) → (R → R → Type 0) → SdkError E F R → SdkError E F R → Type 0
+IsSdkErrorCopy e f r (ConstructionFailure fault) (ConstructionFailure copy) = f fault copy
+IsSdkErrorCopy e f r DispatchFailure DispatchFailure = Unit {0}
+IsSdkErrorCopy e f r (ResponseError source raw) (ResponseError source_copy raw_copy) = f source source_copy × r raw raw_copy
+IsSdkErrorCopy e f r (ServiceError source raw) (ServiceError source_copy raw_copy) = e source source_copy × r raw raw_copy
+IsSdkErrorCopy e f r NoMemory NoMemory = Unit {0}
+IsSdkErrorCopy e f r _ _ = ⊥
