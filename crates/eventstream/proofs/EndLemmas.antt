@@ -6,7 +6,7 @@ use Rattle.eventstream.specs.declared.decode.StreamEnd.TheVariants.{Clean, Lefto
 use Rattle.eventstream.specs.declared.error.ErrorKind.{ErrorKind}
 use Rattle.eventstream.specs.Read.{read}
 use Rattle.eventstream.specs.Reading.{nothing, leftover, announced, as_first, first_of}
-use Rattle.eventstream.specs.Decoding.{end_of, least_len}
+use Rattle.eventstream.specs.Decode.{end_of, least_len}
 use Rattle.eventstream.proofs.FrontLemmas.{first_bad, first_more, first_whole, short_is}
 
 least_short : (bytes : List ℕ) → length bytes < 12 → least_len bytes ≡ 12

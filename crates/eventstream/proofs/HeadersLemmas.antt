@@ -6,7 +6,7 @@ use Rattle.eventstream.specs.declared.error.ErrorKind.{ErrorKind}
 use Rattle.eventstream.specs.declared.error.Error.{Error}
 use Rattle.eventstream.specs.Read.{header_within, headers_within}
 use Rattle.eventstream.specs.Reads.{Fails}
-use Rattle.eventstream.specs.Then.{◌>>=◌}
+use Rattle.eventstream.specs.Bind.{◌>>=◌}
 
 -- headers before those that are read
 abbrev pub before : List Header → Result (List Header) ErrorKind → Result (List Header) ErrorKind

@@ -60,8 +60,8 @@ first_unspelled [] = None
 first_unspelled (h ∷ hs) = option_or (unspelled h) (first_unspelled hs)
 
 -- the lengths of a frame and of its header block
-abbrev pub prelude_of : ℕ → ℕ → List ℕ
-prelude_of total headers = be32 total ++ be32 headers
+abbrev pub frame_lengths : ℕ → ℕ → List ℕ
+frame_lengths total headers = be32 total ++ be32 headers
 
 -- bytes, and then their checksum
 abbrev pub summed : List ℕ → List ℕ
@@ -73,16 +73,16 @@ frame_len m = 16 + length (block m.headers) + length m.payload
 
 -- the frame of a message: the lengths and their checksum, the header block, the payload, and the checksum of all before it
 unfoldable pub frame : Parts → List ℕ
-frame m = summed (summed (prelude_of (frame_len m) (length (block m.headers))) ++ block m.headers ++ m.payload)
+frame m = summed (summed (frame_lengths (frame_len m) (length (block m.headers))) ++ block m.headers ++ m.payload)
 
 -- the fault, where the number passes 32 bits
 abbrev pub over : ℕ → ErrorKind → Option ErrorKind
 over n fault = if nat_lt 4294967295 n then Some fault else None
 
 -- why a header block and a payload of these lengths have no frame
-abbrev pub unfit : ℕ → ℕ → Option ErrorKind
-unfit headers payload = option_or (over headers HeadersTooLong) (option_or (over payload PayloadTooLong) (over (16 + headers + payload) MessageTooLong))
+abbrev pub unfit_lengths : ℕ → ℕ → Option ErrorKind
+unfit_lengths headers payload = option_or (over headers HeadersTooLong) (option_or (over payload PayloadTooLong) (over (16 + headers + payload) MessageTooLong))
 
 -- why a message has no frame: for its headers one by one, and then for the lengths
 unfoldable pub unframed : Parts → Option ErrorKind
-unframed m = option_or (first_unspelled m.headers) (unfit (length (block m.headers)) (length m.payload))
+unframed m = option_or (first_unspelled m.headers) (unfit_lengths (length (block m.headers)) (length m.payload))

@@ -1,5 +1,6 @@
-pub mod Decoding
-pub mod Errors
+pub mod Bind
+pub mod Decode
+pub mod Error
 pub mod Expect
 pub mod Frame
 pub mod Key
@@ -11,5 +12,4 @@ pub mod Reads
 pub mod ResponseHeaders
 pub mod SizeHint
 pub mod Texts
-pub mod Then
-pub mod Writing
+pub mod Write

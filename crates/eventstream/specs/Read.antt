@@ -8,7 +8,7 @@ use Rattle.smithy_core.specs.Message.{Parts}
 use Rattle.smithy_core.specs.declared.header.Header.{Header}
 use Rattle.smithy_core.specs.declared.header.HeaderValue.{HeaderValue}
 use Rattle.smithy_core.specs.declared.header.HeaderValue.TheVariants.{Bool as Truth, Byte, Int16, Int32, Int64, ByteArray, String as Text, Timestamp, Uuid}
-use Rattle.eventstream.specs.Then.{◌>>=◌}
+use Rattle.eventstream.specs.Bind.{◌>>=◌}
 use Rattle.eventstream.specs.declared.read.lengths.Lengths.{Lengths}
 use Rattle.eventstream.specs.declared.error.ErrorKind.{ErrorKind}
 use Rattle.eventstream.specs.declared.error.ErrorKind.TheVariants.{InvalidHeaderNameLength, InvalidHeaderValue, InvalidHeaderValueType, InvalidHeadersLength, InvalidMessageLength, InvalidUtf8String, MessageChecksumMismatch, PreludeChecksumMismatch}
@@ -45,8 +45,8 @@ array_of bytes = do
   Ok (ByteArray array.0, array.1)
 
 -- a UTF-8 text, and the bytes after it
-unfoldable pub text_of : List ℕ → Result (HeaderValue × List ℕ) ErrorKind
-text_of bytes = do
+unfoldable pub text_value_of : List ℕ → Result (HeaderValue × List ℕ) ErrorKind
+text_value_of bytes = do
   text ← counted_of bytes
   if is_utf8 text.0 then Ok (Text text.0, text.1) else Err InvalidUtf8String
 
@@ -60,7 +60,7 @@ value_of kind bytes =
     else if kind == 4 then number_of w32 (λ n. Int32 (cast_signed w32 n)) bytes
     else if kind == 5 then number_of w64 (λ n. Int64 (cast_signed w64 n)) bytes
     else if kind == 6 then array_of bytes
-    else if kind == 7 then text_of bytes
+    else if kind == 7 then text_value_of bytes
     else if kind == 8 then number_of w64 (λ n. Timestamp (at_ms (cast_signed w64 n))) bytes
     else if kind == 9 then number_of w128 (λ n. Uuid n) bytes
     else Err (InvalidHeaderValueType kind)
@@ -68,8 +68,8 @@ value_of kind bytes =
 -- ## Headers
 
 -- a UTF-8 name behind its length, and the bytes after it, of which there is one at least
-unfoldable pub name_of : List ℕ → Result (List ℕ × List ℕ) ErrorKind
-name_of bytes =
+unfoldable pub header_name_of : List ℕ → Result (List ℕ × List ℕ) ErrorKind
+header_name_of bytes =
     let n = slice_index bytes 0 in
     if nat_lt (length bytes) 2 then Err InvalidHeadersLength
     else if nat_le (length bytes - 1) n then Err InvalidHeaderNameLength
@@ -79,7 +79,7 @@ name_of bytes =
 -- a header, and the bytes after it: its name, the kind of its value and the value
 unfoldable pub header_of : List ℕ → Result (Header × List ℕ) ErrorKind
 header_of bytes = do
-  name ← name_of bytes
+  name ← header_name_of bytes
   value ← value_of (slice_index name.1 0) (drop 1 name.1)
   Ok (record { name = name.0; value = value.0 }, value.1)
 
@@ -119,8 +119,8 @@ lengths_of there prelude =
     else Ok (record { total = total; headers = headers })
 
 -- the payload behind these headers, where the closing checksum is that of all bytes before it
-unfoldable pub message_of : Lengths → List ℕ → List ℕ → List Header → Result Parts ErrorKind
-message_of lengths prelude rest headers =
+unfoldable pub checked_message : Lengths → List ℕ → List ℕ → List Header → Result Parts ErrorKind
+checked_message lengths prelude rest headers =
     let computed = remainder (prelude ++ take (lengths.total - 16) rest) in
     let carried = u32_at (lengths.total - 16) rest in
     if computed == carried then Ok (record { headers = headers; payload = take (lengths.total - 16 - lengths.headers) (drop lengths.headers rest) })
@@ -131,7 +131,7 @@ unfoldable pub read_after : List ℕ → List ℕ → Result (Parts × ℕ) Erro
 read_after prelude rest = do
   lengths ← lengths_of (12 + length rest) prelude
   headers ← headers_of lengths.headers rest
-  message ← message_of lengths prelude rest headers
+  message ← checked_message lengths prelude rest headers
   Ok (message, lengths.total)
 
 -- the message that the bytes begin with, and the length of its frame

@@ -1,5 +1,5 @@
 ghost use Rattle.std.specs.Prelude.{◌≡◌, ℕ, List, ◌+◌, ◌-◌, ◌≤◌, ◌<◌, ◌++◌, length, drop, None, Some, IfOk};
-ghost use Rattle.eventstream.specs.Decoding.{Decodes, Finishes, Steps, added, end_of, joined, least_len};
+ghost use Rattle.eventstream.specs.Decode.{DecodesAll, Finishes, DecodesFrame, appended_messages, end_of, undecoded_bytes, least_len};
 ghost use Rattle.eventstream.specs.Reading.{announced, first_of};
 
 use crate::error::{Error, ErrorKind};
@@ -92,7 +92,7 @@ impl MessageFrameDecoder {
         alloc: Global,
         buffer: &mut SegBuf,
     ) -> Result<DecodedFrame, Error>
-        ensures step { Steps self.old buffer.old self.new buffer.new result }
+        ensures step { DecodesFrame self.old buffer.old self.new buffer.new result }
         ensures spare { buffer.old.spare ≤ buffer.new.spare }
     {
         match self.prelude {
@@ -125,8 +125,8 @@ impl MessageFrameDecoder {
         buffer: &mut SegBuf,
         messages: &mut Vec<Message>,
     ) -> Result<(), Error>
-        ensures appended { messages.new.items ≡ messages.old.items ++ added messages.old.items messages.new.items }
-        ensures decoded { Decodes (added messages.old.items messages.new.items) self.old buffer.old self.new buffer.new result }
+        ensures appended { messages.new.items ≡ messages.old.items ++ appended_messages messages.old.items messages.new.items }
+        ensures decoded { DecodesAll (appended_messages messages.old.items messages.new.items) self.old buffer.old self.new buffer.new result }
         ensures spare { buffer.old.spare ≤ buffer.new.spare }
     {
         loop {
@@ -141,7 +141,7 @@ impl MessageFrameDecoder {
 
     /// How the stream ends, where no byte follows those of the buffer.
     pub fn end(&self, buffer: &SegBuf) -> StreamEnd
-        ensures { result ≡ end_of (first_of (joined self.now buffer.now.bytes)) }
+        ensures { result ≡ end_of (first_of (undecoded_bytes self.now buffer.now.bytes)) }
     {
         let left = buffer.remaining();
         match self.prelude {
@@ -159,7 +159,7 @@ impl MessageFrameDecoder {
         buffer: &mut SegBuf,
     ) -> Result<DecodedFrame, Error>
         requires { self.old ≡ Some prelude }
-        ensures step { Steps self.old buffer.old self.new buffer.new result }
+        ensures step { DecodesFrame self.old buffer.old self.new buffer.new result }
         ensures spare { buffer.old.spare ≤ buffer.new.spare }
     {
         let total = announced(&prelude);
@@ -178,7 +178,7 @@ impl MessageFrameDecoder {
     // Takes a frame that is there whole, or else its prelude.
     fn decode_whole(&mut self, alloc: Global, buffer: &mut SegBuf) -> Result<DecodedFrame, Error>
         requires { self.old ≡ None }
-        ensures step { Steps self.old buffer.old self.new buffer.new result }
+        ensures step { DecodesFrame self.old buffer.old self.new buffer.new result }
         ensures spare { buffer.old.spare ≤ buffer.new.spare }
     {
         if buffer.remaining() < PRELUDE {

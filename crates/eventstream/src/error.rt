@@ -1,5 +1,5 @@
 ghost use Rattle.std.specs.Prelude.{◌≡◌, IfOk};
-ghost use Rattle.eventstream.specs.Errors.{IsSameKind, is_invalid_message};
+ghost use Rattle.eventstream.specs.Error.{IsSameKind, is_invalid_message};
 ghost use Rattle.eventstream.specs.declared.error.ErrorKind.TheVariants.{Marshalling, NoMemory, Unmarshalling};
 
 use smithy_core::{DateTime, Mem};
@@ -133,9 +133,9 @@ impl Error {
 
 impl fmt::Display for Error {
     ghost use Rattle.std.specs.Prelude.{Some};
-    ghost use Rattle.eventstream.specs.Errors.{text_of};
+    ghost use Rattle.eventstream.specs.Error.{error_kind_text};
 
-    ghost output = { λ error. Some (text_of error.kind) };
+    ghost output = { λ error. Some (error_kind_text error.kind) };
 
     fn fmt<W: fmt::Write>(&self, f: &mut fmt::Formatter<W>) -> fmt::Result {
         match &self.kind {

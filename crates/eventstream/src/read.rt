@@ -1,6 +1,6 @@
 ghost use Rattle.std.specs.Prelude.{◌≡◌, ℕ, ◌+◌, ◌-◌, ◌≤◌, ◌<◌, ◌^◌, ◌++◌, length, take, drop, OnOk};
 ghost use Rattle.mac_core.specs.Crc.{remainder};
-ghost use Rattle.eventstream.specs.Read.{headers_of, lengths_of, message_of, read, read_after, u32_at};
+ghost use Rattle.eventstream.specs.Read.{headers_of, lengths_of, checked_message, read, read_after, u32_at};
 ghost use Rattle.eventstream.specs.Reading.{announced};
 ghost use Rattle.eventstream.specs.Reads.{Gives, GivesMessage, Reads};
 
@@ -66,7 +66,7 @@ pub fn announced(prelude: &[u8; PRELUDE]) -> usize
 }
 
 // The message of these headers and the payload behind them, where the closing checksum is right.
-#[tactic(auto, unfolding(crate::specs::Read::message_of))]
+#[tactic(auto, unfolding(crate::specs::Read::checked_message))]
 fn read_message(
     lengths: Lengths,
     prelude: [u8; PRELUDE],
@@ -74,7 +74,7 @@ fn read_message(
     headers: Vec<Header>,
 ) -> Result<Message, Error>
     requires { (16 ≤ lengths.total) × (lengths.total ≤ 12 + length rest.now) × (lengths.headers + 16 ≤ lengths.total) }
-    ensures { Gives (message_of lengths prelude rest.now headers.items) result }
+    ensures { Gives (checked_message lengths prelude rest.now headers.items) result }
 {
     let end = lengths.total - 16;
     let computed = checksum_of(prelude.as_slice(), &rest.as_slice()[..end]);

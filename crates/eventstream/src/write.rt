@@ -2,8 +2,8 @@ ghost use Rattle.std.specs.Prelude.{◌≡◌, ℕ, ◌+◌, ◌≤◌, ◌<◌,
 ghost use Rattle.std.specs.Int.{w16, to_be_bytes};
 ghost use Rattle.std.specs.Vec.{vec_capacity, vec_len};
 ghost use Rattle.mac_core.specs.Crc.{remainder};
-ghost use Rattle.eventstream.specs.Frame.{be32, block, first_unspelled, frame, prelude_of, spelling, summed, unfit, unframed, unspelled, unspelled_value, value_spelling};
-ghost use Rattle.eventstream.specs.Writing.{Writes};
+ghost use Rattle.eventstream.specs.Frame.{be32, block, first_unspelled, frame, frame_lengths, spelling, summed, unfit_lengths, unframed, unspelled, unspelled_value, value_spelling};
+ghost use Rattle.eventstream.specs.Write.{Writes};
 
 use crate::error::{Error, ErrorKind};
 use mac_core::crc32;
@@ -133,8 +133,8 @@ fn test_len(len: usize) -> Result<(), ErrorKind>
 
 fn test_lengths(headers: usize, payload: usize) -> Result<(), ErrorKind>
     ensures { MatchResult result
-        (λ _. (16 + headers + payload ≤ 4294967295) × (unfit headers payload ≡ None))
-        (λ kind. unfit headers payload ≡ Some kind) }
+        (λ _. (16 + headers + payload ≤ 4294967295) × (unfit_lengths headers payload ≡ None))
+        (λ kind. unfit_lengths headers payload ≡ Some kind) }
 {
     if headers > MOST_FRAME {
         return Err(ErrorKind::HeadersTooLong);
@@ -211,7 +211,7 @@ fn push_counted(buffer: &mut Vec<u8>, tag: u8, bytes: &[u8]) -> Mem<()>
 fn push_frame(buffer: &mut Vec<u8>, headers: &[u8], payload: &[u8])
     requires fits { 16 + length headers.now + length payload.now < 2 ^ 32 }
     requires room { vec_len buffer.old + (16 + length headers.now + length payload.now) ≤ vec_capacity buffer.old }
-    ensures { buffer.new.items ≡ buffer.old.items ++ summed (summed (prelude_of
+    ensures { buffer.new.items ≡ buffer.old.items ++ summed (summed (frame_lengths
         (16 + length headers.now + length payload.now) (length headers.now)) ++ headers.now ++ payload.now) }
 {
     let start = buffer.len();
@@ -224,7 +224,7 @@ fn push_frame(buffer: &mut Vec<u8>, headers: &[u8], payload: &[u8])
 
 fn push_prelude(buffer: &mut Vec<u8>, total: u32, headers: u32)
     requires room { vec_len buffer.old + 12 ≤ vec_capacity buffer.old }
-    ensures items { buffer.new.items ≡ buffer.old.items ++ summed (prelude_of total headers) }
+    ensures items { buffer.new.items ≡ buffer.old.items ++ summed (frame_lengths total headers) }
     ensures len { vec_len buffer.new ≡ vec_len buffer.old + 12 }
     ensures capacity { vec_capacity buffer.old ≤ vec_capacity buffer.new }
 {

@@ -6,7 +6,7 @@ ghost use Rattle.smithy_core.specs.Outside.{RoseOrStands};
 ghost use Rattle.smithy_core.specs.Text.{line};
 ghost use Rattle.eventstream.specs.Frame.{frame, unframed};
 ghost use Rattle.eventstream.specs.Link.{link_message, link_signature};
-ghost use Rattle.eventstream.specs.Writing.{IsFrameFault};
+ghost use Rattle.eventstream.specs.Write.{IsFrameFault};
 ghost use Rattle.sigv4.specs.Params.{signer_of};
 ghost use Rattle.sigv4.specs.Signing.{unsignable};
 ghost use Rattle.signed_stream.specs.Refusal.{fault_at, fault_of, first_refusal, unlinked};

@@ -13,7 +13,7 @@ use Rattle.http_uri.specs.declared.uri.Uri.{Uri}
 use Rattle.smithy_http.specs.Escape.{base_set, escaped}
 use Rattle.smithy_http.proofs.FitLemmas.{base_harmless, query_of_harmless}
 use Rattle.smithy_http.specs.Query.{pair}
-use Rattle.smithy_http.specs.Building.{before_pair, escaped_pair, with_pair, with_pairs}
+use Rattle.smithy_http.specs.QueryWriter.{before_pair, escaped_pair, with_pair, with_pairs}
 use Rattle.smithy_http.specs.Target.{Target, target_of, target_text, IsAuthorityAlone}
 use Rattle.http_uri.proofs.RunLemmas.{AllPass-at, index_of_at_least, index_of_is, run-append}
 use Rattle.http_uri.proofs.SchemeLemmas.{scheme_byte_plain}

@@ -1,13 +1,13 @@
 pub mod Applying
-pub mod Building
 pub mod Endpoint
 pub mod Escape
 pub mod Label
 pub mod Merge
 pub mod MergeFault
 pub mod Query
-pub mod Resolving
-pub mod SetIfAbsent
+pub mod QueryWriter
+pub mod ResolveError
+pub mod SetHeader
 pub mod Target
 pub mod Texts
 pub mod Timestamp

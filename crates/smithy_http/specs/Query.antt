@@ -20,19 +20,19 @@ abbrev pub query_of : List (List ℕ) → List ℕ
 query_of [] = []
 query_of (piece ∷ pieces) = codes "?" ++ join_with_byte ampersand (piece ∷ pieces)
 
--- a text to which a query is written, and whether that has a piece yet
+-- a text to which a query is written_query, and whether that has a piece yet
 pub record Written : Type 0 where
   pub text : List ℕ
   pub has_piece : Bool
 
 -- before the first piece
-abbrev pub begun : List ℕ → Written
-begun text = record { text = text; has_piece = false }
+abbrev pub before_pieces : List ℕ → Written
+before_pieces text = record { text = text; has_piece = false }
 
 -- one more piece: after `?` where it is the first, and after `&` where it isn't
 abbrev pub with_piece : Written → List ℕ → Written
 with_piece w piece = record { text = w.text ++ ((if w.has_piece then codes "&" else codes "?") ++ piece); has_piece = true }
 
--- what a writer has written
-abbrev pub written : Writer → Written
-written w = record { text = string_bytes w.out.now; has_piece = w.has_piece }
+-- what a writer has written_query
+abbrev pub written_query : Writer → Written
+written_query w = record { text = string_bytes w.out.now; has_piece = w.has_piece }

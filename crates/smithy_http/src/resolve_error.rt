@@ -1,5 +1,5 @@
 ghost use Rattle.std.specs.Prelude.{◌≡◌, Some, None, IfOk, option_copied};
-ghost use Rattle.smithy_http.specs.Resolving.{IsSameError};
+ghost use Rattle.smithy_http.specs.ResolveError.{IsSameResolveError};
 
 use smithy_core::{ErrorMetadata, Mem};
 use std::fmt;
@@ -48,7 +48,7 @@ impl ResolveEndpointError {
 
     /// An error with the same message and source.
     pub fn try_clone(&self) -> Mem<ResolveEndpointError>
-        ensures { IfOk result (IsSameError self.now) }
+        ensures { IfOk result (IsSameResolveError self.now) }
     {
         let source = match &self.source {
             Some(source) => Some(source.try_clone()?),

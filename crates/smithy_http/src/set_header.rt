@@ -1,5 +1,5 @@
 ghost use Rattle.std.specs.Prelude.{◌≡◌};
-ghost use Rattle.smithy_http.specs.SetIfAbsent.{SetsIfAbsent};
+ghost use Rattle.smithy_http.specs.SetHeader.{SetsIfAbsent};
 ghost use Rattle.smithy_http.specs.declared.set_header.HeaderFault.TheVariants.{NoMemory};
 
 use smithy_core::{Headers, HttpRequest, HttpResponse, is_header_name, is_header_value};

@@ -2,7 +2,7 @@ ghost use Rattle.std.specs.Prelude.{◌≡◌, ◌<◌, length, OnOk};
 ghost use Rattle.std.specs.Int.{byte_len, w8, w16, w32, w64, w128, cast_signed};
 ghost use Rattle.smithy_core.specs.Moment.{at_ms};
 ghost use Rattle.smithy_core.specs.declared.header.HeaderValue.TheVariants.{Byte, Int16, Int32, Int64, Timestamp, Uuid};
-ghost use Rattle.eventstream.specs.Read.{array_of, big_endian, counted_of, front_of, header_of, name_of, number_of, text_of, value_of};
+ghost use Rattle.eventstream.specs.Read.{array_of, big_endian, counted_of, front_of, header_of, header_name_of, number_of, text_value_of, value_of};
 ghost use Rattle.eventstream.specs.Reads.{GivesFront};
 
 use crate::error::{Error, ErrorKind};
@@ -23,9 +23,9 @@ pub fn take_header(rest: &mut Bytes) -> Result<Header, Error>
 }
 
 // A name behind its length, with one byte at least after it.
-#[tactic(auto, unfolding(crate::specs::Read::name_of))]
+#[tactic(auto, unfolding(crate::specs::Read::header_name_of))]
 fn take_name(rest: &mut Bytes) -> Result<StrBytes, Error>
-    ensures name { GivesFront name_of rest.old rest.new result }
+    ensures name { GivesFront header_name_of rest.old rest.new result }
     ensures more { OnOk result ((0 < length rest.new) × (length rest.new < length rest.old)) }
 {
     if rest.len() < 2 {
@@ -120,9 +120,9 @@ fn take_array(rest: &mut Bytes) -> Result<HeaderValue, Error>
 }
 
 // A UTF-8 text.
-#[tactic(auto, unfolding(crate::specs::Read::text_of))]
+#[tactic(auto, unfolding(crate::specs::Read::text_value_of))]
 fn take_text(rest: &mut Bytes) -> Result<HeaderValue, Error>
-    ensures { GivesFront text_of rest.old rest.new result }
+    ensures { GivesFront text_value_of rest.old rest.new result }
 {
     match StrBytes::try_from_bytes(take_counted(rest)?) {
         Ok(text) => Ok(HeaderValue::String(text)),

@@ -15,6 +15,6 @@ IsSameSource (Some source) (Some copy) = IsSameMetadata source copy
 IsSameSource _ _ = ⊥
 
 -- the message and the source are the same
-pub record IsSameError (error copy : ResolveEndpointError) : Type 0 where
+pub record IsSameResolveError (error copy : ResolveEndpointError) : Type 0 where
   pub message : string_bytes copy.message ≡ string_bytes error.message
   pub source : IsSameSource error.source copy.source
