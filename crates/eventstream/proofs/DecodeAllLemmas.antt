@@ -23,7 +23,7 @@ takes_some : (messages : List Parts) (message : Parts) (kept : Option (List ℕ)
 takes_some [] message kept old prelude new none is = (none, is)
 takes_some (first ∷ messages) message kept old prelude new none is = (none, is)
 
--- what was appended_messages is known from the end
+-- the messages that were appended are known from the end
 pub added_is : (old more : List Parts) → appended_messages old (old ++ more) ≡ more
 added_is old more = drop_at old more (length old) refl
 

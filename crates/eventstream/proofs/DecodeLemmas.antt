@@ -10,9 +10,8 @@ use Rattle.eventstream.specs.declared.decode.DecodedFrame.{DecodedFrame}
 use Rattle.eventstream.specs.declared.error.ErrorKind.{ErrorKind}
 use Rattle.eventstream.specs.declared.error.ErrorKind.TheVariants.{InvalidMessageLength, NoMemory}
 use Rattle.eventstream.specs.declared.error.Error.{Error}
-use Rattle.eventstream.specs.Read.{read, read_after}
-use Rattle.eventstream.specs.Reading.{fault, begins, announced, as_first, first_of}
-use Rattle.eventstream.specs.Reads.{Fails, GivesMessage, Reads}
+use Rattle.eventstream.specs.Read.{read, read_after, announced, Fails, GivesMessage, TakesMessage}
+use Rattle.eventstream.specs.Reading.{fault, begins, as_first, first_of}
 use Rattle.eventstream.specs.Decode.{Finishes, KeepsBytes, IsUnfinished, LeavesFault, DecodesFrame, undecoded_bytes}
 use Rattle.eventstream.proofs.FrontLemmas.{announced_joined, first_bad, first_more, first_whole, read_joined}
 
@@ -65,13 +64,13 @@ steps_frame kept old prelude new len n (Err e) result high whole left is done = 
 pub steps_whole : (kept : Option (List ℕ)) (old : Segments) (prelude : Option (List ℕ)) (new : Segments) (len : ℕ) (frame rest : List ℕ)
     (answer : Result Parts Error) (result : Result DecodedFrame Error)
     → kept ≡ None → 12 ≤ announced old.bytes → announced old.bytes ≤ length old.bytes → len ≡ announced old.bytes
-    → frame ≡ take len old.bytes → Reads (read frame) frame rest answer
+    → frame ≡ take len old.bytes → TakesMessage (read frame) frame rest answer
     → Finishes len answer kept old prelude new result → DecodesFrame kept old prelude new result
 steps_whole kept old prelude new len frame rest answer result none high whole is front reads done =
     rw none (steps_frame None old prelude new len (announced frame) answer result high whole (rw is refl)
     (rw (← is, ← front) (message_read frame rest answer reads)) (rw (← none) done))
   where
-    message_read : (frame rest : List ℕ) (answer : Result Parts Error) → Reads (read frame) frame rest answer → GivesMessage (read frame) (announced frame) answer
+    message_read : (frame rest : List ℕ) (answer : Result Parts Error) → TakesMessage (read frame) frame rest answer → GivesMessage (read frame) (announced frame) answer
     message_read frame rest (Ok message) reads = reads.0
     message_read frame rest (Err e) reads = reads.0
 

@@ -4,8 +4,8 @@ use Rattle.std.proofs.lemmas.Bool.{cases_lt, le-ltb, lt-ltb, eq-eqb, ne_eqb}
 use Rattle.smithy_core.specs.Message.{Parts}
 use Rattle.eventstream.specs.declared.decode.StreamEnd.TheVariants.{Clean, Leftover, Undecoded}
 use Rattle.eventstream.specs.declared.error.ErrorKind.{ErrorKind}
-use Rattle.eventstream.specs.Read.{read}
-use Rattle.eventstream.specs.Reading.{nothing, leftover, announced, as_first, first_of}
+use Rattle.eventstream.specs.Read.{read, announced}
+use Rattle.eventstream.specs.Reading.{nothing, leftover, as_first, first_of}
 use Rattle.eventstream.specs.Decode.{end_of, least_len}
 use Rattle.eventstream.proofs.FrontLemmas.{first_bad, first_more, first_whole, short_is}
 

@@ -4,8 +4,8 @@ use Rattle.std.specs.Int.{w32}
 use Rattle.std.proofs.lemmas.Bool.{le-ltb, lt-ltb, ne_eqb}
 use Rattle.std.proofs.lemmas.List.{take_at, drop_at, length-append}
 use Rattle.eventstream.specs.declared.error.ErrorKind.TheVariants.{InvalidMessageLength}
-use Rattle.eventstream.specs.Read.{big_endian, read, read_after}
-use Rattle.eventstream.specs.Reading.{First, nothing, leftover, fault, announced, as_first, first_of}
+use Rattle.eventstream.specs.Read.{big_endian, read, read_after, announced}
+use Rattle.eventstream.specs.Reading.{First, nothing, leftover, fault, as_first, first_of}
 use Rattle.eventstream.specs.Decode.{IsUnfinished}
 
 first_four : (bytes : List ℕ) → take 4 (take 12 bytes) ≡ take 4 bytes

@@ -4,8 +4,7 @@ use Rattle.std.proofs.lemmas.List.{length-append}
 use Rattle.smithy_core.specs.declared.header.Header.{Header}
 use Rattle.eventstream.specs.declared.error.ErrorKind.{ErrorKind}
 use Rattle.eventstream.specs.declared.error.Error.{Error}
-use Rattle.eventstream.specs.Read.{header_within, headers_within}
-use Rattle.eventstream.specs.Reads.{Fails}
+use Rattle.eventstream.specs.Read.{header_within, headers_within, Fails}
 use Rattle.eventstream.specs.Bind.{◌>>=◌}
 
 -- headers before those that are read

@@ -10,8 +10,8 @@ use Rattle.eventstream.specs.declared.error.ErrorKind.{ErrorKind}
 use Rattle.eventstream.specs.declared.error.ErrorKind.TheVariants.{InvalidMessageLength}
 use Rattle.eventstream.specs.Frame.{frame, unframed}
 use Rattle.eventstream.specs.Laws.{IsProper, floored_message}
-use Rattle.eventstream.specs.Read.{big_endian, read}
-use Rattle.eventstream.specs.Reading.{First, nothing, leftover, fault, begins, announced, as_first, first_of, Begin, Read, onto, read_on, reading, reading_within}
+use Rattle.eventstream.specs.Read.{big_endian, read, announced}
+use Rattle.eventstream.specs.Reading.{First, nothing, leftover, fault, begins, as_first, first_of, Begin, Read, onto, read_on, reading, reading_within}
 use Rattle.eventstream.specs.Decode.{IsUnfinished}
 use Rattle.eventstream.proofs.FrameLemmas.{frame_again, length-frame, u32-frame}
 use Rattle.eventstream.proofs.FrontLemmas.{IsTold, first_more, short_is, told, told_is}

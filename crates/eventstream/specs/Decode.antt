@@ -8,7 +8,8 @@ use Rattle.eventstream.specs.declared.decode.StreamEnd.{StreamEnd}
 use Rattle.eventstream.specs.declared.decode.StreamEnd.TheVariants.{Clean, Leftover, Undecoded}
 use Rattle.eventstream.specs.declared.error.ErrorKind.TheVariants.{NoMemory}
 use Rattle.eventstream.specs.declared.error.Error.{Error}
-use Rattle.eventstream.specs.Reading.{First, nothing, leftover, fault, begins, announced, first_of, Begin}
+use Rattle.eventstream.specs.Read.{announced}
+use Rattle.eventstream.specs.Reading.{First, nothing, leftover, fault, begins, first_of, Begin}
 
 -- the prelude that is kept, and then the bytes of the buffer
 abbrev pub undecoded_bytes : Option (List ℕ) → List ℕ → List ℕ

@@ -8,7 +8,6 @@ pub mod Laws
 pub mod Link
 pub mod Read
 pub mod Reading
-pub mod Reads
 pub mod ResponseHeaders
 pub mod SizeHint
 pub mod Texts

@@ -21,6 +21,10 @@ big_endian w bytes = from_be_bytes w bytes
 abbrev pub u32_at : ℕ → List ℕ → ℕ
 u32_at place bytes = big_endian w32 (take 4 (drop place bytes))
 
+-- the length that the first four bytes announce
+abbrev pub announced : List ℕ → ℕ
+announced bytes = u32_at 0 bytes
+
 -- ## Values
 
 -- so many bytes of a value, and the bytes after them
@@ -137,3 +141,34 @@ read_after prelude rest = do
 -- the message that the bytes begin with, and the length of its frame
 unfoldable pub read : List ℕ → Result (Parts × ℕ) ErrorKind
 read bytes = if nat_lt (length bytes) 12 then Err InvalidMessageLength else read_after (take 12 bytes) (drop 12 bytes)
+
+-- ## What the readers promise
+
+-- the fault is told, or want of memory
+abbrev pub Fails : {A : Type 0} → Result A ErrorKind → Error → Type 0
+Fails read e = (read ≡ Err e.kind) ⊎ (e.kind ≡ NoMemory)
+
+-- what was read is the answer
+abbrev pub GivesRead : {A : Type 0} → Result A ErrorKind → Result A Error → Type 0
+GivesRead read (Ok x) = read ≡ Ok x
+GivesRead read (Err e) = Fails read e
+
+-- what was read is the answer, and the bytes after it are left
+abbrev pub GivesFront : {A : Type 0} → (List ℕ → Result (A × List ℕ) ErrorKind) → List ℕ → List ℕ → Result A Error → Type 0
+GivesFront of old new (Ok x) = (of old ≡ Ok (x, new)) × (length new ≤ length old)
+GivesFront of old new (Err e) = Fails (of old) e
+
+-- the headers that were read are the answer
+abbrev pub GivesHeaders : Result (List Header) ErrorKind → Result (Vec Header) Error → Type 0
+GivesHeaders read (Ok headers) = read ≡ Ok headers.items
+GivesHeaders read (Err e) = Fails read e
+
+-- the message of a frame of this length is the answer
+abbrev pub GivesMessage : Result (Parts × ℕ) ErrorKind → ℕ → Result Parts Error → Type 0
+GivesMessage read len (Ok message) = read ≡ Ok (message, len)
+GivesMessage read len (Err e) = Fails read e
+
+-- the message is the answer, and its frame is taken; with a fault nothing is
+abbrev pub TakesMessage : Result (Parts × ℕ) ErrorKind → List ℕ → List ℕ → Result Parts Error → Type 0
+TakesMessage read old new (Ok message) = (read ≡ Ok (message, announced old)) × (new ≡ drop (announced old) old)
+TakesMessage read old new (Err e) = Fails read e × (new ≡ old)

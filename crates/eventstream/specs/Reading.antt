@@ -3,7 +3,7 @@ use Rattle.std.specs.Prelude.{◌≡◌, ℕ, zero, suc, ◌==◌, nat_lt, if◌
 use Rattle.smithy_core.specs.Message.{Parts}
 use Rattle.eventstream.specs.declared.error.ErrorKind.{ErrorKind}
 use Rattle.eventstream.specs.declared.error.ErrorKind.TheVariants.{InvalidMessageLength}
-use Rattle.eventstream.specs.Read.{read, u32_at}
+use Rattle.eventstream.specs.Read.{announced, read}
 
 -- what a stream begins with
 pub data First : Type 0 where
@@ -13,10 +13,6 @@ pub data First : Type 0 where
   fault : ErrorKind → First
   -- a message, and the bytes after its frame
   begins : Parts → List ℕ → First
-
--- the length that the first four bytes announce
-abbrev pub announced : List ℕ → ℕ
-announced bytes = u32_at 0 bytes
 
 -- the bytes begin with what was read, or with a fault
 abbrev pub as_first : List ℕ → Result (Parts × ℕ) ErrorKind → First

@@ -1,6 +1,7 @@
 ghost use Rattle.std.specs.Prelude.{◌≡◌, ℕ, List, ◌+◌, ◌-◌, ◌≤◌, ◌<◌, ◌++◌, length, drop, None, Some, IfOk};
 ghost use Rattle.eventstream.specs.Decode.{DecodesAll, Finishes, DecodesFrame, appended_messages, end_of, undecoded_bytes, least_len};
-ghost use Rattle.eventstream.specs.Reading.{announced, first_of};
+ghost use Rattle.eventstream.specs.Read.{announced};
+ghost use Rattle.eventstream.specs.Reading.{first_of};
 
 use crate::error::{Error, ErrorKind};
 use crate::read::{PRELUDE, announced, read_after, read_message_from};

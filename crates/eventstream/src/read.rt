@@ -1,8 +1,6 @@
 ghost use Rattle.std.specs.Prelude.{◌≡◌, ℕ, ◌+◌, ◌-◌, ◌≤◌, ◌<◌, ◌^◌, ◌++◌, length, take, drop, OnOk};
 ghost use Rattle.mac_core.specs.Crc.{remainder};
-ghost use Rattle.eventstream.specs.Read.{headers_of, lengths_of, checked_message, read, read_after, u32_at};
-ghost use Rattle.eventstream.specs.Reading.{announced};
-ghost use Rattle.eventstream.specs.Reads.{Gives, GivesMessage, Reads};
+ghost use Rattle.eventstream.specs.Read.{headers_of, lengths_of, checked_message, read, read_after, u32_at, announced, GivesRead, GivesMessage, TakesMessage};
 
 mod header;
 mod headers;
@@ -30,7 +28,7 @@ pub const PRELUDE: usize = 12;
 /// there; [`ErrorKind::MessageChecksumMismatch`]. A refused call takes nothing.
 #[tactic(auto, using(crate::proofs::FrontLemmas::announced_prelude), unfolding(crate::specs::Read::read))]
 pub fn read_message_from(alloc: Global, buffer: &mut Bytes) -> Result<Message, Error>
-    ensures { Reads (read buffer.old) buffer.old buffer.new result }
+    ensures { TakesMessage (read buffer.old) buffer.old buffer.new result }
 {
     let Some((prelude, _)) = buffer.as_slice().split_first_chunk::<PRELUDE>() else {
         return Err(Error::from(ErrorKind::InvalidMessageLength));
@@ -74,7 +72,7 @@ fn read_message(
     headers: Vec<Header>,
 ) -> Result<Message, Error>
     requires { (16 ≤ lengths.total) × (lengths.total ≤ 12 + length rest.now) × (lengths.headers + 16 ≤ lengths.total) }
-    ensures { Gives (checked_message lengths prelude rest.now headers.items) result }
+    ensures { GivesRead (checked_message lengths prelude rest.now headers.items) result }
 {
     let end = lengths.total - 16;
     let computed = checksum_of(prelude.as_slice(), &rest.as_slice()[..end]);

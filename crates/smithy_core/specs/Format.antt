@@ -77,3 +77,8 @@ abbrev pub Formats : Format → Instant → Result (String Global) FormatFault �
 Formats format t (Ok text) = HasText format t × (string_bytes text ≡ formatted format t)
 Formats format t (Err OutOfRange) = HasText format t → ⊥
 Formats format t (Err NoMemory) = Unit {0}
+
+-- what a fault of a format prints
+abbrev pub format_fault_text : FormatFault → List ℕ
+format_fault_text OutOfRange = codes "the moment lies outside the years 0 to 9999"
+format_fault_text NoMemory = codes "no memory"

@@ -4,8 +4,6 @@ pub mod CivilText
 pub mod Clock
 pub mod Disk
 pub mod Document
-pub mod Faults
-pub mod Files
 pub mod Format
 pub mod FrameSource
 pub mod HeaderGrammar
@@ -14,6 +12,9 @@ pub mod Identity
 pub mod Message
 pub mod Moment
 pub mod Outside
+pub mod ReadAll
 pub mod SdkError
+pub mod Sink
+pub mod Source
 pub mod Text
 pub mod TextPairs

@@ -37,7 +37,7 @@ pub enum FormatFault {
 
 impl fmt::Display for FormatFault {
     ghost use Rattle.std.specs.Prelude.{Some};
-    ghost use Rattle.smithy_core.specs.Faults.{format_fault_text};
+    ghost use Rattle.smithy_core.specs.Format.{format_fault_text};
 
     ghost output = { λ fault. Some (format_fault_text fault) };
 

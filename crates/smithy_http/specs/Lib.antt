@@ -1,14 +1,12 @@
-pub mod Applying
 pub mod Endpoint
+pub mod EndpointError
+pub mod EndpointPrefix
 pub mod Escape
 pub mod Label
 pub mod Merge
-pub mod MergeFault
 pub mod Query
 pub mod QueryWriter
 pub mod ResolveError
 pub mod SetHeader
 pub mod Target
-pub mod Texts
-pub mod Timestamp
 pub mod UriFault

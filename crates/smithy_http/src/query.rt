@@ -2,9 +2,8 @@
 ghost use Rattle.std.specs.Prelude.{◌≡◌, ◌++◌, true, codes, if◌then◌else◌, IfOk, OnOk, OnErr};
 ghost use Rattle.std.specs.String.{string_bytes};
 ghost use Rattle.percent_encoding.specs.Percent.{percent_decode};
-ghost use Rattle.smithy_http.specs.Escape.{base_set, escaped};
+ghost use Rattle.smithy_http.specs.Escape.{base_set, escaped, FormatsEscaped};
 ghost use Rattle.smithy_http.specs.Query.{before_pieces, pair, with_piece, written_query};
-ghost use Rattle.smithy_http.specs.Timestamp.{FormatsEscaped};
 
 use crate::escape::{BASE_SET, escape};
 use crate::piece::{marked, marked_pair};

@@ -19,7 +19,7 @@ pub enum HeaderFault {
 
 impl fmt::Display for HeaderFault {
     ghost use Rattle.std.specs.Prelude.{Some};
-    ghost use Rattle.smithy_http.specs.Texts.{header_fault_text};
+    ghost use Rattle.smithy_http.specs.SetHeader.{header_fault_text};
 
     ghost output = { λ fault. Some (header_fault_text fault) };
 

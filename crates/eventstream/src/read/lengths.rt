@@ -1,7 +1,6 @@
 ghost use Rattle.std.specs.Prelude.{◌≡◌, ℕ, ◌+◌, ◌≤◌, length, IfOk};
 ghost use Rattle.std.specs.Int.{w32};
-ghost use Rattle.eventstream.specs.Read.{big_endian, lengths_of, u32_at};
-ghost use Rattle.eventstream.specs.Reading.{announced};
+ghost use Rattle.eventstream.specs.Read.{big_endian, lengths_of, u32_at, announced};
 
 use crate::error::ErrorKind;
 use mac_core::crc32;

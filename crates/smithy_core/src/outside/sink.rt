@@ -1,5 +1,6 @@
 ghost use Rattle.std.specs.Prelude.{◌≡◌, ℕ, ◌<◌, ◌≤◌, List, [], Option, Some, length, IfOk, IfErr, OnErr, IsErrOf, ◌++◌};
-ghost use Rattle.smithy_core.specs.Calls.{FailsAsListed, TakesWhole, no_calls};
+ghost use Rattle.smithy_core.specs.Calls.{FailsAsListed, no_calls};
+ghost use Rattle.smithy_core.specs.Sink.{TakesWhole};
 ghost use Rattle.smithy_core.specs.Outside.{GainsFront, RoseOrStands};
 
 use crate::memory::Mem;
@@ -20,7 +21,7 @@ pub enum SinkError {
 
 impl fmt::Display for SinkError {
     ghost use Rattle.std.specs.Prelude.{Some};
-    ghost use Rattle.smithy_core.specs.Faults.{sink_error_text};
+    ghost use Rattle.smithy_core.specs.Sink.{sink_error_text};
 
     ghost output = { λ fault. Some (sink_error_text fault) };
 
@@ -70,7 +71,7 @@ pub struct FaultySink {
 }
 
 impl Model for FaultySink {
-    ghost use Rattle.smithy_core.specs.Calls.{SinkState};
+    ghost use Rattle.smithy_core.specs.Sink.{SinkState};
 
     ghost Value = { SinkState };
 

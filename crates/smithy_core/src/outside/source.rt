@@ -63,7 +63,7 @@ pub struct FaultySource {
 
 impl Model for FaultySource {
     ghost use Rattle.std.specs.Prelude.{◌≤◌, drop, length};
-    ghost use Rattle.smithy_core.specs.Calls.{SourceState};
+    ghost use Rattle.smithy_core.specs.Source.{SourceState};
 
     ghost Value = { SourceState };
 

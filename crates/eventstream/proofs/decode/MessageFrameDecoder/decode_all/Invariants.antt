@@ -2,7 +2,7 @@ use Rattle.std.proofs.Common.{◌≡◌, ◌≤◌, ◌++◌, length}
 use Rattle.eventstream.specs.Decode.{Takes, appended_messages, undecoded_bytes}
 use Rattle.eventstream.proofs.decode.MessageFrameDecoder.decode_all.Given as goal
 
--- the messages that were appended_messages were taken, and nothing else
+-- the messages that were appended were taken, and nothing else
 abbrev pub invariant-loop-self : goal.invariant-loop-self
 invariant-loop-self l = record {
   after : l.messages.items ≡ l.fn.messages.items ++ appended_messages l.fn.messages.items l.messages.items;

@@ -1,5 +1,5 @@
 use Rattle.std.proofs.Common.{◌≤◌, ◌<◌, ◌-◌, length, inl, arith}
-use Rattle.eventstream.specs.Reading.{announced}
+use Rattle.eventstream.specs.Read.{announced}
 use Rattle.eventstream.proofs.DecodeLemmas.{kept_bad, kept_unfinished, steps_rest}
 use Rattle.eventstream.proofs.decode.MessageFrameDecoder.decode_rest.Goals as goal
 
