@@ -1,3 +1,4 @@
+pub mod Blob
 pub mod Calls
 pub mod Civil
 pub mod CivilText
@@ -5,13 +6,17 @@ pub mod Clock
 pub mod Disk
 pub mod Document
 pub mod Format
+pub mod FramePart
 pub mod FrameSource
+pub mod Header
 pub mod HeaderGrammar
 pub mod HeaderValue
+pub mod Host
 pub mod Identity
 pub mod Message
 pub mod Moment
 pub mod Outside
+pub mod RawMessage
 pub mod ReadAll
 pub mod SdkError
 pub mod Sink

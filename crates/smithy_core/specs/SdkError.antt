@@ -11,7 +11,7 @@ sdk_error_text (ResponseError source raw) = codes "response error"
 sdk_error_text (ServiceError source raw) = codes "service error"
 sdk_error_text NoMemory = codes "no memory"
 
--- the same error, of copies of what it holds
+-- an error of the kind of another one, which holds copies of what that holds
 abbrev pub IsSdkErrorCopy : {E F R : Type 0} → (E → E → Type 0) → (F → F → Type 0) → (R → R → Type 0) → SdkError E F R → SdkError E F R → Type 0
 IsSdkErrorCopy e f r (ConstructionFailure fault) (ConstructionFailure copy) = f fault copy
 IsSdkErrorCopy e f r DispatchFailure DispatchFailure = Unit {0}

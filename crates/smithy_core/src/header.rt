@@ -1,5 +1,6 @@
 ghost use Rattle.std.specs.Prelude.{◌≡◌, IfOk, MatchResult, Some, None};
-ghost use Rattle.smithy_core.specs.HeaderValue.{bool_of, byte_of, byte_array_of, instant_of, int16_of, int32_of, int64_of, string_of, uuid_bits_of};
+ghost use Rattle.smithy_core.specs.Header.{header_with, name_of_header, value_of_header};
+ghost use Rattle.smithy_core.specs.HeaderValue.{bool_of, byte_array_of, byte_of, instant_of, int16_of, int32_of, int64_of, string_of, uuid_bits_of};
 
 use crate::memory::Mem;
 use crate::moment::DateTime;
@@ -8,6 +9,9 @@ use bytes::Bytes;
 use std::fmt;
 
 /// The value of a [`Header`]: one of the nine kinds of the event stream encoding.
+///
+/// [`Debug`](std::fmt::Debug) prints the value, its bytes or its text too, as the Rust's type does: a header tells what a
+/// message is. That of a [`Message`](crate::Message) prints none.
 #[derive(Debug, Drop)]
 pub enum HeaderValue {
     /// True or false.
@@ -211,7 +215,8 @@ impl fmt::Display for HeaderValue {
     }
 }
 
-/// A header of a [`Message`](crate::Message): a name and a value.
+/// A header of a [`Message`](crate::Message): a name and a value. [`Debug`](std::fmt::Debug) prints both, as the Rust's type
+/// does.
 #[derive(Debug, Drop)]
 pub struct Header {
     name: StrBytes,
@@ -221,21 +226,21 @@ pub struct Header {
 impl Header {
     /// The header of this name and value.
     pub fn new(name: StrBytes, value: HeaderValue) -> Header
-        ensures { result ≡ record { name = name; value = value } }
+        ensures { result ≡ header_with name value }
     {
         Header { name, value }
     }
 
     /// Its name.
     pub fn name(&self) -> &StrBytes
-        ensures { result.now ≡ self.now.name }
+        ensures { result.now ≡ name_of_header self.now }
     {
         &self.name
     }
 
     /// Its value.
     pub fn value(&self) -> &HeaderValue
-        ensures { result.now ≡ self.now.value }
+        ensures { result.now ≡ value_of_header self.now }
     {
         &self.value
     }
