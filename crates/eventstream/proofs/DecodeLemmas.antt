@@ -60,7 +60,7 @@ steps_frame kept old prelude new len n (Err e) result high whole left is done = 
     by_end (inl is) (inr gone) = inl (fails_first (undecoded_bytes kept old.bytes) e.kind high whole is, inr (high, gone.1, gone.2 ∙ left))
     by_end (inr full) (inr gone) = absurd (gone.0 full)
 
--- the same, where no prelude was kept
+-- a whole frame is decoded, where no prelude was kept
 pub steps_whole : (kept : Option (List ℕ)) (old : Segments) (prelude : Option (List ℕ)) (new : Segments) (len : ℕ) (frame rest : List ℕ)
     (answer : Result Parts Error) (result : Result DecodedFrame Error)
     → kept ≡ None → 12 ≤ announced old.bytes → announced old.bytes ≤ length old.bytes → len ≡ announced old.bytes
@@ -97,7 +97,7 @@ kept_unfinished prelude rest twelve high more =
     let whole = announces prelude rest twelve in
     (more_unfinished (prelude ++ rest) (omega (arith, whole.1)) (omega (arith, whole.0, whole.1)), keeps_kept prelude rest twelve)
 
--- the same as `steps_whole`, where a prelude was kept
+-- the rest of a frame is decoded, where its prelude was kept
 pub steps_rest : (kept : Option (List ℕ)) (taken : List ℕ) (old : Segments) (prelude : Option (List ℕ)) (new : Segments) (len : ℕ) (rest : List ℕ)
     (answer : Result Parts Error) (result : Result DecodedFrame Error)
     → kept ≡ Some taken → length taken ≡ 12 → 12 ≤ announced taken → len ≡ announced taken - 12 → len ≤ length old.bytes

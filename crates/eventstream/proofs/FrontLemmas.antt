@@ -19,7 +19,7 @@ first_four (a ∷ b ∷ c ∷ d ∷ bytes) = refl
 pub announced_prelude : (bytes : List ℕ) → announced (take 12 bytes) ≡ announced bytes
 announced_prelude bytes = ap (big_endian w32) (first_four bytes)
 
--- the same, with the bytes after it
+-- the prelude announces the length of the frame, whatever follows it
 pub announced_joined : (prelude rest : List ℕ) → length prelude ≡ 12 → announced (prelude ++ rest) ≡ announced prelude
 announced_joined prelude rest twelve =
     sym (announced_prelude (prelude ++ rest)) ∙ ap announced (take_at prelude rest 12 twelve)

@@ -1,7 +1,7 @@
 -- What a decoder of frames promises: one step of the reading on its prelude and its buffer, undecoded_bytes.
 use Rattle.std.specs.Prelude.{◌≡◌, ◌≢◌, ℕ, ◌<◌, ◌≤◌, nat_lt, if◌then◌else◌, ◌⊎◌, List, [], ◌∷◌, ◌++◌, length, take, drop, Option, Some, None, Result, Ok, Err}
 use Rattle.smithy_core.specs.Message.{Parts}
-use Rattle.seg_buf.specs.Segments.{Segments}
+use Rattle.seg_buf.specs.Segments.{Segments, prelude_len}
 use Rattle.eventstream.specs.declared.decode.DecodedFrame.{DecodedFrame}
 use Rattle.eventstream.specs.declared.decode.DecodedFrame.TheVariants.{Incomplete, Complete}
 use Rattle.eventstream.specs.declared.decode.StreamEnd.{StreamEnd}
@@ -18,7 +18,7 @@ undecoded_bytes (Some prelude) buffer = prelude ++ buffer
 
 -- the prelude of these bytes, once it is there
 abbrev pub prelude_of : List ℕ → Option (List ℕ)
-prelude_of bytes = if nat_lt (length bytes) 12 then None else Some (take 12 bytes)
+prelude_of bytes = if nat_lt (length bytes) prelude_len then None else Some (take prelude_len bytes)
 
 -- no byte is lost, and the prelude is taken once it is there
 abbrev pub KeepsBytes : List ℕ → Option (List ℕ) → List ℕ → Type 0
@@ -33,8 +33,8 @@ IsUnfinished first = ⊥
 -- after a fault the frame is gone, and its prelude forgotten; a prelude that announces less than its own bytes stays
 abbrev pub LeavesFault : List ℕ → Option (List ℕ) → List ℕ → Type 0
 LeavesFault bytes prelude buffer =
-    ((announced bytes < 12) × KeepsBytes bytes prelude buffer)
-    ⊎ ((12 ≤ announced bytes) × (prelude ≡ None) × (buffer ≡ drop (announced bytes) bytes))
+    ((announced bytes < prelude_len) × KeepsBytes bytes prelude buffer)
+    ⊎ ((prelude_len ≤ announced bytes) × (prelude ≡ None) × (buffer ≡ drop (announced bytes) bytes))
 
 -- so many bytes are taken, unless memory ran out
 abbrev pub Finishes : ℕ → Result Parts Error → Option (List ℕ) → Segments → Option (List ℕ) → Segments → Result DecodedFrame Error → Type 0
@@ -79,4 +79,4 @@ end_of first = Undecoded
 
 -- how many bytes the frame at the front has at least: what it announces, and a prelude before that is there
 abbrev pub least_len : List ℕ → ℕ
-least_len bytes = if nat_lt (length bytes) 12 then 12 else announced bytes
+least_len bytes = if nat_lt (length bytes) prelude_len then prelude_len else announced bytes

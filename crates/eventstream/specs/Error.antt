@@ -1,8 +1,13 @@
 -- The kinds of errors.
 use Rattle.std.specs.Prelude.{◌≡◌, ℕ, Bool, true, false, List, ◌++◌, codes, string_bytes}
 use Rattle.std.specs.Fmt.{decimal, digits, signed_decimal}
+use Rattle.eventstream.specs.declared.error.Error.{Error}
 use Rattle.eventstream.specs.declared.error.ErrorKind.{ErrorKind}
 use Rattle.eventstream.specs.declared.error.ErrorKind.TheVariants.{HeadersTooLong, HeaderValueTooLong, InvalidHeaderNameLength, InvalidHeaderValue, InvalidHeaderValueType, InvalidHeadersLength, InvalidMessageLength, InvalidUtf8String, MessageChecksumMismatch, MessageTooLong, PayloadTooLong, PreludeChecksumMismatch, TimestampValueTooLarge, Marshalling, Unmarshalling, NoMemory}
+
+-- the kind of an error
+abbrev pub error_kind : Error → ErrorKind
+error_kind error = error.kind
 
 -- the message itself is at fault
 abbrev pub is_invalid_message : ErrorKind → Bool

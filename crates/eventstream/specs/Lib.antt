@@ -4,6 +4,7 @@ pub mod Error
 pub mod Expect
 pub mod Frame
 pub mod Key
+pub mod Kind
 pub mod Laws
 pub mod Link
 pub mod Read

@@ -1,5 +1,6 @@
 -- The event stream encoding: what bytes are read as. The first fault in this order decides.
-use Rattle.std.specs.Prelude.{ℕ, zero, suc, ◌+◌, ◌-◌, ◌==◌, nat_lt, nat_le, not, true, false, if◌then◌else◌, List, [], ◌∷◌, ◌++◌, length, take, drop, slice_index, Result, Ok, Err}
+use Rattle.std.specs.Prelude.{◌≡◌, ◌⊎◌, ◌≤◌, ℕ, zero, suc, ◌+◌, ◌-◌, ◌==◌, nat_lt, nat_le, not, true, false, if◌then◌else◌, List, [], ◌∷◌, ◌++◌, length, take, drop, slice_index, Result, Ok, Err}
+use Rattle.std.specs.Global.{Vec}
 use Rattle.std.specs.Int.{Width, w8, w16, w32, w64, w128, byte_len, from_be_bytes, cast_signed}
 use Rattle.std.specs.Str.{is_utf8}
 use Rattle.mac_core.specs.Crc.{remainder}
@@ -9,9 +10,13 @@ use Rattle.smithy_core.specs.declared.header.Header.{Header}
 use Rattle.smithy_core.specs.declared.header.HeaderValue.{HeaderValue}
 use Rattle.smithy_core.specs.declared.header.HeaderValue.TheVariants.{Bool as Truth, Byte, Int16, Int32, Int64, ByteArray, String as Text, Timestamp, Uuid}
 use Rattle.eventstream.specs.Bind.{◌>>=◌}
+use Rattle.seg_buf.specs.Segments.{prelude_len}
+use Rattle.eventstream.specs.Frame.{least_frame}
+use Rattle.eventstream.specs.Kind.{true_kind, false_kind, byte_kind, int16_kind, int32_kind, int64_kind, byte_array_kind, string_kind, timestamp_kind, uuid_kind}
 use Rattle.eventstream.specs.declared.read.lengths.Lengths.{Lengths}
+use Rattle.eventstream.specs.declared.error.Error.{Error}
 use Rattle.eventstream.specs.declared.error.ErrorKind.{ErrorKind}
-use Rattle.eventstream.specs.declared.error.ErrorKind.TheVariants.{InvalidHeaderNameLength, InvalidHeaderValue, InvalidHeaderValueType, InvalidHeadersLength, InvalidMessageLength, InvalidUtf8String, MessageChecksumMismatch, PreludeChecksumMismatch}
+use Rattle.eventstream.specs.declared.error.ErrorKind.TheVariants.{InvalidHeaderNameLength, InvalidHeaderValue, InvalidHeaderValueType, InvalidHeadersLength, InvalidMessageLength, InvalidUtf8String, MessageChecksumMismatch, NoMemory, PreludeChecksumMismatch}
 
 -- the number of this width that bytes spell, the highest first
 unfoldable pub big_endian : Width → List ℕ → ℕ
@@ -57,16 +62,16 @@ text_value_of bytes = do
 -- the value of a kind, and the bytes after it
 unfoldable pub value_of : ℕ → List ℕ → Result (HeaderValue × List ℕ) ErrorKind
 value_of kind bytes =
-    if kind == 0 then Ok (Truth true, bytes)
-    else if kind == 1 then Ok (Truth false, bytes)
-    else if kind == 2 then number_of w8 (λ n. Byte (cast_signed w8 n)) bytes
-    else if kind == 3 then number_of w16 (λ n. Int16 (cast_signed w16 n)) bytes
-    else if kind == 4 then number_of w32 (λ n. Int32 (cast_signed w32 n)) bytes
-    else if kind == 5 then number_of w64 (λ n. Int64 (cast_signed w64 n)) bytes
-    else if kind == 6 then array_of bytes
-    else if kind == 7 then text_value_of bytes
-    else if kind == 8 then number_of w64 (λ n. Timestamp (at_ms (cast_signed w64 n))) bytes
-    else if kind == 9 then number_of w128 (λ n. Uuid n) bytes
+    if kind == true_kind then Ok (Truth true, bytes)
+    else if kind == false_kind then Ok (Truth false, bytes)
+    else if kind == byte_kind then number_of w8 (λ n. Byte (cast_signed w8 n)) bytes
+    else if kind == int16_kind then number_of w16 (λ n. Int16 (cast_signed w16 n)) bytes
+    else if kind == int32_kind then number_of w32 (λ n. Int32 (cast_signed w32 n)) bytes
+    else if kind == int64_kind then number_of w64 (λ n. Int64 (cast_signed w64 n)) bytes
+    else if kind == byte_array_kind then array_of bytes
+    else if kind == string_kind then text_value_of bytes
+    else if kind == timestamp_kind then number_of w64 (λ n. Timestamp (at_ms (cast_signed w64 n))) bytes
+    else if kind == uuid_kind then number_of w128 (λ n. Uuid n) bytes
     else Err (InvalidHeaderValueType kind)
 
 -- ## Headers
@@ -108,7 +113,7 @@ headers_of left bytes = headers_within left left bytes
 
 -- ## Frames
 
--- the lengths that the twelve bytes of a prelude tell, where so many bytes are there
+-- the lengths that the bytes of a prelude tell, where so many bytes are there
 unfoldable pub lengths_of : ℕ → List ℕ → Result Lengths ErrorKind
 lengths_of there prelude =
     let total = u32_at 0 prelude in
@@ -118,29 +123,29 @@ lengths_of there prelude =
     if nat_lt there total then Err InvalidMessageLength
     else if not (computed == carried) then Err (PreludeChecksumMismatch computed carried)
     else if headers == 1 then Err InvalidHeadersLength
-    else if nat_lt total 16 then Err InvalidMessageLength
-    else if nat_lt (total - 16) headers then Err InvalidHeadersLength
+    else if nat_lt total least_frame then Err InvalidMessageLength
+    else if nat_lt (total - least_frame) headers then Err InvalidHeadersLength
     else Ok (record { total = total; headers = headers })
 
 -- the payload behind these headers, where the closing checksum is that of all bytes before it
 unfoldable pub checked_message : Lengths → List ℕ → List ℕ → List Header → Result Parts ErrorKind
 checked_message lengths prelude rest headers =
-    let computed = remainder (prelude ++ take (lengths.total - 16) rest) in
-    let carried = u32_at (lengths.total - 16) rest in
-    if computed == carried then Ok (record { headers = headers; payload = take (lengths.total - 16 - lengths.headers) (drop lengths.headers rest) })
+    let computed = remainder (prelude ++ take (lengths.total - least_frame) rest) in
+    let carried = u32_at (lengths.total - least_frame) rest in
+    if computed == carried then Ok (record { headers = headers; payload = take (lengths.total - least_frame - lengths.headers) (drop lengths.headers rest) })
     else Err (MessageChecksumMismatch computed carried)
 
 -- the message and the length of the frame with a prelude and the bytes after it
 unfoldable pub read_after : List ℕ → List ℕ → Result (Parts × ℕ) ErrorKind
 read_after prelude rest = do
-  lengths ← lengths_of (12 + length rest) prelude
+  lengths ← lengths_of (prelude_len + length rest) prelude
   headers ← headers_of lengths.headers rest
   message ← checked_message lengths prelude rest headers
   Ok (message, lengths.total)
 
 -- the message that the bytes begin with, and the length of its frame
 unfoldable pub read : List ℕ → Result (Parts × ℕ) ErrorKind
-read bytes = if nat_lt (length bytes) 12 then Err InvalidMessageLength else read_after (take 12 bytes) (drop 12 bytes)
+read bytes = if nat_lt (length bytes) prelude_len then Err InvalidMessageLength else read_after (take prelude_len bytes) (drop prelude_len bytes)
 
 -- ## What the readers promise
 

@@ -3,6 +3,7 @@ use Rattle.std.specs.Prelude.{◌≡◌, ℕ, zero, suc, ◌==◌, nat_lt, if◌
 use Rattle.smithy_core.specs.Message.{Parts}
 use Rattle.eventstream.specs.declared.error.ErrorKind.{ErrorKind}
 use Rattle.eventstream.specs.declared.error.ErrorKind.TheVariants.{InvalidMessageLength}
+use Rattle.seg_buf.specs.Segments.{prelude_len}
 use Rattle.eventstream.specs.Read.{announced, read}
 
 -- what a stream begins with
@@ -23,8 +24,8 @@ as_first bytes (Err kind) = fault kind
 unfoldable pub first_of : List ℕ → First
 first_of bytes =
     if length bytes == 0 then nothing
-    else if nat_lt (length bytes) 12 then leftover bytes
-    else if nat_lt (announced bytes) 12 then fault InvalidMessageLength
+    else if nat_lt (length bytes) prelude_len then leftover bytes
+    else if nat_lt (announced bytes) prelude_len then fault InvalidMessageLength
     else if nat_lt (length bytes) (announced bytes) then leftover bytes
     else as_first bytes (read (take (announced bytes) bytes))
 
@@ -49,7 +50,7 @@ read_on others (leftover bytes) = record { messages = []; end = leftover bytes }
 read_on others (fault kind) = record { messages = []; end = fault kind }
 read_on others (begins message rest) = onto message (others rest)
 
--- the same over at most so many messages
+-- the reading of a stream up to its first so many messages
 unfoldable pub reading_within : ℕ → List ℕ → Read
 reading_within zero bytes = read_on (λ _. record { messages = []; end = nothing }) (first_of bytes)
 reading_within (suc most) bytes = read_on (reading_within most) (first_of bytes)

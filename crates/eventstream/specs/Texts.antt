@@ -70,7 +70,7 @@ abbrev pub RefusesOnly : {A : Type 0} → Result A (List ℕ) → ErrorKind → 
 RefusesOnly (Ok x) kind = ⊥
 RefusesOnly (Err text) kind = Tells text kind
 
--- the same, where what is wanted takes no memory: it is answered wherever it is there
+-- what is wanted takes no memory: it is answered wherever it is there, as it is seen; where a text stands in its place, the error tells it
 abbrev pub AnswersAtOnce : {A B : Type 0} → (B → A) → Result A (List ℕ) → Result B Error → Type 0
 AnswersAtOnce seen wanted (Ok x) = wanted ≡ Ok (seen x)
 AnswersAtOnce seen wanted (Err e) = RefusesOnly wanted e.kind

@@ -1,11 +1,12 @@
 ghost use Rattle.std.specs.Prelude.{◌≡◌, ℕ, List, ◌+◌, ◌-◌, ◌≤◌, ◌<◌, ◌++◌, length, drop, None, Some, IfOk};
 ghost use Rattle.eventstream.specs.Decode.{DecodesAll, Finishes, DecodesFrame, appended_messages, end_of, undecoded_bytes, least_len};
+ghost use Rattle.seg_buf.specs.Segments.{prelude_len};
 ghost use Rattle.eventstream.specs.Read.{announced};
 ghost use Rattle.eventstream.specs.Reading.{first_of};
 
 use crate::error::{Error, ErrorKind};
-use crate::read::{PRELUDE, announced, read_after, read_message_from};
-use seg_buf::SegBuf;
+use crate::read::{announced, read_after, read_message_from};
+use seg_buf::{PRELUDE, SegBuf};
 use smithy_core::{Mem, Message};
 use std::alloc::Global;
 use std::marker::Model;
@@ -253,7 +254,7 @@ fn front_announced(buffer: &SegBuf) -> usize
 
 // How a stream ends with `kept` and then `left` bytes of a frame that has at least `least` bytes.
 fn end_within(least: usize, kept: usize, left: usize) -> StreamEnd
-    requires { kept ≤ 12 }
+    requires { kept ≤ prelude_len }
     ensures { (bytes : List ℕ) → length bytes ≡ kept + left → least ≡ least_len bytes → result ≡ end_of (first_of bytes) }
 {
     if least < PRELUDE || least - kept <= left {

@@ -15,6 +15,7 @@
 mod decode;
 mod error;
 mod expect;
+mod kind;
 mod laws;
 mod read;
 mod response_headers;

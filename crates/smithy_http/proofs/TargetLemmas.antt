@@ -198,7 +198,7 @@ some_byte : (bytes : List ℕ) → 0 < get_or bytes 0 0 → 0 < length bytes
 some_byte [] is = absurd (omega (arith, is))
 some_byte (first ∷ bytes) is = omega arith
 
--- a text begins the same up to another byte
+-- the part of a text before a byte begins with the first byte of the text, where that is another one
 same_first : (byte : ℕ) (text : List ℕ) → 0 < get_or text 0 0 → get_or text 0 0 ≢ byte → get_or (split_once_front byte text) 0 0 ≡ get_or text 0 0
 same_first byte text some other =
     let past : 1 ≤ index_of byte text =

@@ -11,7 +11,7 @@ ampersand = 38
 abbrev pub pair : List ℕ → List ℕ → List ℕ
 pair key value = key ++ (codes "=" ++ value)
 
--- the same of a pair
+-- the text of a pair
 abbrev pub pair_text : List ℕ × List ℕ → List ℕ
 pair_text p = pair p.0 p.1
 

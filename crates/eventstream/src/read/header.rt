@@ -5,6 +5,7 @@ ghost use Rattle.smithy_core.specs.declared.header.HeaderValue.TheVariants.{Byte
 ghost use Rattle.eventstream.specs.Read.{array_of, big_endian, counted_of, front_of, header_of, header_name_of, number_of, text_value_of, value_of, GivesFront};
 
 use crate::error::{Error, ErrorKind};
+use crate::kind;
 use bytes::Bytes;
 use smithy_core::{DateTime, Header, HeaderValue, StrBytes};
 
@@ -47,17 +48,17 @@ fn take_value(kind: u8, rest: &mut Bytes) -> Result<HeaderValue, Error>
     ensures { GivesFront (value_of kind) rest.old rest.new result }
 {
     match kind {
-        0 => Ok(HeaderValue::Bool(true)),
-        1 => Ok(HeaderValue::Bool(false)),
-        2 => take_byte(rest),
-        3 => take_int16(rest),
-        4 => take_int32(rest),
-        5 => take_int64(rest),
-        6 => take_array(rest),
-        7 => take_text(rest),
-        8 => take_timestamp(rest),
-        9 => take_uuid(rest),
-        kind => Err(Error::from(ErrorKind::InvalidHeaderValueType(kind))),
+        kind::TRUE => Ok(HeaderValue::Bool(true)),
+        kind::FALSE => Ok(HeaderValue::Bool(false)),
+        kind::BYTE => take_byte(rest),
+        kind::INT16 => take_int16(rest),
+        kind::INT32 => take_int32(rest),
+        kind::INT64 => take_int64(rest),
+        kind::BYTE_ARRAY => take_array(rest),
+        kind::STRING => take_text(rest),
+        kind::TIMESTAMP => take_timestamp(rest),
+        kind::UUID => take_uuid(rest),
+        other => Err(Error::from(ErrorKind::InvalidHeaderValueType(other))),
     }
 }
 
