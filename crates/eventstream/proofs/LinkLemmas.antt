@@ -7,7 +7,7 @@ use Rattle.sha2.proofs.Facts256.{length-sha256}
 use Rattle.mac_core.specs.Mac.{mac, mac_of_block}
 use Rattle.smithy_core.specs.Civil.{IsInYears}
 use Rattle.smithy_core.specs.Moment.{Instant, floor_secs}
-use Rattle.smithy_core.specs.declared.header.Header.{Header}
+use Rattle.smithy_core.specs.Header.{Header}
 use Rattle.smithy_core.specs.declared.header.HeaderValue.TheVariants.{ByteArray}
 use Rattle.eventstream.specs.declared.error.ErrorKind.{ErrorKind}
 use Rattle.eventstream.specs.Frame.{block, spelling, unfit_lengths, unframed, unspelled, unspelled_value, value_spelling}

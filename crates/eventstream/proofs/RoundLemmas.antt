@@ -13,7 +13,7 @@ use Rattle.std.proofs.lemmas.Nat.{from_be_bytes-to_be_bytes_2, from_be_bytes-to_
 use Rattle.smithy_core.proofs.InstantLemmas.{at_ms-floor_ms}
 use Rattle.smithy_core.proofs.TextLemmas.{is_text}
 use Rattle.smithy_core.specs.Moment.{Instant, at_ms, floor_ms}
-use Rattle.smithy_core.specs.declared.header.Header.{Header}
+use Rattle.smithy_core.specs.Header.{Header}
 use Rattle.smithy_core.specs.declared.header.HeaderValue.{HeaderValue}
 use Rattle.smithy_core.specs.declared.header.HeaderValue.TheVariants.{Bool as Truth, Byte, Int16, Int32, Int64, ByteArray, String as Text, Timestamp, Uuid}
 use Rattle.eventstream.specs.declared.error.ErrorKind.{ErrorKind}

@@ -3,7 +3,7 @@ use Rattle.std.specs.Prelude.{◌<◌, ◌^◌, map, All, FitsSigned, IsUtf8}
 use Rattle.std.specs.Int.{w8, w16, w32, w64}
 use Rattle.smithy_core.specs.Moment.{floored}
 use Rattle.smithy_core.specs.Message.{Parts}
-use Rattle.smithy_core.specs.declared.header.Header.{Header}
+use Rattle.smithy_core.specs.Header.{Header}
 use Rattle.smithy_core.specs.declared.header.HeaderValue.{HeaderValue}
 use Rattle.smithy_core.specs.declared.header.HeaderValue.TheVariants.{Bool as Truth, Byte, Int16, Int32, Int64, ByteArray, String as Text, Timestamp, Uuid}
 

@@ -7,7 +7,7 @@ use Rattle.smithy_core.specs.Civil.{stamp}
 use Rattle.smithy_core.specs.Moment.{Instant, floor_secs}
 use Rattle.smithy_core.specs.Message.{Parts}
 use Rattle.smithy_core.specs.Text.{line}
-use Rattle.smithy_core.specs.declared.header.Header.{Header}
+use Rattle.smithy_core.specs.Header.{Header}
 use Rattle.smithy_core.specs.declared.header.HeaderValue.TheVariants.{ByteArray, Timestamp}
 use Rattle.eventstream.specs.Frame.{frame, spelling}
 use Rattle.eventstream.specs.Key.{Signer, scope, signing_key}

@@ -2,7 +2,7 @@
 use Rattle.std.specs.Prelude.{ℕ, if◌then◌else◌, bytes_eq, List, codes, find, reverse, Option, option_map, option_copied, Result, Ok, Err}
 use Rattle.std.specs.Option.{ok_or, option_map_or, option_transpose}
 use Rattle.smithy_core.specs.HeaderValue.{string_of}
-use Rattle.smithy_core.specs.declared.header.Header.{Header}
+use Rattle.smithy_core.specs.Header.{Header}
 use Rattle.smithy_core.specs.declared.header.HeaderValue.{HeaderValue}
 use Rattle.eventstream.specs.Texts.{missing_text, no_text, unrecognized_text}
 use Rattle.eventstream.specs.Bind.{◌>>=◌}

@@ -5,7 +5,7 @@ use Rattle.std.specs.List.{list_all, list_any}
 use Rattle.std.specs.Str.Lossy.{utf8_valid_len}
 use Rattle.smithy_core.specs.TextPairs.{lower}
 use Rattle.smithy_core.specs.Message.{Parts}
-use Rattle.smithy_core.specs.declared.header.Header.{Header}
+use Rattle.smithy_core.specs.Header.{Header}
 use Rattle.signed_stream.specs.EventHeader.{bytes_of, event_header}
 use Rattle.signed_stream.specs.Lines.{lines_of, pair_of, rest_of, word_of}
 use Rattle.signed_stream.specs.Numbers.{is_digit}

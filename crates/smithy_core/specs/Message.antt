@@ -1,7 +1,7 @@
 -- What contracts see of a message.
 use Rattle.std.specs.Prelude.{ℕ, List, ◌++◌, codes}
 use Rattle.std.specs.Fmt.{decimal}
-use Rattle.smithy_core.specs.declared.header.Header.{Header}
+use Rattle.smithy_core.specs.Header.{Header}
 
 -- headers in order, and a payload
 pub record Parts : Type 0 where

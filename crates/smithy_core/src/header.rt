@@ -1,5 +1,4 @@
 ghost use Rattle.std.specs.Prelude.{◌≡◌, IfOk, MatchResult, Some, None};
-ghost use Rattle.smithy_core.specs.Header.{header_with, name_of_header, value_of_header};
 ghost use Rattle.smithy_core.specs.HeaderValue.{bool_of, byte_array_of, byte_of, instant_of, int16_of, int32_of, int64_of, string_of, uuid_bits_of};
 
 use crate::memory::Mem;
@@ -7,6 +6,7 @@ use crate::moment::DateTime;
 use crate::str_bytes::StrBytes;
 use bytes::Bytes;
 use std::fmt;
+use std::marker::Model;
 
 /// The value of a [`Header`]: one of the nine kinds of the event stream encoding.
 ///
@@ -217,30 +217,40 @@ impl fmt::Display for HeaderValue {
 
 /// A header of a [`Message`](crate::Message): a name and a value. [`Debug`](std::fmt::Debug) prints both, as the Rust's type
 /// does.
+///
+/// Contracts see it as its name and its value.
 #[derive(Debug, Drop)]
 pub struct Header {
     name: StrBytes,
     value: HeaderValue,
 }
 
+impl Model for Header {
+    ghost use Rattle.smithy_core.specs.Header.{Header as NameAndValue};
+
+    ghost Value = { NameAndValue };
+
+    ghost view = { λ header. record { name = header.name; value = header.value } };
+}
+
 impl Header {
     /// The header of this name and value.
     pub fn new(name: StrBytes, value: HeaderValue) -> Header
-        ensures { result ≡ header_with name value }
+        ensures { result ≡ record { name = name; value = value } }
     {
         Header { name, value }
     }
 
     /// Its name.
     pub fn name(&self) -> &StrBytes
-        ensures { result.now ≡ name_of_header self.now }
+        ensures { result.now ≡ self.now.name }
     {
         &self.name
     }
 
     /// Its value.
     pub fn value(&self) -> &HeaderValue
-        ensures { result.now ≡ value_of_header self.now }
+        ensures { result.now ≡ self.now.value }
     {
         &self.value
     }
