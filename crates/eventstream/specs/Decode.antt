@@ -1,4 +1,4 @@
--- What a decoder of frames promises: one step of the reading on its prelude and its buffer, undecoded_bytes.
+-- What a decoder of frames promises: one step of the reading on the bytes that it has not yet used.
 use Rattle.std.specs.Prelude.{◌≡◌, ◌≢◌, ℕ, ◌<◌, ◌≤◌, nat_lt, if◌then◌else◌, ◌⊎◌, List, [], ◌∷◌, ◌++◌, length, take, drop, Option, Some, None, Result, Ok, Err}
 use Rattle.smithy_core.specs.Message.{Parts}
 use Rattle.seg_buf.specs.Segments.{Segments, prelude_len}
@@ -54,7 +54,7 @@ DecodesFrame kept old prelude new (Err e) =
     ((first_of (undecoded_bytes kept old.bytes) ≡ fault e.kind) × LeavesFault (undecoded_bytes kept old.bytes) prelude new.bytes)
     ⊎ ((e.kind ≡ NoMemory) × (prelude ≡ kept) × (new ≡ old))
 
--- what was appended_messages at the end of a list
+-- the messages that a list has gained at its end
 abbrev pub appended_messages : List Parts → List Parts → List Parts
 appended_messages old new = drop (length old) new
 

@@ -1,5 +1,5 @@
 -- Errors of resolving an endpoint.
-use Rattle.std.specs.Prelude.{◌≡◌, ℕ, List, Option, Some, None, option_map, String, string_bytes}
+use Rattle.std.specs.Prelude.{◌≡◌, Option, Some, None, option_map, String, string_bytes}
 use Rattle.std.specs.declared.alloc.Global.{Global}
 use Rattle.smithy_core.specs.declared.error_metadata.ErrorMetadata.{ErrorMetadata}
 use Rattle.smithy_http.specs.declared.resolve_error.ResolveEndpointError.{ResolveEndpointError}

@@ -3,7 +3,7 @@ ghost use Rattle.std.specs.Prelude.{◌≡◌, ◌++◌, true, codes, if◌then�
 ghost use Rattle.std.specs.String.{string_bytes};
 ghost use Rattle.percent_encoding.specs.Percent.{percent_decode};
 ghost use Rattle.smithy_http.specs.Escape.{base_set, escaped, FormatsEscaped};
-ghost use Rattle.smithy_http.specs.Query.{before_pieces, pair, with_piece, written_query};
+ghost use Rattle.smithy_http.specs.Query.{before_pieces, held_text, pair, with_piece, written_query};
 
 use crate::escape::{BASE_SET, escape};
 use crate::piece::{marked, marked_pair};
@@ -42,7 +42,7 @@ pub struct Writer<'a> {
 impl<'a> Writer<'a> {
     /// A writer that goes on after the text.
     pub fn new(out: &'a mut String) -> Writer<'a>
-        ensures same_text { result.out.ghost_name ≡ out.entry.ghost_name }
+        ensures same_text { (held_text result).ghost_name ≡ out.entry.ghost_name }
         ensures begun { written_query result ≡ before_pieces (string_bytes out.old) }
     {
         Writer {
@@ -53,7 +53,7 @@ impl<'a> Writer<'a> {
 
     /// Appends a key and its value, with `=` between. After want of memory nothing is appended.
     pub fn push_kv(&mut self, k: &str, v: &str) -> Mem<()>
-        ensures same_text { self.new.out.ghost_name ≡ self.old.out.ghost_name }
+        ensures same_text { (held_text self.new).ghost_name ≡ (held_text self.old).ghost_name }
         ensures ok { OnOk result (written_query self.new ≡ with_piece (written_query self.old) (pair k.now v.now)) }
         ensures err { OnErr result (written_query self.new ≡ written_query self.old) }
     {
@@ -63,7 +63,7 @@ impl<'a> Writer<'a> {
 
     /// Appends a value, which is its own key. After want of memory nothing is appended.
     pub fn push_v(&mut self, v: &str) -> Mem<()>
-        ensures same_text { self.new.out.ghost_name ≡ self.old.out.ghost_name }
+        ensures same_text { (held_text self.new).ghost_name ≡ (held_text self.old).ghost_name }
         ensures ok { OnOk result (written_query self.new ≡ with_piece (written_query self.old) v.now) }
         ensures err { OnErr result (written_query self.new ≡ written_query self.old) }
     {
@@ -80,7 +80,7 @@ impl<'a> Writer<'a> {
 
     // Appends a piece with its mark.
     fn push(&mut self, piece: &str) -> Mem<()>
-        ensures same_text { self.new.out.ghost_name ≡ self.old.out.ghost_name }
+        ensures same_text { (held_text self.new).ghost_name ≡ (held_text self.old).ghost_name }
         ensures ok { OnOk result (written_query self.new ≡ record { text = (written_query self.old).text ++ piece.now; has_piece = true }) }
         ensures err { OnErr result (written_query self.new ≡ written_query self.old) }
     {
