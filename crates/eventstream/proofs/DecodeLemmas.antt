@@ -4,30 +4,29 @@ use Rattle.std.specs.Prelude.{◌≢◌, ◌⊎◌}
 use Rattle.std.proofs.lemmas.Bool.{le-ltb, lt-ltb}
 use Rattle.std.proofs.lemmas.List.{take_at, take-append-drop, length-append}
 use Rattle.std.proofs.Math.Seq.{take-append-add, drop-append-add}
-use Rattle.smithy_core.specs.Parts.{Parts}
+use Rattle.smithy_core.specs.Message.{Parts}
 use Rattle.seg_buf.specs.Segments.{Segments}
 use Rattle.eventstream.specs.declared.decode.DecodedFrame.{DecodedFrame}
 use Rattle.eventstream.specs.declared.error.ErrorKind.{ErrorKind}
 use Rattle.eventstream.specs.declared.error.ErrorKind.TheVariants.{InvalidMessageLength, NoMemory}
 use Rattle.eventstream.specs.declared.error.Error.{Error}
-use Rattle.eventstream.specs.Read.{read, read_after}
-use Rattle.eventstream.specs.Reading.{fault, begins, announced, as_first, first_of}
-use Rattle.eventstream.specs.Reads.{Fails, GivesMessage, Reads}
-use Rattle.eventstream.specs.Decoding.{Finishes, Keeps, IsUnfinished, LeavesFault, Steps, joined}
+use Rattle.eventstream.specs.Read.{read, read_after, announced, Fails, GivesMessage, TakesMessage}
+use Rattle.eventstream.specs.Reading.{fault, begins, as_first, first_of}
+use Rattle.eventstream.specs.Decode.{Finishes, KeepsBytes, IsUnfinished, LeavesFault, DecodesFrame, undecoded_bytes}
 use Rattle.eventstream.proofs.FrontLemmas.{announced_joined, first_bad, first_more, first_whole, read_joined}
 
 -- ## The prelude stays
 
 -- less than a prelude is there
-pub keeps_short : (bytes : List ℕ) → length bytes < 12 → Keeps bytes None bytes
+pub keeps_short : (bytes : List ℕ) → length bytes < 12 → KeepsBytes bytes None bytes
 keeps_short bytes short = let test : nat_lt (length bytes) 12 ≡ true = lt-ltb (length bytes) 12 short in (rw test refl, refl)
 
 -- a prelude is taken from the bytes
-pub keeps_taken : (bytes : List ℕ) → 12 ≤ length bytes → Keeps bytes (Some (take 12 bytes)) (drop 12 bytes)
+pub keeps_taken : (bytes : List ℕ) → 12 ≤ length bytes → KeepsBytes bytes (Some (take 12 bytes)) (drop 12 bytes)
 keeps_taken bytes long = let test : nat_lt (length bytes) 12 ≡ false = le-ltb (length bytes) 12 long in (rw test refl, take-append-drop 12 bytes)
 
 -- a prelude is kept
-pub keeps_kept : (prelude rest : List ℕ) → length prelude ≡ 12 → Keeps (prelude ++ rest) (Some prelude) rest
+pub keeps_kept : (prelude rest : List ℕ) → length prelude ≡ 12 → KeepsBytes (prelude ++ rest) (Some prelude) rest
 keeps_kept prelude rest twelve =
     let test : nat_lt (length (prelude ++ rest)) 12 ≡ false = le-ltb (length (prelude ++ rest)) 12 (omega (arith, length-append prelude rest)) in
     (rw (test, take_at prelude rest 12 twelve) refl, refl)
@@ -46,32 +45,32 @@ fails_first bytes kind high whole is = first_whole bytes high whole ∙ ap (as_f
 -- the frame is taken, as one step of the reading says
 pub steps_frame : (kept : Option (List ℕ)) (old : Segments) (prelude : Option (List ℕ)) (new : Segments) (len n : ℕ)
     (answer : Result Parts Error) (result : Result DecodedFrame Error)
-    → 12 ≤ announced (joined kept old.bytes) → announced (joined kept old.bytes) ≤ length (joined kept old.bytes)
-    → drop len old.bytes ≡ drop (announced (joined kept old.bytes)) (joined kept old.bytes)
-    → GivesMessage (read (take (announced (joined kept old.bytes)) (joined kept old.bytes))) n answer
-    → Finishes len answer kept old prelude new result → Steps kept old prelude new result
+    → 12 ≤ announced (undecoded_bytes kept old.bytes) → announced (undecoded_bytes kept old.bytes) ≤ length (undecoded_bytes kept old.bytes)
+    → drop len old.bytes ≡ drop (announced (undecoded_bytes kept old.bytes)) (undecoded_bytes kept old.bytes)
+    → GivesMessage (read (take (announced (undecoded_bytes kept old.bytes)) (undecoded_bytes kept old.bytes))) n answer
+    → Finishes len answer kept old prelude new result → DecodesFrame kept old prelude new result
 steps_frame kept old prelude new len n (Ok message) result high whole left is done =
-    rw done.0 (rw (done.2, left) (reads_first (joined kept old.bytes) n message high whole is), done.1)
+    rw done.0 (rw (done.2, left) (reads_first (undecoded_bytes kept old.bytes) n message high whole is), done.1)
 steps_frame kept old prelude new len n (Err e) result high whole left is done = rw done.0 (by_end is done.1)
   where
-    by_end : Fails (read (take (announced (joined kept old.bytes)) (joined kept old.bytes))) e
+    by_end : Fails (read (take (announced (undecoded_bytes kept old.bytes)) (undecoded_bytes kept old.bytes))) e
         → ((e.kind ≡ NoMemory) × (prelude ≡ kept) × (new ≡ old)) ⊎ ((e.kind ≢ NoMemory) × (prelude ≡ None) × (new.bytes ≡ drop len old.bytes))
-        → Steps kept old prelude new (Err e)
+        → DecodesFrame kept old prelude new (Err e)
     by_end is (inl full) = inr full
-    by_end (inl is) (inr gone) = inl (fails_first (joined kept old.bytes) e.kind high whole is, inr (high, gone.1, gone.2 ∙ left))
+    by_end (inl is) (inr gone) = inl (fails_first (undecoded_bytes kept old.bytes) e.kind high whole is, inr (high, gone.1, gone.2 ∙ left))
     by_end (inr full) (inr gone) = absurd (gone.0 full)
 
--- the same, where no prelude was kept
+-- a whole frame is decoded, where no prelude was kept
 pub steps_whole : (kept : Option (List ℕ)) (old : Segments) (prelude : Option (List ℕ)) (new : Segments) (len : ℕ) (frame rest : List ℕ)
     (answer : Result Parts Error) (result : Result DecodedFrame Error)
     → kept ≡ None → 12 ≤ announced old.bytes → announced old.bytes ≤ length old.bytes → len ≡ announced old.bytes
-    → frame ≡ take len old.bytes → Reads (read frame) frame rest answer
-    → Finishes len answer kept old prelude new result → Steps kept old prelude new result
+    → frame ≡ take len old.bytes → TakesMessage (read frame) frame rest answer
+    → Finishes len answer kept old prelude new result → DecodesFrame kept old prelude new result
 steps_whole kept old prelude new len frame rest answer result none high whole is front reads done =
     rw none (steps_frame None old prelude new len (announced frame) answer result high whole (rw is refl)
     (rw (← is, ← front) (message_read frame rest answer reads)) (rw (← none) done))
   where
-    message_read : (frame rest : List ℕ) (answer : Result Parts Error) → Reads (read frame) frame rest answer → GivesMessage (read frame) (announced frame) answer
+    message_read : (frame rest : List ℕ) (answer : Result Parts Error) → TakesMessage (read frame) frame rest answer → GivesMessage (read frame) (announced frame) answer
     message_read frame rest (Ok message) reads = reads.0
     message_read frame rest (Err e) reads = reads.0
 
@@ -93,17 +92,17 @@ kept_bad prelude rest twelve low =
 
 -- a kept prelude whose frame isn't there whole
 pub kept_unfinished : (prelude rest : List ℕ) → length prelude ≡ 12 → 12 ≤ announced prelude → length rest < announced prelude - 12
-    → IsUnfinished (first_of (prelude ++ rest)) × Keeps (prelude ++ rest) (Some prelude) rest
+    → IsUnfinished (first_of (prelude ++ rest)) × KeepsBytes (prelude ++ rest) (Some prelude) rest
 kept_unfinished prelude rest twelve high more =
     let whole = announces prelude rest twelve in
     (more_unfinished (prelude ++ rest) (omega (arith, whole.1)) (omega (arith, whole.0, whole.1)), keeps_kept prelude rest twelve)
 
--- the same as `steps_whole`, where a prelude was kept
+-- the rest of a frame is decoded, where its prelude was kept
 pub steps_rest : (kept : Option (List ℕ)) (taken : List ℕ) (old : Segments) (prelude : Option (List ℕ)) (new : Segments) (len : ℕ) (rest : List ℕ)
     (answer : Result Parts Error) (result : Result DecodedFrame Error)
     → kept ≡ Some taken → length taken ≡ 12 → 12 ≤ announced taken → len ≡ announced taken - 12 → len ≤ length old.bytes
     → rest ≡ take len old.bytes → GivesMessage (read_after taken rest) (announced taken) answer
-    → Finishes len answer kept old prelude new result → Steps kept old prelude new result
+    → Finishes len answer kept old prelude new result → DecodesFrame kept old prelude new result
 steps_rest kept taken old prelude new len rest answer result some twelve high is short front reads done =
     let whole = announces taken old.bytes twelve in
     let total : announced taken ≡ length taken + len = omega (arith, twelve) in

@@ -1,12 +1,12 @@
 -- How a stream ends.
 use Rattle.std.proofs.Common.{◌≡◌, ℕ, ◌<◌, ◌≤◌, nat_lt, ◌==◌, true, false, List, length, take, Result, Ok, Err, inl, inr, ap, sym, ◌∙◌, refl, arith}
 use Rattle.std.proofs.lemmas.Bool.{cases_lt, le-ltb, lt-ltb, eq-eqb, ne_eqb}
-use Rattle.smithy_core.specs.Parts.{Parts}
+use Rattle.smithy_core.specs.Message.{Parts}
 use Rattle.eventstream.specs.declared.decode.StreamEnd.TheVariants.{Clean, Leftover, Undecoded}
 use Rattle.eventstream.specs.declared.error.ErrorKind.{ErrorKind}
-use Rattle.eventstream.specs.Read.{read}
-use Rattle.eventstream.specs.Reading.{nothing, leftover, announced, as_first, first_of}
-use Rattle.eventstream.specs.Decoding.{end_of, least_len}
+use Rattle.eventstream.specs.Read.{read, announced}
+use Rattle.eventstream.specs.Reading.{nothing, leftover, as_first, first_of}
+use Rattle.eventstream.specs.Decode.{end_of, least_len}
 use Rattle.eventstream.proofs.FrontLemmas.{first_bad, first_more, first_whole, short_is}
 
 least_short : (bytes : List ℕ) → length bytes < 12 → least_len bytes ≡ 12

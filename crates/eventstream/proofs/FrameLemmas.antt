@@ -9,15 +9,15 @@ use Rattle.std.proofs.lemmas.List.Elements.{recursion_from_All}
 use Rattle.std.proofs.lemmas.List.{take_at, drop_at, nil_from_length}
 use Rattle.mac_core.specs.Crc.{remainder}
 use Rattle.mac_core.proofs.CrcLemmas.{remainder-below}
-use Rattle.smithy_core.specs.Parts.{Parts}
-use Rattle.smithy_core.specs.declared.header.Header.{Header}
+use Rattle.smithy_core.specs.Message.{Parts}
+use Rattle.smithy_core.specs.Header.{Header}
 use Rattle.smithy_core.specs.declared.header.HeaderValue.{HeaderValue}
 use Rattle.smithy_core.specs.declared.header.HeaderValue.TheVariants.{Bool as Truth, Byte, Int16, Int32, Int64, ByteArray, String as Text, Timestamp, Uuid}
 use Rattle.eventstream.specs.declared.error.ErrorKind.{ErrorKind}
 use Rattle.eventstream.specs.declared.error.ErrorKind.TheVariants.{HeadersTooLong, MessageTooLong, PayloadTooLong}
-use Rattle.eventstream.specs.Frame.{be32, block, first_unspelled, frame, frame_len, over, prelude_of, spelling, summed, unfit, unframed, value_spelling}
+use Rattle.eventstream.specs.Frame.{be32, block, first_unspelled, frame, frame_len, over, frame_lengths, spelling, summed, unfit_lengths, unframed, value_spelling}
 use Rattle.eventstream.specs.Laws.{IsProper, IsProperHeader, floored_header, floored_message}
-use Rattle.eventstream.specs.Read.{big_endian, lengths_of, message_of, read, read_after, u32_at}
+use Rattle.eventstream.specs.Read.{big_endian, lengths_of, checked_message, read, read_after, u32_at}
 use Rattle.eventstream.proofs.RoundLemmas.{both_none, headers_again, wide32}
 
 -- ## Lengths
@@ -45,7 +45,7 @@ framed m none =
     let headers = length (block m.headers) in
     let payload = length m.payload in
     let total = over (16 + headers + payload) MessageTooLong in
-    let parts = both_none (first_unspelled m.headers) (unfit headers payload) none in
+    let parts = both_none (first_unspelled m.headers) (unfit_lengths headers payload) none in
     let fit = both_none (over headers HeadersTooLong) (option_or (over payload PayloadTooLong) total) parts.1 in
     let whole = both_none (over payload PayloadTooLong) total fit.1 in
     record { spelled = parts.0; short = not_over (16 + headers + payload) MessageTooLong whole.1 }
@@ -83,10 +83,10 @@ block_long (h ∷ hs) one =
     absurd (omega (arith, length-append (spelling h) (block hs), length-append h.name (value_spelling h.value), spelled_long h.value))
 
 lengths_again : (there total headers : ℕ) → total ≤ there → 16 + headers ≤ total → total < 2 ^ 32 → (headers ≡ 1 → ⊥)
-    → lengths_of there (summed (prelude_of total headers)) ≡ Ok (record { total = total; headers = headers })
+    → lengths_of there (summed (frame_lengths total headers)) ≡ Ok (record { total = total; headers = headers })
 unfolding lengths_of
 lengths_again there total headers enough room short more =
-    let two = prelude_of total headers in
+    let two = frame_lengths total headers in
     let sum = be32 (remainder two) in
     let split = append_assoc (be32 total) (be32 headers) sum in
     let first : u32_at 0 (summed two) ≡ total = ap (u32_at 0) split ∙ u32_behind [] (be32 headers ++ sum) 0 total refl short in
@@ -105,7 +105,7 @@ lengths_again there total headers enough room short more =
 
 -- the prelude of a message, what its frame has behind that, and the checksum of both
 abbrev prelude : Parts → List ℕ
-prelude m = summed (prelude_of (frame_len m) (length (block m.headers)))
+prelude m = summed (frame_lengths (frame_len m) (length (block m.headers)))
 
 abbrev body : Parts → List ℕ
 body m = block m.headers ++ m.payload
@@ -128,9 +128,9 @@ frame_rest m more =
     (append_assoc (body m) (closing m) more ∙ append_assoc (block m.headers) m.payload (closing m ++ more))
 
 message_again : (m : Parts) (more : List ℕ) (headers : List Header) →
-    message_of (record { total = frame_len m; headers = length (block m.headers) }) (prelude m)
+    checked_message (record { total = frame_len m; headers = length (block m.headers) }) (prelude m)
     (block m.headers ++ (m.payload ++ (closing m ++ more))) headers ≡ Ok (record { headers = headers; payload = m.payload })
-unfolding message_of
+unfolding checked_message
 message_again m more headers =
     let within : frame_len m - 16 ≡ length (body m) = omega (arith, length-append (block m.headers) m.payload) in
     let last : frame_len m - 16 - length (block m.headers) ≡ length m.payload = omega arith in
@@ -183,9 +183,9 @@ pub u32-frame : (m : Parts) (more : List ℕ) → unframed m ≡ None → u32_at
 u32-frame m more none =
     let short = (framed m none).short in
     let headers = length (block m.headers) in
-    let sum = be32 (remainder (prelude_of (frame_len m) headers)) in
+    let sum = be32 (remainder (frame_lengths (frame_len m) headers)) in
     let rest = block m.headers ++ (m.payload ++ (closing m ++ more)) in
-    ap (u32_at 0) (frame_rest m more ∙ append_assoc (prelude_of (frame_len m) headers) sum rest ∙ append_assoc (be32 (frame_len m)) (be32 headers) (sum ++ rest))
+    ap (u32_at 0) (frame_rest m more ∙ append_assoc (frame_lengths (frame_len m) headers) sum rest ∙ append_assoc (be32 (frame_len m)) (be32 headers) (sum ++ rest))
     ∙ u32_behind [] (be32 headers ++ (sum ++ rest)) 0 (frame_len m) refl short ∙ sym (length-frame m)
 
 -- a frame that begins another is the other

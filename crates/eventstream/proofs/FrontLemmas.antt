@@ -4,9 +4,9 @@ use Rattle.std.specs.Int.{w32}
 use Rattle.std.proofs.lemmas.Bool.{le-ltb, lt-ltb, ne_eqb}
 use Rattle.std.proofs.lemmas.List.{take_at, drop_at, length-append}
 use Rattle.eventstream.specs.declared.error.ErrorKind.TheVariants.{InvalidMessageLength}
-use Rattle.eventstream.specs.Read.{big_endian, read, read_after}
-use Rattle.eventstream.specs.Reading.{First, nothing, leftover, fault, announced, as_first, first_of}
-use Rattle.eventstream.specs.Decoding.{IsUnfinished}
+use Rattle.eventstream.specs.Read.{big_endian, read, read_after, announced}
+use Rattle.eventstream.specs.Reading.{First, nothing, leftover, fault, as_first, first_of}
+use Rattle.eventstream.specs.Decode.{IsUnfinished}
 
 first_four : (bytes : List ℕ) → take 4 (take 12 bytes) ≡ take 4 bytes
 first_four [] = refl
@@ -19,7 +19,7 @@ first_four (a ∷ b ∷ c ∷ d ∷ bytes) = refl
 pub announced_prelude : (bytes : List ℕ) → announced (take 12 bytes) ≡ announced bytes
 announced_prelude bytes = ap (big_endian w32) (first_four bytes)
 
--- the same, with the bytes after it
+-- the prelude announces the length of the frame, whatever follows it
 pub announced_joined : (prelude rest : List ℕ) → length prelude ≡ 12 → announced (prelude ++ rest) ≡ announced prelude
 announced_joined prelude rest twelve =
     sym (announced_prelude (prelude ++ rest)) ∙ ap announced (take_at prelude rest 12 twelve)

@@ -1,12 +1,11 @@
 -- Headers that are read one after the other.
 use Rattle.std.proofs.Common.{◌≡◌, ℕ, zero, suc, ◌+◌, ◌-◌, ◌<◌, ◌≤◌, List, [], ◌∷◌, ◌++◌, length, Result, Ok, Err, inl, inr, refl, sym, ap, ◌∙◌, append_assoc, append-nil, arith}
 use Rattle.std.proofs.lemmas.List.{length-append}
-use Rattle.smithy_core.specs.declared.header.Header.{Header}
+use Rattle.smithy_core.specs.Header.{Header}
 use Rattle.eventstream.specs.declared.error.ErrorKind.{ErrorKind}
 use Rattle.eventstream.specs.declared.error.Error.{Error}
-use Rattle.eventstream.specs.Read.{header_within, headers_within}
-use Rattle.eventstream.specs.Reads.{Fails}
-use Rattle.eventstream.specs.Then.{◌>>=◌}
+use Rattle.eventstream.specs.Read.{header_within, headers_within, Fails}
+use Rattle.eventstream.specs.Bind.{◌>>=◌}
 
 -- headers before those that are read
 abbrev pub before : List Header → Result (List Header) ErrorKind → Result (List Header) ErrorKind

@@ -1,3 +1,4 @@
+pub mod ChainLemmas
 pub mod DecodeAllLemmas
 pub mod DecodeLemmas
 pub mod EndLemmas

@@ -6,11 +6,11 @@ use Rattle.std.proofs.lemmas.Bool.Decides.{nat_tests}
 use Rattle.sha2.proofs.Facts256.{length-sha256}
 use Rattle.mac_core.specs.Mac.{mac, mac_of_block}
 use Rattle.smithy_core.specs.Civil.{IsInYears}
-use Rattle.smithy_core.specs.Instant.{Instant, floor_secs}
-use Rattle.smithy_core.specs.declared.header.Header.{Header}
+use Rattle.smithy_core.specs.Moment.{Instant, floor_secs}
+use Rattle.smithy_core.specs.Header.{Header}
 use Rattle.smithy_core.specs.declared.header.HeaderValue.TheVariants.{ByteArray}
 use Rattle.eventstream.specs.declared.error.ErrorKind.{ErrorKind}
-use Rattle.eventstream.specs.Frame.{block, spelling, unfit, unframed, unspelled, unspelled_value, value_spelling}
+use Rattle.eventstream.specs.Frame.{block, spelling, unfit_lengths, unframed, unspelled, unspelled_value, value_spelling}
 use Rattle.eventstream.specs.Key.{Signer}
 use Rattle.eventstream.specs.Link.{date_header, link_code, link_message}
 
@@ -47,7 +47,7 @@ length-date_header : (t : Instant) → length (spelling (date_header t)) ≡ 15
 unfolding value_spelling
 length-date_header t = refl
 
-unfit-none : (headers payload : ℕ) → 16 + headers + payload ≤ 4294967295 → unfit headers payload ≡ None
+unfit-none : (headers payload : ℕ) → 16 + headers + payload ≤ 4294967295 → unfit_lengths headers payload ≡ None
 unfit-none headers payload short =
     let h : nat_lt 4294967295 headers ≡ false = grind (arith, nat_tests) in
     let p : nat_lt 4294967295 payload ≡ false = grind (arith, nat_tests) in
@@ -62,10 +62,10 @@ unfolding unframed
 two_framed first second payload one two short =
     let whole : length (block (first ∷ second ∷ [])) ≡ length (spelling first) + length (spelling second) =
     length-append (spelling first) (spelling second ++ []) ∙ ap (λ (bytes : List ℕ). length (spelling first) + length bytes) (append-nil (spelling second)) in
-    let fit : unfit (length (block (first ∷ second ∷ []))) (length payload) ≡ None =
+    let fit : unfit_lengths (length (block (first ∷ second ∷ []))) (length payload) ≡ None =
     unfit-none (length (block (first ∷ second ∷ []))) (length payload) (omega arith) in
-    ap (λ (o : Option ErrorKind). option_or (option_or o (option_or (unspelled second) None)) (unfit (length (block (first ∷ second ∷ []))) (length payload))) one
-    ∙ ap (λ (o : Option ErrorKind). option_or (option_or o None) (unfit (length (block (first ∷ second ∷ []))) (length payload))) two ∙ fit
+    ap (λ (o : Option ErrorKind). option_or (option_or o (option_or (unspelled second) None)) (unfit_lengths (length (block (first ∷ second ∷ []))) (length payload))) one
+    ∙ ap (λ (o : Option ErrorKind). option_or (option_or o None) (unfit_lengths (length (block (first ∷ second ∷ []))) (length payload))) two ∙ fit
 
 -- a signed message of bytes that aren't too long has a frame
 pub link_framed : (signer : Signer) (signature bytes : List ℕ) (t : Instant) → IsInYears t → length bytes ≤ 67108880 → unframed (link_message signer signature bytes t) ≡ None

@@ -5,14 +5,14 @@ use Rattle.std.specs.List.{AllByRecursion}
 use Rattle.std.proofs.lemmas.Bool.{cases_lt, le-ltb, ltb-false}
 use Rattle.std.proofs.lemmas.List.Elements.{recursion_from_All}
 use Rattle.std.proofs.lemmas.List.{take_at, drop_at, take-append-le, drop-append-le}
-use Rattle.smithy_core.specs.Parts.{Parts}
+use Rattle.smithy_core.specs.Message.{Parts}
 use Rattle.eventstream.specs.declared.error.ErrorKind.{ErrorKind}
 use Rattle.eventstream.specs.declared.error.ErrorKind.TheVariants.{InvalidMessageLength}
 use Rattle.eventstream.specs.Frame.{frame, unframed}
 use Rattle.eventstream.specs.Laws.{IsProper, floored_message}
-use Rattle.eventstream.specs.Read.{big_endian, read}
-use Rattle.eventstream.specs.Reading.{First, nothing, leftover, fault, begins, announced, as_first, first_of, Begin, Read, onto, read_on, reading, reading_within}
-use Rattle.eventstream.specs.Decoding.{IsUnfinished}
+use Rattle.eventstream.specs.Read.{big_endian, read, announced}
+use Rattle.eventstream.specs.Reading.{First, nothing, leftover, fault, begins, as_first, first_of, Begin, Read, onto, read_on, reading, reading_within}
+use Rattle.eventstream.specs.Decode.{IsUnfinished}
 use Rattle.eventstream.proofs.FrameLemmas.{frame_again, length-frame, u32-frame}
 use Rattle.eventstream.proofs.FrontLemmas.{IsTold, first_more, short_is, told, told_is}
 

@@ -12,15 +12,15 @@ use Rattle.std.proofs.lemmas.List.{take_at, drop_at}
 use Rattle.std.proofs.lemmas.Nat.{from_be_bytes-to_be_bytes_2, from_be_bytes-to_be_bytes_4, from_be_bytes-to_be_bytes_8}
 use Rattle.smithy_core.proofs.InstantLemmas.{at_ms-floor_ms}
 use Rattle.smithy_core.proofs.TextLemmas.{is_text}
-use Rattle.smithy_core.specs.Instant.{Instant, at_ms, floor_ms}
-use Rattle.smithy_core.specs.declared.header.Header.{Header}
+use Rattle.smithy_core.specs.Moment.{Instant, at_ms, floor_ms}
+use Rattle.smithy_core.specs.Header.{Header}
 use Rattle.smithy_core.specs.declared.header.HeaderValue.{HeaderValue}
 use Rattle.smithy_core.specs.declared.header.HeaderValue.TheVariants.{Bool as Truth, Byte, Int16, Int32, Int64, ByteArray, String as Text, Timestamp, Uuid}
 use Rattle.eventstream.specs.declared.error.ErrorKind.{ErrorKind}
 use Rattle.eventstream.specs.declared.error.ErrorKind.TheVariants.{HeaderValueTooLong, TimestampValueTooLarge}
 use Rattle.eventstream.specs.Frame.{block, first_unspelled, spelling, unspelled, unspelled_value, value_spelling}
 use Rattle.eventstream.specs.Laws.{IsProperHeader, IsProperValue, floored_header, floored_value}
-use Rattle.eventstream.specs.Read.{array_of, big_endian, counted_of, front_of, header_of, header_within, headers_within, name_of, number_of, text_of, value_of}
+use Rattle.eventstream.specs.Read.{array_of, big_endian, counted_of, front_of, header_of, header_within, headers_within, header_name_of, number_of, text_value_of, value_of}
 
 -- ## Numbers
 
@@ -109,8 +109,8 @@ unfolding array_of
 array_again bytes rest short more = rw (counted_again bytes rest short more) refl
 
 text_again : (text rest : List ℕ) → length text < 2 ^ 16 → IsUtf8 text → 1 ≤ length rest
-    → text_of (to_be_bytes w16 (length text) ++ text ++ rest) ≡ Ok (Text text, rest)
-unfolding text_of
+    → text_value_of (to_be_bytes w16 (length text) ++ text ++ rest) ≡ Ok (Text text, rest)
+unfolding text_value_of
 text_again text rest short utf8 more = rw (counted_again text rest short more, is_text text utf8) refl
 
 -- a byte array or a text with a spelling isn't too long
@@ -145,8 +145,8 @@ pub both_none : (first second : Option ErrorKind) → option_or first second ≡
 both_none None second none = (refl, none)
 both_none (Some kind) second none = absurd cc
 
-name_again : (name rest : List ℕ) → IsUtf8 name → 1 ≤ length rest → name_of (length name ∷ name ++ rest) ≡ Ok (name, rest)
-unfolding name_of
+name_again : (name rest : List ℕ) → IsUtf8 name → 1 ≤ length rest → header_name_of (length name ∷ name ++ rest) ≡ Ok (name, rest)
+unfolding header_name_of
 name_again name rest utf8 more =
     let two : nat_lt (length (length name ∷ name ++ rest)) 2 ≡ false = le-ltb _ _ (omega (arith, length-append name rest)) in
     let room : nat_le (length (length name ∷ name ++ rest) - 1) (length name) ≡ false = lt-leb _ _ (omega (arith, length-append name rest)) in

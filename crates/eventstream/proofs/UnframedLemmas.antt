@@ -4,15 +4,15 @@ use Rattle.std.specs.Prelude.{if◌then◌else◌, IfSome}
 use Rattle.std.specs.Int.{w64, saturate_signed}
 use Rattle.std.specs.Option.{option_or}
 use Rattle.std.specs.Ordering.{int_eq}
-use Rattle.smithy_core.specs.Instant.{floor_ms}
-use Rattle.smithy_core.specs.Parts.{Parts}
-use Rattle.smithy_core.specs.declared.header.Header.{Header}
+use Rattle.smithy_core.specs.Moment.{floor_ms}
+use Rattle.smithy_core.specs.Message.{Parts}
+use Rattle.smithy_core.specs.Header.{Header}
 use Rattle.smithy_core.specs.declared.header.HeaderValue.{HeaderValue}
 use Rattle.smithy_core.specs.declared.header.HeaderValue.TheVariants.{ByteArray, String as Text, Timestamp}
 use Rattle.eventstream.specs.declared.error.ErrorKind.{ErrorKind}
 use Rattle.eventstream.specs.declared.error.ErrorKind.TheVariants.{InvalidHeaderNameLength, HeaderValueTooLong, TimestampValueTooLarge, HeadersTooLong, PayloadTooLong, MessageTooLong}
-use Rattle.eventstream.specs.Frame.{block, first_unspelled, over, unfit, unframed, unspelled, unspelled_value}
-use Rattle.eventstream.specs.Writing.{IsFrameFault}
+use Rattle.eventstream.specs.Frame.{block, first_unspelled, over, unfit_lengths, unframed, unspelled, unspelled_value}
+use Rattle.eventstream.specs.Write.{IsFrameFault}
 
 -- of two reasons the first counts
 first_counts : (a b : Option ErrorKind) → IfSome a IsFrameFault → IfSome b IsFrameFault → IfSome (option_or a b) IsFrameFault
@@ -44,14 +44,14 @@ of_headers (h ∷ headers) =
 of_length : (n : ℕ) (kind : ErrorKind) → IsFrameFault kind → IfSome (over n kind) IsFrameFault
 of_length n kind is = where_true (nat_lt 4294967295 n) kind is
 
-of_lengths : (headers payload : ℕ) → IfSome (unfit headers payload) IsFrameFault
+of_lengths : (headers payload : ℕ) → IfSome (unfit_lengths headers payload) IsFrameFault
 of_lengths headers payload =
     first_counts (over headers HeadersTooLong) _ (of_length headers HeadersTooLong tt)
     (first_counts (over payload PayloadTooLong) _ (of_length payload PayloadTooLong tt) (of_length _ MessageTooLong tt))
 
 of_message : (m : Parts) → IfSome (unframed m) IsFrameFault
 unfolding unframed
-of_message m = first_counts (first_unspelled m.headers) (unfit (length (block m.headers)) (length m.payload)) (of_headers m.headers) (of_lengths (length (block m.headers)) (length m.payload))
+of_message m = first_counts (first_unspelled m.headers) (unfit_lengths (length (block m.headers)) (length m.payload)) (of_headers m.headers) (of_lengths (length (block m.headers)) (length m.payload))
 
 -- a message has no frame for these reasons alone
 pub unframed_fault : (m : Parts) (kind : ErrorKind) → unframed m ≡ Some kind → IsFrameFault kind

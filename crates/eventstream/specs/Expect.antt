@@ -1,7 +1,7 @@
 -- The value of a header that has to be of one kind.
 use Rattle.std.specs.Prelude.{ℕ, List, Option, Result}
 use Rattle.std.specs.Option.{ok_or}
-use Rattle.smithy_core.specs.declared.header.Header.{Header}
+use Rattle.smithy_core.specs.Header.{Header}
 use Rattle.smithy_core.specs.declared.header.HeaderValue.{HeaderValue}
 use Rattle.eventstream.specs.Texts.{unexpected_text}
 

@@ -2,7 +2,7 @@
 use Rattle.std.specs.Prelude.{List, ℕ, ◌++◌, codes}
 use Rattle.mac_core.specs.Mac.{mac}
 use Rattle.smithy_core.specs.Civil.{date}
-use Rattle.smithy_core.specs.Instant.{Instant}
+use Rattle.smithy_core.specs.Moment.{Instant}
 
 -- who signs, and for which region and service
 pub record Signer : Type 0 where

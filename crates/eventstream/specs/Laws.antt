@@ -1,9 +1,9 @@
 -- What a message is read back as, and what the types of its parts say of it.
 use Rattle.std.specs.Prelude.{◌<◌, ◌^◌, map, All, FitsSigned, IsUtf8}
 use Rattle.std.specs.Int.{w8, w16, w32, w64}
-use Rattle.smithy_core.specs.Instant.{floored}
-use Rattle.smithy_core.specs.Parts.{Parts}
-use Rattle.smithy_core.specs.declared.header.Header.{Header}
+use Rattle.smithy_core.specs.Moment.{floored}
+use Rattle.smithy_core.specs.Message.{Parts}
+use Rattle.smithy_core.specs.Header.{Header}
 use Rattle.smithy_core.specs.declared.header.HeaderValue.{HeaderValue}
 use Rattle.smithy_core.specs.declared.header.HeaderValue.TheVariants.{Bool as Truth, Byte, Int16, Int32, Int64, ByteArray, String as Text, Timestamp, Uuid}
 

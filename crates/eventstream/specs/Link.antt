@@ -4,10 +4,10 @@ use Rattle.sha2.specs.Sha256.{sha256}
 use Rattle.hex.specs.Hex.{encode_lower}
 use Rattle.mac_core.specs.Mac.{mac}
 use Rattle.smithy_core.specs.Civil.{stamp}
-use Rattle.smithy_core.specs.Instant.{Instant, floor_secs}
-use Rattle.smithy_core.specs.Parts.{Parts}
+use Rattle.smithy_core.specs.Moment.{Instant, floor_secs}
+use Rattle.smithy_core.specs.Message.{Parts}
 use Rattle.smithy_core.specs.Text.{line}
-use Rattle.smithy_core.specs.declared.header.Header.{Header}
+use Rattle.smithy_core.specs.Header.{Header}
 use Rattle.smithy_core.specs.declared.header.HeaderValue.TheVariants.{ByteArray, Timestamp}
 use Rattle.eventstream.specs.Frame.{frame, spelling}
 use Rattle.eventstream.specs.Key.{Signer, scope, signing_key}
@@ -43,6 +43,12 @@ begun signer [] (t ∷ ts) signature = frame (link_message signer signature [] t
 begun signer (event ∷ events) (t ∷ ts) signature =
     frame (link_message signer signature (frame event) t) ∷ begun signer events ts (link_signature signer signature (frame event) t)
 
--- the chain of the events, with one moment more than events
+-- the frames of the events, each with its moment, and then an empty one with the last moment, each signed over the signature
+-- before it. There is a chain where there is one moment more than events.
 abbrev pub chain : Signer → List Parts → List Instant → List ℕ → List (List ℕ)
-chain signer events moments signature = begun signer events moments signature
+chain signer [] [] signature = []
+chain signer [] (t ∷ []) signature = frame (link_message signer signature [] t) ∷ []
+chain signer [] (t ∷ u ∷ ts) signature = []
+chain signer (event ∷ events) [] signature = []
+chain signer (event ∷ events) (t ∷ ts) signature =
+    frame (link_message signer signature (frame event) t) ∷ chain signer events ts (link_signature signer signature (frame event) t)

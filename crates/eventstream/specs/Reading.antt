@@ -1,9 +1,10 @@
 -- What a stream of bytes is read as: messages, and how the stream ends.
 use Rattle.std.specs.Prelude.{◌≡◌, ℕ, zero, suc, ◌==◌, nat_lt, if◌then◌else◌, List, [], ◌∷◌, length, take, drop, Result, Ok, Err}
-use Rattle.smithy_core.specs.Parts.{Parts}
+use Rattle.smithy_core.specs.Message.{Parts}
 use Rattle.eventstream.specs.declared.error.ErrorKind.{ErrorKind}
 use Rattle.eventstream.specs.declared.error.ErrorKind.TheVariants.{InvalidMessageLength}
-use Rattle.eventstream.specs.Read.{read, u32_at}
+use Rattle.seg_buf.specs.Segments.{prelude_len}
+use Rattle.eventstream.specs.Read.{announced, read}
 
 -- what a stream begins with
 pub data First : Type 0 where
@@ -14,10 +15,6 @@ pub data First : Type 0 where
   -- a message, and the bytes after its frame
   begins : Parts → List ℕ → First
 
--- the length that the first four bytes announce
-abbrev pub announced : List ℕ → ℕ
-announced bytes = u32_at 0 bytes
-
 -- the bytes begin with what was read, or with a fault
 abbrev pub as_first : List ℕ → Result (Parts × ℕ) ErrorKind → First
 as_first bytes (Ok message) = begins message.0 (drop (announced bytes) bytes)
@@ -27,8 +24,8 @@ as_first bytes (Err kind) = fault kind
 unfoldable pub first_of : List ℕ → First
 first_of bytes =
     if length bytes == 0 then nothing
-    else if nat_lt (length bytes) 12 then leftover bytes
-    else if nat_lt (announced bytes) 12 then fault InvalidMessageLength
+    else if nat_lt (length bytes) prelude_len then leftover bytes
+    else if nat_lt (announced bytes) prelude_len then fault InvalidMessageLength
     else if nat_lt (length bytes) (announced bytes) then leftover bytes
     else as_first bytes (read (take (announced bytes) bytes))
 
@@ -53,7 +50,7 @@ read_on others (leftover bytes) = record { messages = []; end = leftover bytes }
 read_on others (fault kind) = record { messages = []; end = fault kind }
 read_on others (begins message rest) = onto message (others rest)
 
--- the same over at most so many messages
+-- the reading of a stream up to its first so many messages
 unfoldable pub reading_within : ℕ → List ℕ → Read
 reading_within zero bytes = read_on (λ _. record { messages = []; end = nothing }) (first_of bytes)
 reading_within (suc most) bytes = read_on (reading_within most) (first_of bytes)

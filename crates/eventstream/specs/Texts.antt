@@ -2,7 +2,7 @@
 use Rattle.std.specs.Prelude.{◌≡◌, ℕ, Bool, if◌then◌else◌, List, ◌++◌, codes, string_bytes, Result, Ok, Err}
 use Rattle.std.specs.Fmt.{decimal, signed_decimal}
 use Rattle.hex.specs.Hex.{encode_lower}
-use Rattle.smithy_core.specs.Instant.{Instant}
+use Rattle.smithy_core.specs.Moment.{Instant}
 use Rattle.smithy_core.specs.declared.header.HeaderValue.{HeaderValue}
 use Rattle.smithy_core.specs.declared.header.HeaderValue.TheVariants.{Bool as Truth, Byte, Int16, Int32, Int64, ByteArray, String as Text, Timestamp, Uuid}
 use Rattle.eventstream.specs.declared.error.ErrorKind.{ErrorKind}
@@ -22,16 +22,16 @@ abbrev pub shown : List ℕ → List ℕ → List ℕ
 shown kind value = kind ++ (codes "(" ++ (value ++ codes ")"))
 
 -- a value as it is printed
-unfoldable pub value_text : HeaderValue → List ℕ
-value_text (Truth b) = shown (codes "Bool") (truth_text b)
-value_text (Byte n) = shown (codes "Byte") (signed_decimal n)
-value_text (Int16 n) = shown (codes "Int16") (signed_decimal n)
-value_text (Int32 n) = shown (codes "Int32") (signed_decimal n)
-value_text (Int64 n) = shown (codes "Int64") (signed_decimal n)
-value_text (ByteArray bytes) = shown (codes "ByteArray") (encode_lower bytes)
-value_text (Text text) = shown (codes "String") text
-value_text (Timestamp t) = shown (codes "Timestamp") (moment_text t)
-value_text (Uuid n) = shown (codes "Uuid") (decimal n)
+unfoldable pub shown_value : HeaderValue → List ℕ
+shown_value (Truth b) = shown (codes "Bool") (truth_text b)
+shown_value (Byte n) = shown (codes "Byte") (signed_decimal n)
+shown_value (Int16 n) = shown (codes "Int16") (signed_decimal n)
+shown_value (Int32 n) = shown (codes "Int32") (signed_decimal n)
+shown_value (Int64 n) = shown (codes "Int64") (signed_decimal n)
+shown_value (ByteArray bytes) = shown (codes "ByteArray") (encode_lower bytes)
+shown_value (Text text) = shown (codes "String") text
+shown_value (Timestamp t) = shown (codes "Timestamp") (moment_text t)
+shown_value (Uuid n) = shown (codes "Uuid") (decimal n)
 
 -- the value of the header is of another kind than this one
 unfoldable pub unexpected_text : List ℕ → List ℕ → List ℕ
@@ -39,7 +39,7 @@ unexpected_text name kind = codes "expected '" ++ (name ++ (codes "' header valu
 
 -- the value of a header of a response is no text
 unfoldable pub no_text : List ℕ → HeaderValue → List ℕ
-no_text name value = codes "expected response " ++ (name ++ (codes " header to be string, received " ++ value_text value))
+no_text name value = codes "expected response " ++ (name ++ (codes " header to be string, received " ++ shown_value value))
 
 -- a response lacks the header
 unfoldable pub missing_text : List ℕ → List ℕ
@@ -70,7 +70,7 @@ abbrev pub RefusesOnly : {A : Type 0} → Result A (List ℕ) → ErrorKind → 
 RefusesOnly (Ok x) kind = ⊥
 RefusesOnly (Err text) kind = Tells text kind
 
--- the same, where what is wanted takes no memory: it is answered wherever it is there
+-- what is wanted takes no memory: it is answered wherever it is there, as it is seen; where a text stands in its place, the error tells it
 abbrev pub AnswersAtOnce : {A B : Type 0} → (B → A) → Result A (List ℕ) → Result B Error → Type 0
 AnswersAtOnce seen wanted (Ok x) = wanted ≡ Ok (seen x)
 AnswersAtOnce seen wanted (Err e) = RefusesOnly wanted e.kind

@@ -1,10 +1,12 @@
 ghost use Rattle.std.specs.Prelude.{◌≡◌, ℕ, List, ◌+◌, ◌-◌, ◌≤◌, ◌<◌, ◌++◌, length, drop, None, Some, IfOk};
-ghost use Rattle.eventstream.specs.Decoding.{Decodes, Finishes, Steps, added, end_of, joined, least_len};
-ghost use Rattle.eventstream.specs.Reading.{announced, first_of};
+ghost use Rattle.eventstream.specs.Decode.{DecodesAll, Finishes, DecodesFrame, appended_messages, end_of, undecoded_bytes, least_len};
+ghost use Rattle.seg_buf.specs.Segments.{prelude_len};
+ghost use Rattle.eventstream.specs.Read.{announced};
+ghost use Rattle.eventstream.specs.Reading.{first_of};
 
 use crate::error::{Error, ErrorKind};
-use crate::read::{PRELUDE, announced, read_after, read_message_from};
-use seg_buf::SegBuf;
+use crate::read::{announced, read_after, read_message_from};
+use seg_buf::{PRELUDE, SegBuf};
 use smithy_core::{Mem, Message};
 use std::alloc::Global;
 use std::marker::Model;
@@ -92,7 +94,7 @@ impl MessageFrameDecoder {
         alloc: Global,
         buffer: &mut SegBuf,
     ) -> Result<DecodedFrame, Error>
-        ensures step { Steps self.old buffer.old self.new buffer.new result }
+        ensures step { DecodesFrame self.old buffer.old self.new buffer.new result }
         ensures spare { buffer.old.spare ≤ buffer.new.spare }
     {
         match self.prelude {
@@ -125,8 +127,8 @@ impl MessageFrameDecoder {
         buffer: &mut SegBuf,
         messages: &mut Vec<Message>,
     ) -> Result<(), Error>
-        ensures appended { messages.new.items ≡ messages.old.items ++ added messages.old.items messages.new.items }
-        ensures decoded { Decodes (added messages.old.items messages.new.items) self.old buffer.old self.new buffer.new result }
+        ensures appended { messages.new.items ≡ messages.old.items ++ appended_messages messages.old.items messages.new.items }
+        ensures decoded { DecodesAll (appended_messages messages.old.items messages.new.items) self.old buffer.old self.new buffer.new result }
         ensures spare { buffer.old.spare ≤ buffer.new.spare }
     {
         loop {
@@ -141,7 +143,7 @@ impl MessageFrameDecoder {
 
     /// How the stream ends, where no byte follows those of the buffer.
     pub fn end(&self, buffer: &SegBuf) -> StreamEnd
-        ensures { result ≡ end_of (first_of (joined self.now buffer.now.bytes)) }
+        ensures { result ≡ end_of (first_of (undecoded_bytes self.now buffer.now.bytes)) }
     {
         let left = buffer.remaining();
         match self.prelude {
@@ -159,7 +161,7 @@ impl MessageFrameDecoder {
         buffer: &mut SegBuf,
     ) -> Result<DecodedFrame, Error>
         requires { self.old ≡ Some prelude }
-        ensures step { Steps self.old buffer.old self.new buffer.new result }
+        ensures step { DecodesFrame self.old buffer.old self.new buffer.new result }
         ensures spare { buffer.old.spare ≤ buffer.new.spare }
     {
         let total = announced(&prelude);
@@ -178,7 +180,7 @@ impl MessageFrameDecoder {
     // Takes a frame that is there whole, or else its prelude.
     fn decode_whole(&mut self, alloc: Global, buffer: &mut SegBuf) -> Result<DecodedFrame, Error>
         requires { self.old ≡ None }
-        ensures step { Steps self.old buffer.old self.new buffer.new result }
+        ensures step { DecodesFrame self.old buffer.old self.new buffer.new result }
         ensures spare { buffer.old.spare ≤ buffer.new.spare }
     {
         if buffer.remaining() < PRELUDE {
@@ -252,7 +254,7 @@ fn front_announced(buffer: &SegBuf) -> usize
 
 // How a stream ends with `kept` and then `left` bytes of a frame that has at least `least` bytes.
 fn end_within(least: usize, kept: usize, left: usize) -> StreamEnd
-    requires { kept ≤ 12 }
+    requires { kept ≤ prelude_len }
     ensures { (bytes : List ℕ) → length bytes ≡ kept + left → least ≡ least_len bytes → result ≡ end_of (first_of bytes) }
 {
     if least < PRELUDE || least - kept <= left {

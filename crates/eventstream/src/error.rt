@@ -1,5 +1,5 @@
 ghost use Rattle.std.specs.Prelude.{◌≡◌, IfOk};
-ghost use Rattle.eventstream.specs.Errors.{IsSameKind, is_invalid_message};
+ghost use Rattle.eventstream.specs.Error.{IsSameKind, error_kind, is_invalid_message};
 ghost use Rattle.eventstream.specs.declared.error.ErrorKind.TheVariants.{Marshalling, NoMemory, Unmarshalling};
 
 use smithy_core::{DateTime, Mem};
@@ -82,7 +82,7 @@ pub struct Error {
 impl Error {
     /// An event that is no message.
     pub fn marshalling(message: String) -> Error
-        ensures { result.kind ≡ Marshalling message }
+        ensures { error_kind result ≡ Marshalling message }
     {
         Error {
             kind: ErrorKind::Marshalling(message),
@@ -91,7 +91,7 @@ impl Error {
 
     /// A message that is no event.
     pub fn unmarshalling(message: String) -> Error
-        ensures { result.kind ≡ Unmarshalling message }
+        ensures { error_kind result ≡ Unmarshalling message }
     {
         Error {
             kind: ErrorKind::Unmarshalling(message),
@@ -100,14 +100,14 @@ impl Error {
 
     /// What happened.
     pub fn kind(&self) -> &ErrorKind
-        ensures { result.now ≡ self.now.kind }
+        ensures { result.now ≡ error_kind self.now }
     {
         &self.kind
     }
 
     /// An equal error.
     pub fn try_clone(&self) -> Mem<Error>
-        ensures { IfOk result (λ copy. IsSameKind self.now.kind copy.kind) }
+        ensures { IfOk result (λ copy. IsSameKind (error_kind self.now) (error_kind copy)) }
     {
         Ok(Error {
             kind: self.kind.try_clone()?,
@@ -116,7 +116,7 @@ impl Error {
 
     /// Whether the message itself is at fault, which no writer can send.
     pub fn is_invalid_message(&self) -> bool
-        ensures { result ≡ is_invalid_message self.now.kind }
+        ensures { result ≡ is_invalid_message (error_kind self.now) }
     {
         matches!(
             &self.kind,
@@ -133,9 +133,9 @@ impl Error {
 
 impl fmt::Display for Error {
     ghost use Rattle.std.specs.Prelude.{Some};
-    ghost use Rattle.eventstream.specs.Errors.{text_of};
+    ghost use Rattle.eventstream.specs.Error.{error_kind, error_kind_text};
 
-    ghost output = { λ error. Some (text_of error.kind) };
+    ghost output = { λ error. Some (error_kind_text (error_kind error)) };
 
     fn fmt<W: fmt::Write>(&self, f: &mut fmt::Formatter<W>) -> fmt::Result {
         match &self.kind {
@@ -187,7 +187,7 @@ impl fmt::Display for Error {
 impl std::error::Error for Error {}
 
 impl From<ErrorKind> for Error {
-    ghost from_gives = { λ kind error. error.kind ≡ kind };
+    ghost from_gives = { λ kind error. error_kind error ≡ kind };
 
     fn from(kind: ErrorKind) -> Error {
         Error { kind }
@@ -195,7 +195,7 @@ impl From<ErrorKind> for Error {
 }
 
 impl From<AllocError> for Error {
-    ghost from_gives = { λ _ error. error.kind ≡ NoMemory };
+    ghost from_gives = { λ _ error. error_kind error ≡ NoMemory };
 
     fn from(_e: AllocError) -> Error {
         Error {
@@ -205,7 +205,7 @@ impl From<AllocError> for Error {
 }
 
 impl<T: Drop> From<AllocFailed<T>> for Error {
-    ghost from_gives = { λ _ error. error.kind ≡ NoMemory };
+    ghost from_gives = { λ _ error. error_kind error ≡ NoMemory };
 
     fn from(_e: AllocFailed<T>) -> Error {
         Error {

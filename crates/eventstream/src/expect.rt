@@ -1,5 +1,5 @@
 ghost use Rattle.std.specs.Prelude.{codes, string_bytes};
-ghost use Rattle.smithy_core.specs.Values.{bool_of, byte_of, bytes_of, instant_of, int16_of, int32_of, int64_of, string_of};
+ghost use Rattle.smithy_core.specs.HeaderValue.{bool_of, byte_of, byte_array_of, instant_of, int16_of, int32_of, int64_of, string_of};
 ghost use Rattle.eventstream.specs.Expect.{expected};
 ghost use Rattle.eventstream.specs.Texts.{Answers, AnswersAtOnce, Tells, unexpected_text};
 
@@ -84,7 +84,7 @@ pub fn expect_int64(alloc: Global, header: &Header) -> Result<i64, Error>
 ///
 /// [`ErrorKind::Unmarshalling`](crate::ErrorKind::Unmarshalling) exactly where it is of another kind.
 pub fn expect_byte_array(alloc: Global, header: &Header) -> Result<Blob, Error>
-    ensures { Answers (λ bytes. bytes) (expected bytes_of (codes "ByteArray") header.now) result }
+    ensures { Answers (λ bytes. bytes) (expected byte_array_of (codes "ByteArray") header.now) result }
 {
     match header.value() {
         HeaderValue::ByteArray(value) => Ok(Blob::new(value.clone()?)),

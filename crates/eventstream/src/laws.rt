@@ -1,8 +1,8 @@
 ghost use Rattle.std.specs.Prelude.{◌≡◌, ℕ, List, [], ◌++◌, length, map, flat_map, None, Ok, All};
 ghost use Rattle.std.specs.List.{AllByRecursion};
-ghost use Rattle.smithy_core.specs.Parts.{Parts};
+ghost use Rattle.smithy_core.specs.Message.{Parts};
 ghost use Rattle.eventstream.specs.declared.error.ErrorKind.{ErrorKind};
-ghost use Rattle.eventstream.specs.Decoding.{IsUnfinished};
+ghost use Rattle.eventstream.specs.Decode.{IsUnfinished};
 ghost use Rattle.eventstream.specs.Frame.{frame, unframed};
 ghost use Rattle.eventstream.specs.Laws.{IsProper, IsProperHeader, IsProperValue, floored_message};
 ghost use Rattle.eventstream.specs.Read.{read};

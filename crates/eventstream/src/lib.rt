@@ -1,10 +1,10 @@
 //! The event stream encoding: messages as frames, and frames as messages.
 //!
 //! The layer above is promised that [`write_message_to`] appends the frame of the message, or nothing
-//! and the first reason why it has none (`specs/Frame.antt`, `specs/Writing.antt`); that
+//! and the first reason why it has none (`specs/Frame.antt`, `specs/Write.antt`); that
 //! [`read_message_from`] takes the message of one frame, or nothing and the first fault
 //! (`specs/Read.antt`); that [`MessageFrameDecoder`] makes one step of the reading on the bytes that came,
-//! or all of them, in whatever pieces (`specs/Reading.antt`, `specs/Decoding.antt`); and that a frame, whatever follows
+//! or all of them, in whatever pieces (`specs/Reading.antt`, `specs/Decode.antt`); and that a frame, whatever follows
 //! it, is read back as its message ([`frame_reads_back`]). [`MessageSizeHint`] tells how long a frame
 //! will be, [`parse_response_headers`] and the calls that expect a value read headers
 //! (`specs/SizeHint.antt`, `specs/ResponseHeaders.antt`, `specs/Expect.antt`). The definitions of the
@@ -15,6 +15,7 @@
 mod decode;
 mod error;
 mod expect;
+mod kind;
 mod laws;
 mod read;
 mod response_headers;

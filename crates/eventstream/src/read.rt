@@ -1,8 +1,8 @@
 ghost use Rattle.std.specs.Prelude.{◌≡◌, ℕ, ◌+◌, ◌-◌, ◌≤◌, ◌<◌, ◌^◌, ◌++◌, length, take, drop, OnOk};
 ghost use Rattle.mac_core.specs.Crc.{remainder};
-ghost use Rattle.eventstream.specs.Read.{headers_of, lengths_of, message_of, read, read_after, u32_at};
-ghost use Rattle.eventstream.specs.Reading.{announced};
-ghost use Rattle.eventstream.specs.Reads.{Gives, GivesMessage, Reads};
+ghost use Rattle.seg_buf.specs.Segments.{prelude_len};
+ghost use Rattle.eventstream.specs.Frame.{least_frame};
+ghost use Rattle.eventstream.specs.Read.{headers_of, lengths_of, checked_message, read, read_after, u32_at, announced, GivesRead, GivesMessage, TakesMessage};
 
 mod header;
 mod headers;
@@ -11,13 +11,12 @@ mod lengths;
 use crate::error::{Error, ErrorKind};
 use crate::read::headers::read_headers;
 use crate::read::lengths::{Lengths, read_lengths, u32_at};
+use crate::write::LEAST_FRAME;
 use bytes::Bytes;
 use mac_core::Crc;
+use seg_buf::PRELUDE;
 use smithy_core::{Header, Message};
 use std::alloc::Global;
-
-/// The bytes of a prelude: two lengths and their checksum.
-pub const PRELUDE: usize = 12;
 
 /// Takes the message of one frame from the front.
 ///
@@ -30,7 +29,7 @@ pub const PRELUDE: usize = 12;
 /// there; [`ErrorKind::MessageChecksumMismatch`]. A refused call takes nothing.
 #[tactic(auto, using(crate::proofs::FrontLemmas::announced_prelude), unfolding(crate::specs::Read::read))]
 pub fn read_message_from(alloc: Global, buffer: &mut Bytes) -> Result<Message, Error>
-    ensures { Reads (read buffer.old) buffer.old buffer.new result }
+    ensures { TakesMessage (read buffer.old) buffer.old buffer.new result }
 {
     let Some((prelude, _)) = buffer.as_slice().split_first_chunk::<PRELUDE>() else {
         return Err(Error::from(ErrorKind::InvalidMessageLength));
@@ -50,7 +49,7 @@ pub fn read_message_from(alloc: Global, buffer: &mut Bytes) -> Result<Message, E
 #[tactic(auto, unfolding(crate::specs::Read::read_after))]
 pub fn read_after(alloc: Global, prelude: [u8; PRELUDE], rest: &Bytes) -> Result<Message, Error>
     ensures read { GivesMessage (read_after prelude rest.now) (announced prelude) result }
-    ensures there { OnOk result (announced prelude ≤ 12 + length rest.now) }
+    ensures there { OnOk result (announced prelude ≤ prelude_len + length rest.now) }
 {
     let lengths = read_lengths(PRELUDE + rest.len(), prelude)?;
     let headers = read_headers(alloc, lengths.headers, rest.clone()?)?;
@@ -60,23 +59,23 @@ pub fn read_after(alloc: Global, prelude: [u8; PRELUDE], rest: &Bytes) -> Result
 /// The length of the frame that a prelude announces.
 pub fn announced(prelude: &[u8; PRELUDE]) -> usize
     ensures value { result ≡ announced prelude.now }
-    ensures twelve { length prelude.now ≡ 12 }
+    ensures len { length prelude.now ≡ prelude_len }
 {
     u32_at(prelude.as_slice(), 0) as usize
 }
 
 // The message of these headers and the payload behind them, where the closing checksum is right.
-#[tactic(auto, unfolding(crate::specs::Read::message_of))]
+#[tactic(auto, unfolding(crate::specs::Read::checked_message))]
 fn read_message(
     lengths: Lengths,
     prelude: [u8; PRELUDE],
     rest: &Bytes,
     headers: Vec<Header>,
 ) -> Result<Message, Error>
-    requires { (16 ≤ lengths.total) × (lengths.total ≤ 12 + length rest.now) × (lengths.headers + 16 ≤ lengths.total) }
-    ensures { Gives (message_of lengths prelude rest.now headers.items) result }
+    requires { (least_frame ≤ lengths.total) × (lengths.total ≤ prelude_len + length rest.now) × (lengths.headers + least_frame ≤ lengths.total) }
+    ensures { GivesRead (checked_message lengths prelude rest.now headers.items) result }
 {
-    let end = lengths.total - 16;
+    let end = lengths.total - LEAST_FRAME;
     let computed = checksum_of(prelude.as_slice(), &rest.as_slice()[..end]);
     let carried = u32_at(rest.as_slice(), end);
     if computed != carried {

@@ -1,5 +1,5 @@
 ghost use Rattle.std.specs.Prelude.{◌≡◌, option_copied};
-ghost use Rattle.eventstream.specs.ResponseHeaders.{last_named, optional, required, response_in, response_of, smithy_type_of, text_named};
+ghost use Rattle.eventstream.specs.ResponseHeaders.{last_named, optional_text, required_text, response_in, response_of, smithy_type_of, text_named};
 ghost use Rattle.eventstream.specs.Texts.{Answers};
 
 use crate::error::Error;
@@ -34,7 +34,7 @@ impl ResponseHeaders<'_> {
 /// [`ErrorKind::Unmarshalling`](crate::ErrorKind::Unmarshalling) with the first of these texts: the
 /// header `:message-type` is missing or no text; `:content-type` is no text; `:event-type` of an
 /// `event` or `:exception-type` of an `exception` is missing or no text, or the message is neither.
-#[tactic(auto, unfolding(crate::specs::ResponseHeaders::response_of, crate::specs::ResponseHeaders::required, crate::specs::ResponseHeaders::optional))]
+#[tactic(auto, unfolding(crate::specs::ResponseHeaders::response_of, crate::specs::ResponseHeaders::required_text, crate::specs::ResponseHeaders::optional_text))]
 pub fn parse_response_headers(
     alloc: Global,
     message: &Message,
@@ -69,9 +69,9 @@ fn smithy_type<'a>(
 }
 
 // The text of the last header of the name, which has to be there.
-#[tactic(auto, unfolding(crate::specs::ResponseHeaders::required))]
+#[tactic(auto, unfolding(crate::specs::ResponseHeaders::required_text))]
 fn required<'a>(alloc: Global, name: &str, headers: &'a [Header]) -> Result<&'a StrBytes, Error>
-    ensures { Answers (λ text. text.now) (required name.now headers.now) result }
+    ensures { Answers (λ text. text.now) (required_text name.now headers.now) result }
 {
     match last_named(headers, name) {
         Some(value) => text_named(alloc, name, value),
@@ -80,13 +80,13 @@ fn required<'a>(alloc: Global, name: &str, headers: &'a [Header]) -> Result<&'a 
 }
 
 // The text of the last header of the name, where there is one.
-#[tactic(auto, unfolding(crate::specs::ResponseHeaders::optional))]
+#[tactic(auto, unfolding(crate::specs::ResponseHeaders::optional_text))]
 fn optional<'a>(
     alloc: Global,
     name: &str,
     headers: &'a [Header],
 ) -> Result<Option<&'a StrBytes>, Error>
-    ensures { Answers option_copied (optional name.now headers.now) result }
+    ensures { Answers option_copied (optional_text name.now headers.now) result }
 {
     match last_named(headers, name) {
         Some(value) => Ok(Some(text_named(alloc, name, value)?)),

@@ -1,9 +1,9 @@
 ghost use Rattle.std.specs.Prelude.{◌≡◌, ℕ, ◌+◌, ◌-◌, ◌^◌, min, None, length, sum_by};
-ghost use Rattle.smithy_core.specs.Parts.{Parts};
+ghost use Rattle.smithy_core.specs.Message.{Parts};
 ghost use Rattle.eventstream.specs.Frame.{frame, unframed};
 ghost use Rattle.eventstream.specs.SizeHint.{header_width, size_hint, value_width};
 
-use crate::write::{MOST_NAME, OVERHEAD};
+use crate::write::{LEAST_FRAME, MOST_NAME};
 use smithy_core::{Header, HeaderValue, Message};
 
 /// How many bytes a frame is expected to take.
@@ -25,7 +25,7 @@ impl MessageSizeHint for Message {
 
     #[tactic(auto, unfolding(crate::specs::SizeHint::size_hint), using(crate::proofs::SizeHintLemmas::length_framed))]
     fn size_hint(&self) -> usize {
-        OVERHEAD
+        LEAST_FRAME
             .saturating_add(headers_width(self.headers()))
             .saturating_add(self.payload().len())
     }

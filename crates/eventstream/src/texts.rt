@@ -1,6 +1,6 @@
 ghost use Rattle.std.specs.Prelude.{◌≡◌, string_bytes, IfOk, MatchResult};
 ghost use Rattle.eventstream.specs.declared.error.ErrorKind.TheVariants.{NoMemory};
-ghost use Rattle.eventstream.specs.Texts.{Tells, missing_text, moment_text, no_text, unexpected_text, unrecognized_text, value_text};
+ghost use Rattle.eventstream.specs.Texts.{Tells, missing_text, moment_text, no_text, unexpected_text, unrecognized_text, shown_value};
 
 use crate::error::Error;
 use smithy_core::{DateTime, HeaderValue, Mem};
@@ -50,9 +50,9 @@ pub(crate) fn unrecognized_text(alloc: Global, message_type: &str) -> Mem<String
 }
 
 // The name of the value's kind and, in round brackets, the value.
-#[tactic(auto, unfolding(crate::specs::Texts::value_text))]
+#[tactic(auto, unfolding(crate::specs::Texts::shown_value))]
 fn value_text(alloc: Global, value: &HeaderValue) -> Mem<String>
-    ensures { IfOk result (λ text. string_bytes text ≡ value_text value.now) }
+    ensures { IfOk result (λ text. string_bytes text ≡ shown_value value.now) }
 {
     match value {
         HeaderValue::Bool(value) => format!(in alloc; "Bool({value})"),

@@ -2,10 +2,12 @@ ghost use Rattle.std.specs.Prelude.{◌≡◌, ℕ, ◌+◌, ◌≤◌, ◌<◌,
 ghost use Rattle.std.specs.Int.{w16, to_be_bytes};
 ghost use Rattle.std.specs.Vec.{vec_capacity, vec_len};
 ghost use Rattle.mac_core.specs.Crc.{remainder};
-ghost use Rattle.eventstream.specs.Frame.{be32, block, first_unspelled, frame, prelude_of, spelling, summed, unfit, unframed, unspelled, unspelled_value, value_spelling};
-ghost use Rattle.eventstream.specs.Writing.{Writes};
+ghost use Rattle.seg_buf.specs.Segments.{prelude_len};
+ghost use Rattle.eventstream.specs.Frame.{be32, block, first_unspelled, frame, frame_lengths, least_frame, most_frame, most_value, spelling, summed, unfit_lengths, unframed, unspelled, unspelled_value, value_spelling};
+ghost use Rattle.eventstream.specs.Write.{Writes};
 
 use crate::error::{Error, ErrorKind};
+use crate::kind;
 use mac_core::crc32;
 use smithy_core::{Header, HeaderValue, Mem, Message};
 use std::alloc::Global;
@@ -19,8 +21,8 @@ const MOST_VALUE: usize = 32_767;
 /// The most bytes of a header block, of a payload and of a frame.
 const MOST_FRAME: usize = 4_294_967_295;
 
-/// The bytes of a frame beside its header block and its payload.
-pub(crate) const OVERHEAD: usize = 16;
+/// The bytes of the least frame, which has neither headers nor a payload: a prelude and the closing checksum.
+pub(crate) const LEAST_FRAME: usize = 16;
 
 /// Appends the spellings of the headers.
 ///
@@ -63,7 +65,7 @@ pub fn write_message_to(alloc: Global, message: &Message, buffer: &mut Vec<u8>) 
     if let Err(kind) = test_lengths(headers.len(), message.payload().len()) {
         return Err(Error::from(kind));
     }
-    buffer.reserve(OVERHEAD + headers.len() + message.payload().len())?;
+    buffer.reserve(LEAST_FRAME + headers.len() + message.payload().len())?;
     push_frame(buffer, headers.as_slice(), message.payload().as_slice());
     Ok(())
 }
@@ -76,7 +78,7 @@ pub fn frame_of(alloc: Global, message: &Message) -> Mem<Vec<u8>>
 {
     let mut headers = Vec::new(alloc);
     push_headers(&mut headers, message.headers())?;
-    let len = OVERHEAD + headers.len() + message.payload().len();
+    let len = LEAST_FRAME + headers.len() + message.payload().len();
     let mut frame = Vec::with_capacity(alloc, len)?;
     push_frame(&mut frame, headers.as_slice(), message.payload().as_slice());
     Ok(frame)
@@ -123,7 +125,7 @@ fn test_value(value: &HeaderValue) -> Result<(), ErrorKind>
 }
 
 fn test_len(len: usize) -> Result<(), ErrorKind>
-    ensures { MatchResult result (λ _. len ≤ 32767) (λ kind. (32767 < len) × (kind ≡ ErrorKind.HeaderValueTooLong)) }
+    ensures { MatchResult result (λ _. len ≤ most_value) (λ kind. (most_value < len) × (kind ≡ ErrorKind.HeaderValueTooLong)) }
 {
     if len > MOST_VALUE {
         return Err(ErrorKind::HeaderValueTooLong);
@@ -133,8 +135,8 @@ fn test_len(len: usize) -> Result<(), ErrorKind>
 
 fn test_lengths(headers: usize, payload: usize) -> Result<(), ErrorKind>
     ensures { MatchResult result
-        (λ _. (16 + headers + payload ≤ 4294967295) × (unfit headers payload ≡ None))
-        (λ kind. unfit headers payload ≡ Some kind) }
+        (λ _. (least_frame + headers + payload ≤ most_frame) × (unfit_lengths headers payload ≡ None))
+        (λ kind. unfit_lengths headers payload ≡ Some kind) }
 {
     if headers > MOST_FRAME {
         return Err(ErrorKind::HeadersTooLong);
@@ -142,7 +144,7 @@ fn test_lengths(headers: usize, payload: usize) -> Result<(), ErrorKind>
     if payload > MOST_FRAME {
         return Err(ErrorKind::PayloadTooLong);
     }
-    if OVERHEAD + headers + payload > MOST_FRAME {
+    if LEAST_FRAME + headers + payload > MOST_FRAME {
         return Err(ErrorKind::MessageTooLong);
     }
     Ok(())
@@ -173,19 +175,19 @@ fn push_value(buffer: &mut Vec<u8>, value: &HeaderValue) -> Mem<()>
     ensures { OnOk result (buffer.new.items ≡ buffer.old.items ++ value_spelling value.now) }
 {
     match value {
-        HeaderValue::Bool(true) => Ok(buffer.push(0)?),
-        HeaderValue::Bool(false) => Ok(buffer.push(1)?),
-        HeaderValue::Byte(n) => push_tagged(buffer, 2, n.to_be_bytes().as_slice()),
-        HeaderValue::Int16(n) => push_tagged(buffer, 3, n.to_be_bytes().as_slice()),
-        HeaderValue::Int32(n) => push_tagged(buffer, 4, n.to_be_bytes().as_slice()),
-        HeaderValue::Int64(n) => push_tagged(buffer, 5, n.to_be_bytes().as_slice()),
-        HeaderValue::ByteArray(bytes) => push_counted(buffer, 6, bytes.as_slice()),
-        HeaderValue::String(text) => push_counted(buffer, 7, text.as_bytes().as_slice()),
+        HeaderValue::Bool(true) => Ok(buffer.push(kind::TRUE)?),
+        HeaderValue::Bool(false) => Ok(buffer.push(kind::FALSE)?),
+        HeaderValue::Byte(n) => push_tagged(buffer, kind::BYTE, n.to_be_bytes().as_slice()),
+        HeaderValue::Int16(n) => push_tagged(buffer, kind::INT16, n.to_be_bytes().as_slice()),
+        HeaderValue::Int32(n) => push_tagged(buffer, kind::INT32, n.to_be_bytes().as_slice()),
+        HeaderValue::Int64(n) => push_tagged(buffer, kind::INT64, n.to_be_bytes().as_slice()),
+        HeaderValue::ByteArray(bytes) => push_counted(buffer, kind::BYTE_ARRAY, bytes.as_slice()),
+        HeaderValue::String(text) => push_counted(buffer, kind::STRING, text.as_bytes().as_slice()),
         HeaderValue::Timestamp(moment) => {
             let millis = moment.to_millis().unwrap();
-            push_tagged(buffer, 8, millis.to_be_bytes().as_slice())
+            push_tagged(buffer, kind::TIMESTAMP, millis.to_be_bytes().as_slice())
         }
-        HeaderValue::Uuid(n) => push_tagged(buffer, 9, n.to_be_bytes().as_slice()),
+        HeaderValue::Uuid(n) => push_tagged(buffer, kind::UUID, n.to_be_bytes().as_slice()),
     }
 }
 
@@ -209,13 +211,13 @@ fn push_counted(buffer: &mut Vec<u8>, tag: u8, bytes: &[u8]) -> Mem<()>
 
 // The frame of these bytes of headers and this payload, where there is room for it.
 fn push_frame(buffer: &mut Vec<u8>, headers: &[u8], payload: &[u8])
-    requires fits { 16 + length headers.now + length payload.now < 2 ^ 32 }
-    requires room { vec_len buffer.old + (16 + length headers.now + length payload.now) ≤ vec_capacity buffer.old }
-    ensures { buffer.new.items ≡ buffer.old.items ++ summed (summed (prelude_of
-        (16 + length headers.now + length payload.now) (length headers.now)) ++ headers.now ++ payload.now) }
+    requires fits { least_frame + length headers.now + length payload.now ≤ most_frame }
+    requires room { vec_len buffer.old + (least_frame + length headers.now + length payload.now) ≤ vec_capacity buffer.old }
+    ensures { buffer.new.items ≡ buffer.old.items ++ summed (summed (frame_lengths
+        (least_frame + length headers.now + length payload.now) (length headers.now)) ++ headers.now ++ payload.now) }
 {
     let start = buffer.len();
-    let total = OVERHEAD + headers.len() + payload.len();
+    let total = LEAST_FRAME + headers.len() + payload.len();
     push_prelude(buffer, total as u32, headers.len() as u32);
     push_bytes(buffer, headers);
     push_bytes(buffer, payload);
@@ -223,9 +225,9 @@ fn push_frame(buffer: &mut Vec<u8>, headers: &[u8], payload: &[u8])
 }
 
 fn push_prelude(buffer: &mut Vec<u8>, total: u32, headers: u32)
-    requires room { vec_len buffer.old + 12 ≤ vec_capacity buffer.old }
-    ensures items { buffer.new.items ≡ buffer.old.items ++ summed (prelude_of total headers) }
-    ensures len { vec_len buffer.new ≡ vec_len buffer.old + 12 }
+    requires room { vec_len buffer.old + prelude_len ≤ vec_capacity buffer.old }
+    ensures items { buffer.new.items ≡ buffer.old.items ++ summed (frame_lengths total headers) }
+    ensures len { vec_len buffer.new ≡ vec_len buffer.old + prelude_len }
     ensures capacity { vec_capacity buffer.old ≤ vec_capacity buffer.new }
 {
     let start = buffer.len();

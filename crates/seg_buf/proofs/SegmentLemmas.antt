@@ -50,7 +50,7 @@ cut_within piece pieces taken (suc n) some within =
     let more : nat_lt (suc n) (length (drop taken piece)) ≡ true = lt-ltb _ _ (omega (arith, length-drop taken piece)) in
     rw (more, drop-drop (suc n) taken piece) refl
 
--- the same of pieces whose first one is known
+-- the first n bytes of pieces whose first one is known
 pub cut_first : (pieces segments : List (List ℕ)) (taken n : ℕ) (first : List ℕ) → 0 < n → 0 < length pieces → first ≡ slice_index_or pieces 0 first
     → taken + n < length first → left_of pieces taken ≡ segments → cut (n - n) (left_of pieces (taken + n)) ≡ cut n segments
 cut_first [] segments taken n first some there is within all = absurd (omega arith)
@@ -74,9 +74,9 @@ left_whole (piece ∷ pieces) = refl
 
 -- the bytes lie in what is left of the pieces
 pub lie : (pieces : List (List ℕ)) (taken : ℕ) → AreLive pieces taken → LieIn (flat pieces taken) (left_of pieces taken)
-lie [] taken live = record { joined = rw live refl; filled = tt }
+lie [] taken live = record { whole = rw live refl; filled = tt }
 lie (piece ∷ pieces) taken live = record {
-  joined = drop-append-le taken piece (joined pieces) (omega (arith, live.0));
+  whole = drop-append-le taken piece (joined pieces) (omega (arith, live.0));
   filled = (omega (arith, length-drop taken piece, live.0), others pieces live.1);
 }
   where

@@ -1,6 +1,11 @@
--- What contracts see of a `SegBuf`, and what holds of its fields.
-use Rattle.std.specs.Prelude.{◌≡◌, ℕ, zero, suc, ◌-◌, ◌<◌, nat_lt, if◌then◌else◌, List, [], ◌∷◌, ◌++◌, length, drop, Option, Some, None}
+-- What contracts see of a `SegBuf`, how it shows itself, and what holds of its fields.
+use Rattle.std.specs.Prelude.{◌≡◌, ℕ, zero, suc, ◌-◌, ◌<◌, nat_lt, if◌then◌else◌, List, [], ◌∷◌, ◌++◌, length, drop, codes, Option, Some, None}
+use Rattle.std.specs.Fmt.{decimal}
 use Rattle.std.specs.List.{AllByRecursion, flat_map}
+
+-- the bytes of a prelude, with which a frame of the event stream encoding begins: two lengths and their checksum
+abbrev pub prelude_len : ℕ
+prelude_len = 12
 
 -- all bytes in one list, the segments in which they lie, and for how many pieces more there is room
 pub record Segments : Type 0 where
@@ -27,7 +32,7 @@ first_segment (segment ∷ segments) = Some segment
 
 -- the bytes lie in the segments, none of which is empty
 pub record LieIn (bytes : List ℕ) (segments : List (List ℕ)) : Type 0 where
-  pub joined : bytes ≡ flat_map (λ segment. segment) segments
+  pub whole : bytes ≡ flat_map (λ segment. segment) segments
   pub filled : AllByRecursion (λ segment. 0 < length segment) segments
 
 -- the bytes of the pieces, one after another, without those that were taken of the first
@@ -48,3 +53,7 @@ AreLive (piece ∷ pieces) taken = (taken < length piece) × AreLive pieces 0
 pub record IsKept (pieces : List (List ℕ)) (taken len : ℕ) : Type 0 where
   pub live : AreLive pieces taken
   pub counted : len ≡ length (flat pieces taken)
+
+-- how a buffer shows itself: so many bytes
+abbrev pub buffer_size : ℕ → List ℕ
+buffer_size count = codes "SegBuf(" ++ (decimal count ++ codes " bytes)")

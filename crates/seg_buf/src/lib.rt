@@ -6,4 +6,4 @@
 
 mod seg_buf;
 
-pub use crate::seg_buf::SegBuf;
+pub use crate::seg_buf::{PRELUDE, SegBuf};

@@ -1,19 +1,24 @@
 ghost use Rattle.std.specs.Prelude.{◌≡◌, ℕ, ◌+◌, ◌-◌, ◌^◌, ◌<◌, ◌≤◌, List, [], ◌++◌, length, take, drop, slice_index, min, option_copied, IsOk, IfOk, OnOk, OnErr};
-ghost use Rattle.seg_buf.specs.Segments.{LieIn, cut, first_segment, with_segment};
+ghost use Rattle.seg_buf.specs.Segments.{LieIn, cut, first_segment, prelude_len, with_segment};
 
 use bytes::Bytes;
 use std::alloc::{AllocError, Global};
 use std::collections::VecDeque;
+use std::fmt;
 use std::marker::Model;
+
+/// The bytes of a prelude, with which a frame of the event stream encoding begins: two lengths and their checksum.
+pub const PRELUDE: usize = 12;
 
 /// For how many pieces the first allocation has room.
 const FIRST_ROOM: usize = 4;
 
-/// Shared pieces of bytes, read as one list.
+/// Shared pieces of bytes, read as one list. [`Debug`](std::fmt::Debug) prints how many bytes there are, and none of them,
+/// since they may hold a secret.
 ///
 /// Contracts see it as its `Segments`: its bytes in one flat list, the segments in which they lie, and for how many
 /// pieces more it has room.
-#[derive(Debug, Drop)]
+#[derive(Drop)]
 pub struct SegBuf {
     // The pieces that aren't used up, in order.
     pieces: VecDeque<Bytes>,
@@ -192,16 +197,16 @@ impl SegBuf {
         }
     }
 
-    /// Takes the first 12 bytes. It takes no memory.
-    pub fn take_prelude(&mut self) -> [u8; 12]
-        requires { 12 ≤ length self.old.bytes }
+    /// Takes the bytes of a prelude, which come first. It takes no memory.
+    pub fn take_prelude(&mut self) -> [u8; PRELUDE]
+        requires { prelude_len ≤ length self.old.bytes }
         ensures bytes { self.old.bytes ≡ result ++ self.new.bytes }
-        ensures front { result ≡ take 12 self.old.bytes }
-        ensures rest { self.new.bytes ≡ drop 12 self.old.bytes }
-        ensures segments { self.new.segments ≡ cut 12 self.old.segments }
+        ensures front { result ≡ take prelude_len self.old.bytes }
+        ensures rest { self.new.bytes ≡ drop prelude_len self.old.bytes }
+        ensures segments { self.new.segments ≡ cut prelude_len self.old.segments }
         ensures spare { self.old.spare ≤ self.new.spare }
     {
-        let mut prelude = [0; 12];
+        let mut prelude = [0; PRELUDE];
         self.copy_into(&mut prelude);
         self.advance(prelude.len());
         prelude
@@ -269,6 +274,18 @@ impl SegBuf {
             taken: self.taken,
             len: self.len,
         })
+    }
+}
+
+impl fmt::Debug for SegBuf {
+    ghost use Rattle.std.specs.Prelude.{Some, length};
+    ghost use Rattle.seg_buf.specs.Segments.{buffer_size};
+
+    ghost debug_output = { λ buffer. Some (buffer_size (length buffer.bytes)) };
+
+    fn fmt<W: fmt::Write>(&self, f: &mut fmt::Formatter<W>) -> fmt::Result {
+        let count = self.len;
+        write!(f, "SegBuf({count} bytes)")
     }
 }
 

@@ -9,7 +9,7 @@ use Rattle.jiff_core.proofs.CalendarLemmas.{days_from_civil-day_count, day_count
 use Rattle.jiff_core.proofs.DateLemmas.{days_from_civil-day, days_from_civil-next_month, days_from_civil-next_year, epoch_day_injective}
 use Rattle.smithy_core.specs.Civil.{Day, IsInYears, civil_after, civil_of, day_after, next_day, year_seconds}
 use Rattle.smithy_core.specs.CivilText.{FitsDigits}
-use Rattle.smithy_core.specs.Instant.{Instant}
+use Rattle.smithy_core.specs.Moment.{Instant}
 
 -- the calendar has the day
 pub record IsDay (d : Day) : Type 0 where

@@ -20,7 +20,7 @@ members_are : (pairs : List (String Global × Document)) → members_data pairs 
 members_are [] = refl
 members_are (pair ∷ pairs) = ap (member (string_bytes pair.0) (data_of pair.1)) (members_are pairs)
 
--- the same names and data make the same members
+-- names and data determine the members
 pub same_members : (copies pairs : List (String Global × Document)) → map named copies ≡ map named pairs → members_data copies ≡ members_data pairs
 same_members copies pairs same = members_are copies ∙ ap members_from same ∙ sym (members_are pairs)
 

@@ -2,7 +2,7 @@
 use Rattle.std.proofs.Common.{◌≡◌, ℕ, ◌/◌, ◌<◌, ℤ, pos, ◌+ℤ◌, ◌*ℤ◌, refl, arith}
 use Rattle.std.specs.Int.{int_div_euclid, int_rem_euclid}
 use Rattle.jiff_core.proofs.SignedLemmas.{signed_arith}
-use Rattle.smithy_core.specs.Instant.{Instant, at_ms, floor_ms, floored}
+use Rattle.smithy_core.specs.Moment.{Instant, at_ms, floor_ms, floored}
 
 whole_secs : (secs : ℤ) (ms : ℕ) → ms < 1000 → int_div_euclid (secs *ℤ pos 1000 +ℤ pos ms) (pos 1000) ≡ secs
 whole_secs secs ms below = omega (arith, signed_arith)

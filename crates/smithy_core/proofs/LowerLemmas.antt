@@ -3,7 +3,7 @@ use Rattle.std.proofs.Common.{◌≡◌, ℕ, Bool, true, false, cond, not, List
 use Rattle.std.specs.Prelude.{String, bytes_eq, string_bytes}
 use Rattle.std.specs.declared.alloc.Global.{Global}
 use Rattle.std.proofs.lemmas.Str.Ascii.{lowercase-lowercase}
-use Rattle.smithy_core.specs.Pairs.{AreLower, inserted, lower, text_pairs, without}
+use Rattle.smithy_core.specs.TextPairs.{AreLower, inserted, lower, text_pairs, without}
 
 lower_lower : (text : List ℕ) → lower (lower text) ≡ lower text
 lower_lower [] = refl

@@ -4,7 +4,7 @@ use Rattle.std.specs.Prelude.{bytes_eq, filter}
 use Rattle.std.specs.List.{insert}
 use Rattle.std.specs.Option.{option_or}
 use Rattle.std.proofs.Math.Seq.{drop-cons}
-use Rattle.smithy_core.specs.Pairs.{last_value, value_if, without, inserted, place_of}
+use Rattle.smithy_core.specs.TextPairs.{last_value, value_if, without, inserted, first_place}
 
 pub option_or_assoc : {A : Type 0} (a b c : Option A) → option_or (option_or a b) c ≡ option_or a (option_or b c)
 option_or_assoc None b c = refl
@@ -36,21 +36,21 @@ module _ {X : Type 0} (pair_of : X → List ℕ × List ℕ) (name : List ℕ) w
       ]
 
   -- the first place of the name lies in the items of other names
-  pub place_within : (items : List X) → place_of (map pair_of items) name ≤ length (others items)
+  pub place_within : (items : List X) → first_place (map pair_of items) name ≤ length (others items)
   place_within [] = omega arith
   place_within (item ∷ items) =
-      elim (bytes_eq (pair_of item).0 name) as (λ (b : Bool). cond b zero (suc (place_of (map pair_of items) name)) ≤ length (cond (not b) (item ∷ others items) (others items))) [
+      elim (bytes_eq (pair_of item).0 name) as (λ (b : Bool). cond b zero (suc (first_place (map pair_of items) name)) ≤ length (cond (not b) (item ∷ others items) (others items))) [
         | true ↦ omega arith
         | false ↦ omega (arith, place_within items)
       ]
 
   -- an item put at the first place of its name, among the items of other names
   pub inserted_others : (items : List X) (new : X) (value : List ℕ) → pair_of new ≡ (name, value)
-      → map pair_of (insert (others items) (place_of (map pair_of items) name) new) ≡ inserted (map pair_of items) name value
+      → map pair_of (insert (others items) (first_place (map pair_of items) name) new) ≡ inserted (map pair_of items) name value
   inserted_others [] new value is = ap (λ (pair : List ℕ × List ℕ). pair ∷ []) is
   inserted_others (item ∷ items) new value is =
       elim (bytes_eq (pair_of item).0 name) as (λ (b : Bool).
-      map pair_of (insert (cond (not b) (item ∷ others items) (others items)) (cond b zero (suc (place_of (map pair_of items) name))) new)
+      map pair_of (insert (cond (not b) (item ∷ others items) (others items)) (cond b zero (suc (first_place (map pair_of items) name))) new)
       ≡ cond b ((name, value) ∷ without (map pair_of items) name) (pair_of item ∷ inserted (map pair_of items) name value)) [
         | true ↦ rw is (ap (λ xs. (name, value) ∷ xs) (others_are items))
         | false ↦ ap (λ xs. pair_of item ∷ xs) (inserted_others items new value is)

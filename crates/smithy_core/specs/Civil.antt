@@ -1,7 +1,7 @@
 -- The Gregorian calendar (ISO 8601), day after day, and the two texts of time of AWS Signature Version 4.
 use Rattle.std.specs.Prelude.{ℕ, zero, suc, ◌+◌, ◌/◌, ◌%◌, List, nat_lt, Bool, ◌&&◌, if◌then◌else◌, pos, negsuc, ◌+ℤ◌, ◌≤ℤ◌, int_le, unsigned_abs}
 use Rattle.jiff_core.specs.Calendar.{days_in_month}
-use Rattle.smithy_core.specs.Instant.{Instant}
+use Rattle.smithy_core.specs.Moment.{Instant}
 use Rattle.smithy_core.specs.declared.civil_text.Civil.{Civil}
 use Rattle.smithy_core.specs.CivilText.{date_of, stamp_of}
 

@@ -6,7 +6,7 @@ use Rattle.std.specs.List.{list_all}
 use Rattle.std.specs.declared.alloc.Global.{Global}
 use Rattle.smithy_core.specs.Civil.{IsInYears, civil_of, weekday}
 use Rattle.smithy_core.specs.CivilText.{two_digits}
-use Rattle.smithy_core.specs.Instant.{Instant, total_nanos}
+use Rattle.smithy_core.specs.Moment.{Instant, total_nanos}
 use Rattle.smithy_core.specs.declared.civil_text.Civil.{Civil}
 use Rattle.smithy_core.specs.declared.format.Format.{Format}
 use Rattle.smithy_core.specs.declared.format.Format.TheVariants.{DateTime, HttpDate, EpochSeconds}
@@ -43,18 +43,18 @@ abbrev pub year_of : Civil → List ℕ
 year_of c = two_digits (c.year / 100) ++ two_digits c.year
 
 -- `HH:MM:SS`
-abbrev pub time_of : Civil → List ℕ
-time_of c = two_digits c.hour ++ codes ":" ++ two_digits c.minute ++ codes ":" ++ two_digits c.second
+abbrev pub time_of_day : Civil → List ℕ
+time_of_day c = two_digits c.hour ++ codes ":" ++ two_digits c.minute ++ codes ":" ++ two_digits c.second
 
 -- `YYYY-MM-DDTHH:MM:SS`, the fraction, `Z`
 unfoldable pub date_time_of : Civil → ℕ → List ℕ
 date_time_of c nanos =
-    year_of c ++ codes "-" ++ two_digits c.month ++ codes "-" ++ two_digits c.day ++ codes "T" ++ time_of c ++ fraction nanos ++ codes "Z"
+    year_of c ++ codes "-" ++ two_digits c.month ++ codes "-" ++ two_digits c.day ++ codes "T" ++ time_of_day c ++ fraction nanos ++ codes "Z"
 
 -- `Mon, 16 Dec 2019 23:48:18 GMT`
 unfoldable pub http_date_of : Civil → ℕ → List ℕ
 http_date_of c weekday =
-    day_name weekday ++ codes ", " ++ two_digits c.day ++ codes " " ++ month_name c.month ++ codes " " ++ year_of c ++ codes " " ++ time_of c ++ codes " GMT"
+    day_name weekday ++ codes ", " ++ two_digits c.day ++ codes " " ++ month_name c.month ++ codes " " ++ year_of c ++ codes " " ++ time_of_day c ++ codes " GMT"
 
 -- so many nanoseconds, as the decimal number of seconds
 unfoldable pub seconds_of : ℤ → List ℕ
@@ -77,3 +77,8 @@ abbrev pub Formats : Format → Instant → Result (String Global) FormatFault �
 Formats format t (Ok text) = HasText format t × (string_bytes text ≡ formatted format t)
 Formats format t (Err OutOfRange) = HasText format t → ⊥
 Formats format t (Err NoMemory) = Unit {0}
+
+-- what a fault of a format prints
+abbrev pub format_fault_text : FormatFault → List ℕ
+format_fault_text OutOfRange = codes "the moment lies outside the years 0 to 9999"
+format_fault_text NoMemory = codes "no memory"

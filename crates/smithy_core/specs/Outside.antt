@@ -1,10 +1,10 @@
 -- What contracts say of the objects of the outside. What an object holds or has left is optional: it need not tell.
 use Rattle.std.specs.Prelude.{◌≡◌, ℕ, ◌<◌, ◌≤◌, ◌⊎◌, ◌-◌, ◌^◌, List, [], ◌++◌, length, take, drop, Option, Some, None}
-use Rattle.smithy_core.specs.Pairs.{last_value}
+use Rattle.smithy_core.specs.TextPairs.{last_value}
 
 -- the count rose, or stands at its last value
-abbrev pub Rose : ℕ → ℕ → Type 0
-Rose before now = (before < now) ⊎ (now ≡ 2 ^ 64 - 1)
+abbrev pub RoseOrStands : ℕ → ℕ → Type 0
+RoseOrStands before now = (before < now) ⊎ (now ≡ 2 ^ 64 - 1)
 
 -- the first n bytes of what was left are the first n of the buffer, and are gone
 abbrev pub TakesFront : ℕ → List ℕ → Option (List ℕ) → Option (List ℕ) → Type 0

@@ -2,12 +2,14 @@ ghost use Rattle.std.specs.Prelude.{◌≡◌, IfOk};
 
 use crate::memory::Mem;
 use bytes::Bytes;
+use std::fmt;
 use std::marker::Model;
 
-/// Binary data.
+/// Binary data. [`Debug`](std::fmt::Debug) prints how many bytes there are, and none of them, since they may hold a secret
+/// (the Rust's type prints them).
 ///
 /// Contracts see it as its bytes.
-#[derive(Debug, Drop)]
+#[derive(Drop)]
 pub struct Blob {
     bytes: Bytes,
 }
@@ -42,5 +44,17 @@ impl Blob {
         Ok(Blob {
             bytes: self.bytes.clone()?,
         })
+    }
+}
+
+impl fmt::Debug for Blob {
+    ghost use Rattle.std.specs.Prelude.{Some, codes, length};
+    ghost use Rattle.smithy_core.specs.Blob.{byte_count};
+
+    ghost debug_output = { λ blob. Some (byte_count (codes "Blob") (length blob)) };
+
+    fn fmt<W: fmt::Write>(&self, f: &mut fmt::Formatter<W>) -> fmt::Result {
+        let count = self.bytes.len();
+        write!(f, "Blob({count} bytes)")
     }
 }

@@ -1,7 +1,7 @@
 ghost use Rattle.std.specs.Prelude.{◌≡◌, ℕ, List, [], ◌∷◌, ◌++◌, map, IfOk, OnOk, OnErr, option_copied};
 ghost use Rattle.std.specs.Option.{option_or};
 ghost use Rattle.std.specs.String.{string_bytes};
-ghost use Rattle.smithy_core.specs.Pairs.{last_value, value_if};
+ghost use Rattle.smithy_core.specs.TextPairs.{last_value, value_if};
 
 use crate::memory::Mem;
 use crate::text_pairs::{copied_pairs, fmt_lengths};

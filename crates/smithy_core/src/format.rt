@@ -4,7 +4,7 @@ ghost use Rattle.std.specs.Int.{is_negative};
 ghost use Rattle.std.specs.String.{string_bytes};
 ghost use Rattle.smithy_core.specs.CivilText.{FitsDigits};
 ghost use Rattle.smithy_core.specs.Format.{Formats, date_time_of, day_name, fraction, http_date_of, month_name, seconds_of, without_last_zeros};
-ghost use Rattle.smithy_core.specs.Instant.{total_nanos};
+ghost use Rattle.smithy_core.specs.Moment.{total_nanos};
 ghost use Rattle.smithy_core.specs.declared.format.FormatFault.TheVariants.{NoMemory};
 
 use crate::civil_date::{civil, weekday};
@@ -37,7 +37,7 @@ pub enum FormatFault {
 
 impl fmt::Display for FormatFault {
     ghost use Rattle.std.specs.Prelude.{Some};
-    ghost use Rattle.smithy_core.specs.Faults.{format_fault_text};
+    ghost use Rattle.smithy_core.specs.Format.{format_fault_text};
 
     ghost output = { λ fault. Some (format_fault_text fault) };
 

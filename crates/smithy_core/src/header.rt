@@ -1,13 +1,17 @@
 ghost use Rattle.std.specs.Prelude.{◌≡◌, IfOk, MatchResult, Some, None};
-ghost use Rattle.smithy_core.specs.Values.{bool_of, byte_of, bytes_of, instant_of, int16_of, int32_of, int64_of, string_of, uuid_of};
+ghost use Rattle.smithy_core.specs.HeaderValue.{bool_of, byte_array_of, byte_of, instant_of, int16_of, int32_of, int64_of, string_of, uuid_bits_of};
 
 use crate::memory::Mem;
 use crate::moment::DateTime;
 use crate::str_bytes::StrBytes;
 use bytes::Bytes;
 use std::fmt;
+use std::marker::Model;
 
 /// The value of a [`Header`]: one of the nine kinds of the event stream encoding.
+///
+/// [`Debug`](std::fmt::Debug) prints the value, its bytes or its text too, as the Rust's type does: a header tells what a
+/// message is. That of a [`Message`](crate::Message) prints none.
 #[derive(Debug, Drop)]
 pub enum HeaderValue {
     /// True or false.
@@ -121,7 +125,7 @@ impl HeaderValue {
     ///
     /// The value itself, where it is of another kind.
     pub fn as_byte_array(&self) -> Result<&Bytes, &HeaderValue>
-        ensures { MatchResult result (λ value. bytes_of self.now ≡ Some value.now) (λ value. (bytes_of self.now ≡ None) × (value.now ≡ self.now)) }
+        ensures { MatchResult result (λ value. byte_array_of self.now ≡ Some value.now) (λ value. (byte_array_of self.now ≡ None) × (value.now ≡ self.now)) }
     {
         match self {
             HeaderValue::ByteArray(value) => Ok(value),
@@ -149,7 +153,7 @@ impl HeaderValue {
     ///
     /// The value itself, where it is of another kind.
     pub fn as_uuid(&self) -> Result<u128, &HeaderValue>
-        ensures { MatchResult result (λ value. uuid_of self.now ≡ Some value) (λ value. (uuid_of self.now ≡ None) × (value.now ≡ self.now)) }
+        ensures { MatchResult result (λ value. uuid_bits_of self.now ≡ Some value) (λ value. (uuid_bits_of self.now ≡ None) × (value.now ≡ self.now)) }
     {
         match self {
             HeaderValue::Uuid(value) => Ok(*value),
@@ -189,7 +193,7 @@ impl From<&'static str> for HeaderValue {
 /// Prints true or false, a number in decimal, bytes as lower-case hexadecimal digits, a text as it is, and a moment as its
 /// seconds, one space and its nanoseconds.
 impl fmt::Display for HeaderValue {
-    ghost use Rattle.smithy_core.specs.Values.{value_text};
+    ghost use Rattle.smithy_core.specs.HeaderValue.{value_text};
 
     ghost output = { value_text };
 
@@ -211,11 +215,22 @@ impl fmt::Display for HeaderValue {
     }
 }
 
-/// A header of a [`Message`](crate::Message): a name and a value.
+/// A header of a [`Message`](crate::Message): a name and a value. [`Debug`](std::fmt::Debug) prints both, as the Rust's type
+/// does.
+///
+/// Contracts see it as its name and its value.
 #[derive(Debug, Drop)]
 pub struct Header {
     name: StrBytes,
     value: HeaderValue,
+}
+
+impl Model for Header {
+    ghost use Rattle.smithy_core.specs.Header.{Header as NameAndValue};
+
+    ghost Value = { NameAndValue };
+
+    ghost view = { λ header. record { name = header.name; value = header.value } };
 }
 
 impl Header {

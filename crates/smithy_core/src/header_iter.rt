@@ -1,6 +1,6 @@
 ghost use Rattle.std.specs.Prelude.{◌≡◌};
 ghost use Rattle.std.specs.Iterator.{YieldsFirstBy, item_count};
-ghost use Rattle.smithy_core.specs.Pairs.{text_pairs};
+ghost use Rattle.smithy_core.specs.TextPairs.{text_pairs};
 
 use std::marker::Model;
 
@@ -14,7 +14,7 @@ pub struct HeaderIter<'a> {
 
 impl<'a> Model for HeaderIter<'a> {
     ghost use Rattle.std.specs.Prelude.{ℕ, List};
-    ghost use Rattle.smithy_core.specs.Pairs.{text_pairs};
+    ghost use Rattle.smithy_core.specs.TextPairs.{text_pairs};
 
     ghost Value = { List (List ℕ × List ℕ) };
 

@@ -1,6 +1,6 @@
 ghost use Rattle.std.specs.Prelude.{◌≡◌, ◌<◌, List, [], ◌∷◌, MatchOption, length, option_map};
 ghost use Rattle.std.specs.Iterator.{YieldsFirstBy, item_count};
-ghost use Rattle.smithy_core.specs.Pairs.{first_value, lower, named_values, text_pairs};
+ghost use Rattle.smithy_core.specs.TextPairs.{first_value, lower, named_values, text_pairs};
 
 use crate::lower::is_lower_of;
 use std::marker::Model;
@@ -16,7 +16,7 @@ pub struct HeaderValues<'a> {
 
 impl<'a> Model for HeaderValues<'a> {
     ghost use Rattle.std.specs.Prelude.{ℕ, List};
-    ghost use Rattle.smithy_core.specs.Pairs.{lower, named_values, text_pairs};
+    ghost use Rattle.smithy_core.specs.TextPairs.{lower, named_values, text_pairs};
 
     ghost Value = { List (List ℕ) };
 

@@ -1,6 +1,6 @@
 ghost use Rattle.std.specs.Prelude.{◌≡◌, ◌<◌, ◌↔◌, IsSome, IsTrue, map, [], ◌∷◌, ◌++◌, length, IfOk, OnOk, OnErr, option_copied, bytes_eq, filter, not, ◌≤◌, vec_len, vec_capacity};
 ghost use Rattle.std.specs.String.{string_bytes};
-ghost use Rattle.smithy_core.specs.Pairs.{AreLower, first_value, inserted, lower, lower_name, named_values, place_of, text_pairs};
+ghost use Rattle.smithy_core.specs.TextPairs.{AreLower, first_value, inserted, lower, lower_name, named_values, first_place, text_pairs};
 
 use crate::header_iter::HeaderIter;
 use crate::header_values::{HeaderValues, after_named};
@@ -21,7 +21,7 @@ pub struct Headers {
 
 impl Model for Headers {
     ghost use Rattle.std.specs.Prelude.{ℕ, List};
-    ghost use Rattle.smithy_core.specs.Pairs.{AreLower, text_pairs};
+    ghost use Rattle.smithy_core.specs.TextPairs.{AreLower, text_pairs};
 
     ghost Value = { List (List ℕ × List ℕ) };
 
@@ -192,7 +192,7 @@ fn drop_named(pairs: &mut Vec<(String, String)>, name: &str)
 
 // The first place of the name, or the number of pairs.
 fn first_place(pairs: &[(String, String)], name: &str) -> usize
-    ensures { result ≡ place_of (text_pairs pairs.now) name.now }
+    ensures { result ≡ first_place (text_pairs pairs.now) name.now }
 {
     for (at, pair) in pairs.iter().enumerate() {
         if pair.0.as_str() == name {

@@ -1,6 +1,5 @@
-ghost use Rattle.std.specs.Prelude.{◌≡◌, IfOk, option_copied, option_map};
-ghost use Rattle.std.specs.String.{string_bytes};
-ghost use Rattle.smithy_core.specs.Signers.{IsSameCredentials, IsSameIdentity};
+ghost use Rattle.std.specs.Prelude.{◌≡◌, IfOk, option_copied};
+ghost use Rattle.smithy_core.specs.Identity.{IsSameCredentials, IsSameIdentity, access_key_id, credentials_expiry, credentials_of, secret_access_key, session_token};
 
 use crate::memory::Mem;
 use crate::moment::Moment;
@@ -22,7 +21,7 @@ impl Credentials {
         token: Option<String>,
         expiry: Option<Moment>,
     ) -> Credentials
-        ensures { result ≡ record { key_id = key_id; secret = secret; token = token; expiry = expiry } }
+        ensures { result ≡ credentials_of key_id secret token expiry }
     {
         Credentials {
             key_id,
@@ -34,21 +33,21 @@ impl Credentials {
 
     /// The access key id.
     pub fn access_key_id(&self) -> &str
-        ensures { result.now ≡ string_bytes self.now.key_id }
+        ensures { result.now ≡ access_key_id self.now }
     {
         self.key_id.as_str()
     }
 
     /// The secret access key.
     pub fn secret_access_key(&self) -> &str
-        ensures { result.now ≡ string_bytes self.now.secret }
+        ensures { result.now ≡ secret_access_key self.now }
     {
         self.secret.as_str()
     }
 
     /// The session token, where there is one.
     pub fn session_token(&self) -> Option<&str>
-        ensures { option_copied result ≡ option_map string_bytes self.now.token }
+        ensures { option_copied result ≡ session_token self.now }
     {
         match &self.token {
             Some(token) => Some(token.as_str()),
@@ -58,7 +57,7 @@ impl Credentials {
 
     /// When the credentials end, where that is known.
     pub fn expiry(&self) -> Option<Moment>
-        ensures { result ≡ self.now.expiry }
+        ensures { result ≡ credentials_expiry self.now }
     {
         self.expiry
     }

@@ -4,8 +4,8 @@
 //! The layer above is promised that a [`Message`] is a list of headers and a payload, that
 //! [`Headers`] is a list of pairs under `insert` and `append`, that [`civil`] counts the days of the
 //! Gregorian calendar, and that each object of the outside counts its faults
-//! (`specs/Outside.antt`, `specs/Given.antt`, `specs/Frames.antt`), in memory exactly at the calls
-//! that are to fail (`specs/Memory.antt`).
+//! (`specs/Outside.antt`, `specs/Clock.antt`, `specs/FrameSource.antt`), in memory exactly at the calls
+//! that are to fail (`specs/Calls.antt`).
 #![tactic(auto)]
 
 mod app_name;
@@ -71,4 +71,4 @@ pub use crate::request::HttpRequest;
 pub use crate::response::HttpResponse;
 pub use crate::sdk_error::SdkError;
 pub use crate::str_bytes::StrBytes;
-pub use crate::text::push_line;
+pub use crate::text::{push_line, push_text_line};

@@ -1,5 +1,5 @@
 ghost use Rattle.std.specs.Prelude.{◌≡◌, bytes_eq};
-ghost use Rattle.smithy_core.specs.Pairs.{lower};
+ghost use Rattle.smithy_core.specs.TextPairs.{lower};
 
 /// Whether the text is the name with its ASCII letters in lower case, without making that text. This crate's own.
 pub fn is_lower_of(text: &str, name: &str) -> bool

@@ -4,19 +4,21 @@ use crate::header::Header;
 use crate::memory::Mem;
 use bytes::Bytes;
 use std::alloc::Global;
+use std::fmt;
 use std::marker::Model;
 
-/// A message of an event stream: headers in order, and a payload.
+/// A message of an event stream: headers in order, and a payload. [`Debug`](std::fmt::Debug) prints how many headers and
+/// bytes there are, and nothing of them, since an event may hold a secret (the Rust's type prints all of it).
 ///
 /// Contracts see it as its `Parts`.
-#[derive(Debug, Drop)]
+#[derive(Drop)]
 pub struct Message {
     headers: Vec<Header>,
     payload: Bytes,
 }
 
 impl Model for Message {
-    ghost use Rattle.smithy_core.specs.Parts.{Parts};
+    ghost use Rattle.smithy_core.specs.Message.{Parts};
 
     ghost Value = { Parts };
 
@@ -79,5 +81,17 @@ impl Message {
         ensures { result.now ≡ self.now.payload }
     {
         &self.payload
+    }
+}
+
+impl fmt::Debug for Message {
+    ghost use Rattle.std.specs.Prelude.{Some, length};
+    ghost use Rattle.smithy_core.specs.Message.{message_sizes};
+
+    ghost debug_output = { λ message. Some (message_sizes (length message.headers) (length message.payload)) };
+
+    fn fmt<W: fmt::Write>(&self, f: &mut fmt::Formatter<W>) -> fmt::Result {
+        let (headers, payload) = (self.headers.len(), self.payload.len());
+        write!(f, "Message({headers} headers, {payload} bytes)")
     }
 }

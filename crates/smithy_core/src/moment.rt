@@ -1,6 +1,6 @@
 ghost use Rattle.std.specs.Prelude.{◌≡◌, ℕ, ◌<◌, ◌/◌, FitsSigned, MatchResult};
 ghost use Rattle.std.specs.Int.{w64};
-ghost use Rattle.smithy_core.specs.Instant.{at_ms, floor_ms};
+ghost use Rattle.smithy_core.specs.Moment.{at_ms, floor_ms};
 
 use std::error::Error;
 use std::fmt;
@@ -36,7 +36,7 @@ impl Error for TimeOutOfRange {}
 
 impl Model for DateTime {
     ghost use Rattle.std.specs.Prelude.{◌<◌};
-    ghost use Rattle.smithy_core.specs.Instant.{Instant};
+    ghost use Rattle.smithy_core.specs.Moment.{Instant};
 
     ghost Value = { Instant };
 

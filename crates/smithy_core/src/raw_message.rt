@@ -3,9 +3,11 @@ ghost use Rattle.std.specs.Prelude.{◌≡◌, IfOk};
 use crate::memory::Mem;
 use crate::message::Message;
 use bytes::Bytes;
+use std::fmt;
 
-/// What an error of an event stream tells of the bytes behind it.
-#[derive(Debug, Drop)]
+/// What an error of an event stream tells of the bytes behind it. [`Debug`](std::fmt::Debug) prints how many there are,
+/// and none of them, since they may hold a secret (the Rust's type prints them).
+#[derive(Drop)]
 pub enum RawMessage {
     /// The message that was read.
     Decoded(Message),
@@ -31,5 +33,23 @@ impl Clone for RawMessage {
 
     fn clone(&self) -> Mem<RawMessage> {
         self.try_clone()
+    }
+}
+
+impl fmt::Debug for RawMessage {
+    ghost use Rattle.std.specs.Prelude.{Some};
+    ghost use Rattle.smithy_core.specs.RawMessage.{raw_sizes};
+
+    ghost debug_output = { λ raw. Some (raw_sizes raw) };
+
+    fn fmt<W: fmt::Write>(&self, f: &mut fmt::Formatter<W>) -> fmt::Result {
+        match self {
+            RawMessage::Decoded(message) => write!(f, "Decoded({message:?})"),
+            RawMessage::Invalid(Some(bytes)) => {
+                let count = bytes.len();
+                write!(f, "Invalid({count} bytes)")
+            }
+            RawMessage::Invalid(None) => f.write_str("Invalid"),
+        }
     }
 }

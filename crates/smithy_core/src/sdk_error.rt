@@ -1,5 +1,5 @@
 ghost use Rattle.std.specs.Prelude.{IfOk};
-ghost use Rattle.smithy_core.specs.SdkErrors.{IsErrorCopy};
+ghost use Rattle.smithy_core.specs.SdkError.{IsSdkErrorCopy};
 
 use crate::memory::Mem;
 use std::alloc::AllocError;
@@ -35,7 +35,7 @@ pub enum SdkError<E, F, R> {
 impl<E: Clone + Drop, F: Clone + Drop, R: Clone + Drop> SdkError<E, F, R> {
     /// An equal error, of copies of what it holds.
     pub fn try_clone(&self) -> Mem<SdkError<E, F, R>>
-        ensures { IfOk result (λ copy. IsErrorCopy E.is_clone F.is_clone R.is_clone self.now copy) }
+        ensures { IfOk result (λ copy. IsSdkErrorCopy E.is_clone F.is_clone R.is_clone self.now copy) }
     {
         Ok(match self {
             SdkError::ConstructionFailure(fault) => SdkError::ConstructionFailure(fault.clone()?),
@@ -66,7 +66,7 @@ impl<E, F, R> From<AllocError> for SdkError<E, F, R> {
 
 impl<E, F, R> fmt::Display for SdkError<E, F, R> {
     ghost use Rattle.std.specs.Prelude.{Some};
-    ghost use Rattle.smithy_core.specs.SdkErrors.{sdk_error_text};
+    ghost use Rattle.smithy_core.specs.SdkError.{sdk_error_text};
 
     ghost output = { λ error. Some (sdk_error_text error) };
 

@@ -1,9 +1,10 @@
 ghost use Rattle.std.specs.Prelude.{◌≡◌, ◌++◌, OnOk, OnErr};
+ghost use Rattle.std.specs.String.{string_bytes};
 ghost use Rattle.smithy_core.specs.Text.{line};
 
 use crate::memory::Mem;
 
-/// Appends a line, ended by LF.
+/// Appends a line of bytes, ended by LF. After want of memory nothing is appended.
 pub fn push_line(buffer: &mut Vec<u8>, text: &[u8]) -> Mem<()>
     ensures ok { OnOk result (buffer.new.items ≡ buffer.old.items ++ line text.now) }
     ensures err { OnErr result (buffer.new.items ≡ buffer.old.items) }
@@ -11,5 +12,16 @@ pub fn push_line(buffer: &mut Vec<u8>, text: &[u8]) -> Mem<()>
     buffer.reserve(text.len() + 1)?;
     buffer.extend_from_slice(text).unwrap();
     buffer.push(b'\n').unwrap();
+    Ok(())
+}
+
+/// Appends a line of text, ended by LF. After want of memory nothing is appended.
+pub fn push_text_line(text: &mut String, content: &str) -> Mem<()>
+    ensures ok { OnOk result (string_bytes text.new ≡ string_bytes text.old ++ line content.now) }
+    ensures err { OnErr result (string_bytes text.new ≡ string_bytes text.old) }
+{
+    text.reserve(content.len() + 1)?;
+    text.push_str(content).unwrap();
+    text.push('\n').unwrap();
     Ok(())
 }

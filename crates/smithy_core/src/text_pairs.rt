@@ -1,5 +1,5 @@
 ghost use Rattle.std.specs.Prelude.{◌≡◌, IfOk};
-ghost use Rattle.smithy_core.specs.Pairs.{text_pairs};
+ghost use Rattle.smithy_core.specs.TextPairs.{text_pairs};
 
 use crate::memory::Mem;
 use std::alloc::Global;

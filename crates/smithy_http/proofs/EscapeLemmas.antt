@@ -38,7 +38,7 @@ no_plain byte past = grind (arith, nat_tests)
 no_plain_or_slash : (byte : ℕ) → 128 ≤ byte → greedy_set byte ≡ true
 no_plain_or_slash byte past = grind (arith, nat_tests)
 
--- the same bytes escaped
+-- two sets that agree on each byte escape a text to one text
 same_text : (set : AsciiSet) (test : ℕ → Bool) → Agrees set test → (text : List ℕ) → percent_encode set text ≡ escaped test text
 unfolding percent_encode escaped
 same_text set test same [] = refl

@@ -1,8 +1,8 @@
 -- Queries that are written piece by piece.
 use Rattle.std.proofs.Common.{◌≡◌, ℕ, ◌<◌, true, List, [], ◌∷◌, ◌++◌, length, map, fold, Some, refl, sym, ap, ◌∙◌, append_assoc, append-nil, length-append, arith, codes}
 use Rattle.std.specs.List.{join_with_byte}
-use Rattle.smithy_http.specs.Building.{before_pair, with_pair, with_pairs}
-use Rattle.smithy_http.specs.Query.{ampersand, begun, pair_text, query_of, with_piece}
+use Rattle.smithy_http.specs.QueryWriter.{before_pair, with_pair, with_pairs}
+use Rattle.smithy_http.specs.Query.{ampersand, before_pieces, pair_text, query_of, with_piece}
 use Rattle.smithy_http.specs.Target.{Target}
 
 -- a text with a piece, and more pieces
@@ -16,7 +16,7 @@ after_first text piece (next ∷ pieces) =
     ∙ append_assoc (text ++ piece) (codes "&") last
     ∙ append_assoc text piece (codes "&" ++ last)
 
-pub pieces_joined : (text : List ℕ) (pieces : List (List ℕ)) → (fold with_piece (begun text) pieces).text ≡ text ++ query_of pieces
+pub pieces_joined : (text : List ℕ) (pieces : List (List ℕ)) → (fold with_piece (before_pieces text) pieces).text ≡ text ++ query_of pieces
 pieces_joined text [] = sym (append-nil text)
 pieces_joined text (piece ∷ pieces) =
     ap (λ (t : List ℕ). (fold with_piece (record { text = t; has_piece = true }) pieces).text) (sym (append_assoc text (codes "?") piece))

@@ -13,7 +13,7 @@ use Rattle.http_uri.specs.declared.uri.Uri.{Uri}
 use Rattle.smithy_http.specs.Escape.{base_set, escaped}
 use Rattle.smithy_http.proofs.FitLemmas.{base_harmless, query_of_harmless}
 use Rattle.smithy_http.specs.Query.{pair}
-use Rattle.smithy_http.specs.Building.{before_pair, escaped_pair, with_pair, with_pairs}
+use Rattle.smithy_http.specs.QueryWriter.{before_pair, escaped_pair, with_pair, with_pairs}
 use Rattle.smithy_http.specs.Target.{Target, target_of, target_text, IsAuthorityAlone}
 use Rattle.http_uri.proofs.RunLemmas.{AllPass-at, index_of_at_least, index_of_is, run-append}
 use Rattle.http_uri.proofs.SchemeLemmas.{scheme_byte_plain}
@@ -198,7 +198,7 @@ some_byte : (bytes : List ℕ) → 0 < get_or bytes 0 0 → 0 < length bytes
 some_byte [] is = absurd (omega (arith, is))
 some_byte (first ∷ bytes) is = omega arith
 
--- a text begins the same up to another byte
+-- the part of a text before a byte begins with the first byte of the text, where that is another one
 same_first : (byte : ℕ) (text : List ℕ) → 0 < get_or text 0 0 → get_or text 0 0 ≢ byte → get_or (split_once_front byte text) 0 0 ≡ get_or text 0 0
 same_first byte text some other =
     let past : 1 ≤ index_of byte text =

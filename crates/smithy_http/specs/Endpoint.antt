@@ -1,7 +1,12 @@
--- Targets at an endpoint.
-use Rattle.std.specs.Prelude.{◌==◌, ℕ, List, [], ◌∷◌, ◌++◌, codes, if◌then◌else◌, Some, unwrap_or}
+-- Targets at an endpoint, and what applying it promises.
+use Rattle.std.specs.Prelude.{◌≡◌, ◌==◌, ℕ, List, [], ◌∷◌, ◌++◌, codes, if◌then◌else◌, Some, unwrap_or, Result, Ok, Err, IsNone, IsSome, string_bytes}
 use Rattle.http_uri.specs.ByteClasses.{slash}
-use Rattle.smithy_http.specs.Target.{Target}
+use Rattle.http_uri.specs.Grammar.{IsAuthority}
+use Rattle.http_uri.specs.Uri.{Spells, SpellsNone}
+use Rattle.http_uri.specs.declared.uri.Uri.{Uri}
+use Rattle.smithy_http.specs.Target.{Target, target_text}
+use Rattle.smithy_http.specs.declared.endpoint_error.InvalidEndpointError.{InvalidEndpointError}
+use Rattle.smithy_http.specs.declared.endpoint_error.InvalidEndpointError.TheVariants.{EndpointMustHaveScheme, FailedToConstructAuthority, FailedToConstructUri, NoMemory}
 
 -- a path without its last `/`, where it ends with one
 abbrev pub without_last_slash : List ℕ → List ℕ
@@ -30,3 +35,19 @@ at_endpoint prefix endpoint target = record {
   path = joined_path endpoint.path target.path;
   query = target.query;
 }
+
+-- the target at the endpoint, or the first test that fails: its authority is one, the endpoint has a scheme, its text is accepted
+abbrev pub MovesTo : List ℕ → Target → Target → Result Uri InvalidEndpointError → Type 0
+MovesTo prefix endpoint target (Ok uri) =
+    IsAuthority (prefixed_authority prefix endpoint) × IsSome endpoint.scheme × Spells (target_text (at_endpoint prefix endpoint target)) uri
+MovesTo prefix endpoint target (Err (FailedToConstructAuthority authority)) =
+    ¬ (IsAuthority (prefixed_authority prefix endpoint)) × (string_bytes authority ≡ prefixed_authority prefix endpoint)
+MovesTo prefix endpoint target (Err EndpointMustHaveScheme) = IsAuthority (prefixed_authority prefix endpoint) × IsNone endpoint.scheme
+MovesTo prefix endpoint target (Err FailedToConstructUri) =
+    IsAuthority (prefixed_authority prefix endpoint) × IsSome endpoint.scheme × SpellsNone (target_text (at_endpoint prefix endpoint target))
+MovesTo prefix endpoint target (Err NoMemory) = Unit {0}
+
+-- the target at the endpoint comes in place of the URI, or the first test that fails is told
+abbrev pub Applies : List ℕ → Target → Target → Uri → Result (Unit {0}) InvalidEndpointError → Type 0
+Applies prefix endpoint target uri (Ok _) = MovesTo prefix endpoint target (Ok uri)
+Applies prefix endpoint target uri (Err error) = MovesTo prefix endpoint target (Err error)

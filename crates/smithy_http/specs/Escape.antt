@@ -1,8 +1,13 @@
--- Percent-encoding of text (RFC 3986, section 2).
-use Rattle.std.specs.Prelude.{ℕ, Bool, not, ◌&&◌, ◌||◌, ◌==◌, List, [], ◌∷◌, if◌then◌else◌}
+-- Percent-encoding of text (RFC 3986, section 2), and moments as escaped texts.
+use Rattle.std.specs.Prelude.{◌≡◌, ℕ, Bool, not, ◌&&◌, ◌||◌, ◌==◌, List, [], ◌∷◌, if◌then◌else◌, Result, Ok, Err, String, string_bytes}
 use Rattle.std.specs.Char.{is_ascii_alphanumeric}
 use Rattle.std.specs.List.{flat_map}
+use Rattle.std.specs.declared.alloc.Global.{Global}
 use Rattle.percent_encoding.specs.Percent.{percent_encode_byte}
+use Rattle.smithy_core.specs.Format.{Formats, HasText, formatted}
+use Rattle.smithy_core.specs.Moment.{Instant}
+use Rattle.smithy_core.specs.declared.format.Format.{Format}
+use Rattle.smithy_core.specs.declared.format.FormatFault.{FormatFault}
 
 -- unreserved: a letter, a digit, `-`, `.`, `_` or `~` (section 2.3)
 abbrev pub is_plain : ℕ → Bool
@@ -19,3 +24,8 @@ greedy_set byte = base_set byte && not (byte == 47)
 -- each byte of the set as `%` and two upper-case hexadecimal digits (section 2.1), each other byte as it is
 unfoldable pub escaped : (ℕ → Bool) → List ℕ → List ℕ
 escaped set text = flat_map (λ byte. if set byte then percent_encode_byte byte else byte ∷ []) text
+
+-- the text of a moment escaped where there is one, else `OutOfRange`; or memory ran out
+abbrev pub FormatsEscaped : Format → Instant → Result (String Global) FormatFault → Type 0
+FormatsEscaped format t (Ok text) = HasText format t × (string_bytes text ≡ escaped base_set (formatted format t))
+FormatsEscaped format t (Err fault) = Formats format t (Err fault)

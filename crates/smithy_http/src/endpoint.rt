@@ -1,6 +1,5 @@
 ghost use Rattle.std.specs.Prelude.{◌≡◌, [], IfOk, OnErr, option_copied, string_bytes, unwrap_or};
-ghost use Rattle.smithy_http.specs.Applying.{Applies, MovesTo};
-ghost use Rattle.smithy_http.specs.Endpoint.{joined_path, prefixed_authority, without_first_slash, without_last_slash};
+ghost use Rattle.smithy_http.specs.Endpoint.{Applies, MovesTo, joined_path, prefixed_authority, without_first_slash, without_last_slash};
 ghost use Rattle.smithy_http.specs.Target.{target_of};
 
 use crate::endpoint_error::InvalidEndpointError;

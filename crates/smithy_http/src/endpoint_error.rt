@@ -1,5 +1,5 @@
 ghost use Rattle.std.specs.Prelude.{◌≡◌, IfOk};
-ghost use Rattle.smithy_http.specs.Applying.{IsSameEndpointError};
+ghost use Rattle.smithy_http.specs.EndpointError.{IsSameEndpointError};
 ghost use Rattle.smithy_http.specs.declared.endpoint_error.InvalidEndpointError.TheVariants.{EndpointMustHaveScheme, FailedToConstructAuthority, FailedToConstructUri, NoMemory};
 
 use crate::uri_fault::UriFault;
@@ -68,7 +68,7 @@ impl InvalidEndpointError {
 
 impl fmt::Display for InvalidEndpointError {
     ghost use Rattle.std.specs.Prelude.{Some};
-    ghost use Rattle.smithy_http.specs.Texts.{endpoint_error_text};
+    ghost use Rattle.smithy_http.specs.EndpointError.{endpoint_error_text};
 
     ghost output = { λ error. Some (endpoint_error_text error) };
 
@@ -100,9 +100,9 @@ impl From<AllocError> for InvalidEndpointError {
 }
 
 impl From<UriFault> for InvalidEndpointError {
-    ghost use Rattle.smithy_http.specs.Applying.{error_of};
+    ghost use Rattle.smithy_http.specs.EndpointError.{endpoint_error_of};
 
-    ghost from_gives = { λ fault error. error ≡ error_of fault };
+    ghost from_gives = { λ fault error. error ≡ endpoint_error_of fault };
 
     fn from(fault: UriFault) -> InvalidEndpointError {
         match fault {

@@ -1,5 +1,5 @@
 ghost use Rattle.std.specs.Prelude.{◌≡◌, string_bytes, IfOk};
-ghost use Rattle.smithy_http.specs.Applying.{ChecksAuthority};
+ghost use Rattle.smithy_http.specs.EndpointPrefix.{ChecksAuthority};
 
 use crate::endpoint_error::InvalidEndpointError;
 use http_uri::{Authority, UriError};

@@ -41,7 +41,7 @@ pub(crate) const BASE_SET: AsciiSet = ascii_set!(
         .add(b'\\')
 );
 
-/// The same without `/`.
+/// The ASCII bytes of the base set but `/`.
 pub(crate) const GREEDY_SET: AsciiSet = ascii_set!(BASE_SET.remove(b'/'));
 
 /// The text with its bytes of the set, and those past ASCII, escaped. `%` is one of the set.

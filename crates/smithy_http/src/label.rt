@@ -2,9 +2,8 @@
 ghost use Rattle.std.specs.Prelude.{◌≡◌, IfOk};
 ghost use Rattle.std.specs.String.{string_bytes};
 ghost use Rattle.percent_encoding.specs.Percent.{percent_decode};
-ghost use Rattle.smithy_http.specs.Escape.{escaped};
+ghost use Rattle.smithy_http.specs.Escape.{escaped, FormatsEscaped};
 ghost use Rattle.smithy_http.specs.Label.{label_set};
-ghost use Rattle.smithy_http.specs.Timestamp.{FormatsEscaped};
 
 use crate::escape::{BASE_SET, GREEDY_SET, escape};
 use smithy_core::{DateTime, Format, FormatFault, Mem};

@@ -3,17 +3,17 @@ ghost use Rattle.std.specs.List.{join_with_byte};
 ghost use Rattle.http_uri.specs.Grammar.{IsAuthority, IsScheme};
 ghost use Rattle.http_uri.specs.Uri.{Spells, uri_text};
 ghost use Rattle.http_uri.specs.declared.uri.Uri.{Uri};
-ghost use Rattle.smithy_http.specs.Building.{before_pair, escaped_pair, with_pairs};
+ghost use Rattle.smithy_http.specs.QueryWriter.{before_pair, escaped_pair, with_pairs};
 ghost use Rattle.smithy_http.specs.Escape.{base_set, escaped};
 ghost use Rattle.smithy_http.specs.Label.{label_set};
-ghost use Rattle.smithy_http.specs.Query.{ampersand, begun, pair_text, query_of, with_piece};
+ghost use Rattle.smithy_http.specs.Query.{ampersand, before_pieces, pair_text, query_of, with_piece};
 ghost use Rattle.smithy_http.specs.Target.{IsAccepted, IsAuthorityAlone, Target, at_authority, target_of, target_text};
 ghost use Rattle.smithy_http.specs.declared.label.EncodingStrategy.{EncodingStrategy};
 
 /// Pieces that are written to a text one after another are `?` and the pieces with `&` between.
 #[tactic(auto, using(crate::proofs::QueryLemmas::pieces_joined))]
 pub fn pieces_are_joined()
-    ensures { (text : List ℕ) (pieces : List (List ℕ)) → (fold with_piece (begun text) pieces).text ≡ text ++ query_of pieces }
+    ensures { (text : List ℕ) (pieces : List (List ℕ)) → (fold with_piece (before_pieces text) pieces).text ≡ text ++ query_of pieces }
 {}
 
 /// Pairs that are added to a target one after another are joined by `&`, and follow `&` where its query wasn't empty.

@@ -15,7 +15,7 @@ pub enum MergeFault {
 
 impl fmt::Display for MergeFault {
     ghost use Rattle.std.specs.Prelude.{Some};
-    ghost use Rattle.smithy_http.specs.Texts.{merge_fault_text};
+    ghost use Rattle.smithy_http.specs.Merge.{merge_fault_text};
 
     ghost output = { λ fault. Some (merge_fault_text fault) };
 
@@ -42,9 +42,9 @@ impl From<AllocError> for MergeFault {
 
 impl From<HeaderMapError> for MergeFault {
     ghost use Rattle.std.specs.Prelude.{◌≡◌};
-    ghost use Rattle.smithy_http.specs.MergeFault.{fault_of};
+    ghost use Rattle.smithy_http.specs.Merge.{merge_fault_of};
 
-    ghost from_gives = { λ error fault. fault ≡ fault_of error };
+    ghost from_gives = { λ error fault. fault ≡ merge_fault_of error };
 
     fn from(e: HeaderMapError) -> MergeFault {
         match e {

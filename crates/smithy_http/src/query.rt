@@ -2,9 +2,8 @@
 ghost use Rattle.std.specs.Prelude.{◌≡◌, ◌++◌, true, codes, if◌then◌else◌, IfOk, OnOk, OnErr};
 ghost use Rattle.std.specs.String.{string_bytes};
 ghost use Rattle.percent_encoding.specs.Percent.{percent_decode};
-ghost use Rattle.smithy_http.specs.Escape.{base_set, escaped};
-ghost use Rattle.smithy_http.specs.Query.{begun, pair, with_piece, written};
-ghost use Rattle.smithy_http.specs.Timestamp.{FormatsEscaped};
+ghost use Rattle.smithy_http.specs.Escape.{base_set, escaped, FormatsEscaped};
+ghost use Rattle.smithy_http.specs.Query.{before_pieces, held_text, pair, with_piece, written_query};
 
 use crate::escape::{BASE_SET, escape};
 use crate::piece::{marked, marked_pair};
@@ -43,8 +42,8 @@ pub struct Writer<'a> {
 impl<'a> Writer<'a> {
     /// A writer that goes on after the text.
     pub fn new(out: &'a mut String) -> Writer<'a>
-        ensures same_text { result.out.ghost_name ≡ out.entry.ghost_name }
-        ensures begun { written result ≡ begun (string_bytes out.old) }
+        ensures same_text { (held_text result).ghost_name ≡ out.entry.ghost_name }
+        ensures begun { written_query result ≡ before_pieces (string_bytes out.old) }
     {
         Writer {
             out,
@@ -54,9 +53,9 @@ impl<'a> Writer<'a> {
 
     /// Appends a key and its value, with `=` between. After want of memory nothing is appended.
     pub fn push_kv(&mut self, k: &str, v: &str) -> Mem<()>
-        ensures same_text { self.new.out.ghost_name ≡ self.old.out.ghost_name }
-        ensures ok { OnOk result (written self.new ≡ with_piece (written self.old) (pair k.now v.now)) }
-        ensures err { OnErr result (written self.new ≡ written self.old) }
+        ensures same_text { (held_text self.new).ghost_name ≡ (held_text self.old).ghost_name }
+        ensures ok { OnOk result (written_query self.new ≡ with_piece (written_query self.old) (pair k.now v.now)) }
+        ensures err { OnErr result (written_query self.new ≡ written_query self.old) }
     {
         let piece = marked_pair(*self.out.allocator(), self.mark(), k, v)?;
         self.push(piece.as_str())
@@ -64,9 +63,9 @@ impl<'a> Writer<'a> {
 
     /// Appends a value, which is its own key. After want of memory nothing is appended.
     pub fn push_v(&mut self, v: &str) -> Mem<()>
-        ensures same_text { self.new.out.ghost_name ≡ self.old.out.ghost_name }
-        ensures ok { OnOk result (written self.new ≡ with_piece (written self.old) v.now) }
-        ensures err { OnErr result (written self.new ≡ written self.old) }
+        ensures same_text { (held_text self.new).ghost_name ≡ (held_text self.old).ghost_name }
+        ensures ok { OnOk result (written_query self.new ≡ with_piece (written_query self.old) v.now) }
+        ensures err { OnErr result (written_query self.new ≡ written_query self.old) }
     {
         let piece = marked(*self.out.allocator(), self.mark(), v)?;
         self.push(piece.as_str())
@@ -81,9 +80,9 @@ impl<'a> Writer<'a> {
 
     // Appends a piece with its mark.
     fn push(&mut self, piece: &str) -> Mem<()>
-        ensures same_text { self.new.out.ghost_name ≡ self.old.out.ghost_name }
-        ensures ok { OnOk result (written self.new ≡ record { text = (written self.old).text ++ piece.now; has_piece = true }) }
-        ensures err { OnErr result (written self.new ≡ written self.old) }
+        ensures same_text { (held_text self.new).ghost_name ≡ (held_text self.old).ghost_name }
+        ensures ok { OnOk result (written_query self.new ≡ record { text = (written_query self.old).text ++ piece.now; has_piece = true }) }
+        ensures err { OnErr result (written_query self.new ≡ written_query self.old) }
     {
         self.out.push_str(piece)?;
         self.has_piece = true;

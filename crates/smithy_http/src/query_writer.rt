@@ -1,6 +1,6 @@
 ghost use Rattle.std.specs.Prelude.{◌≡◌, [], unwrap_or, IfOk, OnOk, OnErr, string_bytes};
 ghost use Rattle.http_uri.specs.Uri.{uri_query};
-ghost use Rattle.smithy_http.specs.Building.{Builds, BuildsQuery, BuildsText, Reads, with_pair, without_query};
+ghost use Rattle.smithy_http.specs.QueryWriter.{BuildsTarget, BuildsQuery, BuildsText, ReadsTargetParts, with_pair, without_query};
 ghost use Rattle.smithy_http.specs.Escape.{base_set, escaped};
 ghost use Rattle.smithy_http.specs.Target.{target_of, target_text};
 
@@ -48,7 +48,7 @@ impl QueryWriter {
     /// [`UriFault::InvalidUri`] exactly where the text isn't accepted as a target, or passes 65,534 bytes,
     /// or has an authority without a scheme.
     pub fn new_from_string(alloc: Global, uri: &str) -> Result<QueryWriter, UriFault>
-        ensures { Reads uri.now result }
+        ensures { ReadsTargetParts uri.now result }
     {
         let uri = read_target(alloc, uri)?;
         Ok(QueryWriter::new(alloc, &uri)?)
@@ -107,7 +107,7 @@ impl QueryWriter {
     /// [`UriFault::InvalidUri`] exactly where the text isn't accepted as a target, or passes 65,534 bytes,
     /// or the target has an authority without a scheme.
     pub fn build_uri(self) -> Result<Uri, UriFault>
-        ensures { Builds self result }
+        ensures { BuildsTarget self result }
     {
         self.build()
     }
@@ -149,7 +149,7 @@ impl QueryWriter {
     }
 
     fn build(&self) -> Result<Uri, UriFault>
-        ensures { Builds self.now result }
+        ensures { BuildsTarget self.now result }
     {
         if is_authority_alone(&self.base) {
             return Err(UriFault::InvalidUri);

@@ -1,5 +1,5 @@
 ghost use Rattle.std.specs.Prelude.{◌≡◌, Some, None, IfOk, option_copied};
-ghost use Rattle.smithy_http.specs.Resolving.{IsSameError};
+ghost use Rattle.smithy_http.specs.ResolveError.{IsSameResolveError, resolve_error, resolve_message, resolve_source};
 
 use smithy_core::{ErrorMetadata, Mem};
 use std::fmt;
@@ -14,7 +14,7 @@ pub struct ResolveEndpointError {
 impl ResolveEndpointError {
     /// The error with this message, and without a source.
     pub fn message(message: String) -> ResolveEndpointError
-        ensures { result ≡ record { message = message; source = None } }
+        ensures { result ≡ resolve_error message None }
     {
         ResolveEndpointError {
             message,
@@ -22,9 +22,9 @@ impl ResolveEndpointError {
         }
     }
 
-    /// The same message with this source.
+    /// The error with its message and this source.
     pub fn with_source(self, source: Option<ErrorMetadata>) -> ResolveEndpointError
-        ensures { result ≡ record { message = self.message; source = source } }
+        ensures { result ≡ resolve_error (resolve_message self) source }
     {
         ResolveEndpointError {
             message: self.message,
@@ -34,21 +34,21 @@ impl ResolveEndpointError {
 
     /// The error with this message and this source.
     pub fn from_source(message: String, source: ErrorMetadata) -> ResolveEndpointError
-        ensures { result ≡ record { message = message; source = Some source } }
+        ensures { result ≡ resolve_error message (Some source) }
     {
         ResolveEndpointError::message(message).with_source(Some(source))
     }
 
     /// What the error came from, where that is known.
     pub fn source(&self) -> Option<&ErrorMetadata>
-        ensures { option_copied result ≡ self.now.source }
+        ensures { option_copied result ≡ resolve_source self.now }
     {
         self.source.as_ref()
     }
 
     /// An error with the same message and source.
     pub fn try_clone(&self) -> Mem<ResolveEndpointError>
-        ensures { IfOk result (IsSameError self.now) }
+        ensures { IfOk result (IsSameResolveError self.now) }
     {
         let source = match &self.source {
             Some(source) => Some(source.try_clone()?),
@@ -63,8 +63,9 @@ impl ResolveEndpointError {
 
 impl fmt::Display for ResolveEndpointError {
     ghost use Rattle.std.specs.Prelude.{Some, string_bytes};
+    ghost use Rattle.smithy_http.specs.ResolveError.{resolve_message};
 
-    ghost output = { λ error. Some (string_bytes error.message) };
+    ghost output = { λ error. Some (string_bytes (resolve_message error)) };
 
     fn fmt<W: fmt::Write>(&self, f: &mut fmt::Formatter<W>) -> fmt::Result {
         f.write_str(self.message.as_str())

@@ -1,5 +1,5 @@
 ghost use Rattle.std.specs.Prelude.{◌≡◌};
-ghost use Rattle.smithy_http.specs.SetIfAbsent.{SetsIfAbsent};
+ghost use Rattle.smithy_http.specs.SetHeader.{SetsIfAbsent};
 ghost use Rattle.smithy_http.specs.declared.set_header.HeaderFault.TheVariants.{NoMemory};
 
 use smithy_core::{Headers, HttpRequest, HttpResponse, is_header_name, is_header_value};
@@ -19,7 +19,7 @@ pub enum HeaderFault {
 
 impl fmt::Display for HeaderFault {
     ghost use Rattle.std.specs.Prelude.{Some};
-    ghost use Rattle.smithy_http.specs.Texts.{header_fault_text};
+    ghost use Rattle.smithy_http.specs.SetHeader.{header_fault_text};
 
     ghost output = { λ fault. Some (header_fault_text fault) };
 

@@ -1,7 +1,7 @@
 ghost use Rattle.std.specs.Prelude.{◌≡◌, ◌++◌, ◌↔◌, IsTrue, IfOk, OnOk, option_copied};
 ghost use Rattle.std.specs.String.{string_bytes};
 ghost use Rattle.http_uri.specs.ByteClasses.{framed_text};
-ghost use Rattle.smithy_http.specs.Building.{Parses, ReadsTarget};
+ghost use Rattle.smithy_http.specs.QueryWriter.{ParsesUri, ReadsTarget};
 ghost use Rattle.smithy_http.specs.Target.{IsAuthorityAlone, target_of, target_text};
 
 use crate::uri_fault::UriFault;
@@ -59,7 +59,7 @@ pub fn read_target(alloc: Global, text: &str) -> Result<Uri, UriFault>
 
 /// The URI that the text spells.
 pub(crate) fn parse_target(text: String) -> Result<Uri, UriFault>
-    ensures { Parses (string_bytes text) result }
+    ensures { ParsesUri (string_bytes text) result }
 {
     Ok(Uri::from_string(text)?)
 }

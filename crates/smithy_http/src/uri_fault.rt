@@ -15,7 +15,7 @@ pub enum UriFault {
 
 impl fmt::Display for UriFault {
     ghost use Rattle.std.specs.Prelude.{Some};
-    ghost use Rattle.smithy_http.specs.Texts.{uri_fault_text};
+    ghost use Rattle.smithy_http.specs.UriFault.{uri_fault_text};
 
     ghost output = { λ fault. Some (uri_fault_text fault) };
 
@@ -41,9 +41,9 @@ impl From<AllocError> for UriFault {
 
 impl From<UriError> for UriFault {
     ghost use Rattle.std.specs.Prelude.{◌≡◌};
-    ghost use Rattle.smithy_http.specs.UriFault.{fault_of};
+    ghost use Rattle.smithy_http.specs.UriFault.{uri_fault_of};
 
-    ghost from_gives = { λ e fault. fault ≡ fault_of e };
+    ghost from_gives = { λ e fault. fault ≡ uri_fault_of e };
 
     fn from(e: UriError) -> UriFault {
         match e {

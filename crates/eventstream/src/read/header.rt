@@ -1,11 +1,11 @@
 ghost use Rattle.std.specs.Prelude.{◌≡◌, ◌<◌, length, OnOk};
 ghost use Rattle.std.specs.Int.{byte_len, w8, w16, w32, w64, w128, cast_signed};
-ghost use Rattle.smithy_core.specs.Instant.{at_ms};
+ghost use Rattle.smithy_core.specs.Moment.{at_ms};
 ghost use Rattle.smithy_core.specs.declared.header.HeaderValue.TheVariants.{Byte, Int16, Int32, Int64, Timestamp, Uuid};
-ghost use Rattle.eventstream.specs.Read.{array_of, big_endian, counted_of, front_of, header_of, name_of, number_of, text_of, value_of};
-ghost use Rattle.eventstream.specs.Reads.{GivesFront};
+ghost use Rattle.eventstream.specs.Read.{array_of, big_endian, counted_of, front_of, header_of, header_name_of, number_of, text_value_of, value_of, GivesFront};
 
 use crate::error::{Error, ErrorKind};
+use crate::kind;
 use bytes::Bytes;
 use smithy_core::{DateTime, Header, HeaderValue, StrBytes};
 
@@ -23,9 +23,9 @@ pub fn take_header(rest: &mut Bytes) -> Result<Header, Error>
 }
 
 // A name behind its length, with one byte at least after it.
-#[tactic(auto, unfolding(crate::specs::Read::name_of))]
+#[tactic(auto, unfolding(crate::specs::Read::header_name_of))]
 fn take_name(rest: &mut Bytes) -> Result<StrBytes, Error>
-    ensures name { GivesFront name_of rest.old rest.new result }
+    ensures name { GivesFront header_name_of rest.old rest.new result }
     ensures more { OnOk result ((0 < length rest.new) × (length rest.new < length rest.old)) }
 {
     if rest.len() < 2 {
@@ -48,17 +48,17 @@ fn take_value(kind: u8, rest: &mut Bytes) -> Result<HeaderValue, Error>
     ensures { GivesFront (value_of kind) rest.old rest.new result }
 {
     match kind {
-        0 => Ok(HeaderValue::Bool(true)),
-        1 => Ok(HeaderValue::Bool(false)),
-        2 => take_byte(rest),
-        3 => take_int16(rest),
-        4 => take_int32(rest),
-        5 => take_int64(rest),
-        6 => take_array(rest),
-        7 => take_text(rest),
-        8 => take_timestamp(rest),
-        9 => take_uuid(rest),
-        kind => Err(Error::from(ErrorKind::InvalidHeaderValueType(kind))),
+        kind::TRUE => Ok(HeaderValue::Bool(true)),
+        kind::FALSE => Ok(HeaderValue::Bool(false)),
+        kind::BYTE => take_byte(rest),
+        kind::INT16 => take_int16(rest),
+        kind::INT32 => take_int32(rest),
+        kind::INT64 => take_int64(rest),
+        kind::BYTE_ARRAY => take_array(rest),
+        kind::STRING => take_text(rest),
+        kind::TIMESTAMP => take_timestamp(rest),
+        kind::UUID => take_uuid(rest),
+        other => Err(Error::from(ErrorKind::InvalidHeaderValueType(other))),
     }
 }
 
@@ -120,9 +120,9 @@ fn take_array(rest: &mut Bytes) -> Result<HeaderValue, Error>
 }
 
 // A UTF-8 text.
-#[tactic(auto, unfolding(crate::specs::Read::text_of))]
+#[tactic(auto, unfolding(crate::specs::Read::text_value_of))]
 fn take_text(rest: &mut Bytes) -> Result<HeaderValue, Error>
-    ensures { GivesFront text_of rest.old rest.new result }
+    ensures { GivesFront text_value_of rest.old rest.new result }
 {
     match StrBytes::try_from_bytes(take_counted(rest)?) {
         Ok(text) => Ok(HeaderValue::String(text)),

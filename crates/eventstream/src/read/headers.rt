@@ -1,6 +1,5 @@
 ghost use Rattle.std.specs.Prelude.{◌≡◌, ◌-◌, ◌≤◌, ◌<◌, length, OnOk};
-ghost use Rattle.eventstream.specs.Read.{header_within, headers_of};
-ghost use Rattle.eventstream.specs.Reads.{GivesFront, GivesHeaders};
+ghost use Rattle.eventstream.specs.Read.{header_within, headers_of, GivesFront, GivesHeaders};
 
 use crate::error::{Error, ErrorKind};
 use crate::read::header::take_header;

@@ -1,10 +1,12 @@
 ghost use Rattle.std.specs.Prelude.{◌≡◌, ℕ, ◌+◌, ◌≤◌, length, IfOk};
 ghost use Rattle.std.specs.Int.{w32};
-ghost use Rattle.eventstream.specs.Read.{big_endian, lengths_of, u32_at};
-ghost use Rattle.eventstream.specs.Reading.{announced};
+ghost use Rattle.eventstream.specs.Frame.{least_frame};
+ghost use Rattle.eventstream.specs.Read.{big_endian, lengths_of, u32_at, announced};
 
 use crate::error::ErrorKind;
+use crate::write::LEAST_FRAME;
 use mac_core::crc32;
+use seg_buf::PRELUDE;
 
 /// The bytes of a frame, and of its header block.
 #[derive(Clone, Copy, Debug)]
@@ -17,9 +19,9 @@ pub struct Lengths {
 
 /// The lengths that a prelude tells, where so many bytes are there.
 #[tactic(auto, unfolding(crate::specs::Read::lengths_of))]
-pub fn read_lengths(there: usize, prelude: [u8; 12]) -> Result<Lengths, ErrorKind>
+pub fn read_lengths(there: usize, prelude: [u8; PRELUDE]) -> Result<Lengths, ErrorKind>
     ensures lengths { result ≡ lengths_of there prelude }
-    ensures fit { IfOk result (λ lengths. (lengths.total ≡ announced prelude) × (16 ≤ lengths.total) × (lengths.total ≤ there) × (lengths.headers + 16 ≤ lengths.total)) }
+    ensures fit { IfOk result (λ lengths. (lengths.total ≡ announced prelude) × (least_frame ≤ lengths.total) × (lengths.total ≤ there) × (lengths.headers + least_frame ≤ lengths.total)) }
 {
     let total = u32_at(prelude.as_slice(), 0) as usize;
     let headers = u32_at(prelude.as_slice(), 4) as usize;
@@ -34,10 +36,10 @@ pub fn read_lengths(there: usize, prelude: [u8; 12]) -> Result<Lengths, ErrorKin
     if headers == 1 {
         return Err(ErrorKind::InvalidHeadersLength);
     }
-    if total < 16 {
+    if total < LEAST_FRAME {
         return Err(ErrorKind::InvalidMessageLength);
     }
-    if total - 16 < headers {
+    if total - LEAST_FRAME < headers {
         return Err(ErrorKind::InvalidHeadersLength);
     }
     Ok(Lengths { total, headers })

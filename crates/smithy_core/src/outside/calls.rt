@@ -1,5 +1,5 @@
 ghost use Rattle.std.specs.Prelude.{◌≡◌, IfOk, IsTrue};
-ghost use Rattle.smithy_core.specs.Memory.{FailsAsListed, no_calls};
+ghost use Rattle.smithy_core.specs.Calls.{FailsAsListed, no_calls};
 
 use crate::memory::Mem;
 use std::marker::Model;
@@ -15,7 +15,7 @@ pub struct Calls {
 }
 
 impl Model for Calls {
-    ghost use Rattle.smithy_core.specs.Memory.{Tally};
+    ghost use Rattle.smithy_core.specs.Calls.{Tally};
 
     ghost Value = { Tally };
 

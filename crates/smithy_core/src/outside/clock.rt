@@ -8,8 +8,8 @@ use std::marker::Model;
 /// Gives moments, and can't fail.
 pub trait Clock {
     ghost use Rattle.std.specs.Prelude.{List, Option};
-    ghost use Rattle.smithy_core.specs.Given.{GainsOne};
-    ghost use Rattle.smithy_core.specs.Instant.{Instant};
+    ghost use Rattle.smithy_core.specs.Clock.{GainsOne};
+    ghost use Rattle.smithy_core.specs.Moment.{Instant};
 
     // what it has given, where it is told
     ghost given: { Self → Option (List Instant) };
@@ -30,7 +30,7 @@ pub struct ListClock {
 }
 
 impl Model for ListClock {
-    ghost use Rattle.smithy_core.specs.Given.{ClockState};
+    ghost use Rattle.smithy_core.specs.Clock.{ClockState};
 
     ghost Value = { ClockState };
 
@@ -39,7 +39,7 @@ impl Model for ListClock {
 
 impl ListClock {
     ghost use Rattle.std.specs.Vec.{vec_len};
-    ghost use Rattle.smithy_core.specs.Instant.{Instant};
+    ghost use Rattle.smithy_core.specs.Moment.{Instant};
 
     /// A clock that has given nothing.
     pub fn new(moments: Vec<Moment>) -> ListClock
@@ -70,7 +70,7 @@ impl ListClock {
 }
 
 impl Clock for ListClock {
-    ghost use Rattle.smithy_core.specs.Given.{GainsOne, GivesNext, given};
+    ghost use Rattle.smithy_core.specs.Clock.{GainsOne, GivesNext, given};
 
     ghost given = { given };
 
@@ -99,7 +99,7 @@ pub struct FixedClock {
 
 impl Model for FixedClock {
     ghost use Rattle.std.specs.Prelude.{[]};
-    ghost use Rattle.smithy_core.specs.Given.{ClockState};
+    ghost use Rattle.smithy_core.specs.Clock.{ClockState};
 
     ghost Value = { ClockState };
 
@@ -119,7 +119,7 @@ impl FixedClock {
 }
 
 impl Clock for FixedClock {
-    ghost use Rattle.smithy_core.specs.Given.{GainsOne, GivesNext, given};
+    ghost use Rattle.smithy_core.specs.Clock.{GainsOne, GivesNext, given};
 
     ghost given = { given };
 

@@ -1,10 +1,9 @@
 ghost use Rattle.std.specs.Prelude.{◌≡◌, ℕ, ◌≤◌, List, Option, Some, None, Result, IfOk, IsErrOf, option_map, option_copied};
 ghost use Rattle.std.specs.Option.{option_or};
-ghost use Rattle.smithy_core.specs.Disks.{AnswersAsListed, FindsFile};
-ghost use Rattle.smithy_core.specs.Files.{file_pair, file_pairs};
-ghost use Rattle.smithy_core.specs.Memory.{no_calls};
-ghost use Rattle.smithy_core.specs.Outside.{HasFile, LacksFile, Rose};
-ghost use Rattle.smithy_core.specs.Pairs.{last_value, value_if};
+ghost use Rattle.smithy_core.specs.Disk.{AnswersAsListed, FindsFile, file_pair, file_pairs};
+ghost use Rattle.smithy_core.specs.Calls.{no_calls};
+ghost use Rattle.smithy_core.specs.Outside.{HasFile, LacksFile, RoseOrStands};
+ghost use Rattle.smithy_core.specs.TextPairs.{last_value, value_if};
 
 use crate::memory::Mem;
 use crate::outside::calls::Calls;
@@ -26,7 +25,7 @@ pub enum DiskError {
 
 impl fmt::Display for DiskError {
     ghost use Rattle.std.specs.Prelude.{Some};
-    ghost use Rattle.smithy_core.specs.Faults.{disk_error_text};
+    ghost use Rattle.smithy_core.specs.Disk.{disk_error_text};
 
     ghost output = { λ fault. Some (disk_error_text fault) };
 
@@ -64,7 +63,7 @@ pub trait Disk {
     /// a failure leaves the count.
     fn read(&mut self, path: &str) -> Result<Vec<u8>, DiskError>
         ensures count { faults self.old ≤ faults self.new }
-        ensures cause { IsErrOf result DiskError.Failed → Rose (faults self.old) (faults self.new) }
+        ensures cause { IsErrOf result DiskError.Failed → RoseOrStands (faults self.old) (faults self.new) }
         ensures steady { (IsErrOf result DiskError.Failed → ⊥) → faults self.new ≡ faults self.old }
         ensures same { files self.new ≡ files self.old }
         ensures bytes { IfOk result (λ bytes. HasFile (files self.old) path.now bytes.items) }
@@ -82,7 +81,7 @@ pub struct CalmDisk {
 
 impl Model for CalmDisk {
     ghost use Rattle.std.specs.Prelude.{ℕ, List};
-    ghost use Rattle.smithy_core.specs.Files.{file_pairs};
+    ghost use Rattle.smithy_core.specs.Disk.{file_pairs};
 
     ghost Value = { List (List ℕ × List ℕ) };
 
@@ -134,8 +133,8 @@ pub struct FaultyDisk {
 }
 
 impl Model for FaultyDisk {
-    ghost use Rattle.smithy_core.specs.Files.{file_pairs};
-    ghost use Rattle.smithy_core.specs.Memory.{DiskState};
+    ghost use Rattle.smithy_core.specs.Disk.{file_pairs};
+    ghost use Rattle.smithy_core.specs.Disk.{DiskState};
 
     ghost Value = { DiskState };
 

@@ -3,9 +3,11 @@ ghost use Rattle.std.specs.Prelude.{◌≡◌, IfOk};
 use crate::headers::Headers;
 use crate::memory::Mem;
 use bytes::Bytes;
+use std::fmt;
 
-/// A frame of a body: a piece of its data, or trailers.
-#[derive(Debug, Drop)]
+/// A frame of a body: a piece of its data, or trailers. [`Debug`](std::fmt::Debug) prints how long the piece is, or the names
+/// and lengths of the trailers, since a body may hold a secret.
+#[derive(Drop)]
 pub enum FramePart {
     /// Some bytes of the data, or none.
     Data(Bytes),
@@ -25,8 +27,8 @@ impl FramePart {
     }
 }
 
-/// The answer of a source of frames.
-#[derive(Debug, Drop)]
+/// The answer of a source of frames. [`Debug`](std::fmt::Debug) prints of a frame what it prints of a [`FramePart`].
+#[derive(Drop)]
 pub enum Polled {
     /// The next piece of the data.
     Data(Bytes),
@@ -60,7 +62,7 @@ impl Polled {
 
 impl From<FramePart> for Polled {
     ghost use Rattle.std.specs.Prelude.{◌≡◌};
-    ghost use Rattle.smithy_core.specs.Frames.{answer_of};
+    ghost use Rattle.smithy_core.specs.FrameSource.{answer_of};
 
     ghost from_gives = { λ frame answer. answer ≡ answer_of frame };
 
@@ -68,6 +70,42 @@ impl From<FramePart> for Polled {
         match frame {
             FramePart::Data(piece) => Polled::Data(piece),
             FramePart::Trailers(trailers) => Polled::Trailers(trailers),
+        }
+    }
+}
+
+impl fmt::Debug for FramePart {
+    ghost use Rattle.smithy_core.specs.FramePart.{part_size};
+
+    ghost debug_output = { part_size };
+
+    fn fmt<W: fmt::Write>(&self, f: &mut fmt::Formatter<W>) -> fmt::Result {
+        match self {
+            FramePart::Data(piece) => {
+                let count = piece.len();
+                write!(f, "Data({count} bytes)")
+            }
+            FramePart::Trailers(trailers) => f.debug_tuple("Trailers").field(trailers).finish(),
+        }
+    }
+}
+
+impl fmt::Debug for Polled {
+    ghost use Rattle.smithy_core.specs.FramePart.{polled_size};
+
+    ghost debug_output = { polled_size };
+
+    fn fmt<W: fmt::Write>(&self, f: &mut fmt::Formatter<W>) -> fmt::Result {
+        match self {
+            Polled::Data(piece) => {
+                let count = piece.len();
+                write!(f, "Data({count} bytes)")
+            }
+            Polled::Trailers(trailers) => f.debug_tuple("Trailers").field(trailers).finish(),
+            Polled::NotYet => f.write_str("NotYet"),
+            Polled::End => f.write_str("End"),
+            Polled::Failed => f.write_str("Failed"),
+            Polled::NoMemory => f.write_str("NoMemory"),
         }
     }
 }

@@ -1,7 +1,7 @@
 ghost use Rattle.std.specs.Prelude.{◌≡◌, ℕ, ◌≤◌, List, [], Option, Some, IfOk, true, false};
-ghost use Rattle.smithy_core.specs.Frames.{AreShort, GivesCalmly, GivesFrame, GivesShort, PollsAsListed};
-ghost use Rattle.smithy_core.specs.Memory.{no_calls};
-ghost use Rattle.smithy_core.specs.Outside.{Rose};
+ghost use Rattle.smithy_core.specs.FrameSource.{AreShort, GivesCalmly, GivesFrame, GivesShort, PollsAsListed};
+ghost use Rattle.smithy_core.specs.Calls.{no_calls};
+ghost use Rattle.smithy_core.specs.Outside.{RoseOrStands};
 ghost use Rattle.smithy_core.specs.declared.outside.frame_part.FramePart.{FramePart as Part};
 ghost use Rattle.smithy_core.specs.declared.outside.frame_part.Polled.TheVariants as polled;
 
@@ -32,9 +32,9 @@ pub trait FrameSource {
     /// at most 4,294,967,295 bytes.
     fn poll_frame(&mut self) -> Polled
         ensures count { faults self.old ≤ faults self.new }
-        ensures cause { result ≡ polled.Failed → Rose (faults self.old) (faults self.new) }
+        ensures cause { result ≡ polled.Failed → RoseOrStands (faults self.old) (faults self.new) }
         ensures waits { waits self.old ≤ waits self.new }
-        ensures waited { result ≡ polled.NotYet → Rose (waits self.old) (waits self.new) }
+        ensures waited { result ≡ polled.NotYet → RoseOrStands (waits self.old) (waits self.new) }
         ensures gives { GivesFrame (left self.old) (left self.new) result }
         ensures short { GivesShort result }
         ensures ends { result ≡ polled.End → ended self.new }
@@ -57,7 +57,7 @@ pub struct FaultyFrames {
 
 impl Model for FaultyFrames {
     ghost use Rattle.std.specs.Prelude.{◌≡◌, [], true};
-    ghost use Rattle.smithy_core.specs.Frames.{AreShort, FramesState};
+    ghost use Rattle.smithy_core.specs.FrameSource.{AreShort, FramesState};
 
     ghost Value = { FramesState };
 
@@ -141,7 +141,7 @@ pub struct CalmFrames {
 
 impl Model for CalmFrames {
     ghost use Rattle.std.specs.Prelude.{List};
-    ghost use Rattle.smithy_core.specs.Frames.{AreShort};
+    ghost use Rattle.smithy_core.specs.FrameSource.{AreShort};
     ghost use Rattle.smithy_core.specs.declared.outside.frame_part.FramePart.{FramePart as Part};
 
     ghost Value = { List Part };

@@ -1,4 +1,5 @@
 ghost use Rattle.std.specs.Prelude.{◌≡◌, None};
+ghost use Rattle.smithy_core.specs.Host.{failed_files, failed_reads, failed_writes};
 
 use crate::moment::Moment;
 use crate::outside::clock::Clock;
@@ -32,7 +33,7 @@ impl<R: Read> StdSource<R> {
 impl<R: Read> ByteSource for StdSource<R> {
     ghost left = { λ _. None };
 
-    ghost faults = { λ source. source.faults };
+    ghost faults = { failed_reads };
 
     fn read(&mut self, into: &mut [u8]) -> Result<usize, Failed> {
         match self.reader.read(into) {
@@ -65,7 +66,7 @@ impl<W: Write> StdSink<W> {
 impl<W: Write> ByteSink for StdSink<W> {
     ghost held = { λ _. None };
 
-    ghost faults = { λ sink. sink.faults };
+    ghost faults = { failed_writes };
 
     fn write(&mut self, piece: &[u8]) -> Result<usize, SinkError> {
         let written = self.writer.write(piece);
@@ -108,7 +109,7 @@ impl<R: Files> HostDisk<R> {
 impl<R: Files> Disk for HostDisk<R> {
     ghost files = { λ _. None };
 
-    ghost faults = { λ disk. disk.faults };
+    ghost faults = { failed_files };
 
     fn read(&mut self, path: &str) -> Result<Vec<u8>, DiskError> {
         let result = read_file(self.alloc, &self.runtime, path);

@@ -1,6 +1,6 @@
 ghost use Rattle.std.specs.Prelude.{◌≡◌, ◌≤◌, IfOk, IsErrOf};
 ghost use Rattle.std.specs.Vec.{vec_len};
-ghost use Rattle.smithy_core.specs.Outside.{IsAllOf, IsAtEnd, IsLongerThan, IsRestOf, Rose};
+ghost use Rattle.smithy_core.specs.Outside.{IsAllOf, IsAtEnd, IsLongerThan, IsRestOf, RoseOrStands};
 ghost use Rattle.smithy_core.specs.declared.outside.read_all.ReadFault.TheVariants.{NoMemory};
 
 use crate::outside::source::ByteSource;
@@ -21,7 +21,7 @@ pub enum ReadFault {
 
 impl fmt::Display for ReadFault {
     ghost use Rattle.std.specs.Prelude.{Some};
-    ghost use Rattle.smithy_core.specs.Faults.{read_fault_text};
+    ghost use Rattle.smithy_core.specs.ReadAll.{read_fault_text};
 
     ghost output = { λ fault. Some (read_fault_text fault) };
 
@@ -63,7 +63,7 @@ pub fn read_all<S: ByteSource>(
     ensures rest { IsRestOf (S.left source.old) (S.left source.new) }
     ensures count { S.faults source.old ≤ S.faults source.new }
     ensures steady { (IsErrOf result ReadFault.Failed → ⊥) → S.faults source.new ≡ S.faults source.old }
-    ensures failed { IsErrOf result ReadFault.Failed → Rose (S.faults source.old) (S.faults source.new) }
+    ensures failed { IsErrOf result ReadFault.Failed → RoseOrStands (S.faults source.old) (S.faults source.new) }
     ensures too_large { IsErrOf result ReadFault.TooLarge → IsLongerThan (S.left source.old) limit }
 {
     let mut buffer = [0u8; 8192];

@@ -1,6 +1,7 @@
 ghost use Rattle.std.specs.Prelude.{◌≡◌, ℕ, ◌<◌, ◌≤◌, List, [], Option, Some, length, IfOk, IfErr, OnErr, IsErrOf, ◌++◌};
-ghost use Rattle.smithy_core.specs.Memory.{FailsAsListed, TakesWhole, no_calls};
-ghost use Rattle.smithy_core.specs.Outside.{GainsFront, Rose};
+ghost use Rattle.smithy_core.specs.Calls.{FailsAsListed, no_calls};
+ghost use Rattle.smithy_core.specs.Sink.{TakesWhole};
+ghost use Rattle.smithy_core.specs.Outside.{GainsFront, RoseOrStands};
 
 use crate::memory::Mem;
 use crate::outside::calls::Calls;
@@ -20,7 +21,7 @@ pub enum SinkError {
 
 impl fmt::Display for SinkError {
     ghost use Rattle.std.specs.Prelude.{Some};
-    ghost use Rattle.smithy_core.specs.Faults.{sink_error_text};
+    ghost use Rattle.smithy_core.specs.Sink.{sink_error_text};
 
     ghost output = { λ fault. Some (sink_error_text fault) };
 
@@ -51,7 +52,7 @@ pub trait ByteSink {
     /// first leaves the count.
     fn write(&mut self, piece: &[u8]) -> Result<usize, SinkError>
         ensures count { faults self.old ≤ faults self.new }
-        ensures cause { IsErrOf result SinkError.Failed → Rose (faults self.old) (faults self.new) }
+        ensures cause { IsErrOf result SinkError.Failed → RoseOrStands (faults self.old) (faults self.new) }
         ensures steady { (IsErrOf result SinkError.Failed → ⊥) → faults self.new ≡ faults self.old }
         ensures within { IfOk result (λ n. n ≤ length piece.now) }
         ensures progress { IfOk result (λ n. 0 < length piece.now → 0 < n) }
@@ -70,7 +71,7 @@ pub struct FaultySink {
 }
 
 impl Model for FaultySink {
-    ghost use Rattle.smithy_core.specs.Memory.{SinkState};
+    ghost use Rattle.smithy_core.specs.Sink.{SinkState};
 
     ghost Value = { SinkState };
 

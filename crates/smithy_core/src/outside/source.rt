@@ -1,6 +1,6 @@
 ghost use Rattle.std.specs.Prelude.{◌≡◌, ℕ, ◌<◌, ◌≤◌, List, [], Option, Some, drop, length, Ok, IfOk, OnOk, OnErr, IsErr, IsOk};
-ghost use Rattle.smithy_core.specs.Memory.{FailsAsListed, no_calls};
-ghost use Rattle.smithy_core.specs.Outside.{IsAtEnd, Rose, TakesFront};
+ghost use Rattle.smithy_core.specs.Calls.{FailsAsListed, no_calls};
+ghost use Rattle.smithy_core.specs.Outside.{IsAtEnd, RoseOrStands, TakesFront};
 
 use crate::memory::Mem;
 use crate::outside::calls::Calls;
@@ -42,7 +42,7 @@ pub trait ByteSource {
     /// answer leaves the count.
     fn read(&mut self, into: &mut [u8]) -> Result<usize, Failed>
         ensures count { faults self.old ≤ faults self.new }
-        ensures cause { OnErr result (Rose (faults self.old) (faults self.new)) }
+        ensures cause { OnErr result (RoseOrStands (faults self.old) (faults self.new)) }
         ensures steady { OnOk result (faults self.new ≡ faults self.old) }
         ensures within { IfOk result (λ n. n ≤ length into.old) }
         ensures taken { IfOk result (λ n. TakesFront n into.new (left self.old) (left self.new)) }
@@ -63,7 +63,7 @@ pub struct FaultySource {
 
 impl Model for FaultySource {
     ghost use Rattle.std.specs.Prelude.{◌≤◌, drop, length};
-    ghost use Rattle.smithy_core.specs.Memory.{SourceState};
+    ghost use Rattle.smithy_core.specs.Source.{SourceState};
 
     ghost Value = { SourceState };
 

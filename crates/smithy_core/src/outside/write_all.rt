@@ -1,5 +1,5 @@
 ghost use Rattle.std.specs.Prelude.{◌≡◌, ◌≤◌, OnOk, OnErr, IsErrOf};
-ghost use Rattle.smithy_core.specs.Outside.{Gains, GainsProperPrefix, Rose};
+ghost use Rattle.smithy_core.specs.Outside.{Gains, GainsProperPrefix, RoseOrStands};
 
 use crate::outside::sink::{ByteSink, SinkError};
 
@@ -15,7 +15,7 @@ pub fn write_all<K: ByteSink>(sink: &mut K, piece: &[u8]) -> Result<(), SinkErro
     ensures count { K.faults sink.old ≤ K.faults sink.new }
     ensures steady { (IsErrOf result SinkError.Failed → ⊥) → K.faults sink.new ≡ K.faults sink.old }
     ensures ok { OnOk result (Gains (K.held sink.old) (K.held sink.new) piece.now) }
-    ensures failed { IsErrOf result SinkError.Failed → Rose (K.faults sink.old) (K.faults sink.new) }
+    ensures failed { IsErrOf result SinkError.Failed → RoseOrStands (K.faults sink.old) (K.faults sink.new) }
     ensures err { OnErr result (GainsProperPrefix (K.held sink.old) (K.held sink.new) piece.now) }
 {
     let mut rest = piece;

@@ -1,7 +1,7 @@
 use Rattle.std.proofs.Common.{◌≡◌, map, drop}
 use Rattle.std.specs.Prelude.{string_bytes, option_copied}
 use Rattle.std.specs.Option.{option_or}
-use Rattle.smithy_core.specs.Pairs.{last_value}
+use Rattle.smithy_core.specs.TextPairs.{last_value}
 use Rattle.smithy_core.proofs.env.last_text.Given as goal
 
 -- what the pairs to come have, or else what was found

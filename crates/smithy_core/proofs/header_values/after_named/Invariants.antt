@@ -1,5 +1,5 @@
 use Rattle.std.proofs.Common.{◌≡◌, drop}
-use Rattle.smithy_core.specs.Pairs.{first_value, lower, named_values, text_pairs}
+use Rattle.smithy_core.specs.TextPairs.{first_value, lower, named_values, text_pairs}
 use Rattle.smithy_core.proofs.header_values.after_named.Given as goal
 
 -- no pair that passed has the name

@@ -1,5 +1,5 @@
 use Rattle.std.proofs.Common.{◌≡◌, map, take}
-use Rattle.smithy_core.specs.Pairs.{lower_name}
+use Rattle.smithy_core.specs.TextPairs.{lower_name}
 use Rattle.smithy_core.proofs.headers.appended.Given as goal
 
 -- the pairs that passed are appended

@@ -1,6 +1,6 @@
 use Rattle.std.proofs.Common.{◌≡◌, drop}
 use Rattle.std.specs.Prelude.{bytes_eq}
-use Rattle.smithy_core.specs.Pairs.{lower}
+use Rattle.smithy_core.specs.TextPairs.{lower}
 use Rattle.smithy_core.proofs.lower.is_lower_of.Given as goal
 
 -- the bytes that passed are the same

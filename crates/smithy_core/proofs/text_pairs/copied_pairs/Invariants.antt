@@ -1,5 +1,5 @@
 use Rattle.std.proofs.Common.{◌≡◌, take}
-use Rattle.smithy_core.specs.Pairs.{text_pairs}
+use Rattle.smithy_core.specs.TextPairs.{text_pairs}
 use Rattle.smithy_core.proofs.text_pairs.copied_pairs.Given as goal
 
 -- the pairs that passed are copied

@@ -1,5 +1,5 @@
 use Rattle.std.proofs.Common.{◌≤◌, ◌<◌, length, inl, arith}
-use Rattle.eventstream.specs.Reading.{announced}
+use Rattle.eventstream.specs.Read.{announced}
 use Rattle.eventstream.proofs.FrontLemmas.{first_bad, first_short}
 use Rattle.eventstream.proofs.DecodeLemmas.{keeps_short, keeps_taken, more_unfinished, steps_whole}
 use Rattle.eventstream.proofs.decode.MessageFrameDecoder.decode_whole.Goals as goal

@@ -12,5 +12,5 @@ invariant-loop-piece l =
       finite : (goal.iterator-loop-piece).is_finite l.piece-iterator;
       live : AreLive pieces l.taken;
       filled : l.filled ≤ length l.into;
-      joined : take l.filled l.into ++ flat pieces l.taken ≡ l.self.bytes;
+      front : take l.filled l.into ++ flat pieces l.taken ≡ l.self.bytes;
     }

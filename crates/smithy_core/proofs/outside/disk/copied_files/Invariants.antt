@@ -1,5 +1,5 @@
 use Rattle.std.proofs.Common.{◌≡◌, take}
-use Rattle.smithy_core.specs.Files.{file_pairs}
+use Rattle.smithy_core.specs.Disk.{file_pairs}
 use Rattle.smithy_core.proofs.outside.disk.copied_files.Given as goal
 
 -- the files that passed are copied

@@ -1,8 +1,8 @@
 use Rattle.std.proofs.Common.{◌≡◌, drop}
 use Rattle.std.specs.Prelude.{option_map, option_copied}
 use Rattle.std.specs.Option.{option_or}
-use Rattle.smithy_core.specs.Files.{file_pairs}
-use Rattle.smithy_core.specs.Pairs.{last_value}
+use Rattle.smithy_core.specs.Disk.{file_pairs}
+use Rattle.smithy_core.specs.TextPairs.{last_value}
 use Rattle.smithy_core.proofs.outside.disk.last_file.Given as goal
 
 -- what the files to come have, or else what was found

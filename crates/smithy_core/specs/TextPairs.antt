@@ -56,6 +56,6 @@ inserted (pair ∷ pairs) name value =
     if bytes_eq pair.0 name then (name, value) ∷ without pairs name else pair ∷ inserted pairs name value
 
 -- the first place of the name, or the number of pairs
-abbrev pub place_of : List (List ℕ × List ℕ) → List ℕ → ℕ
-place_of [] name = zero
-place_of (pair ∷ pairs) name = if bytes_eq pair.0 name then zero else suc (place_of pairs name)
+abbrev pub first_place : List (List ℕ × List ℕ) → List ℕ → ℕ
+first_place [] name = zero
+first_place (pair ∷ pairs) name = if bytes_eq pair.0 name then zero else suc (first_place pairs name)

@@ -1,7 +1,7 @@
 -- What contracts say of a source of frames. What it has left is optional: it need not tell.
 use Rattle.std.specs.Prelude.{◌≡◌, ℕ, ◌≤◌, ◌↔◌, Contains, Bool, true, false, List, [], ◌∷◌, length, Option, Some, None, if◌then◌else◌}
 use Rattle.std.specs.List.{AllByRecursion}
-use Rattle.smithy_core.specs.Memory.{FailsAsListed, Tally, one_more}
+use Rattle.smithy_core.specs.Calls.{FailsAsListed, Tally, one_more}
 use Rattle.smithy_core.specs.declared.outside.frame_part.FramePart.{FramePart}
 use Rattle.smithy_core.specs.declared.outside.frame_part.FramePart.TheVariants as part
 use Rattle.smithy_core.specs.declared.outside.frame_part.Polled.{Polled}

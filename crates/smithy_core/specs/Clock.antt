@@ -1,8 +1,8 @@
 -- What contracts say of a clock. The list of what it gave is optional: it need not tell.
 use Rattle.std.specs.Prelude.{◌≡◌, ℕ, zero, suc, ◌-◌, ◌^◌, List, [], ◌∷◌, ◌++◌, Option, Some, None, nat_lt, if◌then◌else◌}
 use Rattle.std.specs.List.{slice_index_or}
-use Rattle.smithy_core.specs.Instant.{Instant}
-use Rattle.smithy_core.specs.Memory.{one_more}
+use Rattle.smithy_core.specs.Moment.{Instant}
+use Rattle.smithy_core.specs.Calls.{one_more}
 
 -- the answer was appended, where the list is told afterwards
 abbrev pub GainsOne : Option (List Instant) → Option (List Instant) → Instant → Type 0

@@ -7,7 +7,7 @@ pub record Instant : Type 0 where
   pub secs : ℤ
   pub nanos : ℕ
 
--- the same without its nanoseconds
+-- a moment without its nanoseconds
 abbrev pub floor_secs : Instant → Instant
 floor_secs t = record { secs = t.secs; nanos = 0 }
 
@@ -23,6 +23,6 @@ total_nanos t = t.secs *ℤ pos 1000000000 +ℤ pos t.nanos
 abbrev pub at_ms : ℤ → Instant
 at_ms ms = record { secs = int_div_euclid ms (pos 1000); nanos = unsigned_abs (int_rem_euclid ms (pos 1000)) * 1000000 }
 
--- the same moment, floored to whole milliseconds
+-- a moment, floored to whole milliseconds
 abbrev pub floored : Instant → Instant
 floored t = record { secs = t.secs; nanos = t.nanos / 1000000 * 1000000 }

@@ -50,29 +50,29 @@ ReadsTarget text (Err InvalidUri) = SpellsNoTarget text
 ReadsTarget text (Err NoMemory) = Unit {0}
 
 -- a target is read, exactly where the text spells one
-abbrev pub Reads : List ℕ → Result Target UriFault → Type 0
-Reads text (Ok t) = (uri : Uri) × SpellsTarget text uri × (t ≡ target_of uri)
-Reads text (Err InvalidUri) = SpellsNoTarget text
-Reads text (Err NoMemory) = Unit {0}
+abbrev pub ReadsTargetParts : List ℕ → Result Target UriFault → Type 0
+ReadsTargetParts text (Ok t) = (uri : Uri) × SpellsTarget text uri × (t ≡ target_of uri)
+ReadsTargetParts text (Err InvalidUri) = SpellsNoTarget text
+ReadsTargetParts text (Err NoMemory) = Unit {0}
 
 -- a URI is read, exactly where the text spells one
-abbrev pub Parses : List ℕ → Result Uri UriFault → Type 0
-Parses text (Ok uri) = Spells text uri
-Parses text (Err InvalidUri) = SpellsNone text
-Parses text (Err NoMemory) = Unit {0}
+abbrev pub ParsesUri : List ℕ → Result Uri UriFault → Type 0
+ParsesUri text (Ok uri) = Spells text uri
+ParsesUri text (Err InvalidUri) = SpellsNone text
+ParsesUri text (Err NoMemory) = Unit {0}
 
 -- the target is built, exactly where it isn't refused
-abbrev pub Builds : Target → Result Uri UriFault → Type 0
-Builds t (Ok uri) = ¬ (IsAuthorityAlone t) × Spells (target_text t) uri
-Builds t (Err InvalidUri) = IsRefused t
-Builds t (Err NoMemory) = Unit {0}
+abbrev pub BuildsTarget : Target → Result Uri UriFault → Type 0
+BuildsTarget t (Ok uri) = ¬ (IsAuthorityAlone t) × Spells (target_text t) uri
+BuildsTarget t (Err InvalidUri) = IsRefused t
+BuildsTarget t (Err NoMemory) = Unit {0}
 
 -- the query of the target that is built, or nothing where that has none
 abbrev pub BuildsQuery : Target → Result (String Global) UriFault → Type 0
-BuildsQuery t (Ok query) = (uri : Uri) × Builds t (Ok uri) × (string_bytes query ≡ unwrap_or (uri_query uri) [])
-BuildsQuery t (Err fault) = Builds t (Err fault)
+BuildsQuery t (Ok query) = (uri : Uri) × BuildsTarget t (Ok uri) × (string_bytes query ≡ unwrap_or (uri_query uri) [])
+BuildsQuery t (Err fault) = BuildsTarget t (Err fault)
 
 -- the text that is read when the target is built
 abbrev pub BuildsText : Target → Result (String Global) UriFault → Type 0
-BuildsText t (Ok text) = (uri : Uri) × Builds t (Ok uri) × (string_bytes text ≡ target_text t)
-BuildsText t (Err fault) = Builds t (Err fault)
+BuildsText t (Ok text) = (uri : Uri) × BuildsTarget t (Ok uri) × (string_bytes text ≡ target_text t)
+BuildsText t (Err fault) = BuildsTarget t (Err fault)

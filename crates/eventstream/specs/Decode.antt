@@ -1,27 +1,28 @@
--- What a decoder of frames promises: one step of the reading on its prelude and its buffer, joined.
+-- What a decoder of frames promises: one step of the reading on the bytes that it has not yet used.
 use Rattle.std.specs.Prelude.{◌≡◌, ◌≢◌, ℕ, ◌<◌, ◌≤◌, nat_lt, if◌then◌else◌, ◌⊎◌, List, [], ◌∷◌, ◌++◌, length, take, drop, Option, Some, None, Result, Ok, Err}
-use Rattle.smithy_core.specs.Parts.{Parts}
-use Rattle.seg_buf.specs.Segments.{Segments}
+use Rattle.smithy_core.specs.Message.{Parts}
+use Rattle.seg_buf.specs.Segments.{Segments, prelude_len}
 use Rattle.eventstream.specs.declared.decode.DecodedFrame.{DecodedFrame}
 use Rattle.eventstream.specs.declared.decode.DecodedFrame.TheVariants.{Incomplete, Complete}
 use Rattle.eventstream.specs.declared.decode.StreamEnd.{StreamEnd}
 use Rattle.eventstream.specs.declared.decode.StreamEnd.TheVariants.{Clean, Leftover, Undecoded}
 use Rattle.eventstream.specs.declared.error.ErrorKind.TheVariants.{NoMemory}
 use Rattle.eventstream.specs.declared.error.Error.{Error}
-use Rattle.eventstream.specs.Reading.{First, nothing, leftover, fault, begins, announced, first_of, Begin}
+use Rattle.eventstream.specs.Read.{announced}
+use Rattle.eventstream.specs.Reading.{First, nothing, leftover, fault, begins, first_of, Begin}
 
 -- the prelude that is kept, and then the bytes of the buffer
-abbrev pub joined : Option (List ℕ) → List ℕ → List ℕ
-joined None buffer = buffer
-joined (Some prelude) buffer = prelude ++ buffer
+abbrev pub undecoded_bytes : Option (List ℕ) → List ℕ → List ℕ
+undecoded_bytes None buffer = buffer
+undecoded_bytes (Some prelude) buffer = prelude ++ buffer
 
 -- the prelude of these bytes, once it is there
 abbrev pub prelude_of : List ℕ → Option (List ℕ)
-prelude_of bytes = if nat_lt (length bytes) 12 then None else Some (take 12 bytes)
+prelude_of bytes = if nat_lt (length bytes) prelude_len then None else Some (take prelude_len bytes)
 
 -- no byte is lost, and the prelude is taken once it is there
-abbrev pub Keeps : List ℕ → Option (List ℕ) → List ℕ → Type 0
-Keeps bytes prelude buffer = (prelude ≡ prelude_of bytes) × (joined prelude buffer ≡ bytes)
+abbrev pub KeepsBytes : List ℕ → Option (List ℕ) → List ℕ → Type 0
+KeepsBytes bytes prelude buffer = (prelude ≡ prelude_of bytes) × (undecoded_bytes prelude buffer ≡ bytes)
 
 -- there is less than a frame
 abbrev pub IsUnfinished : First → Type 0
@@ -32,8 +33,8 @@ IsUnfinished first = ⊥
 -- after a fault the frame is gone, and its prelude forgotten; a prelude that announces less than its own bytes stays
 abbrev pub LeavesFault : List ℕ → Option (List ℕ) → List ℕ → Type 0
 LeavesFault bytes prelude buffer =
-    ((announced bytes < 12) × Keeps bytes prelude buffer)
-    ⊎ ((12 ≤ announced bytes) × (prelude ≡ None) × (buffer ≡ drop (announced bytes) bytes))
+    ((announced bytes < prelude_len) × KeepsBytes bytes prelude buffer)
+    ⊎ ((prelude_len ≤ announced bytes) × (prelude ≡ None) × (buffer ≡ drop (announced bytes) bytes))
 
 -- so many bytes are taken, unless memory ran out
 abbrev pub Finishes : ℕ → Result Parts Error → Option (List ℕ) → Segments → Option (List ℕ) → Segments → Result DecodedFrame Error → Type 0
@@ -44,30 +45,30 @@ Finishes len (Err e) kept old prelude new result =
     × (((e.kind ≡ NoMemory) × (prelude ≡ kept) × (new ≡ old)) ⊎ ((e.kind ≢ NoMemory) × (prelude ≡ None) × (new.bytes ≡ drop len old.bytes)))
 
 -- one step of the reading; for want of memory nothing changes
-abbrev pub Steps : Option (List ℕ) → Segments → Option (List ℕ) → Segments → Result DecodedFrame Error → Type 0
-Steps kept old prelude new (Ok Incomplete) =
-    IsUnfinished (first_of (joined kept old.bytes)) × Keeps (joined kept old.bytes) prelude new.bytes
-Steps kept old prelude new (Ok (Complete message)) =
-    (first_of (joined kept old.bytes) ≡ begins message new.bytes) × (prelude ≡ None)
-Steps kept old prelude new (Err e) =
-    ((first_of (joined kept old.bytes) ≡ fault e.kind) × LeavesFault (joined kept old.bytes) prelude new.bytes)
+abbrev pub DecodesFrame : Option (List ℕ) → Segments → Option (List ℕ) → Segments → Result DecodedFrame Error → Type 0
+DecodesFrame kept old prelude new (Ok Incomplete) =
+    IsUnfinished (first_of (undecoded_bytes kept old.bytes)) × KeepsBytes (undecoded_bytes kept old.bytes) prelude new.bytes
+DecodesFrame kept old prelude new (Ok (Complete message)) =
+    (first_of (undecoded_bytes kept old.bytes) ≡ begins message new.bytes) × (prelude ≡ None)
+DecodesFrame kept old prelude new (Err e) =
+    ((first_of (undecoded_bytes kept old.bytes) ≡ fault e.kind) × LeavesFault (undecoded_bytes kept old.bytes) prelude new.bytes)
     ⊎ ((e.kind ≡ NoMemory) × (prelude ≡ kept) × (new ≡ old))
 
--- what was added at the end of a list
-abbrev pub added : List Parts → List Parts → List Parts
-added old new = drop (length old) new
+-- the messages that a list has gained at its end
+abbrev pub appended_messages : List Parts → List Parts → List Parts
+appended_messages old new = drop (length old) new
 
 -- these messages were taken, and nothing else; without one nothing has changed
 abbrev pub Takes : List Parts → Option (List ℕ) → Segments → Option (List ℕ) → Segments → Type 0
 Takes [] kept old prelude new = (prelude ≡ kept) × (new ≡ old)
-Takes (message ∷ messages) kept old prelude new = (prelude ≡ None) × Begin (message ∷ messages) (joined kept old.bytes) new.bytes
+Takes (message ∷ messages) kept old prelude new = (prelude ≡ None) × Begin (message ∷ messages) (undecoded_bytes kept old.bytes) new.bytes
 
 -- the messages that the bytes begin with, until less than a frame is there, or a fault; for want of memory, some of them
-abbrev pub Decodes : List Parts → Option (List ℕ) → Segments → Option (List ℕ) → Segments → Result (Unit {0}) Error → Type 0
-Decodes messages kept old prelude new (Ok _) =
-    (rest : List ℕ) × Begin messages (joined kept old.bytes) rest × IsUnfinished (first_of rest) × Keeps rest prelude new.bytes
-Decodes messages kept old prelude new (Err e) =
-    ((rest : List ℕ) × Begin messages (joined kept old.bytes) rest × (first_of rest ≡ fault e.kind) × LeavesFault rest prelude new.bytes)
+abbrev pub DecodesAll : List Parts → Option (List ℕ) → Segments → Option (List ℕ) → Segments → Result (Unit {0}) Error → Type 0
+DecodesAll messages kept old prelude new (Ok _) =
+    (rest : List ℕ) × Begin messages (undecoded_bytes kept old.bytes) rest × IsUnfinished (first_of rest) × KeepsBytes rest prelude new.bytes
+DecodesAll messages kept old prelude new (Err e) =
+    ((rest : List ℕ) × Begin messages (undecoded_bytes kept old.bytes) rest × (first_of rest ≡ fault e.kind) × LeavesFault rest prelude new.bytes)
     ⊎ ((e.kind ≡ NoMemory) × Takes messages kept old prelude new)
 
 -- how a stream ends that begins with this
@@ -78,4 +79,4 @@ end_of first = Undecoded
 
 -- how many bytes the frame at the front has at least: what it announces, and a prelude before that is there
 abbrev pub least_len : List ℕ → ℕ
-least_len bytes = if nat_lt (length bytes) 12 then 12 else announced bytes
+least_len bytes = if nat_lt (length bytes) prelude_len then prelude_len else announced bytes

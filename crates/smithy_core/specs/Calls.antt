@@ -1,6 +1,5 @@
--- What contracts see of the objects of the outside in memory.
-use Rattle.std.specs.Prelude.{◌≡◌, ℕ, ◌+◌, ◌-◌, ◌^◌, ◌↔◌, ◌≤◌, min, Contains, List, ◌++◌, length, Result, Ok, Err}
-use Rattle.smithy_core.specs.declared.outside.sink.SinkError.{SinkError}
+-- The calls of an object of the outside in memory, which counts those that it fails.
+use Rattle.std.specs.Prelude.{◌≡◌, ℕ, ◌+◌, ◌-◌, ◌^◌, ◌↔◌, ◌≤◌, min, Contains, List}
 
 -- the calls of an object: the numbers of those that are to fail, how many were made, and how many failed
 pub record Tally : Type 0 where
@@ -24,23 +23,3 @@ pub record FailsAsListed (Fails : Type 0) (before now : Tally) : Type 0 where
   pub no_fault : (Fails → ⊥) → now.faults ≡ before.faults
   pub count : before.faults ≤ now.faults
   pub same : now.fails ≡ before.fails
-
--- the bytes that a source has left, and its calls
-pub record SourceState : Type 0 where
-  pub left : List ℕ
-  pub tally : Tally
-
--- the bytes that a sink holds, and its calls
-pub record SinkState : Type 0 where
-  pub held : List ℕ
-  pub tally : Tally
-
--- the piece was taken whole, or nothing of it was
-abbrev pub TakesWhole : List ℕ → List ℕ → List ℕ → Result ℕ SinkError → Type 0
-TakesWhole piece before now (Ok n) = (n ≡ length piece) × (now ≡ before ++ piece)
-TakesWhole piece before now (Err e) = now ≡ before
-
--- the paths and the bytes of the files on a disk, and its calls
-pub record DiskState : Type 0 where
-  pub files : List (List ℕ × List ℕ)
-  pub tally : Tally

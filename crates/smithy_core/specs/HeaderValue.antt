@@ -1,7 +1,7 @@
 -- What contracts see of a header's value.
 use Rattle.std.specs.Prelude.{ℕ, ℤ, Bool, List, ◌++◌, Option, Some, None, codes, if◌then◌else◌}
 use Rattle.std.specs.Fmt.{decimal, signed_decimal}
-use Rattle.smithy_core.specs.Instant.{Instant}
+use Rattle.smithy_core.specs.Moment.{Instant}
 use Rattle.smithy_core.specs.declared.header.HeaderValue.{HeaderValue}
 use Rattle.smithy_core.specs.declared.header.HeaderValue.TheVariants.{Bool as Truth, Byte, Int16, Int32, Int64, ByteArray, String, Timestamp, Uuid}
 
@@ -31,9 +31,9 @@ int64_of (Int64 value) = Some value
 int64_of _ = None
 
 -- the bytes of a value that is an array of bytes
-abbrev pub bytes_of : HeaderValue → Option (List ℕ)
-bytes_of (ByteArray bytes) = Some bytes
-bytes_of _ = None
+abbrev pub byte_array_of : HeaderValue → Option (List ℕ)
+byte_array_of (ByteArray bytes) = Some bytes
+byte_array_of _ = None
 
 -- the text of a value that is a string
 abbrev pub string_of : HeaderValue → Option (List ℕ)
@@ -46,9 +46,9 @@ instant_of (Timestamp t) = Some t
 instant_of _ = None
 
 -- the bits of a value that is a UUID, as one number
-abbrev pub uuid_of : HeaderValue → Option ℕ
-uuid_of (Uuid bits) = Some bits
-uuid_of _ = None
+abbrev pub uuid_bits_of : HeaderValue → Option ℕ
+uuid_bits_of (Uuid bits) = Some bits
+uuid_bits_of _ = None
 
 -- what a value prints, where that is told: of bytes it isn't
 abbrev pub value_text : HeaderValue → Option (List ℕ)

@@ -1,8 +1,13 @@
 -- The kinds of errors.
 use Rattle.std.specs.Prelude.{◌≡◌, ℕ, Bool, true, false, List, ◌++◌, codes, string_bytes}
 use Rattle.std.specs.Fmt.{decimal, digits, signed_decimal}
+use Rattle.eventstream.specs.declared.error.Error.{Error}
 use Rattle.eventstream.specs.declared.error.ErrorKind.{ErrorKind}
 use Rattle.eventstream.specs.declared.error.ErrorKind.TheVariants.{HeadersTooLong, HeaderValueTooLong, InvalidHeaderNameLength, InvalidHeaderValue, InvalidHeaderValueType, InvalidHeadersLength, InvalidMessageLength, InvalidUtf8String, MessageChecksumMismatch, MessageTooLong, PayloadTooLong, PreludeChecksumMismatch, TimestampValueTooLarge, Marshalling, Unmarshalling, NoMemory}
+
+-- the kind of an error
+abbrev pub error_kind : Error → ErrorKind
+error_kind error = error.kind
 
 -- the message itself is at fault
 abbrev pub is_invalid_message : ErrorKind → Bool
@@ -24,23 +29,23 @@ abbrev pub mismatch : ℕ → ℕ → List ℕ
 mismatch computed carried = codes " checksum 0x" ++ (upper_hex carried ++ (codes " didn't match expected checksum 0x" ++ upper_hex computed))
 
 -- what is printed
-abbrev pub text_of : ErrorKind → List ℕ
-text_of HeadersTooLong = codes "headers too long to fit in event stream frame"
-text_of HeaderValueTooLong = codes "header value too long to fit in event stream frame"
-text_of InvalidHeaderNameLength = codes "invalid header name length"
-text_of InvalidHeaderValue = codes "invalid header value"
-text_of (InvalidHeaderValueType kind) = codes "invalid header value type: " ++ decimal kind
-text_of InvalidHeadersLength = codes "invalid headers length"
-text_of InvalidMessageLength = codes "invalid message length"
-text_of InvalidUtf8String = codes "encountered invalid UTF-8 string"
-text_of (MessageChecksumMismatch computed carried) = codes "message" ++ mismatch computed carried
-text_of MessageTooLong = codes "message too long to fit in event stream frame"
-text_of PayloadTooLong = codes "message payload too long to fit in event stream frame"
-text_of (PreludeChecksumMismatch computed carried) = codes "prelude" ++ mismatch computed carried
-text_of (TimestampValueTooLarge moment) = codes "timestamp value " ++ (signed_decimal moment.secs ++ codes " is too large to fit into an i64")
-text_of (Marshalling message) = codes "failed to marshall message: " ++ string_bytes message
-text_of (Unmarshalling message) = codes "failed to unmarshall message: " ++ string_bytes message
-text_of NoMemory = codes "no memory"
+abbrev pub error_kind_text : ErrorKind → List ℕ
+error_kind_text HeadersTooLong = codes "headers too long to fit in event stream frame"
+error_kind_text HeaderValueTooLong = codes "header value too long to fit in event stream frame"
+error_kind_text InvalidHeaderNameLength = codes "invalid header name length"
+error_kind_text InvalidHeaderValue = codes "invalid header value"
+error_kind_text (InvalidHeaderValueType kind) = codes "invalid header value type: " ++ decimal kind
+error_kind_text InvalidHeadersLength = codes "invalid headers length"
+error_kind_text InvalidMessageLength = codes "invalid message length"
+error_kind_text InvalidUtf8String = codes "encountered invalid UTF-8 string"
+error_kind_text (MessageChecksumMismatch computed carried) = codes "message" ++ mismatch computed carried
+error_kind_text MessageTooLong = codes "message too long to fit in event stream frame"
+error_kind_text PayloadTooLong = codes "message payload too long to fit in event stream frame"
+error_kind_text (PreludeChecksumMismatch computed carried) = codes "prelude" ++ mismatch computed carried
+error_kind_text (TimestampValueTooLarge moment) = codes "timestamp value " ++ (signed_decimal moment.secs ++ codes " is too large to fit into an i64")
+error_kind_text (Marshalling message) = codes "failed to marshall message: " ++ string_bytes message
+error_kind_text (Unmarshalling message) = codes "failed to unmarshall message: " ++ string_bytes message
+error_kind_text NoMemory = codes "no memory"
 
 -- the kinds are the same, and so are their texts
 abbrev pub IsSameKind : ErrorKind → ErrorKind → Type 0
