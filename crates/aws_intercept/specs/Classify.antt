@@ -2,7 +2,7 @@
 use Rattle.std.specs.Prelude.{◌≡◌, ℕ, ◌<◌, ◌^◌, Bool, false, ◌&&◌, List, Option, Some, None, if◌then◌else◌, codes, nat_lt, option_and_then, option_map, string_bytes, unsigned_abs}
 use Rattle.std.specs.Option.{option_map_or}
 use Rattle.std.specs.Str.Parse.{IsNumeral, digits_value, without_leading_plus}
-use Rattle.smithy_core.specs.Pairs.{first_value}
+use Rattle.smithy_core.specs.TextPairs.{first_value}
 use Rattle.smithy_core.specs.declared.error_metadata.ErrorMetadata.{ErrorMetadata}
 use Rattle.smithy_core.specs.declared.response.HttpResponse.{HttpResponse}
 use Rattle.aws_intercept.specs.Codes.{is_listed, skew_codes, throttling_codes}

@@ -1,8 +1,8 @@
 -- Which files are loaded, and what the texts of files are.
 use Rattle.std.specs.Prelude.{◌≡◌, ◌≤◌, ◌<◌, ◌⊎◌, ◌==◌, ◌||◌, ℕ, Bool, List, [], ◌∷◌, ◌++◌, codes, map, Option, Some, None, unwrap_or, if◌then◌else◌, string_bytes, Result, Ok, Err, length, slice_index}
 use Rattle.std.specs.Str.{is_utf8}
-use Rattle.smithy_core.specs.Outside.{HasFile, LacksFile, Rose}
-use Rattle.smithy_core.specs.Pairs.{last_value}
+use Rattle.smithy_core.specs.Outside.{HasFile, LacksFile, RoseOrStands}
+use Rattle.smithy_core.specs.TextPairs.{last_value}
 use Rattle.env_config.specs.Home.{home}
 use Rattle.env_config.specs.Line.{after_byte}
 use Rattle.env_config.specs.Sections.{FileText}
@@ -104,7 +104,7 @@ text_of bytes = if is_utf8 bytes then bytes else []
 -- a default file that is absent counts as empty, and so does one whose read failed
 abbrev pub HasDefault : Option (List (List ℕ × List ℕ)) → List ℕ → ℕ → ℕ → List ℕ → Type 0
 HasDefault disk path before now contents =
-    ((bytes : List ℕ) × HasFile disk path bytes × (contents ≡ text_of bytes)) ⊎ ((contents ≡ []) × (LacksFile disk path ⊎ Rose before now))
+    ((bytes : List ℕ) × HasFile disk path bytes × (contents ≡ text_of bytes)) ⊎ ((contents ≡ []) × (LacksFile disk path ⊎ RoseOrStands before now))
 
 -- the text of a file, while the disk's count of faults goes from the one to the other
 abbrev pub Reads : Option (List (List ℕ × List ℕ)) → List (List ℕ × List ℕ) → Place → ℕ → ℕ → FileText → Type 0
@@ -122,7 +122,7 @@ Loaded disk env (place ∷ places) before now files =
 
 -- the file was named by this path, and the disk lacks it or failed
 abbrev pub IsUnread : Option (List (List ℕ × List ℕ)) → Place → ℕ → ℕ → List ℕ → Type 0
-IsUnread disk (At kind path) before now unread = (unread ≡ path) × (before ≤ now) × (LacksFile disk path ⊎ Rose before now)
+IsUnread disk (At kind path) before now unread = (unread ≡ path) × (before ≤ now) × (LacksFile disk path ⊎ RoseOrStands before now)
 IsUnread disk (Usual kind) before now unread = ⊥
 IsUnread disk (Given kind contents) before now unread = ⊥
 

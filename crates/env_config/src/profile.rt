@@ -1,6 +1,6 @@
 ghost use Rattle.std.specs.Prelude.{◌≡◌, IfOk, option_copied};
 ghost use Rattle.std.specs.String.{string_bytes};
-ghost use Rattle.smithy_core.specs.Pairs.{lower};
+ghost use Rattle.smithy_core.specs.TextPairs.{lower};
 ghost use Rattle.env_config.specs.Texts.{value_at};
 ghost use Rattle.env_config.specs.Words.{SameProfile, SameSession, contents_of, profile_contents, profile_of, session_contents, session_of, values_of};
 

@@ -2,7 +2,7 @@
 use Rattle.std.proofs.Common.{◌≡◌, ℕ, inl, inr, true, List, ◌++◌, Option, Some, None, option_map, refl, sym, ap}
 use Rattle.std.specs.Prelude.{Result, Err}
 use Rattle.smithy_core.specs.Civil.{is_in_years}
-use Rattle.smithy_core.specs.Parts.{Parts}
+use Rattle.smithy_core.specs.Message.{Parts}
 use Rattle.smithy_http.specs.Target.{Target}
 use Rattle.sigv4.specs.Case.{Case}
 use Rattle.sigv4.specs.Refusal.{unfit}

@@ -4,7 +4,7 @@ use Rattle.std.specs.Prelude.{if◌then◌else◌}
 use Rattle.std.proofs.lemmas.Bool.Decides.{nat_tests}
 use Rattle.smithy_core.specs.Civil.{is_in_years}
 use Rattle.smithy_core.specs.Outside.{IsAllOf, IsLongerThan, IsRestOf}
-use Rattle.smithy_core.specs.Parts.{Parts}
+use Rattle.smithy_core.specs.Message.{Parts}
 use Rattle.smithy_core.proofs.CutLemmas.{cut_at_start}
 use Rattle.smithy_core.proofs.GainLemmas.{prefix_at_start}
 use Rattle.smithy_http.specs.Target.{Target}

@@ -1,6 +1,6 @@
 -- A run that says how it ended: the end stays, or want of memory takes its place.
 use Rattle.std.proofs.Common.{◌≡◌, ℕ, ◌≤◌, ◌⊎◌, inl, inr, List, Option, refl, sym, ◌∙◌}
-use Rattle.smithy_core.specs.Outside.{Rose}
+use Rattle.smithy_core.specs.Outside.{RoseOrStands}
 use Rattle.smithy_core.proofs.GainLemmas.{prefix_at_start, prefix_from_whole}
 use Rattle.signed_stream.specs.Plan.{Ask, ask_plan, ends, streams, Plan, stops, writes}
 use Rattle.signed_stream.specs.Run.{CountsReads, CountsWrites, EndsAsAsked, GainsAsPlanned, GoesAsPlanned, Keeps, MayComeFirst, RunsAsPlanned}
@@ -57,10 +57,10 @@ said_is status answer end (inr is) reached other = absurd (other (sym reached �
 
 -- ## The counts
 
-pub said_reads : (status answer : Status) (before now : ℕ) → IsSaid status answer → before ≤ now → (status ≡ ReadFault → Rose before now) → ((status ≡ ReadFault → ⊥) → now ≡ before) → CountsReads answer before now
+pub said_reads : (status answer : Status) (before now : ℕ) → IsSaid status answer → before ≤ now → (status ≡ ReadFault → RoseOrStands before now) → ((status ≡ ReadFault → ⊥) → now ≡ before) → CountsReads answer before now
 said_reads status answer before now (inl is) grew rose stayed = rw is (by_status status rose stayed)
   where
-    by_status : (status : Status) → (status ≡ ReadFault → Rose before now) → ((status ≡ ReadFault → ⊥) → now ≡ before) → CountsReads status before now
+    by_status : (status : Status) → (status ≡ ReadFault → RoseOrStands before now) → ((status ≡ ReadFault → ⊥) → now ≡ before) → CountsReads status before now
     by_status ReadFault rose stayed = rose refl
     by_status NoMemory rose stayed = grew
     by_status Done rose stayed = stayed (λ e. cc)
@@ -72,10 +72,10 @@ said_reads status answer before now (inl is) grew rose stayed = rw is (by_status
     by_status (NotBuilt place) rose stayed = stayed (λ e. cc)
 said_reads status answer before now (inr is) grew rose stayed = rw is grew
 
-pub said_writes : (status answer : Status) (before now : ℕ) → IsSaid status answer → before ≤ now → (status ≡ OutputFault → Rose before now) → ((status ≡ OutputFault → ⊥) → now ≡ before) → CountsWrites answer before now
+pub said_writes : (status answer : Status) (before now : ℕ) → IsSaid status answer → before ≤ now → (status ≡ OutputFault → RoseOrStands before now) → ((status ≡ OutputFault → ⊥) → now ≡ before) → CountsWrites answer before now
 said_writes status answer before now (inl is) grew rose stayed = rw is (by_status status rose stayed)
   where
-    by_status : (status : Status) → (status ≡ OutputFault → Rose before now) → ((status ≡ OutputFault → ⊥) → now ≡ before) → CountsWrites status before now
+    by_status : (status : Status) → (status ≡ OutputFault → RoseOrStands before now) → ((status ≡ OutputFault → ⊥) → now ≡ before) → CountsWrites status before now
     by_status OutputFault rose stayed = rose refl
     by_status NoMemory rose stayed = grew
     by_status Done rose stayed = stayed (λ e. cc)

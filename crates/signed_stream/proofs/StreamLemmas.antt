@@ -4,9 +4,9 @@ use Rattle.std.specs.Prelude.{Result, Ok, Err}
 use Rattle.std.specs.Option.{option_or}
 use Rattle.std.proofs.Math.Seq.{drop-cons}
 use Rattle.smithy_core.specs.Civil.{IsInYears}
-use Rattle.smithy_core.specs.Instant.{Instant}
+use Rattle.smithy_core.specs.Moment.{Instant}
 use Rattle.smithy_core.specs.Outside.{Gains, GainsPrefix, GainsRest}
-use Rattle.smithy_core.specs.Parts.{Parts}
+use Rattle.smithy_core.specs.Message.{Parts}
 use Rattle.smithy_core.specs.declared.identity.Identity.{Identity}
 use Rattle.smithy_core.proofs.GainLemmas.{gains_front, gains_join, gains_last, gains_nothing, prefix_at_start, prefix_join, prefix_within}
 use Rattle.eventstream.specs.Frame.{frame, unframed}

@@ -5,7 +5,7 @@ use Rattle.http_uri.specs.Grammar.{path_of, query_of}
 use Rattle.http_uri.specs.Uri.{Spells, uri_authority, uri_data, uri_scheme}
 use Rattle.http_uri.specs.declared.uri.Uri.{Uri}
 use Rattle.http_uri.proofs.Theorems.{Spells_unique}
-use Rattle.smithy_http.specs.Building.{SpellsNoTarget, SpellsTarget}
+use Rattle.smithy_http.specs.QueryWriter.{SpellsNoTarget, SpellsTarget}
 use Rattle.smithy_http.specs.Target.{IsAuthorityAlone, Target, target_of}
 use Rattle.signed_stream.specs.Targets.{SpellsAs}
 

@@ -2,8 +2,8 @@
 use Rattle.std.proofs.Common.{◌≡◌, ℕ, ◌⊎◌, inl, inr, Bool, true, false, List, length, nat_lt, Option, Some, None, option_map, refl, sym}
 use Rattle.std.specs.Prelude.{if◌then◌else◌}
 use Rattle.smithy_core.specs.Civil.{is_in_years}
-use Rattle.smithy_core.specs.Parts.{Parts}
-use Rattle.smithy_http.specs.Building.{SpellsNoTarget}
+use Rattle.smithy_core.specs.Message.{Parts}
+use Rattle.smithy_http.specs.QueryWriter.{SpellsNoTarget}
 use Rattle.smithy_http.specs.Target.{Target}
 use Rattle.eventstream.specs.declared.error.ErrorKind.{ErrorKind}
 use Rattle.eventstream.specs.declared.error.ErrorKind.TheVariants as reasons

@@ -2,7 +2,7 @@
 use Rattle.std.specs.Prelude.{ℕ, ◌+◌, Bool, true, false, not, if◌then◌else◌, List, [], ◌∷◌, codes, bytes_eq, Option, Some, None, is_some, ℤ}
 use Rattle.std.specs.List.{list_any}
 use Rattle.std.specs.Int.{w64}
-use Rattle.smithy_core.specs.Instant.{Instant}
+use Rattle.smithy_core.specs.Moment.{Instant}
 use Rattle.signed_stream.specs.Numbers.{number}
 use Rattle.signed_stream.specs.declared.signing_options.SigningOptions.{SigningOptions}
 use Rattle.signed_stream.specs.declared.words.options.Valued.{Valued}

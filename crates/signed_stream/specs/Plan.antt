@@ -1,9 +1,9 @@
 -- What words, variables and input ask of a run.
 use Rattle.std.specs.Prelude.{ℕ, Bool, ◌||◌, nat_lt, if◌then◌else◌, List, codes, length, Option, Some, None, is_some, option_map}
 use Rattle.smithy_core.specs.Civil.{is_in_years}
-use Rattle.smithy_core.specs.Pairs.{last_value}
-use Rattle.smithy_core.specs.Parts.{Parts}
-use Rattle.smithy_http.specs.Building.{SpellsNoTarget}
+use Rattle.smithy_core.specs.TextPairs.{last_value}
+use Rattle.smithy_core.specs.Message.{Parts}
+use Rattle.smithy_http.specs.QueryWriter.{SpellsNoTarget}
 use Rattle.smithy_http.specs.Target.{Target}
 use Rattle.sigv4.specs.Case.{Case}
 use Rattle.sigv4.specs.Refusal.{unfit}

@@ -1,7 +1,7 @@
 -- What a run promises.
 use Rattle.std.specs.Prelude.{◌≡◌, ℕ, ◌≤◌, ◌⊎◌, false, List, length, Option, Some, None}
 use Rattle.smithy_core.specs.Civil.{IsInYears}
-use Rattle.smithy_core.specs.Outside.{Gains, GainsPrefix, GainsProperPrefix, Rose}
+use Rattle.smithy_core.specs.Outside.{Gains, GainsPrefix, GainsProperPrefix, RoseOrStands}
 use Rattle.smithy_http.specs.Target.{Target}
 use Rattle.sigv4.specs.Refusal.{unfit}
 use Rattle.signed_stream.specs.Command.{Wanted, command, stream}
@@ -67,13 +67,13 @@ IfEnds (streams wanted) P = Unit {0}
 
 -- the count of the input's faults: it rose where the input failed, and else stayed; memory may run out after a fault
 abbrev pub CountsReads : Status → ℕ → ℕ → Type 0
-CountsReads ReadFault before now = Rose before now
+CountsReads ReadFault before now = RoseOrStands before now
 CountsReads NoMemory before now = before ≤ now
 CountsReads answer before now = now ≡ before
 
 -- the count of the output's faults: it rose where the output failed, and else stayed; memory may run out after a fault
 abbrev pub CountsWrites : Status → ℕ → ℕ → Type 0
-CountsWrites OutputFault before now = Rose before now
+CountsWrites OutputFault before now = RoseOrStands before now
 CountsWrites NoMemory before now = before ≤ now
 CountsWrites answer before now = now ≡ before
 
@@ -83,7 +83,7 @@ abbrev pub Says : Status → Option (List ℕ) → Option (List ℕ) → ℕ →
 Says Done before now faults_before faults_now = now ≡ before
 Says NoMemory before now faults_before faults_now = (status : Status) × GainsPrefix before now (status_line status)
 Says answer before now faults_before faults_now =
-    Gains before now (status_line answer) ⊎ (GainsProperPrefix before now (status_line answer) × Rose faults_before faults_now)
+    Gains before now (status_line answer) ⊎ (GainsProperPrefix before now (status_line answer) × RoseOrStands faults_before faults_now)
 
 -- the answers that leave the output as it was, whether or not the input tells its bytes: of the refusals those of the profile and of the request
 abbrev pub Keeps : Status → Option (List ℕ) → Option (List ℕ) → Type 0

@@ -2,8 +2,8 @@
 use Rattle.std.specs.Prelude.{◌≡◌, ℕ, ◌+◌, ◌-◌, List, [], ◌∷◌, length, replicate, Option, Some, None}
 use Rattle.std.specs.List.{flat_map}
 use Rattle.hex.specs.Hex.{encode_lower}
-use Rattle.smithy_core.specs.Instant.{Instant}
-use Rattle.smithy_core.specs.Parts.{Parts}
+use Rattle.smithy_core.specs.Moment.{Instant}
+use Rattle.smithy_core.specs.Message.{Parts}
 use Rattle.smithy_core.specs.Text.{line}
 use Rattle.eventstream.specs.Frame.{frame, unframed}
 use Rattle.eventstream.specs.Key.{Signer}

@@ -1,7 +1,7 @@
 ghost use Rattle.std.specs.Prelude.{◌≡◌, ◌≤◌, ◌++◌, ℕ, List, Some, None, option_map, IsErrOf};
 ghost use Rattle.std.specs.String.{string_bytes};
 ghost use Rattle.smithy_core.specs.Civil.{IsInYears, is_in_years};
-ghost use Rattle.smithy_core.specs.Outside.{IsAtEnd, IsRestOf, Rose};
+ghost use Rattle.smithy_core.specs.Outside.{IsAtEnd, IsRestOf, RoseOrStands};
 ghost use Rattle.sigv4.specs.Signing.{unsignable};
 ghost use Rattle.signed_stream.specs.Job.{job, plain_job};
 ghost use Rattle.signed_stream.specs.Plan.{ReadsTargetOf, job_plan, most_input, streams, target_plan};
@@ -46,9 +46,9 @@ pub fn stream_input<S: ByteSource, K: ByteSink>(
     ensures planned { (bytes : List ℕ) → S.left input.old ≡ Some bytes
         → RunsAsPlanned (streams (wanted_of words.now)) bytes result (K.held out.old) (K.held out.new) }
     ensures kept { Keeps result (K.held out.old) (K.held out.new) }
-    ensures read_fault { result ≡ Status.ReadFault → Rose (S.faults input.old) (S.faults input.new) }
+    ensures read_fault { result ≡ Status.ReadFault → RoseOrStands (S.faults input.old) (S.faults input.new) }
     ensures read_steady { (result ≡ Status.ReadFault → ⊥) → S.faults input.new ≡ S.faults input.old }
-    ensures output_fault { result ≡ Status.OutputFault → Rose (K.faults out.old) (K.faults out.new) }
+    ensures output_fault { result ≡ Status.OutputFault → RoseOrStands (K.faults out.old) (K.faults out.new) }
     ensures output_steady { (result ≡ Status.OutputFault → ⊥) → K.faults out.new ≡ K.faults out.old }
     ensures outside { (result ≡ Status.Done → IsAtEnd (S.left input.new)) × IsRestOf (S.left input.old) (S.left input.new)
         × (S.faults input.old ≤ S.faults input.new) × (K.faults out.old ≤ K.faults out.new) }
@@ -71,7 +71,7 @@ fn stream_bytes<K: ByteSink>(
     ensures never_bad_words { (place : ℕ) → result ≡ Status.BadWords place → ⊥ }
     ensures never_read_fault { result ≡ Status.ReadFault → ⊥ }
     ensures planned { FitsTarget (ReadsTargetOf (job bytes.now)) (λ target. job_plan (wanted_of words.now) target (job bytes.now)) result (K.held out.old) (K.held out.new) }
-    ensures output_fault { result ≡ Status.OutputFault → Rose (K.faults out.old) (K.faults out.new) }
+    ensures output_fault { result ≡ Status.OutputFault → RoseOrStands (K.faults out.old) (K.faults out.new) }
     ensures output_steady { (result ≡ Status.OutputFault → ⊥) → K.faults out.new ≡ K.faults out.old }
     ensures count { K.faults out.old ≤ K.faults out.new }
 {
@@ -89,7 +89,7 @@ fn stream_job<K: ByteSink>(alloc: Global, job: Job, words: &StreamWords<'_>, out
     ensures never_read_fault { result ≡ Status.ReadFault → ⊥ }
     ensures planned { FitsTarget (SpellsAs (string_bytes job.request.target)) (λ target. job_plan (wanted_of words.now) target (plain_job (plain_of job)))
         result (K.held out.old) (K.held out.new) }
-    ensures output_fault { result ≡ Status.OutputFault → Rose (K.faults out.old) (K.faults out.new) }
+    ensures output_fault { result ≡ Status.OutputFault → RoseOrStands (K.faults out.old) (K.faults out.new) }
     ensures output_steady { (result ≡ Status.OutputFault → ⊥) → K.faults out.new ≡ K.faults out.old }
     ensures count { K.faults out.old ≤ K.faults out.new }
 {
@@ -148,7 +148,7 @@ fn stream_request<K: ByteSink>(
     ensures planned { FitsTarget (SpellsAs (string_bytes request.target))
         (target_plan (string_bytes request.target) (case_under request identity.now region.now words.now) events.now)
         (ended result) (K.held out.old) (K.held out.new) }
-    ensures failed { IsErrOf result Halt.OutputFault → Rose (K.faults out.old) (K.faults out.new) }
+    ensures failed { IsErrOf result Halt.OutputFault → RoseOrStands (K.faults out.old) (K.faults out.new) }
     ensures steady { (IsErrOf result Halt.OutputFault → ⊥) → K.faults out.new ≡ K.faults out.old }
 {
     let signature = sign_request(alloc, &mut request, identity, region, words)?;
@@ -178,7 +178,7 @@ fn stream_signed<K: ByteSink>(
         (head (string_bytes request.now.method) (string_bytes request.now.target) request.now.headers
         ++ streamed_lines signer events.now words.now.at (string_bytes signature) refusal)
         (K.held out.old) (K.held out.new) result }
-    ensures failed { IsErrOf result Halt.OutputFault → Rose (K.faults out.old) (K.faults out.new) }
+    ensures failed { IsErrOf result Halt.OutputFault → RoseOrStands (K.faults out.old) (K.faults out.new) }
     ensures steady { (IsErrOf result Halt.OutputFault → ⊥) → K.faults out.new ≡ K.faults out.old }
 {
     let head = head_of(alloc, request)?;

@@ -1,6 +1,6 @@
 ghost use Rattle.std.specs.Prelude.{◌≡◌, ◌≤◌, ℕ, List, Some, map, IfErr};
 ghost use Rattle.std.specs.String.{string_bytes};
-ghost use Rattle.smithy_core.specs.Outside.{IsAtEnd, IsRestOf, Rose};
+ghost use Rattle.smithy_core.specs.Outside.{IsAtEnd, IsRestOf, RoseOrStands};
 ghost use Rattle.signed_stream.specs.Job.{job};
 ghost use Rattle.signed_stream.specs.Plan.{ReadsNoTarget, ask, has_later_variable};
 ghost use Rattle.signed_stream.specs.Run.{Completes, CountsReads, CountsWrites, EndsAsAsked, IfEnds, IsValid, Keeps, RunsAsPlanned, Says, Streams};
@@ -88,9 +88,9 @@ fn answer<S: ByteSource, K: ByteSink>(
     ensures planned { (bytes : List ℕ) → S.left input.old ≡ Some bytes
         → RunsAsPlanned (ask (map string_bytes words.now) env.now) bytes result (K.held out.old) (K.held out.new) }
     ensures kept { Keeps result (K.held out.old) (K.held out.new) }
-    ensures read_fault { result ≡ Status.ReadFault → Rose (S.faults input.old) (S.faults input.new) }
+    ensures read_fault { result ≡ Status.ReadFault → RoseOrStands (S.faults input.old) (S.faults input.new) }
     ensures read_steady { (result ≡ Status.ReadFault → ⊥) → S.faults input.new ≡ S.faults input.old }
-    ensures output_fault { result ≡ Status.OutputFault → Rose (K.faults out.old) (K.faults out.new) }
+    ensures output_fault { result ≡ Status.OutputFault → RoseOrStands (K.faults out.old) (K.faults out.new) }
     ensures output_steady { (result ≡ Status.OutputFault → ⊥) → K.faults out.new ≡ K.faults out.old }
     ensures untouched { IfEnds (ask (map string_bytes words.now) env.now)
         ((S.left input.new ≡ S.left input.old) × (S.faults input.new ≡ S.faults input.old)

@@ -2,11 +2,11 @@ ghost use Rattle.std.specs.Prelude.{◌≡◌, ◌≤◌, [], None, IfOk, IsErrO
 ghost use Rattle.std.specs.String.{string_bytes};
 ghost use Rattle.hex.specs.Hex.{encode_lower};
 ghost use Rattle.smithy_core.specs.Civil.{IsInYears};
-ghost use Rattle.smithy_core.specs.Outside.{Rose};
+ghost use Rattle.smithy_core.specs.Outside.{RoseOrStands};
 ghost use Rattle.smithy_core.specs.Text.{line};
 ghost use Rattle.eventstream.specs.Frame.{frame, unframed};
 ghost use Rattle.eventstream.specs.Link.{link_message, link_signature};
-ghost use Rattle.eventstream.specs.Writing.{IsFrameFault};
+ghost use Rattle.eventstream.specs.Write.{IsFrameFault};
 ghost use Rattle.sigv4.specs.Params.{signer_of};
 ghost use Rattle.sigv4.specs.Signing.{unsignable};
 ghost use Rattle.signed_stream.specs.Refusal.{fault_at, fault_of, first_refusal, unlinked};
@@ -41,7 +41,7 @@ pub fn stream_events<K: ByteSink>(
     ensures sends { let refusal = first_refusal (signer_of params.now) 1 events.now params.now.time (string_bytes seed) in
         Sends (option_map fault_of refusal) (streamed_lines (signer_of params.now) events.now params.now.time (string_bytes seed) refusal)
         (K.held sink.old) (K.held sink.new) result }
-    ensures failed { IsErrOf result Halt.OutputFault → Rose (K.faults sink.old) (K.faults sink.new) }
+    ensures failed { IsErrOf result Halt.OutputFault → RoseOrStands (K.faults sink.old) (K.faults sink.new) }
     ensures steady { (IsErrOf result Halt.OutputFault → ⊥) → K.faults sink.new ≡ K.faults sink.old }
 {
     let mut signature = seed;
@@ -69,7 +69,7 @@ fn send_event<K: ByteSink>(
     ensures sends { let reason = unlinked (signer_of params.now) signature.now event.now params.now.time in
         Sends (option_map (fault_at place) reason) (unless_refused reason (link_line (signer_of params.now) signature.now (frame event.now) params.now.time))
         (K.held sink.old) (K.held sink.new) result }
-    ensures failed { IsErrOf result Halt.OutputFault → Rose (K.faults sink.old) (K.faults sink.new) }
+    ensures failed { IsErrOf result Halt.OutputFault → RoseOrStands (K.faults sink.old) (K.faults sink.new) }
     ensures steady { (IsErrOf result Halt.OutputFault → ⊥) → K.faults sink.new ≡ K.faults sink.old }
 {
     match sign_message(alloc, event, signature, params) {
@@ -98,7 +98,7 @@ fn send_closing<K: ByteSink>(
     requires years { IsInYears params.now.time }
     ensures count { K.faults sink.old ≤ K.faults sink.new }
     ensures sends { Sends None (link_line (signer_of params.now) signature.now [] params.now.time) (K.held sink.old) (K.held sink.new) result }
-    ensures failed { IsErrOf result Halt.OutputFault → Rose (K.faults sink.old) (K.faults sink.new) }
+    ensures failed { IsErrOf result Halt.OutputFault → RoseOrStands (K.faults sink.old) (K.faults sink.new) }
     ensures steady { (IsErrOf result Halt.OutputFault → ⊥) → K.faults sink.new ≡ K.faults sink.old }
 {
     match sign_empty_message(alloc, signature, params) {
@@ -123,7 +123,7 @@ fn write_frame<K: ByteSink>(
     ensures count { K.faults sink.old ≤ K.faults sink.new }
     ensures sends { Sends (option_map (fault_at place) (unframed message.now)) (unless_refused (unframed message.now) (line (encode_lower (frame message.now))))
         (K.held sink.old) (K.held sink.new) result }
-    ensures failed { IsErrOf result Halt.OutputFault → Rose (K.faults sink.old) (K.faults sink.new) }
+    ensures failed { IsErrOf result Halt.OutputFault → RoseOrStands (K.faults sink.old) (K.faults sink.new) }
     ensures steady { (IsErrOf result Halt.OutputFault → ⊥) → K.faults sink.new ≡ K.faults sink.old }
 {
     let mut frame = Vec::new(alloc);
@@ -157,7 +157,7 @@ fn fault_at(place: usize, reason: &ErrorKind) -> StreamFault
 fn write_line<K: ByteSink>(alloc: Global, bytes: &[u8], sink: &mut K) -> Result<(), Halt>
     ensures count { K.faults sink.old ≤ K.faults sink.new }
     ensures sends { Sends None (line (encode_lower bytes.now)) (K.held sink.old) (K.held sink.new) result }
-    ensures failed { IsErrOf result Halt.OutputFault → Rose (K.faults sink.old) (K.faults sink.new) }
+    ensures failed { IsErrOf result Halt.OutputFault → RoseOrStands (K.faults sink.old) (K.faults sink.new) }
     ensures steady { (IsErrOf result Halt.OutputFault → ⊥) → K.faults sink.new ≡ K.faults sink.old }
 {
     let mut text = hex::encode(alloc, bytes)?;
@@ -175,7 +175,7 @@ fn write_line<K: ByteSink>(alloc: Global, bytes: &[u8], sink: &mut K) -> Result<
 pub fn write_text<K: ByteSink>(sink: &mut K, text: &[u8]) -> Result<(), Halt>
     ensures count { K.faults sink.old ≤ K.faults sink.new }
     ensures sends { Sends None text.now (K.held sink.old) (K.held sink.new) result }
-    ensures failed { IsErrOf result Halt.OutputFault → Rose (K.faults sink.old) (K.faults sink.new) }
+    ensures failed { IsErrOf result Halt.OutputFault → RoseOrStands (K.faults sink.old) (K.faults sink.new) }
     ensures steady { (IsErrOf result Halt.OutputFault → ⊥) → K.faults sink.new ≡ K.faults sink.old }
 {
     match write_all(sink, text) {

@@ -3,7 +3,7 @@ use Rattle.std.specs.Prelude.{◌≡◌, ◌⊎◌, ℕ, ◌<◌, List, [], ◌�
 use Rattle.std.specs.Option.{option_map_or}
 use Rattle.std.specs.declared.alloc.Global.{Global}
 use Rattle.http_uri.specs.declared.uri.Uri.{Uri}
-use Rattle.smithy_http.specs.Building.{Builds, SpellsTarget, SpellsNoTarget, escaped_pair, with_pairs}
+use Rattle.smithy_http.specs.QueryWriter.{BuildsTarget, SpellsTarget, SpellsNoTarget, escaped_pair, with_pairs}
 use Rattle.smithy_http.specs.Target.{Target, target_of, target_text}
 use Rattle.smithy_http.specs.declared.uri_fault.UriFault.{UriFault}
 use Rattle.smithy_http.specs.declared.uri_fault.UriFault.TheVariants as target
@@ -44,7 +44,7 @@ TakesNoMore params old uri = (old ≡ codes "*") ⊎ (65534 < length (target_tex
 -- the text of the target that the text spells, with more parameters, where it takes them; that is a target again
 abbrev pub IsTextWith : List Pair → List ℕ → List ℕ → Type 0
 IsTextWith params old new =
-    (uri : Uri) × (built : Uri) × SpellsTarget old uri × ¬ (TakesNoMore params old uri) × Builds (with_params (target_of uri) params) (Ok built)
+    (uri : Uri) × (built : Uri) × SpellsTarget old uri × ¬ (TakesNoMore params old uri) × BuildsTarget (with_params (target_of uri) params) (Ok built)
     × (new ≡ target_text (with_params (target_of uri) params))
 
 -- the text spells no target, or one that takes no more parameters

@@ -1,5 +1,5 @@
 ghost use Rattle.std.specs.Prelude.{◌≡◌, ◌<◌, length, map, IfOk, OnOk, string_bytes};
-ghost use Rattle.smithy_core.specs.Pairs.{text_pairs};
+ghost use Rattle.smithy_core.specs.TextPairs.{text_pairs};
 ghost use Rattle.sigv4.specs.Instructions.{with_instructions};
 ghost use Rattle.sigv4.specs.Targets.{BuildsWith, Retargets, with_params};
 

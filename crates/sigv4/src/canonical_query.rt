@@ -1,7 +1,7 @@
 ghost use Rattle.std.specs.Prelude.{◌≡◌, ◌++◌, [], ◌∷◌, map, IfOk, OnOk};
 ghost use Rattle.std.specs.String.{string_bytes};
 ghost use Rattle.form_urlencoded.specs.Form.{pair_text as parameter_text};
-ghost use Rattle.smithy_http.specs.Building.{escaped_pair};
+ghost use Rattle.smithy_http.specs.QueryWriter.{escaped_pair};
 ghost use Rattle.smithy_http.specs.Query.{pair_text};
 ghost use Rattle.smithy_http.specs.Target.{target_of};
 ghost use Rattle.sigv4.specs.Query.{decoded, decoded_pairs, joined, mark, query, sorted, string_pair};

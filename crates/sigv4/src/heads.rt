@@ -2,7 +2,7 @@ ghost use Rattle.std.specs.Prelude.{◌≡◌, ℕ, List, [], ◌∷◌, ◌++�
 ghost use Rattle.std.specs.BTreeMap.{IsOrdered};
 ghost use Rattle.std.specs.List.{flat_map, list_any};
 ghost use Rattle.std.specs.String.{string_cmp};
-ghost use Rattle.smithy_core.specs.Pairs.{inserted, lower};
+ghost use Rattle.smithy_core.specs.TextPairs.{inserted, lower};
 ghost use Rattle.smithy_core.specs.Text.{line};
 ghost use Rattle.sigv4.specs.Canonical.{given_heads, is_signed, joined_names, names_excluded_token, token_name, with_added, with_optional};
 ghost use Rattle.sigv4.specs.Query.{Pair};

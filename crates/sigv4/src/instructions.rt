@@ -1,6 +1,6 @@
 ghost use Rattle.std.specs.Prelude.{◌≡◌, ◌++◌, [], codes, map, true, false, IfOk, OnOk, OnErr, option_copied};
 ghost use Rattle.std.specs.String.{string_bytes};
-ghost use Rattle.smithy_core.specs.Pairs.{text_pairs};
+ghost use Rattle.smithy_core.specs.TextPairs.{text_pairs};
 ghost use Rattle.sigv4.specs.Canonical.{told_payload, token_name};
 ghost use Rattle.sigv4.specs.Instructions.{told_pair, with_instructions};
 ghost use Rattle.sigv4.specs.Settings.{settings_of};
@@ -27,7 +27,7 @@ pub struct SigningInstructions {
 }
 
 impl Model for SigningInstructions {
-    ghost use Rattle.smithy_core.specs.Pairs.{text_pairs};
+    ghost use Rattle.smithy_core.specs.TextPairs.{text_pairs};
     ghost use Rattle.sigv4.specs.Instructions.{Instructions};
 
     ghost Value = { Instructions };

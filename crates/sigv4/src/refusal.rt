@@ -1,5 +1,5 @@
 ghost use Rattle.std.specs.Prelude.{◌≡◌, bytes_eq, codes, is_some, option_copied, IsTrue};
-ghost use Rattle.smithy_core.specs.Pairs.{lower};
+ghost use Rattle.smithy_core.specs.TextPairs.{lower};
 ghost use Rattle.smithy_http.specs.Target.{target_of};
 ghost use Rattle.sigv4.specs.Canonical.{has_host};
 ghost use Rattle.sigv4.specs.Refusal.{AddsHost, FindsHost, Tests, is_name, is_value, unfit_header, unfit_headers, unfit_host, unfit_optional, unfit_value};

@@ -1,5 +1,5 @@
 use Rattle.std.proofs.Common.{ap, ◌∙◌}
-use Rattle.smithy_core.specs.Pairs.{text_pairs}
+use Rattle.smithy_core.specs.TextPairs.{text_pairs}
 use Rattle.sigv4.specs.Targets.{with_params}
 use Rattle.sigv4.proofs.TargetLemmas.{builds-with}
 use Rattle.sigv4.proofs.apply.text_with.Goals as goal

@@ -2,7 +2,7 @@ use Rattle.std.proofs.Common.{◌≡◌, ◌++◌, [], ℕ, Bor, List, Option, m
 use Rattle.std.proofs.lemmas.List.{map-append}
 use Rattle.form_urlencoded.specs.Form.{pair_text as parameter_text}
 use Rattle.http_uri.specs.Uri.{uri_query}
-use Rattle.smithy_http.specs.Building.{escaped_pair}
+use Rattle.smithy_http.specs.QueryWriter.{escaped_pair}
 use Rattle.sigv4.specs.Query.{Pair, decoded, decoded_pairs, query}
 use Rattle.sigv4.proofs.QueryLemmas.{copied_or}
 use Rattle.sigv4.proofs.canonical_query.canonical_query.Goals as goal

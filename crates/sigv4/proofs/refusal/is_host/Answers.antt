@@ -1,5 +1,5 @@
 use Rattle.std.specs.Prelude.{codes}
-use Rattle.smithy_core.specs.Pairs.{lower}
+use Rattle.smithy_core.specs.TextPairs.{lower}
 use Rattle.sigv4.proofs.RefusalLemmas.{decides-text}
 use Rattle.sigv4.proofs.refusal.is_host.Goals as goal
 

@@ -1,6 +1,6 @@
 use Rattle.std.proofs.Common.{◌≡◌, ◌++◌, map, take}
 use Rattle.form_urlencoded.specs.Form.{pair_text as parameter_text}
-use Rattle.smithy_http.specs.Building.{escaped_pair}
+use Rattle.smithy_http.specs.QueryWriter.{escaped_pair}
 use Rattle.sigv4.proofs.canonical_query.EscapedPairs.push_parameters.Given as goal
 
 abbrev pub invariant-loop-key : goal.invariant-loop-key
