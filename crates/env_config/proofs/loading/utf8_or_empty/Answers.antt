@@ -3,7 +3,7 @@ use Rattle.std.specs.Prelude.{IsUtf8}
 use Rattle.std.proofs.lemmas.Bool.{false≢true}
 use Rattle.std.proofs.lemmas.Str.{IsUtf8-string_bytes}
 use Rattle.env_config.proofs.LoadLemmas.{text_kept, text_dropped}
-use Rattle.env_config.proofs.loading.text_of.Goals as goal
+use Rattle.env_config.proofs.loading.utf8_or_empty.Goals as goal
 
 pub returns-in-Ok : goal.returns-in-Ok
 returns-in-Ok c =
