@@ -35,9 +35,13 @@ twice_skew sent elapsed server = pos server *ℤ pos 2000000000 -ℤ (pos 2 *ℤ
 abbrev pub skew_ms : ℤ → ℤ → ℕ → ℤ
 skew_ms sent elapsed server = int_div (twice_skew sent elapsed server) (pos 2000000)
 
+-- the most nanoseconds between sending and receiving for which a skew counts: 15 minutes
+abbrev pub most_elapsed : ℤ
+most_elapsed = pos 900000000000
+
 -- the skew where at most 15 minutes elapsed, and where it has 64 bits
 unfoldable pub trusted_skew : ℤ → ℤ → ℕ → Option ℤ
-trusted_skew sent elapsed server = if int_le elapsed (pos 900000000000) then if_i64 (skew_ms sent elapsed server) else None
+trusted_skew sent elapsed server = if int_le elapsed most_elapsed then if_i64 (skew_ms sent elapsed server) else None
 
 -- the skew of a service whose clock showed this second between the two moments
 unfoldable pub skew_at : Instant → Instant → ℕ → Option ℤ

@@ -1,5 +1,5 @@
 use Rattle.aws_intercept.proofs.KeptLemmas.{distinct_metrics_step}
-use Rattle.aws_intercept.proofs.user_agent.feature_metrics.distinct.Goals as goal
+use Rattle.aws_intercept.proofs.user_agent.distinct.distinct_metrics.Goals as goal
 
 pub loop-metric-preserved : goal.loop-metric-preserved
 loop-metric-preserved c =

@@ -1,19 +1,15 @@
 -- What the interceptor of the user agent does.
-use Rattle.std.specs.Prelude.{◌≡◌, ℕ, List, [], ◌∷◌, ◌++◌, Option, Some, Result, Ok, Err, String, IsNone, IsSome, IsSomeAnd, MatchOption, codes, map, option_map, option_to_list, reverse, string_bytes}
+use Rattle.std.specs.Prelude.{◌≡◌, ℕ, List, [], ◌∷◌, ◌++◌, Option, Some, Result, Ok, Err, String, IsNone, IsSome, IsSomeAnd, MatchOption, codes, option_map, option_to_list, string_bytes}
 use Rattle.std.specs.declared.alloc.Global.{Global}
 use Rattle.smithy_core.specs.HeaderGrammar.{IsHeaderValue}
-use Rattle.aws_intercept.specs.Agent.{agent_from, agent_text}
-use Rattle.aws_intercept.specs.AgentParts.{Agent}
-use Rattle.aws_intercept.specs.Distinct.{distinct}
+use Rattle.aws_intercept.specs.Agent.{Agent, agent_from, agent_text}
+use Rattle.aws_intercept.specs.FeatureMetrics.{feature_metrics}
 use Rattle.aws_intercept.specs.Frameworks.{oldest_frameworks}
-use Rattle.aws_intercept.specs.Features.{aws_metric, credential_metric, smithy_metric}
 use Rattle.aws_intercept.specs.Metadata.{Api, IsMetadataIfSome}
-use Rattle.aws_intercept.specs.Metric.{is_metric}
 use Rattle.aws_intercept.specs.declared.bag.ConfigBag.{ConfigBag}
 use Rattle.aws_intercept.specs.declared.user_agent.build.BuildMetadata.{BuildMetadata}
 use Rattle.aws_intercept.specs.declared.user_agent.interceptor.UserAgentFault.{UserAgentFault}
 use Rattle.aws_intercept.specs.declared.user_agent.interceptor.UserAgentFault.TheVariants.{MissingApiMetadata, MissingUserAgent, InvalidMetadataValue, InvalidHeaderValue, NoMemory}
-use Rattle.aws_intercept.specs.declared.user_agent.metric.BusinessMetric.{BusinessMetric}
 
 -- the agent for this service that a bag without one gets
 abbrev pub made_agent : List (List ℕ × List ℕ) → BuildMetadata → ConfigBag → Api → Agent
@@ -29,18 +25,11 @@ MakesAgent env build old new (Err MissingApiMetadata) = IsNone old.user_agent ×
 MakesAgent env build old new (Err NoMemory) = new ≡ old
 MakesAgent env build old new (Err _) = ⊥
 
--- the metrics of a bag's features, each once: those of the SDK and of the services newest first, those of credentials oldest
--- first, where the newest of equal ones stands
-unfoldable pub feature_metrics : ConfigBag → List BusinessMetric
-feature_metrics bag =
-    distinct is_metric (map smithy_metric bag.smithy_features.items ++ map aws_metric bag.aws_features.items)
-    ++ reverse (distinct is_metric (map credential_metric bag.credential_features.items))
-
 -- the agent with what the bag tells besides: the metrics of its features, and its connector
 abbrev pub sent_agent : ConfigBag → Agent → Agent
 sent_agent bag agent = record agent {
   metrics = agent.metrics ++ feature_metrics bag;
-  additional = agent.additional ++ option_to_list (option_map string_bytes bag.connector);
+  additional_metadata = agent.additional_metadata ++ option_to_list (option_map string_bytes bag.connector);
 }
 
 -- the text goes into both headers, or the first test that fails: an agent is there, the connector is metadata, the text is a header's value
@@ -77,7 +66,15 @@ SendsText bag agent (Err _) = ⊥
 -- the agent with the connector as an additional value where there is one, or the fault where it isn't metadata
 abbrev pub AddsConnector : Option (List ℕ) → Agent → Result Agent UserAgentFault → Type 0
 AddsConnector connector agent (Ok more) =
-    IsMetadataIfSome connector × (more ≡ record agent { additional = agent.additional ++ option_to_list connector })
+    IsMetadataIfSome connector × (more ≡ record agent { additional_metadata = agent.additional_metadata ++ option_to_list connector })
 AddsConnector connector agent (Err InvalidMetadataValue) = ¬ (IsMetadataIfSome connector)
 AddsConnector connector agent (Err NoMemory) = Unit {0}
 AddsConnector connector agent (Err _) = ⊥
+
+-- what the fault prints
+abbrev pub user_agent_fault_text : UserAgentFault → List ℕ
+user_agent_fault_text MissingApiMetadata = codes "the API metadata is missing"
+user_agent_fault_text MissingUserAgent = codes "the user agent is missing"
+user_agent_fault_text InvalidMetadataValue = codes "the connector is no metadata value"
+user_agent_fault_text InvalidHeaderValue = codes "the user agent is no header value"
+user_agent_fault_text NoMemory = codes "no memory"
