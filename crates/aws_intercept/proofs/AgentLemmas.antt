@@ -3,8 +3,7 @@ use Rattle.std.proofs.Common.{◌≡◌, ℕ, List, ◌∷◌, ◌++◌, Option,
 use Rattle.std.proofs.lemmas.Grind.{flat_map-append}
 use Rattle.std.proofs.lemmas.List.{append-nil}
 use Rattle.std.specs.List.{join_by}
-use Rattle.aws_intercept.specs.AgentParts.{Agent}
-use Rattle.aws_intercept.specs.Agent.{agent_text, metric_part, spaced, system_text}
+use Rattle.aws_intercept.specs.Agent.{Agent, agent_text, metric_part, spaced, system_text}
 use Rattle.aws_intercept.specs.Metadata.{additional_text, api_text, framework_text, with_value}
 use Rattle.aws_intercept.specs.Build.{family_text}
 
@@ -34,14 +33,14 @@ seven_in_turn s a b c d e f = simp append_assoc
 pub text_in_turn : (agent : Agent) → agent_text agent ≡
     ((((((system_text agent ++ with_value (codes " exec-env/") agent.execution_environment)
     ++ spaced (option_to_list (metric_part agent.metrics))) ++ spaced (map framework_text agent.frameworks))
-    ++ spaced (map additional_text agent.additional)) ++ with_value (codes " app/") agent.app_name) ++ with_value (codes " md/") agent.build)
+    ++ spaced (map additional_text agent.additional_metadata)) ++ with_value (codes " app/") agent.app_name) ++ with_value (codes " md/") agent.build)
 unfolding agent_text
 text_in_turn agent =
     front_in_turn agent.core_version agent.agent_version (api_text agent.api) (family_text agent.os_family)
     (with_value (codes "/") agent.os_version) agent.language_version _
     ∙ ap (λ (rest : List ℕ). system_text agent ++ rest) (rest_in_turn
     (option_to_list (option_map (λ name. codes "exec-env/" ++ name) agent.execution_environment))
-    (option_to_list (metric_part agent.metrics)) (map framework_text agent.frameworks) (map additional_text agent.additional)
+    (option_to_list (metric_part agent.metrics)) (map framework_text agent.frameworks) (map additional_text agent.additional_metadata)
     (option_to_list (option_map (λ name. codes "app/" ++ name) agent.app_name)) (option_to_list (option_map additional_text agent.build))
     _ _ _ (spaced_value (codes "exec-env/") agent.execution_environment) (spaced_value (codes "app/") agent.app_name)
     (spaced_value (codes "md/") agent.build))

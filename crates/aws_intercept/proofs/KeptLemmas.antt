@@ -11,7 +11,7 @@ use Rattle.aws_intercept.specs.contracts.user_agent.metric.BusinessMetric.{the_t
 use Rattle.aws_intercept.specs.declared.user_agent.metric.BusinessMetric.{BusinessMetric}
 use Rattle.aws_intercept.specs.Distinct.{distinct, with_new}
 use Rattle.aws_intercept.specs.Frameworks.{first_frameworks, first_ten_with}
-use Rattle.aws_intercept.specs.Metadata.{Named, is_named}
+use Rattle.aws_intercept.specs.Metadata.{NameVersion, same_name_version}
 use Rattle.aws_intercept.specs.Metric.{is_metric}
 use Rattle.aws_intercept.proofs.DistinctLemmas.{distinct_more, limited_more}
 
@@ -36,16 +36,16 @@ version_exact None (Some y) same = cc
 version_exact (Some x) None same = cc
 version_exact (Some x) (Some y) same = ap (λ text. Some text) (bytes_exact x y same)
 
-named_eq : (a b : Named) → a.name ≡ b.name → a.version ≡ b.version → a ≡ b
+named_eq : (a b : NameVersion) → a.name ≡ b.name → a.version ≡ b.version → a ≡ b
 named_eq a b names versions =
-    ap (λ (name : List ℕ). let named : Named = record { name = name; version = a.version } in named) names
-    ∙ ap (λ (version : Option (List ℕ)). let named : Named = record { name = b.name; version = version } in named) versions
+    ap (λ (name : List ℕ). let named : NameVersion = record { name = name; version = a.version } in named) names
+    ∙ ap (λ (version : Option (List ℕ)). let named : NameVersion = record { name = b.name; version = version } in named) versions
 
 both_true : (a b : Bool) → (a && b) ≡ true → (a ≡ true) × (b ≡ true)
 both_true true b both = (refl, both)
 both_true false b both = cc
 
-named_exact : (a b : Named) → is_named a b ≡ true → a ≡ b
+named_exact : (a b : NameVersion) → same_name_version a b ≡ true → a ≡ b
 named_exact a b same =
     let both = both_true (bytes_eq a.name b.name) (option_eq bytes_eq a.version b.version) same in
     named_eq a b (bytes_exact a.name b.name both.0) (version_exact a.version b.version both.1)
@@ -55,19 +55,19 @@ pub first_frameworks_none : first_frameworks [] ≡ []
 unfolding first_frameworks
 first_frameworks_none = refl
 
-first_frameworks_more : (frameworks : List Named) (framework : Named)
+first_frameworks_more : (frameworks : List NameVersion) (framework : NameVersion)
     → first_frameworks (frameworks ++ framework ∷ []) ≡ first_ten_with (first_frameworks frameworks) framework
 unfolding first_frameworks first_ten_with
 first_frameworks_more frameworks framework =
-    ap (λ (xs : List Named). take 10 xs) (distinct_more is_named named_exact frameworks framework)
-    ∙ sym (limited_more is_named named_exact 10 (distinct is_named frameworks) framework)
+    ap (λ (xs : List NameVersion). take 10 xs) (distinct_more same_name_version named_exact frameworks framework)
+    ∙ sym (limited_more same_name_version named_exact 10 (distinct same_name_version frameworks) framework)
 
 -- the loop's step over frameworks
-pub first_frameworks_step : (frameworks kept next : List Named) (at : ℕ) (item : Named) → at < length frameworks
+pub first_frameworks_step : (frameworks kept next : List NameVersion) (at : ℕ) (item : NameVersion) → at < length frameworks
     → item ≡ get_or frameworks at item → kept ≡ first_frameworks (take at frameworks) → next ≡ first_ten_with kept item
     → next ≡ first_frameworks (take (at + 1) frameworks)
 first_frameworks_step frameworks kept next at item below is_item was is_next =
-    is_next ∙ ap (λ (xs : List Named). first_ten_with xs item) was
-    ∙ ap (λ (x : Named). first_ten_with (first_frameworks (take at frameworks)) x) is_item
+    is_next ∙ ap (λ (xs : List NameVersion). first_ten_with xs item) was
+    ∙ ap (λ (x : NameVersion). first_ten_with (first_frameworks (take at frameworks)) x) is_item
     ∙ sym (first_frameworks_more (take at frameworks) (get_or frameworks at item))
-    ∙ ap (λ (xs : List Named). first_frameworks xs) (sym (take_more frameworks at item below))
+    ∙ ap (λ (xs : List NameVersion). first_frameworks xs) (sym (take_more frameworks at item below))

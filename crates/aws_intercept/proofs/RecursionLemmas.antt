@@ -10,7 +10,7 @@ use Rattle.percent_encoding.specs.Percent.{percent_encode, percent_encode_byte}
 use Rattle.percent_encoding.proofs.PercentLemmas.{All-percent_encode, IsEscapeByte}
 use Rattle.percent_encoding.specs.declared.ascii_set.TheConstants.{CONTROLS}
 use Rattle.smithy_core.specs.HeaderGrammar.{IsHeaderValue}
-use Rattle.aws_intercept.specs.Recursion.{escaped, is_visible}
+use Rattle.aws_intercept.specs.Recursion.{escaped_trace, is_visible}
 
 -- the set of the code escapes the bytes that aren't visible
 agrees : (byte : ℕ) → should_percent_encode CONTROLS byte ≡ not (is_visible byte)
@@ -36,8 +36,8 @@ flip : (visible : Bool) (xs ys : List ℕ) → cond (not visible) xs ys ≡ cond
 flip true xs ys = refl
 flip false xs ys = refl
 
-pub by_controls : (text : List ℕ) → percent_encode CONTROLS text ≡ escaped text
-unfolding percent_encode escaped
+pub by_controls : (text : List ℕ) → percent_encode CONTROLS text ≡ escaped_trace text
+unfolding percent_encode escaped_trace
 by_controls [] = refl
 by_controls (byte ∷ text) =
     rw (agrees byte, flip (is_visible byte) (percent_encode_byte byte) (byte ∷ []))
@@ -54,7 +54,7 @@ escape_visible : (byte : ℕ) → IsEscapeByte byte → IsTrue (is_visible byte)
 escape_visible byte escape = grind (arith, nat_tests)
 
 -- each byte of an escaped text is visible, or a space
-pub escaped_visible : (text : List ℕ) → AllPass is_visible (escaped text)
+pub escaped_visible : (text : List ℕ) → AllPass is_visible (escaped_trace text)
 escaped_visible text =
     subst (λ (bytes : List ℕ). AllPass is_visible bytes) (by_controls text)
     (All-percent_encode (λ byte. IsTrue (is_visible byte)) CONTROLS text kept_visible escape_visible)
@@ -63,6 +63,6 @@ visible_fits : (byte : ℕ) → IsTrue (is_visible byte) → IsTrue (is_value_by
 visible_fits byte visible = grind (arith, nat_tests)
 
 -- an escaped text is a header's value
-pub escaped_fits : (text : List ℕ) → IsHeaderValue (escaped text)
+pub escaped_fits : (text : List ℕ) → IsHeaderValue (escaped_trace text)
 escaped_fits text =
-    All-weaker (λ byte. IsTrue (is_visible byte)) (λ byte. IsTrue (is_value_byte byte)) visible_fits (escaped text) (escaped_visible text)
+    All-weaker (λ byte. IsTrue (is_visible byte)) (λ byte. IsTrue (is_value_byte byte)) visible_fits (escaped_trace text) (escaped_visible text)

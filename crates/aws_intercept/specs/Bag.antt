@@ -20,7 +20,7 @@ pub record IsEmptyBag (bag : ConfigBag) : Type 0 where
   pub aws_features : bag.aws_features.items ≡ []
   pub credential_features : bag.credential_features.items ≡ []
 
--- the same is in the bag
+-- the copy holds what the bag holds
 pub record IsSameBag (bag copy : ConfigBag) : Type 0 where
   pub retry : copy.retry ≡ bag.retry
   pub timeout : copy.timeout ≡ bag.timeout

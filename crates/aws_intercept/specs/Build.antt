@@ -13,7 +13,7 @@ family_text Android = codes "android"
 family_text Ios = codes "ios"
 family_text Other = codes "other"
 
--- the texts and the family are the same
+-- the texts and the family of a copy
 pub record IsSameBuild (build copy : BuildMetadata) : Type 0 where
   pub core_version : string_bytes copy.core_version ≡ string_bytes build.core_version
   pub rust_version : string_bytes copy.rust_version ≡ string_bytes build.rust_version

@@ -1,15 +1,46 @@
 -- Whether a failed attempt may be made again.
-use Rattle.std.specs.Prelude.{◌≡◌, ℕ, ◌<◌, ◌^◌, Bool, false, ◌&&◌, List, Option, Some, None, if◌then◌else◌, codes, nat_lt, option_and_then, option_map, string_bytes, unsigned_abs}
+use Rattle.std.specs.Prelude.{◌≡◌, ℕ, ◌<◌, ◌^◌, Bool, false, ◌&&◌, List, [], ◌∷◌, Option, Some, None, String, Vec, if◌then◌else◌, bytes_eq, codes, map, nat_lt, option_and_then, option_map, string_bytes, unsigned_abs}
+use Rattle.std.specs.List.{list_any}
 use Rattle.std.specs.Option.{option_map_or}
+use Rattle.std.specs.declared.alloc.Global.{Global}
 use Rattle.std.specs.Str.Parse.{IsNumeral, digits_value, without_leading_plus}
-use Rattle.smithy_core.specs.TextPairs.{first_value}
+use Rattle.smithy_core.specs.Pairs.{first_value}
 use Rattle.smithy_core.specs.declared.error_metadata.ErrorMetadata.{ErrorMetadata}
 use Rattle.smithy_core.specs.declared.response.HttpResponse.{HttpResponse}
-use Rattle.aws_intercept.specs.Codes.{is_listed, skew_codes, throttling_codes}
 use Rattle.aws_intercept.specs.declared.classify.RetryAction.{RetryAction}
 use Rattle.aws_intercept.specs.declared.classify.RetryAction.TheVariants.{NoActionIndicated, Retryable}
 use Rattle.aws_intercept.specs.declared.classify.RetryKind.{RetryKind}
 use Rattle.aws_intercept.specs.declared.classify.RetryKind.TheVariants.{ServerError, ThrottlingError, TransientError}
+
+-- ## Codes
+
+-- the codes of a service that has too many requests
+unfoldable pub throttling_codes : List (List ℕ)
+throttling_codes =
+    codes "Throttling" ∷ codes "ThrottlingException" ∷ codes "ThrottledException" ∷ codes "RequestThrottledException"
+    ∷ codes "TooManyRequestsException" ∷ codes "ProvisionedThroughputExceededException" ∷ codes "TransactionInProgressException"
+    ∷ codes "RequestLimitExceeded" ∷ codes "BandwidthLimitExceeded" ∷ codes "LimitExceededException" ∷ codes "RequestThrottled"
+    ∷ codes "SlowDown" ∷ codes "PriorRequestNotComplete" ∷ codes "EC2ThrottledException" ∷ []
+
+-- the codes of errors that pass by themselves
+unfoldable pub transient_codes : List (List ℕ)
+transient_codes = codes "RequestTimeout" ∷ codes "RequestTimeoutException" ∷ []
+
+-- the codes of errors that a skew of the clocks can bring about
+unfoldable pub skew_codes : List (List ℕ)
+skew_codes =
+    codes "InvalidSignatureException" ∷ codes "SignatureDoesNotMatch" ∷ codes "AuthFailure" ∷ codes "RequestTimeTooSkewed"
+    ∷ codes "AccessDeniedException" ∷ []
+
+-- whether the code is one of these
+abbrev pub is_listed : List (List ℕ) → List ℕ → Bool
+is_listed listed code = list_any (λ known. bytes_eq known code) listed
+
+-- the codes that are set, or else those of errors that pass by themselves
+abbrev pub codes_or_transient : Option (Vec (String Global) Global) → List (List ℕ)
+codes_or_transient set = option_map_or (λ listed. map string_bytes listed.items) set transient_codes
+
+-- ## Answers
 
 -- the code of an error, where there is one
 abbrev pub code_of : Option ErrorMetadata → Option (List ℕ)
@@ -55,9 +86,13 @@ abbrev pub ActsAgain : Option RetryKind → RetryAction → Option (List ℕ) �
 ActsAgain None previous text action = Delays previous text action
 ActsAgain (Some kind) previous text action = Acts (Some kind) text action
 
+-- the most milliseconds by which the clocks may differ: 4 minutes
+abbrev pub most_skew : ℕ
+most_skew = 240000
+
 -- whether the response's skew passes 4 minutes in either direction
 abbrev pub is_skewed : Option HttpResponse → Bool
-is_skewed response = option_map_or (λ skew. nat_lt 240000 (unsigned_abs skew)) (option_and_then (λ r. r.skew) response) false
+is_skewed response = option_map_or (λ skew. nat_lt most_skew (unsigned_abs skew)) (option_and_then (λ r. r.skew) response) false
 
 -- whether a skew can bring about an error with this code
 abbrev pub is_skew_error : Option (List ℕ) → Bool

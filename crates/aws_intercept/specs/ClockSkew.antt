@@ -2,8 +2,8 @@
 use Rattle.std.specs.Prelude.{ℕ, ℤ, pos, negsuc, ◌+ℤ◌, ◌-ℤ◌, ◌*ℤ◌, ◌≤ℤ◌, ◌||◌, ◌&&◌, Bool, false, List, Option, Some, None, if◌then◌else◌, codes, int_div, int_le, is_some, option_and_then, unwrap_or}
 use Rattle.std.specs.Int.{int_max}
 use Rattle.httpdate.specs.Date.{parse_secs}
-use Rattle.smithy_core.specs.Moment.{Instant, total_nanos}
-use Rattle.smithy_core.specs.TextPairs.{first_value}
+use Rattle.smithy_core.specs.Instant.{Instant, total_nanos}
+use Rattle.smithy_core.specs.Pairs.{first_value}
 use Rattle.smithy_core.specs.declared.response.HttpResponse.{HttpResponse}
 use Rattle.aws_intercept.specs.declared.bag.ConfigBag.{ConfigBag}
 
@@ -35,9 +35,13 @@ twice_skew sent elapsed server = pos server *ℤ pos 2000000000 -ℤ (pos 2 *ℤ
 abbrev pub skew_ms : ℤ → ℤ → ℕ → ℤ
 skew_ms sent elapsed server = int_div (twice_skew sent elapsed server) (pos 2000000)
 
+-- the most nanoseconds between sending and receiving for which a skew counts: 15 minutes
+abbrev pub most_elapsed : ℤ
+most_elapsed = pos 900000000000
+
 -- the skew where at most 15 minutes elapsed, and where it has 64 bits
 unfoldable pub trusted_skew : ℤ → ℤ → ℕ → Option ℤ
-trusted_skew sent elapsed server = if int_le elapsed (pos 900000000000) then if_i64 (skew_ms sent elapsed server) else None
+trusted_skew sent elapsed server = if int_le elapsed most_elapsed then if_i64 (skew_ms sent elapsed server) else None
 
 -- the skew of a service whose clock showed this second between the two moments
 unfoldable pub skew_at : Instant → Instant → ℕ → Option ℤ

@@ -2,7 +2,7 @@
 use Rattle.std.specs.Prelude.{Bool, not, List, [], ◌∷◌, ◌++◌, filter, if◌then◌else◌}
 use Rattle.std.specs.List.{list_any}
 
--- the elements in order, each one that is the same as an earlier one left out
+-- the elements in order, each one left out that equals an earlier one
 abbrev pub distinct : {X : Type 0} → (X → X → Bool) → List X → List X
 distinct same [] = []
 distinct same (x ∷ xs) = x ∷ filter (λ y. not (same x y)) (distinct same xs)

@@ -9,10 +9,14 @@ use Rattle.aws_intercept.specs.Metric.{metric_id}
 unfoldable pub joined_ids : List BusinessMetric → List ℕ
 joined_ids metrics = join_by metric_id (codes ",") metrics
 
+-- `,`
+abbrev pub comma : ℕ
+comma = 44
+
 -- the place of the last comma, from 0, where there is one
 abbrev pub last_comma : List ℕ → Option ℕ
 last_comma [] = None
-last_comma (byte ∷ bytes) = option_or (option_map (λ place. suc place) (last_comma bytes)) (if byte == 44 then Some 0 else None)
+last_comma (byte ∷ bytes) = option_or (option_map (λ place. suc place) (last_comma bytes)) (if byte == comma then Some 0 else None)
 
 -- what of the ids fits the limit: all, or what stands before the last comma within, or with no comma there what stands within
 unfoldable pub fitted : ℕ → List ℕ → List ℕ

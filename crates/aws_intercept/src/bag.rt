@@ -71,7 +71,7 @@ impl ConfigBag {
         }
     }
 
-    /// A bag with the same in it.
+    /// A bag with equal values in it.
     pub fn try_clone(&self) -> Mem<ConfigBag>
         ensures { IfOk result (IsSameBag self.now) }
     {

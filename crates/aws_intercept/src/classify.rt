@@ -1,6 +1,5 @@
 ghost use Rattle.std.specs.Prelude.{◌≡◌, IfOk, map, option_copied, string_bytes};
-ghost use Rattle.aws_intercept.specs.Classify.{Acts, ActsAgain, Delays, IsDelay, code_of, delay_text, is_skew_error, is_skewed, kind_of, skew_action};
-ghost use Rattle.aws_intercept.specs.Codes.{codes_or_transient, is_listed, throttling_codes, transient_codes};
+ghost use Rattle.aws_intercept.specs.Classify.{Acts, ActsAgain, code_of, codes_or_transient, delay_text, Delays, is_listed, is_skew_error, is_skewed, IsDelay, kind_of, skew_action, throttling_codes, transient_codes};
 
 use smithy_core::{ErrorMetadata, HttpResponse, Mem};
 use std::alloc::Global;
@@ -63,7 +62,7 @@ pub struct AwsErrorCodeClassifier {
 
 impl Model for AwsErrorCodeClassifier {
     ghost use Rattle.std.specs.Prelude.{List, ℕ};
-    ghost use Rattle.aws_intercept.specs.Codes.{codes_or_transient};
+    ghost use Rattle.aws_intercept.specs.Classify.{codes_or_transient};
 
     ghost Value = { List (List ℕ) };
 
@@ -81,7 +80,7 @@ pub struct AwsErrorCodeClassifierBuilder {
 
 impl Model for AwsErrorCodeClassifierBuilder {
     ghost use Rattle.std.specs.Prelude.{List, ℕ};
-    ghost use Rattle.aws_intercept.specs.Codes.{codes_or_transient};
+    ghost use Rattle.aws_intercept.specs.Classify.{codes_or_transient};
 
     ghost Value = { List (List ℕ) };
 
@@ -159,8 +158,8 @@ impl AwsErrorCodeClassifier {
         }
     }
 
-    /// The same; where that says nothing, what was said before, if that was retryable without a delay and the response
-    /// tells one.
+    /// What [`classify_retry`](Self::classify_retry) says; where that is nothing, what was said before, if that was retryable
+    /// without a delay and the response tells one.
     pub fn classify_retry_v2(
         &self,
         response: Option<&HttpResponse>,
@@ -189,7 +188,7 @@ impl AwsErrorCodeClassifier {
         }
     }
 
-    #[tactic(auto, unfolding(crate::specs::Codes::transient_codes))]
+    #[tactic(auto, unfolding(crate::specs::Classify::transient_codes))]
     fn is_transient(&self, code: &str) -> bool
         ensures { result ≡ is_listed self.now code.now }
     {
@@ -224,7 +223,7 @@ fn contains_text(listed: &[String], code: &str) -> bool
     false
 }
 
-// The same codes, where they are set.
+// A copy of the codes, where they are set.
 fn copied_codes(codes: &Option<Vec<String>>) -> Mem<Option<Vec<String>>>
     ensures { IfOk result (λ copy. codes_or_transient copy ≡ codes_or_transient codes.now) }
 {
@@ -244,7 +243,7 @@ fn copied_texts(alloc: Global, texts: &[String]) -> Mem<Vec<String>>
     Ok(copies)
 }
 
-#[tactic(auto, unfolding(crate::specs::Codes::throttling_codes))]
+#[tactic(auto, unfolding(crate::specs::Classify::throttling_codes))]
 fn is_throttling(code: &str) -> bool
     ensures { result ≡ is_listed throttling_codes code.now }
 {
@@ -348,7 +347,7 @@ fn is_skewed(response: Option<&HttpResponse>) -> bool
 }
 
 // Whether a skew can bring about an error with this code.
-#[tactic(auto, unfolding(crate::specs::Codes::skew_codes))]
+#[tactic(auto, unfolding(crate::specs::Classify::skew_codes))]
 fn is_skew_error(code: Option<&str>) -> bool
     ensures { result ≡ is_skew_error (option_copied code.entry) }
 {

@@ -1,8 +1,8 @@
 ghost use Rattle.std.specs.Prelude.{◌≡◌, ◌+ℤ◌, ◌-ℤ◌, ◌*ℤ◌, ◌≤ℤ◌, negsuc, codes, option_and_then, pos, unwrap_or};
 ghost use Rattle.std.specs.Int.{int_max};
 ghost use Rattle.httpdate.specs.Date.{parse_secs};
-ghost use Rattle.smithy_core.specs.TextPairs.{first_value};
-ghost use Rattle.aws_intercept.specs.ClockSkew.{bag_with_kept, bag_with_skew, bag_with_time, is_off, if_i64, measured, response_with_skew, skew_at, trusted_skew, twice_skew, IsNanos};
+ghost use Rattle.smithy_core.specs.Pairs.{first_value};
+ghost use Rattle.aws_intercept.specs.ClockSkew.{bag_with_kept, bag_with_skew, bag_with_time, is_off, if_i64, measured, most_elapsed, response_with_skew, skew_at, trusted_skew, twice_skew, IsNanos};
 
 use crate::bag::ConfigBag;
 use crate::nanos::nanos;
@@ -186,7 +186,7 @@ fn skew_of(sent: i128, elapsed: i128, server: u64) -> Option<i64>
 fn twice_skew(sent: i128, elapsed: i128, server: u64) -> i128
     requires sent { IsNanos sent }
     requires from { pos 0 ≤ℤ elapsed }
-    requires within { elapsed ≤ℤ pos 900000000000 }
+    requires within { elapsed ≤ℤ most_elapsed }
     ensures { result ≡ twice_skew sent elapsed server }
 {
     i128::from(server) * 2_000_000_000 - twice_middle(sent, elapsed)
@@ -196,7 +196,7 @@ fn twice_skew(sent: i128, elapsed: i128, server: u64) -> i128
 fn twice_middle(sent: i128, elapsed: i128) -> i128
     requires sent { IsNanos sent }
     requires from { pos 0 ≤ℤ elapsed }
-    requires within { elapsed ≤ℤ pos 900000000000 }
+    requires within { elapsed ≤ℤ most_elapsed }
     ensures value { result ≡ pos 2 *ℤ sent +ℤ elapsed }
     ensures low { negsuc 99999999999999999999999999999 ≤ℤ result }
     ensures high { result ≤ℤ pos 99999999999999999999999999999 }

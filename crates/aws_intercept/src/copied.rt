@@ -2,7 +2,7 @@ ghost use Rattle.std.specs.Prelude.{◌≡◌, IfOk, option_map, string_bytes};
 
 use smithy_core::{AppName, Mem};
 
-/// The same text, where there is one.
+/// A copy of the text, where there is one.
 pub(crate) fn copied_text(text: &Option<String>) -> Mem<Option<String>>
     ensures { IfOk result (λ copy. option_map string_bytes copy ≡ option_map string_bytes text.now) }
 {
@@ -12,7 +12,7 @@ pub(crate) fn copied_text(text: &Option<String>) -> Mem<Option<String>>
     })
 }
 
-/// The same name, where there is one.
+/// A copy of the name, where there is one.
 pub(crate) fn copied_name(name: &Option<AppName>) -> Mem<Option<AppName>>
     ensures { IfOk result (λ copy. copy ≡ name.now) }
 {

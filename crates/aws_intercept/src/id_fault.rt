@@ -15,7 +15,7 @@ pub enum IdFault {
 
 impl fmt::Display for IdFault {
     ghost use Rattle.std.specs.Prelude.{Some};
-    ghost use Rattle.aws_intercept.specs.Texts.{id_fault_text};
+    ghost use Rattle.aws_intercept.specs.IdFault.{id_fault_text};
 
     ghost output = { λ fault. Some (id_fault_text fault) };
 

@@ -2,7 +2,7 @@
 //! attempt header, the measured clock skew, and the class of an error for retries.
 //!
 //! The layer above is promised that each interceptor's call gives exactly the header text, the bag and the skew of its
-//! definition and changes nothing else (`specs/UserAgent.antt`, `specs/Invocation.antt`, `specs/Recursion.antt`,
+//! definition and changes nothing else (`specs/Interceptor.antt`, `specs/Invocation.antt`, `specs/Recursion.antt`,
 //! `specs/RequestInfo.antt`, `specs/ClockSkew.antt`), that the agent's text is its parts in order (`specs/Agent.antt`),
 //! that different metrics have different ids ([`metric_ids_differ`]), that an escaped trace is a header's value
 //! ([`escaped_traces_fit`]), and that both classifiers answer by their tables (`specs/Classify.antt`).

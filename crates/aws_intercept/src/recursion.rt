@@ -1,7 +1,7 @@
 ghost use Rattle.std.specs.Prelude.{◌≡◌, IfOk, List, OnErr, OnOk, string_bytes, ℕ};
 ghost use Rattle.http_header.specs.Token.{AllPass};
 ghost use Rattle.smithy_core.specs.HeaderGrammar.{IsHeaderValue};
-ghost use Rattle.aws_intercept.specs.Recursion.{escaped, is_visible, traced};
+ghost use Rattle.aws_intercept.specs.Recursion.{escaped_trace, is_visible, traced};
 
 use crate::bag::ConfigBag;
 use percent_encoding::{CONTROLS, percent_encode};
@@ -75,7 +75,7 @@ impl RecursionDetectionInterceptor {
 // The bytes with controls and those past ASCII escaped.
 #[tactic(auto, using(crate::proofs::RecursionLemmas::by_controls))]
 pub(crate) fn escape(alloc: Global, bytes: &[u8]) -> Mem<String>
-    ensures { IfOk result (λ value. string_bytes value ≡ escaped bytes.now) }
+    ensures { IfOk result (λ value. string_bytes value ≡ escaped_trace bytes.now) }
 {
     let mut value = String::new(alloc);
     percent_encode(bytes, CONTROLS).append_to(&mut value)?;
@@ -85,6 +85,6 @@ pub(crate) fn escape(alloc: Global, bytes: &[u8]) -> Mem<String>
 /// Whatever its bytes, an escaped trace is visible ASCII and spaces, and so a header's value.
 #[tactic(auto, using(crate::proofs::RecursionLemmas::escaped_visible, crate::proofs::RecursionLemmas::escaped_fits))]
 pub fn escaped_traces_fit()
-    ensures visible { (trace : List ℕ) → AllPass is_visible (escaped trace) }
-    ensures value { (trace : List ℕ) → IsHeaderValue (escaped trace) }
+    ensures visible { (trace : List ℕ) → AllPass is_visible (escaped_trace trace) }
+    ensures value { (trace : List ℕ) → IsHeaderValue (escaped_trace trace) }
 {}

@@ -2,6 +2,7 @@ mod additional;
 pub(crate) mod agent;
 pub(crate) mod build;
 pub(crate) mod config;
+mod distinct;
 pub(crate) mod feature;
 mod feature_metrics;
 pub(crate) mod framework;

@@ -7,10 +7,10 @@ use Rattle.std.specs.Cmp.Lexicographic.{nat_list_cmp_total}
 use Rattle.std.specs.List.{AllByRecursion}
 use Rattle.std.specs.Map.{remove_entry}
 use Rattle.env_config.specs.declared.source.EnvConfigFileKind.{EnvConfigFileKind}
-use Rattle.env_config.specs.Line.{is_blank, is_skipped, lines_of, property_of, section_name}
-use Rattle.env_config.specs.Raw.{Last, Open, State, after_line, begun, continued_or, last_step, line_step, properties_of, raw, raw_from, section_step, start, within_section}
+use Rattle.env_config.specs.Line.{is_blank, is_skipped, profile_lines, property_of, section_name}
+use Rattle.env_config.specs.Raw.{Last, Open, State, after_line, begun_property, continued_or, last_step, profile_line_step, properties_of, raw, raw_from, section_step, start, within_section}
 use Rattle.env_config.specs.Sections.{Sections, heading_of, with_names, with_raw}
-use Rattle.env_config.specs.Texts.{IsApart, Named, by_text, put, put_named, text_cmp, value_at}
+use Rattle.env_config.specs.Texts.{IsApart, Named, by_text, put, put_named, text_cmp, value_under}
 use Rattle.env_config.proofs.LaterLemmas.{at_put}
 use Rattle.env_config.proofs.LowerLemmas.{OfOk, either, tied_same}
 use Rattle.env_config.proofs.TextsLemmas.{value_put}
@@ -28,10 +28,10 @@ apart_more (other ∷ names) name apart new =
 
 -- each name has a value
 abbrev HasEach : {X : Type 0} → List (List ℕ × X) → List (List ℕ) → Type 0
-HasEach values names = AllByRecursion (λ (name : List ℕ). is_some (value_at values name) ≡ true) names
+HasEach values names = AllByRecursion (λ (name : List ℕ). is_some (value_under values name) ≡ true) names
 
--- so a name without one is none of them
-none_of : {X : Type 0} (values : List (List ℕ × X)) (names : List (List ℕ)) (name : List ℕ) → HasEach values names → is_some (value_at values name) ≡ false
+-- a name without one is none of them
+none_of : {X : Type 0} (values : List (List ℕ × X)) (names : List (List ℕ)) (name : List ℕ) → HasEach values names → is_some (value_under values name) ≡ false
     → AllByRecursion (λ (other : List ℕ). is_eq (text_cmp name other) ≡ false) names
 none_of values [] name has lacks = tt
 none_of {X} values (other ∷ names) name has lacks = (by (is_eq (text_cmp name other)) refl, none_of values names name has.1 lacks)
@@ -39,7 +39,7 @@ none_of {X} values (other ∷ names) name has lacks = (by (is_eq (text_cmp name 
     by : (b : Bool) → is_eq (text_cmp name other) ≡ b → b ≡ false
     by false is = refl
     by true is =
-        let known : is_some (value_at values name) ≡ true = ap (λ (n : List ℕ). is_some (value_at values n)) (tied_same name other is) ∙ has.0 in
+        let known : is_some (value_under values name) ≡ true = ap (λ (n : List ℕ). is_some (value_under values n)) (tied_same name other is) ∙ has.0 in
         sym known ∙ lacks
 
 has_put : {X : Type 0} (values : List (List ℕ × X)) (key : List ℕ) (value : X) (names : List (List ℕ)) → HasEach values names → HasEach (put values key value) names
@@ -47,7 +47,7 @@ has_put values key value [] has = tt
 has_put {X} values key value (name ∷ names) has =
     (ap is_some (at_put text_cmp nat_list_cmp_total values key value name) ∙ by (is_eq (text_cmp name key)), has_put values key value names has.1)
   where
-    by : (b : Bool) → is_some (cond b (Some value) (value_at values name)) ≡ true
+    by : (b : Bool) → is_some (cond b (Some value) (value_under values name)) ≡ true
     by true = refl
     by false = has.0
 
@@ -57,16 +57,16 @@ record IsSound {X : Type 0} (named : Named X) : Type 0 where
   pub has : HasEach named.values named.names
 
 put_sound : {X : Type 0} (named : Named X) (name : List ℕ) (value : X) → IsSound named → IsSound (put_named named name value)
-put_sound {X} named name value is = by (is_some (value_at named.values name)) refl
+put_sound {X} named name value is = by (is_some (value_under named.values name)) refl
   where
     kept : HasEach (put named.values name value) named.names
     kept = has_put named.values name value named.names is.has
 
-    by : (b : Bool) → is_some (value_at named.values name) ≡ b → IsSound (record { names = cond b named.names (named.names ++ name ∷ []); values = put named.values name value })
+    by : (b : Bool) → is_some (value_under named.values name) ≡ b → IsSound (record { names = cond b named.names (named.names ++ name ∷ []); values = put named.values name value })
     by true known = record { apart = is.apart; has = kept }
     by false known = record {
       apart = apart_more named.names name is.apart (none_of named.values named.names name is.has known);
-      has = all_more (λ (n : List ℕ). is_some (value_at (put named.values name value) n) ≡ true) named.names name kept (ap is_some (value_put named.values name value));
+      has = all_more (λ (n : List ℕ). is_some (value_under (put named.values name value) n) ≡ true) named.names name kept (ap is_some (value_put named.values name value));
     }
 
 -- ## Lines
@@ -86,26 +86,26 @@ within_sound : (state : State) (at : Option Open) (step : Open → Result Last (
 within_sound state None step is = tt
 within_sound state (Some at) step is = last_sound state at.name (step at) is
 
-line_sound : (state : State) (line : List ℕ) → IsSoundState state → OfOk IsSoundState (line_step state line)
-unfolding line_step
+line_sound : (state : State) (line : List ℕ) → IsSoundState state → OfOk IsSoundState (profile_line_step state line)
+unfolding profile_line_step
 line_sound state line is =
     let P : Result State (List ℕ) → Type 0 = OfOk IsSoundState in
     let more = within_section state state.open_section (λ at. continued_or at.last line) in
-    let new = within_section state state.open_section (λ _. begun (property_of line)) in
+    let new = within_section state state.open_section (λ _. begun_property (property_of line)) in
     let later = cond (is_blank (slice_index line 0)) more new in
     let marked = cond (nat_eq (slice_index line 0) 91) (section_step state (section_name line)) later in
     either P (is_skipped line) (Ok state) marked is
     (either P (nat_eq (slice_index line 0) 91) (section_step state (section_name line)) later (section_sound state (section_name line) is)
     (either P (is_blank (slice_index line 0)) more new
     (within_sound state state.open_section (λ at. continued_or at.last line) is)
-    (within_sound state state.open_section (λ _. begun (property_of line)) is)))
+    (within_sound state state.open_section (λ _. begun_property (property_of line)) is)))
 
 abbrev IsSoundRead : Named (List (List ℕ × List ℕ)) → Type 0
 IsSoundRead read = IsSound read
 
 lines_sound : (number : ℕ) (state : State) (lines : List (List ℕ)) → IsSoundState state → OfOk IsSoundRead (raw_from number state lines)
 lines_sound number state [] is = is
-lines_sound number state (line ∷ lines) is = by (line_step state line) (line_sound state line is) (λ next sound. lines_sound (number + 1) next lines sound)
+lines_sound number state (line ∷ lines) is = by (profile_line_step state line) (line_sound state line is) (λ next sound. lines_sound (number + 1) next lines sound)
   where
     by : (step : Result State (List ℕ)) → OfOk IsSoundState step → ((next : State) → IsSoundState next → OfOk IsSoundRead (raw_from (number + 1) next lines))
         → OfOk IsSoundRead (after_line number (λ next. raw_from (number + 1) next lines) step)
@@ -114,7 +114,7 @@ lines_sound number state (line ∷ lines) is = by (line_step state line) (line_s
 
 raw_sound : (text : List ℕ) → OfOk IsSoundRead (raw text)
 unfolding raw
-raw_sound text = lines_sound 1 start (lines_of text) (record { apart = tt; has = tt })
+raw_sound text = lines_sound 1 start (profile_lines text) (record { apart = tt; has = tt })
 
 pub read_apart : (text : List ℕ) (read : Named (List (List ℕ × List ℕ))) → raw text ≡ Ok read → IsApart read.names
 read_apart text read is = (subst (OfOk IsSoundRead) is (raw_sound text)).apart
@@ -124,19 +124,19 @@ read_apart text read is = (subst (OfOk IsSoundRead) is (raw_sound text)).apart
 abbrev without : {X : Type 0} → List ℕ → List (String Global × X) → List (String Global × X)
 without name es = remove_entry (is_at (λ (key : String Global). text_cmp name (string_bytes key))) es
 
-others_stay : {X : Type 0} (es : List (String Global × X)) (name other : List ℕ) → is_eq (text_cmp other name) ≡ false → value_at (by_text (without name es)) other ≡ value_at (by_text es) other
+others_stay : {X : Type 0} (es : List (String Global × X)) (name other : List ℕ) → is_eq (text_cmp other name) ≡ false → value_under (by_text (without name es)) other ≡ value_under (by_text es) other
 others_stay [] name other apart = refl
 others_stay {X} (e ∷ es) name other apart = by (is_eq (text_cmp name (string_bytes e.0))) refl (others_stay es name other apart)
   where
-    by : (b : Bool) → is_eq (text_cmp name (string_bytes e.0)) ≡ b → value_at (by_text (without name es)) other ≡ value_at (by_text es) other
-        → value_at (by_text (cond b es (e ∷ without name es))) other ≡ value_at (by_text (e ∷ es)) other
+    by : (b : Bool) → is_eq (text_cmp name (string_bytes e.0)) ≡ b → value_under (by_text (without name es)) other ≡ value_under (by_text es) other
+        → value_under (by_text (cond b es (e ∷ without name es))) other ≡ value_under (by_text (e ∷ es)) other
     by true tied later =
-        sym (ap (λ (b : Bool). cond b (Some e.1) (value_at (by_text es) other)) (ap (λ (key : List ℕ). is_eq (text_cmp other key)) (sym (tied_same name (string_bytes e.0) tied)) ∙ apart))
+        sym (ap (λ (b : Bool). cond b (Some e.1) (value_under (by_text es) other)) (ap (λ (key : List ℕ). is_eq (text_cmp other key)) (sym (tied_same name (string_bytes e.0) tied)) ∙ apart))
     by false tied later = ap (λ (found : Option X). cond (is_eq (text_cmp other (string_bytes e.0))) (Some e.1) found) later
 
 -- a value that is taken leaves the others
-pub removed_others : {X : Type 0} (es now : List (String Global × X)) (name : List ℕ) → now ≡ without name es → (other : List ℕ) → is_eq (text_cmp other name) ≡ false → value_at (by_text now) other ≡ value_at (by_text es) other
-removed_others {X} es now name is other apart = ap (λ (ds : List (String Global × X)). value_at (by_text ds) other) is ∙ others_stay es name other apart
+pub removed_others : {X : Type 0} (es now : List (String Global × X)) (name : List ℕ) → now ≡ without name es → (other : List ℕ) → is_eq (text_cmp other name) ≡ false → value_under (by_text now) other ≡ value_under (by_text es) other
+removed_others {X} es now name is other apart = ap (λ (ds : List (String Global × X)). value_under (by_text ds) other) is ∙ others_stay es name other apart
 
 all_of : {X : Type 0} (P Q : X → Type 0) → ((x : X) → P x → Q x) → (xs : List X) → AllByRecursion P xs → AllByRecursion Q xs
 all_of P Q more [] all = tt
@@ -148,7 +148,7 @@ all_always P always (x ∷ xs) = (always x, all_always P always xs)
 
 -- names with the same values give the same
 pub names_alike : (sections : Sections) (kind : EnvConfigFileKind) (overridden : Bool) (file now : Named (List (List ℕ × List ℕ))) (names : List (List ℕ))
-    → AllByRecursion (λ (name : List ℕ). value_at now.values name ≡ value_at file.values name) names → with_names sections kind overridden now names ≡ with_names sections kind overridden file names
+    → AllByRecursion (λ (name : List ℕ). value_under now.values name ≡ value_under file.values name) names → with_names sections kind overridden now names ≡ with_names sections kind overridden file names
 names_alike sections kind overridden file now [] same = refl
 names_alike sections kind overridden file now (name ∷ names) same =
     ap (λ (found : Option (List (List ℕ × List ℕ))). with_names (with_raw sections kind overridden (heading_of name) (unwrap_or found [])) kind overridden now names) same.0
@@ -156,10 +156,10 @@ names_alike sections kind overridden file now (name ∷ names) same =
 
 -- the first name was merged, and its section taken
 pub name_merged : (before after : Sections) (kind : EnvConfigFileKind) (overridden : Bool) (file now : Named (List (List ℕ × List ℕ))) (name : List ℕ) (names : List (List ℕ))
-    → after ≡ with_raw before kind overridden (heading_of name) (properties_of file name) → ((other : List ℕ) → is_eq (text_cmp other name) ≡ false → value_at now.values other ≡ value_at file.values other)
+    → after ≡ with_raw before kind overridden (heading_of name) (properties_of file name) → ((other : List ℕ) → is_eq (text_cmp other name) ≡ false → value_under now.values other ≡ value_under file.values other)
     → IsApart (name ∷ names) → with_names after kind overridden now names ≡ with_names before kind overridden file (name ∷ names)
 name_merged before after kind overridden file now name names is stay apart =
-    let others = all_of (λ (other : List ℕ). is_eq (text_cmp other name) ≡ false) (λ (other : List ℕ). value_at now.values other ≡ value_at file.values other) stay names apart.0 in
+    let others = all_of (λ (other : List ℕ). is_eq (text_cmp other name) ≡ false) (λ (other : List ℕ). value_under now.values other ≡ value_under file.values other) stay names apart.0 in
     ap (λ (sections : Sections). with_names sections kind overridden now names) is
     ∙ names_alike (with_raw before kind overridden (heading_of name) (properties_of file name)) kind overridden file now names others
 

@@ -2,12 +2,11 @@
 use Rattle.std.proofs.Common.{◌≡◌, ◌∙◌, ℕ, Bool, ◌&&◌, List, [], ◌∷◌, map, String, Global, string_bytes, bytes_eq, refl, sym, ap, ap₂}
 use Rattle.std.specs.Cmp.Lexicographic.{pointwise}
 use Rattle.std.specs.List.{AllZip}
-use Rattle.env_config.specs.Sections.{Section}
-use Rattle.env_config.specs.Texts.{CopiedUnder, Named, same_values}
-use Rattle.env_config.specs.Words.{SameProfile, SameSession, contents_of, named_as, profile_of, session_of, values_of}
-use Rattle.env_config.specs.declared.profile.Profile.{Profile}
-use Rattle.env_config.specs.declared.profile.SsoSession.{SsoSession}
+use Rattle.env_config.specs.Sections as sections
+use Rattle.env_config.specs.Texts.{CopiedUnder, Named, named_as, same_values}
+use Rattle.env_config.specs.Section.{IsSameSection, contents_of, section_of, values_of}
 use Rattle.env_config.specs.declared.property.Property.{Property}
+use Rattle.env_config.specs.declared.section.Section.{Section}
 
 -- what a function sees of copies, where it sees no difference
 pub map_alike : {A B : Type 0} (R : A → A → Type 0) (f : A → B) → ((x y : A) → R x y → f y ≡ f x) → (xs ys : List A) → AllZip R xs ys → map f ys ≡ map f xs
@@ -45,13 +44,9 @@ values_held (e ∷ es) = ap (λ (vs : List (List ℕ × List ℕ)). (string_byte
 alike_values : (es ds : List (String Global × Property)) → contents_of ds ≡ contents_of es → values_of ds ≡ values_of es
 alike_values es ds same = values_held ds ∙ ap (map (λ (e : List ℕ × (List ℕ × List ℕ)). (e.0, e.1.1))) same ∙ sym (values_held es)
 
-section : List ℕ → List (List ℕ × List ℕ) → Section
-section name properties = record { name = name; properties = properties }
+make_section : List ℕ → List (List ℕ × List ℕ) → sections.Section
+make_section name properties = record { name = name; properties = properties }
 
-pub profile_alike : (profile copy : Profile) → SameProfile profile copy → profile_of copy ≡ profile_of profile
-unfolding section
-profile_alike profile copy same = ap₂ section same.0 (alike_values profile.properties.entries copy.properties.entries same.1)
-
-pub session_alike : (session copy : SsoSession) → SameSession session copy → session_of copy ≡ session_of session
-unfolding section
-session_alike session copy same = ap₂ section same.0 (alike_values session.properties.entries copy.properties.entries same.1)
+pub section_alike : (held copy : Section) → IsSameSection held copy → section_of copy ≡ section_of held
+unfolding make_section
+section_alike held copy same = ap₂ make_section same.0 (alike_values held.properties.entries copy.properties.entries same.1)

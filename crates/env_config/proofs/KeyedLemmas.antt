@@ -4,8 +4,9 @@ use Rattle.std.specs.Prelude.{Option, Some, None, IfSome}
 use Rattle.std.specs.Ordering.{match_ordering}
 use Rattle.std.specs.BTreeMap.{insert_entry}
 use Rattle.env_config.specs.declared.property.Property.{Property}
-use Rattle.env_config.specs.Texts.{EachValue, Named, put, put_named, text_cmp, value_at}
-use Rattle.env_config.specs.Words.{IsKeyed, contents_of, pair_of}
+use Rattle.env_config.specs.Texts.{EachValue, Named, put, put_named, text_cmp, value_under}
+use Rattle.env_config.specs.Property.{property_pair}
+use Rattle.env_config.specs.Section.{IsKeyed, contents_of}
 use Rattle.env_config.proofs.LowerLemmas.{OfSome, put_each, tied_same, value_each}
 use Rattle.env_config.proofs.TextsLemmas.{entries_put}
 
@@ -23,7 +24,7 @@ pub property_keyed : (es now : List (String Global × Property)) (key : String G
     → IsKeyed (contents_of es) → IsKeyed (contents_of now)
 property_keyed es now key property puts own keyed =
     let at = string_bytes key in
-    let held : contents_of now ≡ put (contents_of es) at (at, string_bytes property.value) = ap contents_of puts ∙ entries_put string_cmp text_cmp string_bytes pair_of (λ _ _. refl) es key property
+    let held : contents_of now ≡ put (contents_of es) at (at, string_bytes property.value) = ap contents_of puts ∙ entries_put string_cmp text_cmp string_bytes property_pair (λ _ _. refl) es key property
     ∙ ap (λ (own : List ℕ). put (contents_of es) at (own, string_bytes property.value)) own in
     subst IsKeyed (sym held) (put_keyed (contents_of es) at (string_bytes property.value) keyed)
 
@@ -32,7 +33,7 @@ if_some P None is = tt
 if_some P (Some x) is = is
 
 -- P holds of the value at a name
-pub value_passes : {X : Type 0} (P : X → Type 0) (named : Named X) (name : List ℕ) (had : Option X) → had ≡ value_at named.values name → EachValue P named.values → IfSome had P
+pub value_passes : {X : Type 0} (P : X → Type 0) (named : Named X) (name : List ℕ) (had : Option X) → had ≡ value_under named.values name → EachValue P named.values → IfSome had P
 value_passes P named name had is each = if_some P had (subst (OfSome P) (sym is) (value_each P named.values name each))
 
 -- P holds of each value, also after one was put

@@ -13,7 +13,7 @@ use Rattle.env_config.specs.Laws.{value_in}
 use Rattle.env_config.specs.Line.{is_equals, trimmed}
 use Rattle.env_config.specs.Raw.{properties_of, raw}
 use Rattle.env_config.specs.Sections.{FileText, Key, Section, Sections, after_file, files_from, has_profile_default, heading_of, is_identifier, is_taken_from, key_cmp, merged_into, no_sections, put_at_key, put_identifiers, put_others, put_sub, put_subs, section_properties, sections, value_at_key, with_file, with_names, with_raw, with_section}
-use Rattle.env_config.specs.Texts.{Named, put, text_cmp, value_at}
+use Rattle.env_config.specs.Texts.{Named, put, text_cmp, value_under}
 use Rattle.env_config.proofs.LowerLemmas.{tied_same}
 
 -- ## Choices
@@ -79,7 +79,7 @@ module _ {K X : Type 0} (R : K → K → Ordering) (total : IsTotalOrder R) wher
 -- ## Profiles and sessions
 
 abbrev AboveTexts : List (List ℕ × List ℕ) → List (List ℕ × List ℕ) → List (List ℕ × List ℕ) → Type 0
-AboveTexts es ds us = (q : List ℕ) → value_at es q ≡ option_or (value_at ds q) (value_at us q)
+AboveTexts es ds us = (q : List ℕ) → value_under es q ≡ option_or (value_under ds q) (value_under us q)
 
 identifiers_above : (es ds us pairs : List (List ℕ × List ℕ)) → AboveTexts es ds us → AboveTexts (put_identifiers es pairs) (put_identifiers ds pairs) us
 identifiers_above es ds us [] above = above
@@ -91,7 +91,7 @@ identifiers_above es ds us (pair ∷ pairs) above =
 abbrev AboveIn : Named Section → Named Section → Named Section → Type 0
 AboveIn s t u = (name key : List ℕ) → value_in s name key ≡ option_or (value_in t name key) (value_in u name key)
 
-held : (section : Option Section) (key : List ℕ) → value_at (section_properties section) key ≡ option_and_then (λ (s : Section). value_at s.properties key) section
+held : (section : Option Section) (key : List ℕ) → value_under (section_properties section) key ≡ option_and_then (λ (s : Section). value_under s.properties key) section
 held None key = refl
 held (Some section) key = refl
 
@@ -99,32 +99,32 @@ merged_above : (s t u : Named Section) (n : List ℕ) (pairs : List (List ℕ ×
 merged_above s t u n pairs above name key = by (is_eq (text_cmp name n)) refl
   where
     known : Named Section → List (List ℕ × List ℕ)
-    known x = section_properties (value_at x.values n)
+    known x = section_properties (value_under x.values n)
 
     grown : Named Section → Section
     grown x = record { name = n; properties = put_identifiers (known x) pairs }
 
     spread : (b : Bool) (section : Section) (other : Option Section)
-        → option_and_then (λ (s : Section). value_at s.properties key) (cond b (Some section) other) ≡ cond b (value_at section.properties key) (option_and_then (λ (s : Section). value_at s.properties key) other)
+        → option_and_then (λ (s : Section). value_under s.properties key) (cond b (Some section) other) ≡ cond b (value_under section.properties key) (option_and_then (λ (s : Section). value_under s.properties key) other)
     spread true section other = refl
     spread false section other = refl
 
-    one : (x : Named Section) (b : Bool) → is_eq (text_cmp name n) ≡ b → value_in (merged_into x n pairs) name key ≡ cond b (value_at (put_identifiers (known x) pairs) key) (value_in x name key)
+    one : (x : Named Section) (b : Bool) → is_eq (text_cmp name n) ≡ b → value_in (merged_into x n pairs) name key ≡ cond b (value_under (put_identifiers (known x) pairs) key) (value_in x name key)
     one x b is =
-        ap (option_and_then (λ (s : Section). value_at s.properties key)) (at_put text_cmp nat_list_cmp_total x.values n (grown x) name)
-        ∙ ap (λ (c : Bool). option_and_then (λ (s : Section). value_at s.properties key) (cond c (Some (grown x)) (value_at x.values name))) is
-        ∙ spread b (grown x) (value_at x.values name)
+        ap (option_and_then (λ (s : Section). value_under s.properties key)) (at_put text_cmp nat_list_cmp_total x.values n (grown x) name)
+        ∙ ap (λ (c : Bool). option_and_then (λ (s : Section). value_under s.properties key) (cond c (Some (grown x)) (value_under x.values name))) is
+        ∙ spread b (grown x) (value_under x.values name)
 
     under : AboveTexts (known s) (known t) (known u)
     under q =
-        held (value_at s.values n) q ∙ above n q
-        ∙ ap₂ option_or (sym (held (value_at t.values n) q)) (sym (held (value_at u.values n) q))
+        held (value_under s.values n) q ∙ above n q
+        ∙ ap₂ option_or (sym (held (value_under t.values n) q)) (sym (held (value_under u.values n) q))
 
-    between : (b : Bool) → is_eq (text_cmp name n) ≡ b → cond b (value_at (put_identifiers (known s) pairs) key) (value_in s name key)
-        ≡ option_or (cond b (value_at (put_identifiers (known t) pairs) key) (value_in t name key)) (value_in u name key)
+    between : (b : Bool) → is_eq (text_cmp name n) ≡ b → cond b (value_under (put_identifiers (known s) pairs) key) (value_in s name key)
+        ≡ option_or (cond b (value_under (put_identifiers (known t) pairs) key) (value_in t name key)) (value_in u name key)
     between true is =
         identifiers_above (known s) (known t) (known u) pairs under key
-        ∙ ap (option_or (value_at (put_identifiers (known t) pairs) key)) (held (value_at u.values n) key ∙ ap (λ (k : List ℕ). value_in u k key) (sym (tied_same name n is)))
+        ∙ ap (option_or (value_under (put_identifiers (known t) pairs) key)) (held (value_under u.values n) key ∙ ap (λ (k : List ℕ). value_in u k key) (sym (tied_same name n is)))
     between false is = above name key
 
     by : (b : Bool) → is_eq (text_cmp name n) ≡ b → value_in (merged_into s n pairs) name key ≡ option_or (value_in (merged_into t n pairs) name key) (value_in u name key)

@@ -12,3 +12,4 @@ pub mod LaterLemmas
 pub mod LowerLemmas
 pub mod KeyedLemmas
 pub mod ApartLemmas
+pub mod ParseLemmas

@@ -3,7 +3,7 @@ use Rattle.std.proofs.Common.{◌≡◌, ◌≢◌, ℕ, suc, ◌<◌, Bool, tru
 use Rattle.std.specs.Prelude.{Option, Some, None, MatchOption, option_map, option_copied, unwrap_or}
 use Rattle.std.specs.Borrow.{Bor}
 use Rattle.std.proofs.lemmas.Bool.{eqb-true, eq-eqb, ne_eqb, false_from_ne_true}
-use Rattle.env_config.specs.Line.{after_byte, before_last, onto_first, lines_of, without_cr}
+use Rattle.env_config.specs.Line.{after_byte, before_last, onto_first_line, profile_lines, without_cr}
 
 -- ## One byte
 
@@ -50,38 +50,38 @@ and_no true x y = refl
 and_no false x y = refl
 
 -- a line that ends at an LF
-pub lines_first : (line rest : List ℕ) → ((i : ℕ) → i < length line → get_or line i 0 ≢ 10) → lines_of (line ++ 10 ∷ rest) ≡ without_cr line ∷ lines_of rest
-unfolding lines_of
+pub lines_first : (line rest : List ℕ) → ((i : ℕ) → i < length line → get_or line i 0 ≢ 10) → profile_lines (line ++ 10 ∷ rest) ≡ without_cr line ∷ profile_lines rest
+unfolding profile_lines
 lines_first [] rest none = refl
 lines_first (b ∷ []) rest none =
-    ap (λ (v : Bool). cond v ([] ∷ [] ∷ lines_of rest) (cond (eqb b 13 && true) ([] ∷ lines_of rest) ((b ∷ []) ∷ lines_of rest))) (ne_eqb b 10 (none 0 (omega arith)))
-    ∙ cr_only b (lines_of rest) (eqb b 13)
+    ap (λ (v : Bool). cond v ([] ∷ [] ∷ profile_lines rest) (cond (eqb b 13 && true) ([] ∷ profile_lines rest) ((b ∷ []) ∷ profile_lines rest))) (ne_eqb b 10 (none 0 (omega arith)))
+    ∙ cr_only b (profile_lines rest) (eqb b 13)
 lines_first (b ∷ d ∷ line) rest none =
-    let more = lines_of (d ∷ line ++ 10 ∷ rest) in
-    let again : more ≡ without_cr (d ∷ line) ∷ lines_of rest = lines_first (d ∷ line) rest (λ i within. none (suc i) (omega arith)) in
-    ap (λ (v : Bool). cond v ([] ∷ more) (cond (eqb b 13 && eqb d 10) more (onto_first b more))) (ne_eqb b 10 (none 0 (omega arith)))
-    ∙ ap (λ (v : Bool). cond (eqb b 13 && v) more (onto_first b more)) (ne_eqb d 10 (none 1 (omega arith)))
-    ∙ and_no (eqb b 13) more (onto_first b more)
-    ∙ ap (onto_first b) again
-    ∙ ap (λ (xs : List ℕ). xs ∷ lines_of rest) (sym (cr_first b d line))
+    let more = profile_lines (d ∷ line ++ 10 ∷ rest) in
+    let again : more ≡ without_cr (d ∷ line) ∷ profile_lines rest = lines_first (d ∷ line) rest (λ i within. none (suc i) (omega arith)) in
+    ap (λ (v : Bool). cond v ([] ∷ more) (cond (eqb b 13 && eqb d 10) more (onto_first_line b more))) (ne_eqb b 10 (none 0 (omega arith)))
+    ∙ ap (λ (v : Bool). cond (eqb b 13 && v) more (onto_first_line b more)) (ne_eqb d 10 (none 1 (omega arith)))
+    ∙ and_no (eqb b 13) more (onto_first_line b more)
+    ∙ ap (onto_first_line b) again
+    ∙ ap (λ (xs : List ℕ). xs ∷ profile_lines rest) (sym (cr_first b d line))
 
 -- the last line, which lacks it
-pub lines_last : (line : List ℕ) → 0 < length line → ((i : ℕ) → i < length line → get_or line i 0 ≢ 10) → lines_of line ≡ line ∷ lines_of []
-unfolding lines_of
+pub lines_last : (line : List ℕ) → 0 < length line → ((i : ℕ) → i < length line → get_or line i 0 ≢ 10) → profile_lines line ≡ line ∷ profile_lines []
+unfolding profile_lines
 lines_last [] some none = absurd (omega arith)
 lines_last (b ∷ []) some none =
     ap (λ (v : Bool). cond v ([] ∷ []) (cond (eqb b 13 && false) [] ((b ∷ []) ∷ []))) (ne_eqb b 10 (none 0 (omega arith)))
     ∙ and_no (eqb b 13) [] ((b ∷ []) ∷ [])
 lines_last (b ∷ d ∷ line) some none =
-    let more = lines_of (d ∷ line) in
-    ap (λ (v : Bool). cond v ([] ∷ more) (cond (eqb b 13 && eqb d 10) more (onto_first b more))) (ne_eqb b 10 (none 0 (omega arith)))
-    ∙ ap (λ (v : Bool). cond (eqb b 13 && v) more (onto_first b more)) (ne_eqb d 10 (none 1 (omega arith)))
-    ∙ and_no (eqb b 13) more (onto_first b more)
-    ∙ ap (onto_first b) (lines_last (d ∷ line) (omega arith) (λ i within. none (suc i) (omega arith)))
+    let more = profile_lines (d ∷ line) in
+    ap (λ (v : Bool). cond v ([] ∷ more) (cond (eqb b 13 && eqb d 10) more (onto_first_line b more))) (ne_eqb b 10 (none 0 (omega arith)))
+    ∙ ap (λ (v : Bool). cond (eqb b 13 && v) more (onto_first_line b more)) (ne_eqb d 10 (none 1 (omega arith)))
+    ∙ and_no (eqb b 13) more (onto_first_line b more)
+    ∙ ap (onto_first_line b) (lines_last (d ∷ line) (omega arith) (λ i within. none (suc i) (omega arith)))
 
 -- no bytes are no lines
-pub lines_over : (rest : List ℕ) → length rest ≡ 0 → lines_of rest ≡ []
-unfolding lines_of
+pub lines_over : (rest : List ℕ) → length rest ≡ 0 → profile_lines rest ≡ []
+unfolding profile_lines
 lines_over [] none = refl
 lines_over (b ∷ rest) none = absurd (omega arith)
 

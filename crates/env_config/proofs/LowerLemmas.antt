@@ -6,15 +6,15 @@ use Rattle.std.specs.Ordering.{match_ordering}
 use Rattle.std.proofs.lemmas.Map.Text.{is_eq-slice_cmp}
 use Rattle.std.proofs.lemmas.Slice.Eq.{bytes_eq-Decides}
 use Rattle.std.proofs.lemmas.Str.Ascii.{lowercase-lowercase}
-use Rattle.smithy_core.specs.TextPairs.{lower}
+use Rattle.smithy_core.specs.Pairs.{lower}
 use Rattle.env_config.specs.declared.line.PropertyFault.{PropertyFault}
 use Rattle.env_config.specs.declared.line.PropertyFault.TheVariants.{NoEquals, NoName}
 use Rattle.env_config.specs.declared.source.EnvConfigFileKind.{EnvConfigFileKind}
 use Rattle.env_config.specs.Laws.{value_in}
-use Rattle.env_config.specs.Line.{is_blank, is_skipped, lines_of, property_of, section_name}
-use Rattle.env_config.specs.Raw.{Last, Open, State, after_line, begun, continued, continued_or, grown, last_step, line_step, opened, properties_of, raw, raw_from, section_step, start, sub_checked, within_section}
+use Rattle.env_config.specs.Line.{is_blank, is_skipped, profile_lines, property_of, section_name}
+use Rattle.env_config.specs.Raw.{Last, Open, State, after_line, begun_property, continued, continued_or, grown, last_step, profile_line_step, opened, properties_of, raw, raw_from, section_step, start, sub_checked, within_section}
 use Rattle.env_config.specs.Sections.{FileText, Section, Sections, after_file, files_from, has_profile_default, heading_of, is_identifier, is_taken_from, merged_into, no_sections, put_identifiers, put_others, section_properties, sections, with_file, with_names, with_raw, with_section}
-use Rattle.env_config.specs.Texts.{EachValue, Named, put, text_cmp, value_at}
+use Rattle.env_config.specs.Texts.{EachValue, Named, put, text_cmp, value_under}
 
 -- ## Texts
 
@@ -62,16 +62,16 @@ abbrev pub OfSome : {X : Type 0} → (X → Type 0) → Option X → Type 0
 OfSome P None = Unit {0}
 OfSome P (Some x) = P x
 
-pub value_each : {X : Type 0} (P : X → Type 0) (es : List (List ℕ × X)) (key : List ℕ) → EachValue P es → OfSome P (value_at es key)
+pub value_each : {X : Type 0} (P : X → Type 0) (es : List (List ℕ × X)) (key : List ℕ) → EachValue P es → OfSome P (value_under es key)
 value_each P [] key each = tt
-value_each P (e ∷ es) key each = either (OfSome P) (is_eq (text_cmp key e.0)) (Some e.1) (value_at es key) each.0 (value_each P es key each.1)
+value_each P (e ∷ es) key each = either (OfSome P) (is_eq (text_cmp key e.0)) (Some e.1) (value_under es key) each.0 (value_each P es key each.1)
 
 -- a key that has a value
-found_lower : (es : List (List ℕ × List ℕ)) (key value : List ℕ) → LowerKeys es → value_at es key ≡ Some value → IsLower key
+found_lower : (es : List (List ℕ × List ℕ)) (key value : List ℕ) → LowerKeys es → value_under es key ≡ Some value → IsLower key
 found_lower [] key value each found = absurd cc
 found_lower (e ∷ es) key value each found = by (is_eq (text_cmp key e.0)) refl found (λ later. found_lower es key value each.1 later)
   where
-    by : (b : Bool) → is_eq (text_cmp key e.0) ≡ b → cond b (Some e.1) (value_at es key) ≡ Some value → (value_at es key ≡ Some value → IsLower key) → IsLower key
+    by : (b : Bool) → is_eq (text_cmp key e.0) ≡ b → cond b (Some e.1) (value_under es key) ≡ Some value → (value_under es key ≡ Some value → IsLower key) → IsLower key
     by true tied found later = subst IsLower (sym (tied_same key e.0 tied)) each.0
     by false tied found later = later found
 
@@ -91,7 +91,7 @@ or_none None is = tt
 or_none (Some pairs) is = is
 
 properties_lower : (sections : Named (List (List ℕ × List ℕ))) (name : List ℕ) → EachValue LowerKeys sections.values → LowerKeys (properties_of sections name)
-properties_lower sections name each = or_none (value_at sections.values name) (value_each LowerKeys sections.values name each)
+properties_lower sections name each = or_none (value_under sections.values name) (value_each LowerKeys sections.values name each)
 
 opened_lower : (state : State) (name : List ℕ) → LowerState state → LowerState (opened state name)
 opened_lower state name is = record {
@@ -117,7 +117,7 @@ within_lower : (state : State) (at : Option Open) (step : Open → Result Last (
 within_lower state None step is low steps = tt
 within_lower state (Some at) step is low steps = last_lower state at.name (step at) is (steps at low)
 
-begun_lower : (property : Result (List ℕ × List ℕ) PropertyFault) → OfOk (λ (last : Last). IsLower last.key) (begun property)
+begun_lower : (property : Result (List ℕ × List ℕ) PropertyFault) → OfOk (λ (last : Last). IsLower last.key) (begun_property property)
 begun_lower (Ok pair) = lower_lower pair.0
 begun_lower (Err NoEquals) = tt
 begun_lower (Err NoName) = tt
@@ -133,23 +133,23 @@ continued_lower None line low = tt
 continued_lower (Some last) line low =
     either (OfOk (λ (last : Last). IsLower last.key)) last.is_parent (sub_checked (property_of line) (grown last line)) (Ok (grown last line)) (checked_lower (property_of line) (grown last line) low) low
 
-line_lower : (state : State) (line : List ℕ) → LowerState state → OfOk LowerState (line_step state line)
-unfolding line_step
+line_lower : (state : State) (line : List ℕ) → LowerState state → OfOk LowerState (profile_line_step state line)
+unfolding profile_line_step
 line_lower state line is =
     let P : Result State (List ℕ) → Type 0 = OfOk LowerState in
     let more = within_section state state.open_section (λ at. continued_or at.last line) in
-    let new = within_section state state.open_section (λ _. begun (property_of line)) in
+    let new = within_section state state.open_section (λ _. begun_property (property_of line)) in
     let later = cond (is_blank (slice_index line 0)) more new in
     let marked = cond (nat_eq (slice_index line 0) 91) (section_step state (section_name line)) later in
     either P (is_skipped line) (Ok state) marked is
     (either P (nat_eq (slice_index line 0) 91) (section_step state (section_name line)) later (section_lower state (section_name line) is)
     (either P (is_blank (slice_index line 0)) more new
     (within_lower state state.open_section (λ at. continued_or at.last line) is is.at (λ at low. continued_lower at.last line low))
-    (within_lower state state.open_section (λ _. begun (property_of line)) is is.at (λ at low. begun_lower (property_of line)))))
+    (within_lower state state.open_section (λ _. begun_property (property_of line)) is is.at (λ at low. begun_lower (property_of line)))))
 
 lines_lower : (number : ℕ) (state : State) (lines : List (List ℕ)) → LowerState state → OfOk (λ (read : Named (List (List ℕ × List ℕ))). EachValue LowerKeys read.values) (raw_from number state lines)
 lines_lower number state [] is = is.each
-lines_lower number state (line ∷ lines) is = by (line_step state line) (line_lower state line is) (λ next low. lines_lower (number + 1) next lines low)
+lines_lower number state (line ∷ lines) is = by (profile_line_step state line) (line_lower state line is) (λ next low. lines_lower (number + 1) next lines low)
   where
     by : (step : Result State (List ℕ)) → OfOk LowerState step
         → ((next : State) → LowerState next → OfOk (λ (read : Named (List (List ℕ × List ℕ))). EachValue LowerKeys read.values) (raw_from (number + 1) next lines))
@@ -159,7 +159,7 @@ lines_lower number state (line ∷ lines) is = by (line_step state line) (line_l
 
 raw_lower : (text : List ℕ) → OfOk (λ (read : Named (List (List ℕ × List ℕ))). EachValue LowerKeys read.values) (raw text)
 unfolding raw
-raw_lower text = lines_lower 1 start (lines_of text) (record { each = tt; at = tt })
+raw_lower text = lines_lower 1 start (profile_lines text) (record { each = tt; at = tt })
 
 -- ## Merging
 
@@ -178,9 +178,9 @@ known_lower (Some section) is = is
 
 merged_lower : (sections : Named Section) (name : List ℕ) (pairs : List (List ℕ × List ℕ)) → EachValue LowerSection sections.values → LowerKeys pairs → EachValue LowerSection (merged_into sections name pairs).values
 merged_lower sections name pairs each low =
-    let properties = section_properties (value_at sections.values name) in
+    let properties = section_properties (value_under sections.values name) in
     put_each LowerSection sections.values name (record { name = name; properties = put_identifiers properties pairs }) each
-    (identifiers_lower properties pairs (known_lower (value_at sections.values name) (value_each LowerSection sections.values name each)) low)
+    (identifiers_lower properties pairs (known_lower (value_under sections.values name) (value_each LowerSection sections.values name each)) low)
 
 -- every key of profiles and sessions is in lower case
 record LowerMerged (sections : Sections) : Type 0 where
@@ -228,18 +228,18 @@ sections_lower files merged is = subst (OfOk LowerMerged) is (files_lower no_sec
 
 -- ## The law
 
-found_section : (section : Option Section) (key value asked : List ℕ) → OfSome LowerSection section → option_and_then (λ (s : Section). value_at s.properties key) section ≡ Some value → lower asked ≡ lower key
-    → option_and_then (λ (s : Section). value_at s.properties (lower asked)) section ≡ Some value
+found_section : (section : Option Section) (key value asked : List ℕ) → OfSome LowerSection section → option_and_then (λ (s : Section). value_under s.properties key) section ≡ Some value → lower asked ≡ lower key
+    → option_and_then (λ (s : Section). value_under s.properties (lower asked)) section ≡ Some value
 found_section None key value asked is found same = absurd cc
 found_section (Some section) key value asked is found same =
-    ap (value_at section.properties) (same ∙ found_lower section.properties key value is found) ∙ found
+    ap (value_under section.properties) (same ∙ found_lower section.properties key value is found) ∙ found
 
 pub profile_found : (files : List FileText) (merged : Sections) (name key value asked : List ℕ) → sections files ≡ Ok merged → value_in merged.profiles name key ≡ Some value → lower asked ≡ lower key
     → value_in merged.profiles name (lower asked) ≡ Some value
 profile_found files merged name key value asked is found same =
-    found_section (value_at merged.profiles.values name) key value asked (value_each LowerSection merged.profiles.values name (sections_lower files merged is).profiles) found same
+    found_section (value_under merged.profiles.values name) key value asked (value_each LowerSection merged.profiles.values name (sections_lower files merged is).profiles) found same
 
 pub session_found : (files : List FileText) (merged : Sections) (name key value asked : List ℕ) → sections files ≡ Ok merged → value_in merged.sessions name key ≡ Some value → lower asked ≡ lower key
     → value_in merged.sessions name (lower asked) ≡ Some value
 session_found files merged name key value asked is found same =
-    found_section (value_at merged.sessions.values name) key value asked (value_each LowerSection merged.sessions.values name (sections_lower files merged is).sessions) found same
+    found_section (value_under merged.sessions.values name) key value asked (value_each LowerSection merged.sessions.values name (sections_lower files merged is).sessions) found same

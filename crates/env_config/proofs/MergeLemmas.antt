@@ -10,12 +10,13 @@ use Rattle.std.specs.Map.{lookup}
 use Rattle.env_config.specs.declared.properties_key.PropertiesKey.{PropertiesKey}
 use Rattle.env_config.specs.declared.property.Property.{Property}
 use Rattle.env_config.specs.Sections.{Key, Section, key_cmp, merged_into, put_at_key, put_identifiers, section_properties, value_at_key}
-use Rattle.env_config.specs.Texts.{Named, put, put_named, text_cmp, value_at}
-use Rattle.env_config.specs.Words.{key_of, named_as, values_of}
+use Rattle.env_config.specs.Texts.{Named, named_as, put, put_named, text_cmp, value_under}
+use Rattle.env_config.specs.PropertiesKey.{key_of}
+use Rattle.env_config.specs.Section.{values_of}
 use Rattle.env_config.proofs.TextsLemmas.{entries_at, entries_put, seen_at, seen_put}
 
 pub merged : {X : Type 0} (f : X → Section) (old between now : Named X) (name : List ℕ) (pairs before properties : List (List ℕ × List ℕ)) (filled : X) (had : Option X)
-    → ((value : X) → put_named between name value ≡ put_named old name value) → had ≡ value_at old.values name → before ≡ section_properties (option_map f had) → properties ≡ put_identifiers before pairs
+    → ((value : X) → put_named between name value ≡ put_named old name value) → had ≡ value_under old.values name → before ≡ section_properties (option_map f had) → properties ≡ put_identifiers before pairs
     → f filled ≡ record { name = name; properties = properties } → now ≡ put_named between name filled → named_as f now ≡ merged_into (named_as f old) name pairs
 merged f old between now name pairs before properties filled had later had_is before_is properties_is filled_is now_is =
     let section : List (List ℕ × List ℕ) → Section = λ pairs. record { name = name; properties = pairs } in

@@ -9,8 +9,8 @@ use Rattle.std.specs.Map.{lookup}
 use Rattle.std.proofs.lemmas.List.{map-append}
 use Rattle.std.proofs.lemmas.Map.Text.{is_eq-slice_cmp}
 use Rattle.env_config.specs.declared.property.Property.{Property}
-use Rattle.env_config.specs.Texts.{Named, put, put_named, text_cmp, value_at}
-use Rattle.env_config.specs.Words.{named_as, values_of}
+use Rattle.env_config.specs.Texts.{Named, named_as, put, put_named, text_cmp, value_under}
+use Rattle.env_config.specs.Section.{values_of}
 
 module _ {K J X Y : Type 0} (test : K → K → Ordering) (R : J → J → Ordering) (g : K → J) (f : X → Y) (same : (a b : K) → test a b ≡ R (g a) (g b)) where
   -- an entry as g and f see it
@@ -46,14 +46,14 @@ itself key = tied_itself nat_list_cmp_total key
 
 module _ {X : Type 0} where
   -- the value that was put
-  pub value_put : (es : List (List ℕ × X)) (key : List ℕ) (value : X) → value_at (put es key value) key ≡ Some value
+  pub value_put : (es : List (List ℕ × X)) (key : List ℕ) (value : X) → value_under (put es key value) key ≡ Some value
   value_put [] key value = ap (λ (o : Ordering). cond (is_eq o) (Some value) None) (itself key)
   value_put (e ∷ es) key value = by (value_put es key value) (text_cmp key e.0) refl
     where
-      by : value_at (put es key value) key ≡ Some value → (o : Ordering) → text_cmp key e.0 ≡ o → value_at (match_ordering o ((key, value) ∷ e ∷ es) ((e.0, value) ∷ es) (e ∷ put es key value)) key ≡ Some value
-      by again Less is = ap (λ (o : Ordering). cond (is_eq o) (Some value) (value_at (e ∷ es) key)) (itself key)
-      by again Equal is = ap (λ (o : Ordering). cond (is_eq o) (Some value) (value_at es key)) is
-      by again Greater is = ap (λ (o : Ordering). cond (is_eq o) (Some e.1) (value_at (put es key value) key)) is ∙ again
+      by : value_under (put es key value) key ≡ Some value → (o : Ordering) → text_cmp key e.0 ≡ o → value_under (match_ordering o ((key, value) ∷ e ∷ es) ((e.0, value) ∷ es) (e ∷ put es key value)) key ≡ Some value
+      by again Less is = ap (λ (o : Ordering). cond (is_eq o) (Some value) (value_under (e ∷ es) key)) (itself key)
+      by again Equal is = ap (λ (o : Ordering). cond (is_eq o) (Some value) (value_under es key)) is
+      by again Greater is = ap (λ (o : Ordering). cond (is_eq o) (Some e.1) (value_under (put es key value) key)) is ∙ again
 
   -- the later value stands alone
   pub put_twice : (es : List (List ℕ × X)) (key : List ℕ) (value later : X) → put (put es key value) key later ≡ put es key later
@@ -70,10 +70,10 @@ module _ {X : Type 0} where
   pub named_twice : (named : Named X) (name : List ℕ) (value later : X) → put_named (put_named named name value) name later ≡ put_named named name later
   named_twice named name value later =
       let make : List (List ℕ) → List (List ℕ × X) → Named X = λ names values. record { names = names; values = values } in
-      let names = cond (is_some (value_at named.values name)) named.names (named.names ++ name ∷ []) in
+      let names = cond (is_some (value_under named.values name)) named.names (named.names ++ name ∷ []) in
       ap₂ make (ap (λ (o : Option X). cond (is_some o) names (names ++ name ∷ [])) (value_put named.values name value)) (put_twice named.values name value later)
 
-  -- so what stood in between doesn't count
+  -- what stood in between doesn't count
   pub replaced_later : {E : Type 0} (result : Result (Option X) E) (named now : Named X) (name : List ℕ) (left : X) → OnOk result (now ≡ put_named named name left)
       → OnOk result ((value : X) → put_named now name value ≡ put_named named name value)
   replaced_later (Ok before) named now name left is = λ value. ap (λ (n : Named X). put_named n name value) is ∙ named_twice named name left value
@@ -86,8 +86,8 @@ named_of names es = record { names = map string_bytes names; values = map (λ e.
 module _ {Z X : Type 0} (names : List (String Z)) (es now : List (String Z × X)) (key : String Z) (name : List ℕ) (value : X) (before : Option X)
     (is : string_bytes key ≡ name) (puts : now ≡ insert_entry string_cmp es key value) (had : before ≡ lookup (is_at (string_cmp key)) es) where
   -- the value before
-  pub value_before : before ≡ value_at (named_of names es).values name
-  value_before = sym (same before) ∙ ap (option_map (λ (x : X). x)) had ∙ entries_at (string_cmp key) text_cmp string_bytes (λ (x : X). x) (string_bytes key) (λ _. refl) es ∙ ap (value_at (named_of names es).values) is
+  pub value_before : before ≡ value_under (named_of names es).values name
+  value_before = sym (same before) ∙ ap (option_map (λ (x : X). x)) had ∙ entries_at (string_cmp key) text_cmp string_bytes (λ (x : X). x) (string_bytes key) (λ _. refl) es ∙ ap (value_under (named_of names es).values) is
     where
       same : (o : Option X) → option_map (λ (x : X). x) o ≡ o
       same None = refl
@@ -118,13 +118,13 @@ option_same None = refl
 option_same (Some x) = refl
 
 -- a look-up by a text among strings
-pub text_found : {Z X : Type 0} (es : List (String Z × X)) (key : List ℕ) → lookup (is_at (λ k. text_cmp key (string_bytes k))) es ≡ value_at (map (λ e. (string_bytes e.0, e.1)) es) key
+pub text_found : {Z X : Type 0} (es : List (String Z × X)) (key : List ℕ) → lookup (is_at (λ k. text_cmp key (string_bytes k))) es ≡ value_under (map (λ e. (string_bytes e.0, e.1)) es) key
 text_found {Z} {X} es key =
     sym (option_same (lookup (is_at (λ k. text_cmp key (string_bytes k))) es))
     ∙ entries_at (λ k. text_cmp key (string_bytes k)) text_cmp string_bytes (λ (x : X). x) key (λ _. refl) es
 
 module _ {X Y : Type 0} (f : X → Y) where
-  pub seen_at : (named : Named X) (name : List ℕ) → option_map f (value_at named.values name) ≡ value_at (named_as f named).values name
+  pub seen_at : (named : Named X) (name : List ℕ) → option_map f (value_under named.values name) ≡ value_under (named_as f named).values name
   seen_at named name = entries_at (text_cmp name) text_cmp (λ (k : List ℕ). k) f name (λ _. refl) named.values
 
   some_seen : (o : Option X) → is_some o ≡ is_some (option_map f o)
@@ -134,12 +134,12 @@ module _ {X Y : Type 0} (f : X → Y) where
   pub seen_put : (named : Named X) (name : List ℕ) (value : X) → named_as f (put_named named name value) ≡ put_named (named_as f named) name (f value)
   seen_put named name value =
       let make : List (List ℕ) → List (List ℕ × Y) → Named Y = λ names values. record { names = names; values = values } in
-      ap₂ make (ap (λ (b : Bool). cond b named.names (named.names ++ name ∷ [])) (some_seen (value_at named.values name) ∙ ap is_some (seen_at named name)))
+      ap₂ make (ap (λ (b : Bool). cond b named.names (named.names ++ name ∷ [])) (some_seen (value_under named.values name) ∙ ap is_some (seen_at named name)))
       (entries_put text_cmp text_cmp (λ (k : List ℕ). k) f (λ _ _. refl) named.values name value)
 
 -- one step of a look-up by a text in lower case
 pub lower_step : (s t : List (String Global × Property)) (key : String Global) (property : Property) (q : List ℕ) (found : Bool) → s ≡ (key, property) ∷ t → found ≡ bytes_eq (string_bytes key) q
-    → value_at (values_of s) q ≡ cond found (Some (string_bytes property.value)) (value_at (values_of t) q)
+    → value_under (values_of s) q ≡ cond found (Some (string_bytes property.value)) (value_under (values_of t) q)
 lower_step s t key property q found is found_is =
-    ap (λ (es : List (String Global × Property)). value_at (values_of es) q) is
-    ∙ ap (λ (b : Bool). cond b (Some (string_bytes property.value)) (value_at (values_of t) q)) (is_eq-slice_cmp q (string_bytes key) ∙ nat_list_eq_equiv.symm q (string_bytes key) ∙ sym found_is)
+    ap (λ (es : List (String Global × Property)). value_under (values_of es) q) is
+    ∙ ap (λ (b : Bool). cond b (Some (string_bytes property.value)) (value_under (values_of t) q)) (is_eq-slice_cmp q (string_bytes key) ∙ nat_list_eq_equiv.symm q (string_bytes key) ∙ sym found_is)

@@ -1,10 +1,45 @@
 -- Lines of a profile file, and their parts.
-use Rattle.std.specs.Prelude.{ℕ, ◌==◌, nat_lt, Bool, false, ◌&&◌, ◌||◌, if◌then◌else◌, List, [], ◌∷◌, length, slice_index, Option, Some, None, option_map, unwrap_or, Result, Ok, Err}
+use Rattle.std.specs.Prelude.{◌≡◌, ℕ, ◌==◌, nat_lt, Bool, false, ◌&&◌, ◌||◌, if◌then◌else◌, List, [], ◌∷◌, length, slice_index, Option, Some, None, option_map, unwrap_or, Result, Ok, Err}
+use Rattle.std.specs.Borrow.{Bor}
 use Rattle.std.specs.Char.{is_whitespace, char_set_contains}
 use Rattle.std.specs.List.{position_or_len, before_first, after_first}
 use Rattle.std.specs.Str.{chars, encode_utf8_all}
 use Rattle.env_config.specs.declared.line.PropertyFault.{PropertyFault}
 use Rattle.env_config.specs.declared.line.PropertyFault.TheVariants.{NoEquals, NoName}
+
+-- ## Signs
+
+abbrev pub line_feed : ℕ
+line_feed = 10
+
+abbrev pub carriage_return : ℕ
+carriage_return = 13
+
+abbrev pub tab : ℕ
+tab = 9
+
+abbrev pub space : ℕ
+space = 32
+
+-- `#`
+abbrev pub number_sign : ℕ
+number_sign = 35
+
+-- `;`
+abbrev pub semicolon : ℕ
+semicolon = 59
+
+-- `=`
+abbrev pub equals_sign : ℕ
+equals_sign = 61
+
+-- `[`
+abbrev pub opening_bracket : ℕ
+opening_bracket = 91
+
+-- `]`
+abbrev pub closing_bracket : ℕ
+closing_bracket = 93
 
 -- what follows the byte, where it stands in front
 abbrev pub after_byte : ℕ → List ℕ → Option (List ℕ)
@@ -21,30 +56,30 @@ before_last c (b ∷ d ∷ bytes) = option_map (λ front. b ∷ front) (before_l
 
 abbrev pub begins_with_lf : List ℕ → Bool
 begins_with_lf [] = false
-begins_with_lf (b ∷ bytes) = b == 10
+begins_with_lf (b ∷ bytes) = b == line_feed
 
 -- the byte joins the first line
-abbrev pub onto_first : ℕ → List (List ℕ) → List (List ℕ)
-onto_first b [] = (b ∷ []) ∷ []
-onto_first b (line ∷ lines) = (b ∷ line) ∷ lines
+abbrev pub onto_first_line : ℕ → List (List ℕ) → List (List ℕ)
+onto_first_line b [] = (b ∷ []) ∷ []
+onto_first_line b (line ∷ lines) = (b ∷ line) ∷ lines
 
 -- a line ends at LF, and a CR right before it is dropped; the last line may lack the LF
-unfoldable pub lines_of : List ℕ → List (List ℕ)
-lines_of [] = []
-lines_of (b ∷ bytes) =
-    if b == 10 then [] ∷ lines_of bytes
-    else if b == 13 && begins_with_lf bytes then lines_of bytes
-    else onto_first b (lines_of bytes)
+unfoldable pub profile_lines : List ℕ → List (List ℕ)
+profile_lines [] = []
+profile_lines (b ∷ bytes) =
+    if b == line_feed then [] ∷ profile_lines bytes
+    else if b == carriage_return && begins_with_lf bytes then profile_lines bytes
+    else onto_first_line b (profile_lines bytes)
 
 -- a line without the CR at its end
 abbrev pub without_cr : List ℕ → List ℕ
-without_cr line = unwrap_or (before_last 13 line) line
+without_cr line = unwrap_or (before_last carriage_return line) line
 
 -- ## Trimming
 
 -- a space or a tab
 abbrev pub is_blank : ℕ → Bool
-is_blank b = char_set_contains (32 ∷ 9 ∷ []) b
+is_blank b = char_set_contains (space ∷ tab ∷ []) b
 
 -- without the spaces and tabs in front
 abbrev pub trimmed_front : List ℕ → List ℕ
@@ -68,7 +103,7 @@ trimmed bytes = trimmed_back (trimmed_front bytes)
 
 -- `#` or `;`
 abbrev pub is_comment_sign : ℕ → Bool
-is_comment_sign b = char_set_contains (35 ∷ 59 ∷ []) b
+is_comment_sign b = char_set_contains (number_sign ∷ semicolon ∷ []) b
 
 -- a line of spaces and tabs only, or with a comment sign in front
 unfoldable pub is_skipped : List ℕ → Bool
@@ -88,16 +123,16 @@ uncommented text = encode_utf8_all (before_comment false (chars text))
 -- what stands before the bracket, where there is one in front
 abbrev pub before_bracket : Option (List ℕ) → Option (List ℕ)
 before_bracket None = None
-before_bracket (Some text) = before_last 93 text
+before_bracket (Some text) = before_last closing_bracket text
 
 -- the text between the brackets; the line is cut at its first comment sign
 unfoldable pub section_name : List ℕ → Option (List ℕ)
-section_name line = before_bracket (after_byte 91 (trimmed (before_first is_comment_sign (trimmed line))))
+section_name line = before_bracket (after_byte opening_bracket (trimmed (before_first is_comment_sign (trimmed line))))
 
 -- ## Property lines
 
 abbrev pub is_equals : ℕ → Bool
-is_equals b = b == 61
+is_equals b = b == equals_sign
 
 -- the key has to have a name
 abbrev pub with_name : List ℕ → List ℕ → Result (List ℕ × List ℕ) PropertyFault
@@ -113,3 +148,8 @@ split_at_equals text =
 -- key and value of a line, or why it is no property: it has no `=`, or nothing before the first one
 unfoldable pub property_of : List ℕ → Result (List ℕ × List ℕ) PropertyFault
 property_of line = split_at_equals (trimmed (uncommented (trimmed line)))
+
+-- the key and the value, or the reason
+abbrev pub CutsProperty : Result (List ℕ × List ℕ) PropertyFault → Result (Bor (List ℕ) × Bor (List ℕ)) PropertyFault → Type 0
+CutsProperty is (Ok pair) = is ≡ Ok (pair.0.now, pair.1.now)
+CutsProperty is (Err fault) = is ≡ Err fault

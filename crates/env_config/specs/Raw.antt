@@ -1,10 +1,12 @@
 -- The raw sections of a profile file: each line moves a state on, or is refused with a message.
-use Rattle.std.specs.Prelude.{ℕ, ◌+◌, ◌==◌, Bool, List, [], ◌∷◌, ◌++◌, length, codes, slice_index, Option, Some, None, unwrap_or, Result, Ok, Err, if◌then◌else◌}
-use Rattle.smithy_core.specs.TextPairs.{lower}
+use Rattle.std.specs.Prelude.{◌≡◌, ℕ, ◌+◌, ◌==◌, Bool, List, [], ◌∷◌, ◌++◌, length, codes, slice_index, Option, Some, None, unwrap_or, Result, Ok, Err, if◌then◌else◌}
+use Rattle.smithy_core.specs.Pairs.{lower}
+use Rattle.env_config.specs.declared.fault.RawFault.{RawFault}
+use Rattle.env_config.specs.declared.fault.RawFault.TheVariants as faults
 use Rattle.env_config.specs.declared.line.PropertyFault.{PropertyFault}
 use Rattle.env_config.specs.declared.line.PropertyFault.TheVariants.{NoEquals, NoName}
-use Rattle.env_config.specs.Line.{is_blank, is_skipped, lines_of, property_of, section_name, trimmed}
-use Rattle.env_config.specs.Texts.{Named, nothing_named, put, put_named, value_at}
+use Rattle.env_config.specs.Line.{is_blank, is_skipped, line_feed, opening_bracket, profile_lines, property_of, section_name, trimmed}
+use Rattle.env_config.specs.Texts.{Named, nothing_named, put, put_named, value_under}
 
 -- the property that was begun last: its value so far, and whether its first value was empty
 pub record Last : Type 0 where
@@ -27,7 +29,7 @@ start = record { sections = nothing_named; open_section = None }
 
 -- the properties of a section so far
 abbrev pub properties_of : Named (List (List ℕ × List ℕ)) → List ℕ → List (List ℕ × List ℕ)
-properties_of sections name = unwrap_or (value_at sections.values name) []
+properties_of sections name = unwrap_or (value_under sections.values name) []
 
 -- ## Section lines
 
@@ -52,16 +54,16 @@ with_last state name last = record {
 }
 
 -- the key is in lower case
-abbrev pub begun : Result (List ℕ × List ℕ) PropertyFault → Result Last (List ℕ)
-begun (Ok pair) = Ok (record { key = lower pair.0; value = pair.1; is_parent = length pair.1 == 0 })
-begun (Err NoEquals) = Err (codes "Expected an '=' sign defining a property")
-begun (Err NoName) = Err (codes "Property did not have a name")
+abbrev pub begun_property : Result (List ℕ × List ℕ) PropertyFault → Result Last (List ℕ)
+begun_property (Ok pair) = Ok (record { key = lower pair.0; value = pair.1; is_parent = length pair.1 == 0 })
+begun_property (Err NoEquals) = Err (codes "Expected an '=' sign defining a property")
+begun_property (Err NoName) = Err (codes "Property did not have a name")
 
 -- ## Continuations
 
 -- an LF and the trimmed line, its comment kept, are appended
 abbrev pub grown : Last → List ℕ → Last
-grown last line = record last { value = last.value ++ 10 ∷ trimmed line }
+grown last line = record last { value = last.value ++ line_feed ∷ trimmed line }
 
 -- below an empty first value each line is a property itself
 abbrev pub sub_checked : Result (List ℕ × List ℕ) PropertyFault → Last → Result Last (List ℕ)
@@ -88,13 +90,13 @@ abbrev pub within_section : State → Option Open → (Open → Result Last (Lis
 within_section state None step = Err (codes "Expected a profile definition")
 within_section state (Some at) step = last_step state at.name (step at)
 
--- what a line does
-unfoldable pub line_step : State → List ℕ → Result State (List ℕ)
-line_step state line =
+-- what a line of the file does
+unfoldable pub profile_line_step : State → List ℕ → Result State (List ℕ)
+profile_line_step state line =
     if is_skipped line then Ok state
-    else if slice_index line 0 == 91 then section_step state (section_name line)
+    else if slice_index line 0 == opening_bracket then section_step state (section_name line)
     else if is_blank (slice_index line 0) then within_section state state.open_section (λ at. continued_or at.last line)
-    else within_section state state.open_section (λ _. begun (property_of line))
+    else within_section state state.open_section (λ _. begun_property (property_of line))
 
 -- goes on where the line was taken, or tells its number and message
 abbrev pub after_line : ℕ → (State → Result (Named (List (List ℕ × List ℕ))) (ℕ × List ℕ)) → Result State (List ℕ) → Result (Named (List (List ℕ × List ℕ))) (ℕ × List ℕ)
@@ -104,8 +106,14 @@ after_line number others (Err message) = Err (number, message)
 -- what the lines from a number on give, after those that gave the state
 abbrev pub raw_from : ℕ → State → List (List ℕ) → Result (Named (List (List ℕ × List ℕ))) (ℕ × List ℕ)
 raw_from number state [] = Ok state.sections
-raw_from number state (line ∷ lines) = after_line number (λ next. raw_from (number + 1) next lines) (line_step state line)
+raw_from number state (line ∷ lines) = after_line number (λ next. raw_from (number + 1) next lines) (profile_line_step state line)
 
 -- the raw sections of a text, or the number of its first faulty line and the message
 unfoldable pub raw : List ℕ → Result (Named (List (List ℕ × List ℕ))) (ℕ × List ℕ)
-raw text = raw_from 1 start (lines_of text)
+raw text = raw_from 1 start (profile_lines text)
+
+-- the raw sections, or the number and the message of the first faulty line; want of memory says nothing
+abbrev pub ReadsRaw : Result (Named (List (List ℕ × List ℕ))) (ℕ × List ℕ) → Result (Named (List (List ℕ × List ℕ))) RawFault → Type 0
+ReadsRaw read (Ok sections) = read ≡ Ok sections
+ReadsRaw read (Err (faults.Line number message)) = read ≡ Err (number, message.now)
+ReadsRaw read (Err faults.NoMemory) = Unit {0}

@@ -9,9 +9,9 @@ use Rattle.std.specs.BTreeMap.{insert_entry, is_at}
 use Rattle.std.specs.Map.{lookup}
 use Rattle.env_config.specs.declared.source.EnvConfigFileKind.{EnvConfigFileKind}
 use Rattle.env_config.specs.declared.source.EnvConfigFileKind.TheVariants.{Config, Credentials}
-use Rattle.env_config.specs.Line.{is_blank, is_equals, trimmed}
+use Rattle.env_config.specs.Line.{is_blank, is_equals, line_feed, trimmed}
 use Rattle.env_config.specs.Raw.{properties_of, raw}
-use Rattle.env_config.specs.Texts.{Named, nothing_named, put, put_named, text_cmp, value_at}
+use Rattle.env_config.specs.Texts.{Named, nothing_named, put, put_named, text_cmp, value_under}
 
 -- ## Names
 
@@ -75,7 +75,7 @@ section_properties (Some section) = section.properties
 -- the raw section goes into the section of this name
 abbrev pub merged_into : Named Section → List ℕ → List (List ℕ × List ℕ) → Named Section
 merged_into sections name pairs =
-    put_named sections name (record { name = name; properties = put_identifiers (section_properties (value_at sections.values name)) pairs })
+    put_named sections name (record { name = name; properties = put_identifiers (section_properties (value_under sections.values name)) pairs })
 
 -- where a sub-property stands
 pub record Key : Type 0 where
@@ -109,11 +109,15 @@ abbrev pub put_subs : List (Key × List ℕ) → List ℕ → List ℕ → List 
 put_subs others prefix name key [] = others
 put_subs others prefix name key (piece ∷ pieces) = put_subs (put_sub others prefix name key piece) prefix name key pieces
 
--- the sub-properties of each key that is an identifier; a value is split at LF
+-- a value is split at LF
+abbrev pub value_pieces : List ℕ → List (List ℕ)
+value_pieces value = slice_split (λ b. nat_eq b line_feed) value
+
+-- the sub-properties of each key that is an identifier, piece by piece of its value
 abbrev pub put_others : List (Key × List ℕ) → List ℕ → List ℕ → List (List ℕ × List ℕ) → List (Key × List ℕ)
 put_others others prefix name [] = others
 put_others others prefix name (pair ∷ pairs) =
-    put_others (if is_identifier pair.0 then put_subs others prefix name pair.0 (slice_split (λ b. nat_eq b 10) pair.1) else others) prefix name pairs
+    put_others (if is_identifier pair.0 then put_subs others prefix name pair.0 (value_pieces pair.1) else others) prefix name pairs
 
 -- profiles, sessions, and the sub-properties of all other sections
 pub record Sections : Type 0 where
@@ -154,20 +158,20 @@ pub record FileText : Type 0 where
   pub contents : List ℕ
 
 -- the first faulty line: the path of its file, empty where it has none, its number and the message
-pub record Fault : Type 0 where
+pub record FaultyLine : Type 0 where
   pub path : List ℕ
   pub line_number : ℕ
   pub message : List ℕ
 
-abbrev pub after_file : FileText → (Named (List (List ℕ × List ℕ)) → Result Sections Fault) → Result (Named (List (List ℕ × List ℕ))) (ℕ × List ℕ) → Result Sections Fault
+abbrev pub after_file : FileText → (Named (List (List ℕ × List ℕ)) → Result Sections FaultyLine) → Result (Named (List (List ℕ × List ℕ))) (ℕ × List ℕ) → Result Sections FaultyLine
 after_file file others (Ok sections) = others sections
 after_file file others (Err fault) = Err (record { path = unwrap_or file.path []; line_number = fault.0; message = fault.1 })
 
 -- what the files to come add to the sections
-abbrev pub files_from : Sections → List FileText → Result Sections Fault
+abbrev pub files_from : Sections → List FileText → Result Sections FaultyLine
 files_from sections [] = Ok sections
 files_from sections (file ∷ files) = after_file file (λ read. files_from (with_file sections file.kind read) files) (raw file.contents)
 
 -- the merged sections of the files, or the first faulty line of the first faulty file
-unfoldable pub sections : List FileText → Result Sections Fault
+unfoldable pub sections : List FileText → Result Sections FaultyLine
 sections files = files_from no_sections files

@@ -13,8 +13,8 @@ abbrev pub text_cmp : List ℕ → List ℕ → Ordering
 text_cmp text other = slice_cmp nat_cmp text other
 
 -- the value at a key
-abbrev pub value_at : {X : Type 0} → List (List ℕ × X) → List ℕ → Option X
-value_at entries key = lookup (is_at (text_cmp key)) entries
+abbrev pub value_under : {X : Type 0} → List (List ℕ × X) → List ℕ → Option X
+value_under entries key = lookup (is_at (text_cmp key)) entries
 
 -- the entries, in the order of their keys, with the value at the key
 abbrev pub put : {X : Type 0} → List (List ℕ × X) → List ℕ → X → List (List ℕ × X)
@@ -31,7 +31,7 @@ nothing_named = record { names = []; values = [] }
 -- the value under the name; a new name comes last
 abbrev pub put_named : {X : Type 0} → Named X → List ℕ → X → Named X
 put_named named name value = record {
-  names = if is_some (value_at named.values name) then named.names else named.names ++ name ∷ [];
+  names = if is_some (value_under named.values name) then named.names else named.names ++ name ∷ [];
   values = put named.values name value;
 }
 
@@ -40,9 +40,17 @@ abbrev pub IsApart : List (List ℕ) → Type 0
 IsApart [] = Unit {0}
 IsApart (name ∷ names) = AllByRecursion (λ other. is_eq (text_cmp other name) ≡ false) names × IsApart names
 
+-- the texts of pairs
+abbrev pub pairs_of : List (String Global × String Global) → List (List ℕ × List ℕ)
+pairs_of entries = map (λ e. (string_bytes e.0, string_bytes e.1)) entries
+
 -- the values under the texts of their keys
 abbrev pub by_text : {X : Type 0} → List (String Global × X) → List (List ℕ × X)
 by_text entries = map (λ e. (string_bytes e.0, e.1)) entries
+
+-- the values under their names, as f sees them
+abbrev pub named_as : {X Y : Type 0} → (X → Y) → Named X → Named Y
+named_as f named = record { names = named.names; values = map (λ e. (e.0, f e.1)) named.values }
 
 -- P holds of each value
 abbrev pub EachValue : {X : Type 0} → (X → Type 0) → List (List ℕ × X) → Type 0

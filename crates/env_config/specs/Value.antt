@@ -2,9 +2,10 @@
 use Rattle.std.specs.Prelude.{ℕ, ◌==◌, List, [], ◌∷◌, ◌++◌, map, codes, Option, Some, option_map, if◌then◌else◌}
 use Rattle.std.specs.Char.{to_ascii_lowercase, to_ascii_uppercase}
 use Rattle.std.specs.Option.{option_and_then, option_or}
-use Rattle.smithy_core.specs.TextPairs.{last_value, lower}
+use Rattle.smithy_core.specs.Pairs.{last_value, lower}
+use Rattle.env_config.specs.Line.{space}
 use Rattle.env_config.specs.Sections.{Key, Sections, value_at_key}
-use Rattle.env_config.specs.Texts.{value_at}
+use Rattle.env_config.specs.Texts.{value_under}
 
 -- ## Where a value comes from
 
@@ -45,7 +46,7 @@ pub record Chosen : Type 0 where
 -- another text in place of each space
 abbrev pub with_spaces_as : List ℕ → List ℕ → List ℕ
 with_spaces_as sign [] = []
-with_spaces_as sign (b ∷ id) = if b == 32 then sign ++ with_spaces_as sign id else b ∷ with_spaces_as sign id
+with_spaces_as sign (b ∷ id) = if b == space then sign ++ with_spaces_as sign id else b ∷ with_spaces_as sign id
 
 -- in upper case, with `_` for a space
 abbrev pub id_in_variables : List ℕ → List ℕ
@@ -73,7 +74,7 @@ shared_variable env key = found_as key Variables Shared (last_value env key)
 
 -- the value of a key of the selected profile, in whatever case the key is given
 abbrev pub selected_value : Chosen → List ℕ → Option (List ℕ)
-selected_value chosen key = option_and_then (λ profile. value_at profile.properties (lower key)) (value_at chosen.sections.profiles.values chosen.selected)
+selected_value chosen key = option_and_then (λ profile. value_under profile.properties (lower key)) (value_under chosen.sections.profiles.values chosen.selected)
 
 -- the sub-property of the services section that the selected profile names
 abbrev pub service_sub : List ℕ → List ℕ → List ℕ → Key

@@ -1,6 +1,6 @@
 ghost use Rattle.std.specs.Prelude.{◌≡◌, ◌==◌, IfOk, OnOk, length, map, option_copied};
 ghost use Rattle.std.specs.String.{string_bytes};
-ghost use Rattle.env_config.specs.Texts.{CopiedUnder, by_text, nothing_named, put_named, value_at};
+ghost use Rattle.env_config.specs.Texts.{CopiedUnder, by_text, nothing_named, put_named, value_under};
 ghost use Rattle.std.specs.List.{AllZip};
 
 use smithy_core::Mem;
@@ -26,7 +26,7 @@ impl<V> Model for ByName<V> {
 }
 
 impl<V: Clone + Drop> ByName<V> {
-    /// The same names with copies of the values.
+    /// Equal names with copies of the values.
     pub fn try_clone(&self) -> Mem<ByName<V>>
         ensures names { IfOk result (λ copy. copy.names ≡ self.now.names) }
         ensures values { IfOk result (λ copy. AllZip (CopiedUnder V.is_clone) self.now.values copy.values) }
@@ -76,7 +76,7 @@ impl<V: Drop> ByName<V> {
     /// Puts the value under the name, and answers the one before. A new name comes last.
     pub fn replace(&mut self, name: &str, value: V) -> Mem<Option<V>>
         ensures now { OnOk result (self.new ≡ put_named self.old name.now value) }
-        ensures before { IfOk result (λ before. before ≡ value_at self.old.values name.now) }
+        ensures before { IfOk result (λ before. before ≡ value_under self.old.values name.now) }
     {
         let alloc = *self.names.allocator();
         let before = self.values.insert(String::from_str(alloc, name)?, value)?;
@@ -89,7 +89,7 @@ impl<V: Drop> ByName<V> {
 
     /// Takes the value under the name, and leaves this one in its place. Where there is none nothing is changed.
     pub fn take(&mut self, name: &str, left: V) -> Mem<Option<V>>
-        ensures before { IfOk result (λ before. before ≡ value_at self.old.values name.now) }
+        ensures before { IfOk result (λ before. before ≡ value_under self.old.values name.now) }
         ensures later { OnOk result ((value : V) → put_named self.new name.now value ≡ put_named self.old name.now value) }
     {
         if self.get(name).is_none() {
@@ -115,7 +115,7 @@ impl<V: Drop> ByName<V> {
 
     /// The value under the name.
     pub fn get(&self, name: &str) -> Option<&V>
-        ensures { option_copied result ≡ value_at self.now.values name.now }
+        ensures { option_copied result ≡ value_under self.now.values name.now }
     {
         self.values.get(name)
     }

@@ -1,8 +1,8 @@
 ghost use Rattle.std.specs.Prelude.{◌≡◌, None, OnOk, IfOk};
 ghost use Rattle.std.specs.String.{string_bytes};
-ghost use Rattle.env_config.specs.Drafting.{Gives, Makes, Tests, all_of, last_of, open_of, section_of, state_of, taken};
+ghost use Rattle.env_config.specs.Draft.{TakesStep, MakesLast, TestsSubProperty, all_properties, last_of, open_of, filled_section, state_of, with_new_last};
 ghost use Rattle.env_config.specs.Line.{property_of, section_name};
-ghost use Rattle.env_config.specs.Raw.{begun, continued, continued_or, line_step, opened, section_step, start, within_section};
+ghost use Rattle.env_config.specs.Raw.{begun_property, continued, continued_or, profile_line_step, opened, section_step, start, within_section};
 
 use crate::by_name::ByName;
 use crate::fault::LineFault;
@@ -36,7 +36,7 @@ struct LastProperty {
 
 impl Draft {
     /// No lines yet.
-    #[tactic(auto, unfolding(crate::specs::Drafting::state_of))]
+    #[tactic(auto, unfolding(crate::specs::Draft::state_of))]
     pub fn new(alloc: Global) -> Draft
         ensures { state_of result ≡ start }
     {
@@ -51,9 +51,9 @@ impl Draft {
     /// # Errors
     ///
     /// [`LineFault::Bad`] where the line is outside the grammar. Nothing is said of the draft then.
-    #[tactic(auto, unfolding(crate::specs::Raw::line_step))]
+    #[tactic(auto, unfolding(crate::specs::Raw::profile_line_step))]
     pub fn take_line(&mut self, alloc: Global, line: &str) -> Result<(), LineFault>
-        ensures { Gives (line_step (state_of self.old) line.now) (state_of self.new) result }
+        ensures { TakesStep (profile_line_step (state_of self.old) line.now) (state_of self.new) result }
     {
         if is_skipped(line) {
             return Ok(());
@@ -68,7 +68,7 @@ impl Draft {
     }
 
     /// The sections, where the lines are over.
-    #[tactic(auto, unfolding(crate::specs::Drafting::state_of))]
+    #[tactic(auto, unfolding(crate::specs::Draft::state_of))]
     pub fn into_sections(mut self) -> Mem<ByName<Texts>>
         ensures { IfOk result (λ sections. sections ≡ (state_of self).sections) }
     {
@@ -77,7 +77,7 @@ impl Draft {
     }
 
     // The section that is open stands among the others.
-    #[tactic(auto, unfolding(crate::specs::Drafting::state_of))]
+    #[tactic(auto, unfolding(crate::specs::Draft::state_of))]
     fn close(&mut self) -> Mem<()>
         ensures sections { OnOk result (self.new.sections ≡ (state_of self.old).sections) }
         ensures closed { OnOk result (self.new.at ≡ None) }
@@ -90,7 +90,7 @@ impl Draft {
     }
 
     fn open_section(&mut self, alloc: Global, line: &str) -> Result<(), LineFault>
-        ensures { Gives (section_step (state_of self.old) (section_name line.now)) (state_of self.new) result }
+        ensures { TakesStep (section_step (state_of self.old) (section_name line.now)) (state_of self.new) result }
     {
         match section_name(line) {
             Some(name) => Ok(self.open(alloc, name)?),
@@ -99,7 +99,7 @@ impl Draft {
     }
 
     // The section is opened, or gone on with.
-    #[tactic(auto, unfolding(crate::specs::Drafting::state_of))]
+    #[tactic(auto, unfolding(crate::specs::Draft::state_of))]
     fn open(&mut self, alloc: Global, name: &str) -> Mem<()>
         ensures { OnOk result (state_of self.new ≡ opened (state_of self.old) name.now) }
     {
@@ -113,9 +113,9 @@ impl Draft {
         Ok(())
     }
 
-    #[tactic(auto, unfolding(crate::specs::Drafting::state_of))]
+    #[tactic(auto, unfolding(crate::specs::Draft::state_of))]
     fn begin_property(&mut self, alloc: Global, line: &str) -> Result<(), LineFault>
-        ensures { Gives (within_section (state_of self.old) (state_of self.old).open_section (λ _. begun (property_of line.now))) (state_of self.new) result }
+        ensures { TakesStep (within_section (state_of self.old) (state_of self.old).open_section (λ _. begun_property (property_of line.now))) (state_of self.new) result }
     {
         match &mut self.at {
             Some(at) => at.begin_property(alloc, line),
@@ -123,9 +123,9 @@ impl Draft {
         }
     }
 
-    #[tactic(auto, unfolding(crate::specs::Drafting::state_of))]
+    #[tactic(auto, unfolding(crate::specs::Draft::state_of))]
     fn continue_property(&mut self, line: &str) -> Result<(), LineFault>
-        ensures { Gives (within_section (state_of self.old) (state_of self.old).open_section (λ at. continued_or at.last line.now)) (state_of self.new) result }
+        ensures { TakesStep (within_section (state_of self.old) (state_of self.old).open_section (λ at. continued_or at.last line.now)) (state_of self.new) result }
     {
         match &mut self.at {
             Some(at) => at.continue_property(line),
@@ -137,7 +137,7 @@ impl Draft {
 impl OpenSection {
     // The last property stands among the others.
     fn put_last(&mut self) -> Mem<()>
-        ensures properties { OnOk result (self.new.properties ≡ all_of self.old) }
+        ensures properties { OnOk result (self.new.properties ≡ all_properties self.old) }
         ensures none { OnOk result (self.new.last ≡ None) }
         ensures name { string_bytes self.new.name ≡ string_bytes self.old.name }
     {
@@ -150,14 +150,14 @@ impl OpenSection {
     // The name, and all properties.
     fn into_parts(mut self) -> Mem<(String, Texts)>
         ensures name { IfOk result (λ parts. string_bytes parts.0 ≡ string_bytes self.name) }
-        ensures properties { IfOk result (λ parts. parts.1 ≡ all_of self) }
+        ensures properties { IfOk result (λ parts. parts.1 ≡ all_properties self) }
     {
         self.put_last()?;
         Ok((self.name, self.properties))
     }
 
     fn begin_property(&mut self, alloc: Global, line: &str) -> Result<(), LineFault>
-        ensures { Gives (taken (section_of self.old) (begun (property_of line.now))) (section_of self.new) result }
+        ensures { TakesStep (with_new_last (filled_section self.old) (begun_property (property_of line.now))) (filled_section self.new) result }
     {
         let last = LastProperty::read(alloc, line)?;
         self.put_last()?;
@@ -166,7 +166,7 @@ impl OpenSection {
     }
 
     fn continue_property(&mut self, line: &str) -> Result<(), LineFault>
-        ensures { Gives (taken (section_of self.old) (continued_or (open_of self.old).last line.now)) (section_of self.new) result }
+        ensures { TakesStep (with_new_last (filled_section self.old) (continued_or (open_of self.old).last line.now)) (filled_section self.new) result }
     {
         match &mut self.last {
             Some(last) => last.go_on(line),
@@ -178,7 +178,7 @@ impl OpenSection {
 impl LastProperty {
     // The property that the line begins.
     fn read(alloc: Global, line: &str) -> Result<LastProperty, LineFault>
-        ensures { Makes (begun (property_of line.now)) result }
+        ensures { MakesLast (begun_property (property_of line.now)) result }
     {
         match cut_property(line) {
             Ok((key, value)) => Ok(LastProperty {
@@ -196,7 +196,7 @@ impl LastProperty {
     // The value goes on with the line.
     #[tactic(auto, unfolding(crate::specs::Raw::continued))]
     fn go_on(&mut self, line: &str) -> Result<(), LineFault>
-        ensures { Gives (continued (last_of self.old) line.now) (last_of self.new) result }
+        ensures { TakesStep (continued (last_of self.old) line.now) (last_of self.new) result }
     {
         if self.is_parent {
             test_sub_property(line)?;
@@ -209,7 +209,7 @@ impl LastProperty {
 
 // Whether the line could stand below an empty value.
 fn test_sub_property(line: &str) -> Result<(), LineFault>
-    ensures { Tests (property_of line.now) result }
+    ensures { TestsSubProperty (property_of line.now) result }
 {
     match cut_property(line) {
         Ok(_) => Ok(()),

@@ -1,5 +1,5 @@
 ghost use Rattle.std.specs.Prelude.{◌≡◌};
-ghost use Rattle.env_config.specs.Faults.{numbered};
+ghost use Rattle.env_config.specs.Fault.{numbered};
 
 use std::alloc::AllocError;
 

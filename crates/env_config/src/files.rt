@@ -1,6 +1,6 @@
 ghost use Rattle.std.specs.Prelude.{◌≡◌, [], ◌∷◌, ◌++◌, IfOk, false, map};
 ghost use Rattle.std.specs.String.{string_bytes};
-ghost use Rattle.env_config.specs.Files.{BuildsFiles, added, chosen, defaults_of, place_of, places_of};
+ghost use Rattle.env_config.specs.Files.{BuildsFiles, added_places, chosen_places, defaults_of, file_place, file_places};
 ghost use Rattle.env_config.specs.Files.Place.{At, Given, Usual};
 ghost use Rattle.env_config.specs.declared.source.EnvConfigFileKind.TheVariants.{Config, Credentials};
 
@@ -28,7 +28,7 @@ pub enum EnvConfigFile {
 
 impl EnvConfigFile {
     fn try_clone(&self) -> Mem<EnvConfigFile>
-        ensures { IfOk result (λ copy. place_of copy ≡ place_of self.now) }
+        ensures { IfOk result (λ copy. file_place copy ≡ file_place self.now) }
     {
         match self {
             EnvConfigFile::Default(kind) => Ok(EnvConfigFile::Default(*kind)),
@@ -65,7 +65,7 @@ impl fmt::Debug for EnvConfigFile {
 
 // Equal files.
 fn copied_files(alloc: Global, files: &[EnvConfigFile]) -> Mem<Vec<EnvConfigFile>>
-    ensures { IfOk result (λ copies. map place_of copies.items ≡ map place_of files.now) }
+    ensures { IfOk result (λ copies. map file_place copies.items ≡ map file_place files.now) }
 {
     let mut copies = Vec::new(alloc);
     for file in files {
@@ -83,14 +83,14 @@ pub struct EnvConfigFiles {
 impl EnvConfigFiles {
     /// A builder with no files.
     pub fn builder(alloc: Global) -> Builder
-        ensures { chosen result ≡ [] }
+        ensures { chosen_places result ≡ [] }
     {
         Builder::new(alloc)
     }
 
     /// The default config file and the default credentials file.
     pub fn default_files(alloc: Global) -> Mem<EnvConfigFiles>
-        ensures { IfOk result (λ files. places_of files ≡ Usual Config ∷ Usual Credentials ∷ []) }
+        ensures { IfOk result (λ files. file_places files ≡ Usual Config ∷ Usual Credentials ∷ []) }
     {
         let mut files = Vec::new(alloc);
         files.push(EnvConfigFile::Default(EnvConfigFileKind::Config))?;
@@ -100,7 +100,7 @@ impl EnvConfigFiles {
 
     /// Equal files.
     pub fn try_clone(&self) -> Mem<EnvConfigFiles>
-        ensures { IfOk result (λ copy. places_of copy ≡ places_of self.now) }
+        ensures { IfOk result (λ copy. file_places copy ≡ file_places self.now) }
     {
         Ok(EnvConfigFiles {
             files: copied_files(*self.files.allocator(), self.files.as_slice())?,
@@ -109,7 +109,7 @@ impl EnvConfigFiles {
 
     // The files.
     pub(crate) fn as_slice(&self) -> &[EnvConfigFile]
-        ensures { map place_of result.now ≡ places_of self.now }
+        ensures { map file_place result.now ≡ file_places self.now }
     {
         self.files.as_slice()
     }
@@ -126,7 +126,7 @@ pub struct Builder {
 impl Builder {
     /// No files.
     pub fn new(alloc: Global) -> Builder
-        ensures added { added result ≡ [] }
+        ensures added { added_places result ≡ [] }
         ensures defaults { defaults_of result ≡ (false, false) }
     {
         Builder {
@@ -138,7 +138,7 @@ impl Builder {
 
     /// Whether the default config file is loaded, before all others.
     pub fn include_default_config_file(mut self, on: bool) -> Builder
-        ensures added { added result ≡ added self }
+        ensures added { added_places result ≡ added_places self }
         ensures defaults { defaults_of result ≡ (on, (defaults_of self).1) }
     {
         self.config = on;
@@ -147,7 +147,7 @@ impl Builder {
 
     /// Whether the default credentials file is loaded, after the default config file and before the others.
     pub fn include_default_credentials_file(mut self, on: bool) -> Builder
-        ensures added { added result ≡ added self }
+        ensures added { added_places result ≡ added_places self }
         ensures defaults { defaults_of result ≡ ((defaults_of self).0, on) }
     {
         self.credentials = on;
@@ -156,7 +156,7 @@ impl Builder {
 
     /// Adds the file at a path, which is taken as it is written.
     pub fn with_file(mut self, kind: EnvConfigFileKind, path: String) -> Mem<Builder>
-        ensures added { IfOk result (λ builder. added builder ≡ added self ++ At kind (string_bytes path) ∷ []) }
+        ensures added { IfOk result (λ builder. added_places builder ≡ added_places self ++ At kind (string_bytes path) ∷ []) }
         ensures defaults { IfOk result (λ builder. defaults_of builder ≡ defaults_of self) }
     {
         self.files.push(EnvConfigFile::FilePath { kind, path })?;
@@ -165,7 +165,7 @@ impl Builder {
 
     /// Adds a text that is given, in place of a file.
     pub fn with_contents(mut self, kind: EnvConfigFileKind, contents: String) -> Mem<Builder>
-        ensures added { IfOk result (λ builder. added builder ≡ added self ++ Given kind (string_bytes contents) ∷ []) }
+        ensures added { IfOk result (λ builder. added_places builder ≡ added_places self ++ Given kind (string_bytes contents) ∷ []) }
         ensures defaults { IfOk result (λ builder. defaults_of builder ≡ defaults_of self) }
     {
         self.files
@@ -175,7 +175,7 @@ impl Builder {
 
     /// An equal builder.
     pub fn try_clone(&self) -> Mem<Builder>
-        ensures added { IfOk result (λ copy. added copy ≡ added self.now) }
+        ensures added { IfOk result (λ copy. added_places copy ≡ added_places self.now) }
         ensures defaults { IfOk result (λ copy. defaults_of copy ≡ defaults_of self.now) }
     {
         Ok(Builder {
@@ -191,7 +191,7 @@ impl Builder {
     ///
     /// [`BuildFault::NoFiles`] where there is none.
     pub fn build(self) -> Result<EnvConfigFiles, BuildFault>
-        ensures { BuildsFiles (chosen self) result }
+        ensures { BuildsFiles (chosen_places self) result }
     {
         let Builder {
             config,

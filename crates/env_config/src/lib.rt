@@ -19,6 +19,7 @@ mod properties;
 mod properties_key;
 mod property;
 mod raw;
+mod section;
 mod sections;
 mod service_config;
 mod service_id;

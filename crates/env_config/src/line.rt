@@ -1,7 +1,6 @@
 ghost use Rattle.std.specs.Prelude.{◌≡◌, ◌<◌, ◌∷◌, ◌&&◌, false, length, option_copied};
 ghost use Rattle.std.specs.List.{before_first};
-ghost use Rattle.env_config.specs.Line.{is_comment_sign, is_skipped, lines_of, property_of, section_name, trimmed, uncommented, without_cr};
-ghost use Rattle.env_config.specs.Cut.{CutsProperty};
+ghost use Rattle.env_config.specs.Line.{CutsProperty, is_comment_sign, is_skipped, profile_lines, property_of, section_name, trimmed, uncommented, without_cr};
 
 /// Why a line is no property.
 #[derive(Clone, Copy, Debug, PartialEq, Eq)]
@@ -15,7 +14,7 @@ pub enum PropertyFault {
 /// The first line, without its end, and what stands after it.
 pub fn cut_line(text: &str) -> (&str, &str)
     requires { 0 < length text.now }
-    ensures lines { lines_of text.now ≡ result.0.now ∷ lines_of result.1.now }
+    ensures lines { profile_lines text.now ≡ result.0.now ∷ profile_lines result.1.now }
     ensures shorter { length result.1.now < length text.now }
 {
     match text.split_once('\n') {
@@ -102,7 +101,7 @@ fn has_sign(text: &str) -> bool
     text.contains('#') || text.contains(';')
 }
 
-// The same, character by character.
+// The text before its comment, character by character.
 fn before_comment(text: &str) -> &str
     ensures { result.now ≡ uncommented text.now }
 {

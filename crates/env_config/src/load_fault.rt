@@ -1,6 +1,6 @@
 ghost use Rattle.std.specs.Prelude.{◌≡◌, IfOk};
 ghost use Rattle.std.specs.String.{string_bytes};
-ghost use Rattle.env_config.specs.Files.{IsSameLoadFault};
+ghost use Rattle.env_config.specs.LoadFault.{IsSameLoadFault};
 
 use crate::parse_fault::EnvConfigParseError;
 use smithy_core::Mem;
@@ -38,7 +38,7 @@ impl CouldNotReadConfigFile {
 
 impl fmt::Display for CouldNotReadConfigFile {
     ghost use Rattle.std.specs.Prelude.{Some};
-    ghost use Rattle.env_config.specs.Files.{unread_text};
+    ghost use Rattle.env_config.specs.LoadFault.{unread_text};
 
     ghost output = { λ fault. Some (unread_text fault) };
 
@@ -69,7 +69,7 @@ impl EnvConfigFileLoadError {
 
 impl fmt::Display for EnvConfigFileLoadError {
     ghost use Rattle.std.specs.Prelude.{Some};
-    ghost use Rattle.env_config.specs.Files.{load_fault_text};
+    ghost use Rattle.env_config.specs.LoadFault.{load_fault_text};
 
     ghost output = { λ fault. Some (load_fault_text fault) };
 

@@ -1,7 +1,9 @@
-ghost use Rattle.std.specs.Prelude.{◌≡◌, ◌≤◌, ℕ, List, Some, IfOk, option_copied};
+ghost use Rattle.std.specs.Prelude.{◌≡◌, ◌≤◌, ℕ, List, Some, IfErr, IfOk, option_copied};
 ghost use Rattle.std.specs.String.{string_bytes};
-ghost use Rattle.env_config.specs.Files.{Loads, ReadsOne, after_home_sign, default_path, expanded, is_below_home, place_of, places_of, selected_profile, text_of, usual_path, path_variable};
+ghost use Rattle.env_config.specs.Files.{file_place, file_places};
+ghost use Rattle.env_config.specs.Loading.{Loads, ReadsDefault, ReadsOne, ReadsPath, after_home_sign, default_path, expanded, is_below_home, selected_profile, utf8_or_empty, usual_path, path_variable};
 ghost use Rattle.env_config.specs.Files.Place.{At, Usual};
+ghost use Rattle.env_config.specs.declared.load_fault.EnvConfigFileLoadError.TheVariants.{NoMemory};
 
 use crate::files::{EnvConfigFile, EnvConfigFiles};
 use crate::home::{Os, home_dir};
@@ -29,7 +31,7 @@ pub fn load<D: Disk>(
 ) -> Result<Source, EnvConfigFileLoadError>
     ensures count { D.faults disk.old ≤ D.faults disk.new }
     ensures same { D.files disk.new ≡ D.files disk.old }
-    ensures loads { Loads (D.files disk.old) env.now (places_of files.now) (D.faults disk.old) (D.faults disk.new) result }
+    ensures loads { Loads D.answers D.faults (D.files disk.old) env.now (file_places files.now) disk.old disk.new result }
 {
     let profile = String::from_str(alloc, env.get("AWS_PROFILE").unwrap_or("default"))?;
     let mut texts = Vec::new(alloc);
@@ -50,7 +52,7 @@ fn load_file<D: Disk>(
 ) -> Result<File, EnvConfigFileLoadError>
     ensures count { D.faults disk.old ≤ D.faults disk.new }
     ensures same { D.files disk.new ≡ D.files disk.old }
-    ensures reads { ReadsOne (D.files disk.old) env.now (place_of file.now) (D.faults disk.old) (D.faults disk.new) result }
+    ensures reads { ReadsOne D.answers D.faults (D.files disk.old) env.now (file_place file.now) disk.old disk.new result }
 {
     match file {
         EnvConfigFile::Default(kind) => load_default(alloc, env, disk, *kind),
@@ -72,19 +74,33 @@ fn load_default<D: Disk>(
 ) -> Result<File, EnvConfigFileLoadError>
     ensures count { D.faults disk.old ≤ D.faults disk.new }
     ensures same { D.files disk.new ≡ D.files disk.old }
-    ensures reads { ReadsOne (D.files disk.old) env.now (Usual kind) (D.faults disk.old) (D.faults disk.new) result }
+    ensures reads { ReadsOne D.answers D.faults (D.files disk.old) env.now (Usual kind) disk.old disk.new result }
 {
     let path = default_path(alloc, env, kind)?;
-    let contents = match disk.read(path.as_str()) {
-        Ok(bytes) => text_of(alloc, bytes),
-        Err(DiskError::NotFound | DiskError::Failed) => String::new(alloc),
-        Err(DiskError::NoMemory) => return Err(EnvConfigFileLoadError::NoMemory),
-    };
+    let contents = default_text(alloc, disk, path.as_str())?;
     Ok(File {
         kind,
         path: Some(path),
         contents,
     })
+}
+
+// The text of the default file at this path, which counts as empty where it is unread.
+fn default_text<D: Disk>(
+    alloc: Global,
+    disk: &mut D,
+    path: &str,
+) -> Result<String, EnvConfigFileLoadError>
+    ensures count { D.faults disk.old ≤ D.faults disk.new }
+    ensures same { D.files disk.new ≡ D.files disk.old }
+    ensures ok { IfOk result (λ text. ReadsDefault D.answers D.faults (D.files disk.old) path.now disk.old disk.new (string_bytes text)) }
+    ensures err { IfErr result (λ fault. fault ≡ NoMemory) }
+{
+    match read_text(alloc, disk, path) {
+        Ok(text) => Ok(text),
+        Err(DiskError::NotFound | DiskError::Failed) => Ok(String::new(alloc)),
+        Err(DiskError::NoMemory) => Err(EnvConfigFileLoadError::NoMemory),
+    }
 }
 
 // The file at this path.
@@ -96,25 +112,38 @@ fn load_custom<D: Disk>(
 ) -> Result<File, EnvConfigFileLoadError>
     ensures count { D.faults disk.old ≤ D.faults disk.new }
     ensures same { D.files disk.new ≡ D.files disk.old }
-    ensures reads { (env : List (List ℕ × List ℕ)) → ReadsOne (D.files disk.old) env (At kind path.now) (D.faults disk.old) (D.faults disk.new) result }
+    ensures reads { (env : List (List ℕ × List ℕ)) → ReadsOne D.answers D.faults (D.files disk.old) env (At kind path.now) disk.old disk.new result }
 {
-    let path = String::from_str(alloc, path)?;
-    match disk.read(path.as_str()) {
-        Ok(bytes) => Ok(File {
+    let own_path = String::from_str(alloc, path)?;
+    match read_text(alloc, disk, path) {
+        Ok(contents) => Ok(File {
             kind,
-            path: Some(path),
-            contents: text_of(alloc, bytes),
+            path: Some(own_path),
+            contents,
         }),
-        Err(DiskError::NotFound | DiskError::Failed) => Err(
-            EnvConfigFileLoadError::CouldNotReadFile(CouldNotReadConfigFile { path }),
-        ),
+        Err(DiskError::NotFound | DiskError::Failed) => {
+            let fault = CouldNotReadConfigFile { path: own_path };
+            Err(EnvConfigFileLoadError::CouldNotReadFile(fault))
+        }
         Err(DiskError::NoMemory) => Err(EnvConfigFileLoadError::NoMemory),
     }
 }
 
+// The text of the file at this path, by one read.
+fn read_text<D: Disk>(alloc: Global, disk: &mut D, path: &str) -> Result<String, DiskError>
+    ensures count { D.faults disk.old ≤ D.faults disk.new }
+    ensures same { D.files disk.new ≡ D.files disk.old }
+    ensures reads { ReadsPath D.answers D.faults (D.files disk.old) path.now disk.old disk.new result }
+{
+    match disk.read(path) {
+        Ok(bytes) => Ok(utf8_or_empty(alloc, bytes)),
+        Err(fault) => Err(fault),
+    }
+}
+
 // The text of the bytes, which is empty where they aren't UTF-8.
-fn text_of(alloc: Global, bytes: Vec<u8>) -> String
-    ensures { string_bytes result ≡ text_of bytes.items }
+fn utf8_or_empty(alloc: Global, bytes: Vec<u8>) -> String
+    ensures { string_bytes result ≡ utf8_or_empty bytes.items }
 {
     match String::from_utf8(bytes) {
         Ok(text) => text,
@@ -123,7 +152,7 @@ fn text_of(alloc: Global, bytes: Vec<u8>) -> String
 }
 
 // The path of the default file of this kind.
-#[tactic(auto, unfolding(crate::specs::Files::default_path, crate::specs::Files::expanded))]
+#[tactic(auto, unfolding(crate::specs::Loading::default_path, crate::specs::Loading::expanded))]
 fn default_path(alloc: Global, env: &Env, kind: EnvConfigFileKind) -> Mem<String>
     ensures { IfOk result (λ path. string_bytes path ≡ default_path env.now kind) }
 {
@@ -155,7 +184,7 @@ fn usual_path(kind: EnvConfigFileKind) -> &'static str
 }
 
 // The path with the home directory in place of a `~` at its front.
-#[tactic(auto, unfolding(crate::specs::Files::expanded))]
+#[tactic(auto, unfolding(crate::specs::Loading::expanded))]
 fn with_home(alloc: Global, path: &str, home: &str) -> Mem<String>
     ensures { IfOk result (λ full. string_bytes full ≡ expanded path.now (Some home.now)) }
 {

@@ -1,76 +1,47 @@
-ghost use Rattle.std.specs.Prelude.{◌≡◌, ◌≤◌, ◌∷◌, length, nat_eq, Option, option_map, OnOk, IfOk, IfSome, map, if◌then◌else◌};
-ghost use Rattle.std.specs.List.{slice_split};
+ghost use Rattle.std.specs.Prelude.{◌≡◌, ◌≤◌, ◌∷◌, length, option_map, OnOk, IfOk, IfSome, map, if◌then◌else◌};
 ghost use Rattle.std.specs.String.{string_bytes};
-ghost use Rattle.env_config.specs.Drafting.{pairs_of};
-ghost use Rattle.env_config.specs.Sections.{is_identifier, merged_into, put_identifiers, put_others, put_sub, put_subs, section_properties};
-ghost use Rattle.env_config.specs.Texts.{EachValue, put};
-ghost use Rattle.env_config.specs.Words.{IsKeyed, IsKeyedProfile, IsKeyedSession, contents_of, named_as, others_of, profile_of, session_of, values_of};
-ghost use Rattle.env_config.specs.Pieces.{pieces_of, pieces_len};
+ghost use Rattle.env_config.specs.Texts.{EachValue, named_as, pairs_of, put};
+ghost use Rattle.env_config.specs.Sections.{is_identifier, merged_into, put_identifiers, put_others, put_sub, put_subs, section_properties, value_pieces};
+ghost use Rattle.env_config.specs.Properties.{others_of};
+ghost use Rattle.env_config.specs.Section.{IsKeyed, IsKeyedSection, contents_of, section_of, values_of};
+ghost use Rattle.env_config.specs.Merge.{pieces_left, length_left};
 
 use crate::by_name::ByName;
 use crate::heading::is_identifier;
 use crate::line::trim;
-use crate::profile::{Profile, SsoSession};
 use crate::properties::Properties;
 use crate::properties_key::PropertiesKey;
 use crate::property::Property;
+use crate::section::{Section, SectionKind};
 use crate::texts::Texts;
 use smithy_core::Mem;
 use std::alloc::Global;
 use std::collections::BTreeMap;
 
-/// Merges a raw section into the profile of this name.
-pub fn merge_profile(
+/// Merges a raw section into the profile or the session of this name.
+pub fn merge_into<S: SectionKind>(
     alloc: Global,
-    profiles: &mut ByName<Profile>,
+    sections: &mut ByName<S>,
     name: &str,
     pairs: Texts,
 ) -> Mem<()>
-    ensures merged { OnOk result (named_as profile_of profiles.new ≡ merged_into (named_as profile_of profiles.old) name.now pairs) }
-    ensures keys { EachValue IsKeyedProfile profiles.old.values → OnOk result (EachValue IsKeyedProfile profiles.new.values) }
+    ensures merged { OnOk result (named_as (λ s. section_of (S.held s)) sections.new ≡ merged_into (named_as (λ s. section_of (S.held s)) sections.old) name.now pairs) }
+    ensures keys { EachValue (λ s. IsKeyedSection (S.held s)) sections.old.values → OnOk result (EachValue (λ s. IsKeyedSection (S.held s)) sections.new.values) }
 {
-    let empty = Profile::new(String::new(alloc), BTreeMap::new(alloc));
-    let mut properties = profile_properties(alloc, profiles.take(name, empty)?);
+    let empty = S::of_section(Section::new(String::new(alloc), BTreeMap::new(alloc)));
+    let mut properties = properties_before(alloc, sections.take(name, empty)?);
     put_pairs(&mut properties, pairs.into_pairs())?;
-    let filled = Profile::new(String::from_str(alloc, name)?, properties);
-    profiles.replace(name, filled)?;
+    let section = Section::new(String::from_str(alloc, name)?, properties);
+    sections.replace(name, S::of_section(section))?;
     Ok(())
 }
 
-fn profile_properties(alloc: Global, before: Option<Profile>) -> BTreeMap<String, Property>
-    ensures values { values_of result.entries ≡ section_properties (option_map profile_of before) }
-    ensures keys { IfSome before IsKeyedProfile → IsKeyed (contents_of result.entries) }
+fn properties_before<S: SectionKind>(alloc: Global, before: Option<S>) -> BTreeMap<String, Property>
+    ensures values { values_of result.entries ≡ section_properties (option_map (λ s. section_of (S.held s)) before) }
+    ensures keys { IfSome before (λ s. IsKeyedSection (S.held s)) → IsKeyed (contents_of result.entries) }
 {
     match before {
-        Some(profile) => profile.into_properties(),
-        None => BTreeMap::new(alloc),
-    }
-}
-
-/// Merges a raw section into the session of this name.
-pub fn merge_session(
-    alloc: Global,
-    sessions: &mut ByName<SsoSession>,
-    name: &str,
-    pairs: Texts,
-) -> Mem<()>
-    ensures merged { OnOk result (named_as session_of sessions.new ≡ merged_into (named_as session_of sessions.old) name.now pairs) }
-    ensures keys { EachValue IsKeyedSession sessions.old.values → OnOk result (EachValue IsKeyedSession sessions.new.values) }
-{
-    let empty = SsoSession::new(String::new(alloc), BTreeMap::new(alloc));
-    let mut properties = session_properties(alloc, sessions.take(name, empty)?);
-    put_pairs(&mut properties, pairs.into_pairs())?;
-    let filled = SsoSession::new(String::from_str(alloc, name)?, properties);
-    sessions.replace(name, filled)?;
-    Ok(())
-}
-
-fn session_properties(alloc: Global, before: Option<SsoSession>) -> BTreeMap<String, Property>
-    ensures values { values_of result.entries ≡ section_properties (option_map session_of before) }
-    ensures keys { IfSome before IsKeyedSession → IsKeyed (contents_of result.entries) }
-{
-    match before {
-        Some(session) => session.into_properties(),
+        Some(before) => before.into_section().into_properties(),
         None => BTreeMap::new(alloc),
     }
 }
@@ -125,7 +96,7 @@ fn put_key(
     key: &str,
     value: &str,
 ) -> Mem<()>
-    ensures { OnOk result (others_of others.new ≡ (if is_identifier key.now then put_subs (others_of others.old) prefix.now name.now key.now (slice_split (λ b. nat_eq b 10) value.now) else others_of others.old)) }
+    ensures { OnOk result (others_of others.new ≡ (if is_identifier key.now then put_subs (others_of others.old) prefix.now name.now key.now (value_pieces value.now) else others_of others.old)) }
 {
     if !is_identifier(key) {
         return Ok(());
@@ -141,7 +112,7 @@ fn put_pieces(
     key: &str,
     value: &str,
 ) -> Mem<()>
-    ensures { OnOk result (others_of others.new ≡ put_subs (others_of others.old) prefix.now name.now key.now (slice_split (λ b. nat_eq b 10) value.now)) }
+    ensures { OnOk result (others_of others.new ≡ put_subs (others_of others.old) prefix.now name.now key.now (value_pieces value.now)) }
 {
     let mut rest = Some(value);
     while let Some(text) = rest {
@@ -154,8 +125,8 @@ fn put_pieces(
 
 // The first piece, and what stands after its LF.
 fn cut_piece(text: &str) -> (&str, Option<&str>)
-    ensures pieces { slice_split (λ b. nat_eq b 10) text.now ≡ result.0.now ∷ pieces_of result.1 }
-    ensures shorter { pieces_len result.1 ≤ length text.now }
+    ensures pieces { value_pieces text.now ≡ result.0.now ∷ pieces_left result.1 }
+    ensures shorter { length_left result.1 ≤ length text.now }
 {
     match text.split_once('\n') {
         Some((piece, rest)) => (piece, Some(rest)),

@@ -1,5 +1,5 @@
 ghost use Rattle.std.specs.Prelude.{◌≡◌, IfOk};
-ghost use Rattle.env_config.specs.Words.{IsSameFault, fault_of};
+ghost use Rattle.env_config.specs.ParseFault.{IsSameParseFault, faulty_line_of};
 
 use smithy_core::Mem;
 use std::alloc::AllocError;
@@ -19,7 +19,7 @@ pub struct EnvConfigParseError {
 impl EnvConfigParseError {
     /// An equal error.
     pub fn try_clone(&self) -> Mem<EnvConfigParseError>
-        ensures { IfOk result (λ copy. fault_of copy ≡ fault_of self.now) }
+        ensures { IfOk result (λ copy. faulty_line_of copy ≡ faulty_line_of self.now) }
     {
         Ok(EnvConfigParseError {
             path: self.path.clone()?,
@@ -31,7 +31,7 @@ impl EnvConfigParseError {
 
 impl fmt::Display for EnvConfigParseError {
     ghost use Rattle.std.specs.Prelude.{Some};
-    ghost use Rattle.env_config.specs.Words.{parse_error_text};
+    ghost use Rattle.env_config.specs.ParseFault.{parse_error_text};
 
     ghost output = { λ error. Some (parse_error_text error) };
 
@@ -60,7 +60,7 @@ pub enum ParseFault {
 impl ParseFault {
     /// An equal fault.
     pub fn try_clone(&self) -> Mem<ParseFault>
-        ensures { IfOk result (IsSameFault self.now) }
+        ensures { IfOk result (IsSameParseFault self.now) }
     {
         match self {
             ParseFault::Parse(error) => Ok(ParseFault::Parse(error.try_clone()?)),
@@ -71,7 +71,7 @@ impl ParseFault {
 
 impl fmt::Display for ParseFault {
     ghost use Rattle.std.specs.Prelude.{Some};
-    ghost use Rattle.env_config.specs.Words.{parse_fault_text};
+    ghost use Rattle.env_config.specs.ParseFault.{parse_fault_text};
 
     ghost output = { λ fault. Some (parse_fault_text fault) };
 

@@ -1,7 +1,8 @@
 ghost use Rattle.std.specs.Prelude.{◌≡◌, [], IfOk, OnErr, OnOk, option_copied};
 ghost use Rattle.std.specs.String.{string_bytes};
 ghost use Rattle.env_config.specs.Sections.{put_at_key, value_at_key};
-ghost use Rattle.env_config.specs.Words.{key_of, others_of};
+ghost use Rattle.env_config.specs.Properties.{others_of};
+ghost use Rattle.env_config.specs.PropertiesKey.{key_of};
 
 use crate::properties_key::PropertiesKey;
 use smithy_core::Mem;

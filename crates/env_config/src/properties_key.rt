@@ -1,6 +1,6 @@
 ghost use Rattle.std.specs.Prelude.{◌≡◌, IfOk};
 ghost use Rattle.std.specs.String.{string_bytes};
-ghost use Rattle.env_config.specs.Words.{Builds, key_of, parts_of};
+ghost use Rattle.env_config.specs.PropertiesKey.{BuildsKey, key_of, key_parts};
 
 use crate::text::copied;
 use smithy_core::Mem;
@@ -34,7 +34,7 @@ impl PropertiesKey {
 
     /// A builder with no parts.
     pub fn builder() -> PropertiesKeyBuilder
-        ensures { parts_of result ≡ record { section_key = None; section_name = None; property_name = None; sub_property_name = None } }
+        ensures { key_parts result ≡ record { section_key = None; section_name = None; property_name = None; sub_property_name = None } }
     {
         PropertiesKeyBuilder {
             section_key: None,
@@ -59,7 +59,7 @@ impl PropertiesKey {
 
 impl Clone for PropertiesKey {
     ghost use Rattle.std.specs.Prelude.{◌≡◌};
-    ghost use Rattle.env_config.specs.Words.{key_of};
+    ghost use Rattle.env_config.specs.PropertiesKey.{key_of};
 
     ghost is_clone = { λ key copy. key_of copy ≡ key_of key };
 
@@ -70,7 +70,7 @@ impl Clone for PropertiesKey {
 
 impl fmt::Display for PropertiesKey {
     ghost use Rattle.std.specs.Prelude.{Some};
-    ghost use Rattle.env_config.specs.Words.{key_text};
+    ghost use Rattle.env_config.specs.PropertiesKey.{key_text};
 
     ghost output = { λ key. Some (key_text key) };
 
@@ -96,7 +96,7 @@ pub struct PropertiesKeyBuilder {
 impl PropertiesKeyBuilder {
     /// Sets what stands before the section's name, as `services`.
     pub fn section_key(mut self, section_key: String) -> PropertiesKeyBuilder
-        ensures { parts_of result ≡ record (parts_of self) { section_key = Some (string_bytes section_key) } }
+        ensures { key_parts result ≡ record (key_parts self) { section_key = Some (string_bytes section_key) } }
     {
         self.section_key = Some(section_key);
         self
@@ -104,7 +104,7 @@ impl PropertiesKeyBuilder {
 
     /// Sets the section's name.
     pub fn section_name(mut self, section_name: String) -> PropertiesKeyBuilder
-        ensures { parts_of result ≡ record (parts_of self) { section_name = Some (string_bytes section_name) } }
+        ensures { key_parts result ≡ record (key_parts self) { section_name = Some (string_bytes section_name) } }
     {
         self.section_name = Some(section_name);
         self
@@ -112,7 +112,7 @@ impl PropertiesKeyBuilder {
 
     /// Sets the property's name.
     pub fn property_name(mut self, property_name: String) -> PropertiesKeyBuilder
-        ensures { parts_of result ≡ record (parts_of self) { property_name = Some (string_bytes property_name) } }
+        ensures { key_parts result ≡ record (key_parts self) { property_name = Some (string_bytes property_name) } }
     {
         self.property_name = Some(property_name);
         self
@@ -120,7 +120,7 @@ impl PropertiesKeyBuilder {
 
     /// Sets the sub-property's name.
     pub fn sub_property_name(mut self, sub_property_name: String) -> PropertiesKeyBuilder
-        ensures { parts_of result ≡ record (parts_of self) { sub_property_name = Some (string_bytes sub_property_name) } }
+        ensures { key_parts result ≡ record (key_parts self) { sub_property_name = Some (string_bytes sub_property_name) } }
     {
         self.sub_property_name = Some(sub_property_name);
         self
@@ -128,7 +128,7 @@ impl PropertiesKeyBuilder {
 
     /// An equal builder.
     pub fn try_clone(&self) -> Mem<PropertiesKeyBuilder>
-        ensures { IfOk result (λ copy. parts_of copy ≡ parts_of self.now) }
+        ensures { IfOk result (λ copy. key_parts copy ≡ key_parts self.now) }
     {
         Ok(PropertiesKeyBuilder {
             section_key: copied(&self.section_key)?,
@@ -144,7 +144,7 @@ impl PropertiesKeyBuilder {
     ///
     /// The first part that is missing of section key, section name and property name.
     pub fn build(self) -> Result<PropertiesKey, PropertiesKeyFault>
-        ensures { Builds self result }
+        ensures { BuildsKey self result }
     {
         let PropertiesKeyBuilder {
             section_key,
@@ -183,7 +183,7 @@ pub enum PropertiesKeyFault {
 
 impl fmt::Display for PropertiesKeyFault {
     ghost use Rattle.std.specs.Prelude.{Some};
-    ghost use Rattle.env_config.specs.Words.{key_fault_text};
+    ghost use Rattle.env_config.specs.PropertiesKey.{key_fault_text};
 
     ghost output = { λ fault. Some (key_fault_text fault) };
 

@@ -1,6 +1,6 @@
 ghost use Rattle.std.specs.Prelude.{◌≡◌, IfOk};
 ghost use Rattle.std.specs.String.{string_bytes};
-ghost use Rattle.env_config.specs.Words.{pair_of};
+ghost use Rattle.env_config.specs.Property.{property_pair};
 
 use smithy_core::Mem;
 use std::fmt;
@@ -15,29 +15,29 @@ pub struct Property {
 impl Property {
     /// This key with this value.
     pub fn new(key: String, value: String) -> Property
-        ensures key { (pair_of result).0 ≡ string_bytes key }
-        ensures value { (pair_of result).1 ≡ string_bytes value }
+        ensures key { (property_pair result).0 ≡ string_bytes key }
+        ensures value { (property_pair result).1 ≡ string_bytes value }
     {
         Property { key, value }
     }
 
     /// The key.
     pub fn key(&self) -> &str
-        ensures { result.now ≡ (pair_of self.now).0 }
+        ensures { result.now ≡ (property_pair self.now).0 }
     {
         self.key.as_str()
     }
 
     /// The value.
     pub fn value(&self) -> &str
-        ensures { result.now ≡ (pair_of self.now).1 }
+        ensures { result.now ≡ (property_pair self.now).1 }
     {
         self.value.as_str()
     }
 
     /// An equal property.
     pub fn try_clone(&self) -> Mem<Property>
-        ensures { IfOk result (λ copy. pair_of copy ≡ pair_of self.now) }
+        ensures { IfOk result (λ copy. property_pair copy ≡ property_pair self.now) }
     {
         Ok(Property {
             key: self.key.clone()?,
@@ -58,9 +58,9 @@ impl fmt::Debug for Property {
 
 impl Clone for Property {
     ghost use Rattle.std.specs.Prelude.{◌≡◌};
-    ghost use Rattle.env_config.specs.Words.{pair_of};
+    ghost use Rattle.env_config.specs.Property.{property_pair};
 
-    ghost is_clone = { λ property copy. pair_of copy ≡ pair_of property };
+    ghost is_clone = { λ property copy. property_pair copy ≡ property_pair property };
 
     fn clone(&self) -> Mem<Property> {
         self.try_clone()

@@ -1,6 +1,5 @@
 ghost use Rattle.std.specs.Prelude.{IfOk};
-ghost use Rattle.env_config.specs.Drafting.{ReadsRaw};
-ghost use Rattle.env_config.specs.Raw.{raw};
+ghost use Rattle.env_config.specs.Raw.{raw, ReadsRaw};
 ghost use Rattle.env_config.specs.Texts.{IsApart};
 
 use crate::by_name::ByName;

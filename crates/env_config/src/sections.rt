@@ -1,17 +1,22 @@
 ghost use Rattle.std.specs.Prelude.{◌≡◌, ◌==◌, ℕ, List, [], false, IfOk, OnOk, codes, length, map, option_copied, option_map, unwrap_or};
 ghost use Rattle.std.specs.Ordering.{is_eq};
 ghost use Rattle.std.specs.String.{string_bytes};
-ghost use Rattle.env_config.specs.Headings.{heading_seen};
+ghost use Rattle.env_config.specs.Heading.{heading_seen};
 ghost use Rattle.env_config.specs.Sections.{heading_of, no_sections, sections, with_file, with_raw, with_section};
-ghost use Rattle.env_config.specs.Texts.{IsApart, by_text, text_cmp, value_at};
+ghost use Rattle.env_config.specs.Texts.{IsApart, by_text, text_cmp, value_under};
 ghost use Rattle.env_config.specs.Value.{selected_value};
-ghost use Rattle.env_config.specs.Values.{chosen_of};
-ghost use Rattle.env_config.specs.Words.{AreKeyed, HasCopies, MergesText, Parses, TellsLine, fault_of, file_of, others_of, profile_of, profiles_in, sections_of, selected_of, session_of, sessions_in};
+ghost use Rattle.env_config.specs.EnvConfigValue.{chosen_of};
+ghost use Rattle.env_config.specs.EnvConfigSections.{AreKeyed, HasCopies, MergesText, ParsesSections, TellsLine, profiles_in, sections_of, selected_of, sessions_in};
+ghost use Rattle.env_config.specs.ParseFault.{faulty_line_of};
+ghost use Rattle.env_config.specs.Profile.{profile_section, session_section};
+ghost use Rattle.env_config.specs.Properties.{others_of};
+ghost use Rattle.env_config.specs.Section.{section_of};
+ghost use Rattle.env_config.specs.Source.{file_of};
 
 use crate::by_name::ByName;
 use crate::fault::RawFault;
 use crate::heading::{Heading, has_profile_default};
-use crate::merge::{merge_others, merge_profile, merge_session};
+use crate::merge::{merge_into, merge_others};
 use crate::parse_fault::{EnvConfigParseError, ParseFault};
 use crate::profile::{Profile, SsoSession};
 use crate::properties::Properties;
@@ -70,7 +75,7 @@ impl EnvConfigSections {
     /// [`ParseFault::Parse`] with the first line outside the grammar in the first faulty file.
     #[tactic(auto, unfolding(crate::specs::Sections::sections))]
     pub fn parse(alloc: Global, source: &Source) -> Result<EnvConfigSections, ParseFault>
-        ensures parses { Parses (sections (map file_of source.now.files.items)) (string_bytes source.now.profile) result }
+        ensures parses { ParsesSections (sections (map file_of source.now.files.items)) (string_bytes source.now.profile) result }
         ensures keys { IfOk result AreKeyed }
     {
         let selected = String::from_str(alloc, source.profile.as_str())?;
@@ -93,8 +98,8 @@ impl EnvConfigSections {
 
     /// The profile of this name.
     pub fn get_profile(&self, name: &str) -> Option<&Profile>
-        ensures itself { option_copied result ≡ value_at (profiles_in self.now) name.now }
-        ensures section { option_map profile_of (option_copied result) ≡ value_at (sections_of self.now).profiles.values name.now }
+        ensures itself { option_copied result ≡ value_under (profiles_in self.now) name.now }
+        ensures section { option_map (λ profile. section_of (profile_section profile)) (option_copied result) ≡ value_under (sections_of self.now).profiles.values name.now }
     {
         self.profiles.get(name)
     }
@@ -129,8 +134,8 @@ impl EnvConfigSections {
 
     /// The session of this name.
     pub fn sso_session(&self, name: &str) -> Option<&SsoSession>
-        ensures itself { option_copied result ≡ value_at (sessions_in self.now) name.now }
-        ensures section { option_map session_of (option_copied result) ≡ value_at (sections_of self.now).sessions.values name.now }
+        ensures itself { option_copied result ≡ value_under (sessions_in self.now) name.now }
+        ensures section { option_map (λ session. section_of (session_section session)) (option_copied result) ≡ value_under (sections_of self.now).sessions.values name.now }
     {
         self.sessions.get(name)
     }
@@ -194,10 +199,10 @@ impl EnvConfigSections {
         texts: &mut BTreeMap<String, Texts>,
         name: &str,
     ) -> Mem<()>
-        ensures sections { OnOk result (sections_of self.new ≡ with_raw (sections_of self.old) kind overridden (heading_of name.now) (unwrap_or (value_at (by_text texts.old.entries) name.now) [])) }
+        ensures sections { OnOk result (sections_of self.new ≡ with_raw (sections_of self.old) kind overridden (heading_of name.now) (unwrap_or (value_under (by_text texts.old.entries) name.now) [])) }
         ensures selected { selected_of self.new ≡ selected_of self.old }
         ensures keys { AreKeyed self.old → OnOk result (AreKeyed self.new) }
-        ensures others { OnOk result ((other : List ℕ) → is_eq (text_cmp other name.now) ≡ false → value_at (by_text texts.new.entries) other ≡ value_at (by_text texts.old.entries) other) }
+        ensures others { OnOk result ((other : List ℕ) → is_eq (text_cmp other name.now) ≡ false → value_under (by_text texts.new.entries) other ≡ value_under (by_text texts.old.entries) other) }
     {
         let pairs = taken(alloc, texts, name);
         let heading = Heading::of(name);
@@ -214,10 +219,8 @@ impl EnvConfigSections {
         ensures keys { AreKeyed self.old → OnOk result (AreKeyed self.new) }
     {
         match heading.prefix {
-            None | Some("profile") => {
-                merge_profile(alloc, &mut self.profiles, heading.name, pairs)
-            }
-            Some("sso-session") => merge_session(alloc, &mut self.sessions, heading.name, pairs),
+            None | Some("profile") => { merge_into(alloc, &mut self.profiles, heading.name, pairs) }
+            Some("sso-session") => merge_into(alloc, &mut self.sessions, heading.name, pairs),
             Some(prefix) => merge_others(
                 alloc,
                 &mut self.others,
@@ -231,8 +234,8 @@ impl EnvConfigSections {
 
 // The texts under the name, taken from the others.
 fn taken(alloc: Global, texts: &mut BTreeMap<String, Texts>, name: &str) -> Texts
-    ensures texts { result ≡ unwrap_or (value_at (by_text texts.old.entries) name.now) [] }
-    ensures others { (other : List ℕ) → is_eq (text_cmp other name.now) ≡ false → value_at (by_text texts.new.entries) other ≡ value_at (by_text texts.old.entries) other }
+    ensures texts { result ≡ unwrap_or (value_under (by_text texts.old.entries) name.now) [] }
+    ensures others { (other : List ℕ) → is_eq (text_cmp other name.now) ≡ false → value_under (by_text texts.new.entries) other ≡ value_under (by_text texts.old.entries) other }
 {
     match texts.remove(name) {
         Some(pairs) => pairs,
@@ -256,7 +259,7 @@ fn line_error(
     line_number: usize,
     message: &str,
 ) -> Mem<EnvConfigParseError>
-    ensures { IfOk result (λ error. fault_of error ≡ record { path = unwrap_or (file_of file.now).path []; line_number = line_number; message = message.now }) }
+    ensures { IfOk result (λ error. faulty_line_of error ≡ record { path = unwrap_or (file_of file.now).path []; line_number = line_number; message = message.now }) }
 {
     Ok(EnvConfigParseError {
         path: String::from_str(alloc, path_of(file))?,

@@ -1,6 +1,6 @@
 ghost use Rattle.std.specs.Fn.{FnReturnsAt};
 ghost use Rattle.env_config.specs.Value.{value};
-ghost use Rattle.env_config.specs.Values.{Validates, asked_by, chosen_in};
+ghost use Rattle.env_config.specs.EnvConfigValue.{Validates, asked_by, chosen_in};
 
 use crate::sections::EnvConfigSections;
 use crate::value::EnvConfigValue;

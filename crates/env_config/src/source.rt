@@ -1,6 +1,6 @@
 ghost use Rattle.std.specs.Prelude.{◌≡◌, IfOk, map};
 ghost use Rattle.std.specs.String.{string_bytes};
-ghost use Rattle.env_config.specs.Words.{file_of};
+ghost use Rattle.env_config.specs.Source.{file_of};
 
 use crate::text::copied;
 use smithy_core::Mem;

@@ -1,7 +1,6 @@
 ghost use Rattle.std.specs.Prelude.{◌≡◌, [], OnOk};
 ghost use Rattle.std.specs.String.{string_bytes};
-ghost use Rattle.env_config.specs.Texts.{put};
-ghost use Rattle.env_config.specs.Drafting.{pairs_of};
+ghost use Rattle.env_config.specs.Texts.{pairs_of, put};
 
 use smithy_core::Mem;
 use std::alloc::Global;

@@ -1,8 +1,9 @@
 ghost use Rattle.std.specs.Prelude.{◌≡◌, IfOk, option_copied, option_map};
 ghost use Rattle.std.specs.Fn.{FnReturnsAt};
 ghost use Rattle.env_config.specs.Value.{InProfile, in_profile, in_variables, service_property, service_variable, value};
-ghost use Rattle.env_config.specs.Values.{Validates, ValidatesAt, asked_of, chosen_in, chosen_of, found_of, holder_of, origin_of};
-ghost use Rattle.env_config.specs.Words.{selected_of};
+ghost use Rattle.env_config.specs.EnvConfigValue.{Validates, ValidatesAt, asked_of, chosen_in, chosen_of, found_of, origin_of};
+ghost use Rattle.env_config.specs.ValueSource.{holder_of};
+ghost use Rattle.env_config.specs.EnvConfigSections.{selected_of};
 
 use crate::properties_key::PropertiesKey;
 use crate::sections::EnvConfigSections;
@@ -98,7 +99,7 @@ impl<'a> EnvConfigValue<'a> {
         validated(self.load(alloc, env, sections)?, validator)
     }
 
-    /// The same, with the kind of place that the value comes from.
+    /// What [`validate`](Self::validate) answers, with the kind of place that the value comes from.
     ///
     /// # Errors
     ///

@@ -1,5 +1,5 @@
 ghost use Rattle.std.specs.Prelude.{◌≡◌, IfOk};
-ghost use Rattle.env_config.specs.Values.{IsErrorCopy, IsFaultCopy, refusal_of};
+ghost use Rattle.env_config.specs.ValueFault.{IsValueErrorCopy, IsValidateFaultCopy, why_refused};
 
 use crate::value_source::EnvConfigSource;
 use smithy_core::Mem;
@@ -24,7 +24,7 @@ impl<E> EnvConfigError<E> {
 
     /// Why the value was refused.
     pub fn err(&self) -> &E
-        ensures { result.now ≡ refusal_of self.now }
+        ensures { result.now ≡ why_refused self.now }
     {
         &self.err
     }
@@ -33,7 +33,7 @@ impl<E> EnvConfigError<E> {
 impl<E: Clone + Drop> EnvConfigError<E> {
     /// An equal error.
     pub fn try_clone(&self) -> Mem<EnvConfigError<E>>
-        ensures { IfOk result (IsErrorCopy E.is_clone self.now) }
+        ensures { IfOk result (IsValueErrorCopy E.is_clone self.now) }
     {
         Ok(EnvConfigError {
             source: self.source.try_clone()?,
@@ -43,7 +43,7 @@ impl<E: Clone + Drop> EnvConfigError<E> {
 }
 
 impl<E: fmt::Display> fmt::Display for EnvConfigError<E> {
-    ghost use Rattle.env_config.specs.Values.{invalid_text};
+    ghost use Rattle.env_config.specs.ValueFault.{invalid_text};
 
     ghost output = { invalid_text E.output };
 
@@ -67,7 +67,7 @@ pub enum ValidateFault<E> {
 impl<E: Clone + Drop> ValidateFault<E> {
     /// An equal fault.
     pub fn try_clone(&self) -> Mem<ValidateFault<E>>
-        ensures { IfOk result (IsFaultCopy E.is_clone self.now) }
+        ensures { IfOk result (IsValidateFaultCopy E.is_clone self.now) }
     {
         match self {
             ValidateFault::Invalid(error) => Ok(ValidateFault::Invalid(error.try_clone()?)),
@@ -77,7 +77,7 @@ impl<E: Clone + Drop> ValidateFault<E> {
 }
 
 impl<E: fmt::Display> fmt::Display for ValidateFault<E> {
-    ghost use Rattle.env_config.specs.Values.{validate_fault_text};
+    ghost use Rattle.env_config.specs.ValueFault.{validate_fault_text};
 
     ghost output = { validate_fault_text E.output };
 

@@ -1,5 +1,5 @@
 ghost use Rattle.std.specs.Prelude.{◌≡◌, IfOk};
-ghost use Rattle.env_config.specs.Values.{at_of, holder_of, origin_at, reach_of};
+ghost use Rattle.env_config.specs.ValueSource.{found_at, holder_of, origin_at, reach_of};
 
 use smithy_core::Mem;
 use std::fmt;
@@ -54,7 +54,7 @@ impl EnvConfigSource {
 
     /// An equal source.
     pub fn try_clone(&self) -> Mem<EnvConfigSource>
-        ensures { IfOk result (λ copy. at_of copy ≡ at_of self.now) }
+        ensures { IfOk result (λ copy. found_at copy ≡ found_at self.now) }
     {
         Ok(EnvConfigSource {
             key: self.key.clone()?,
@@ -65,7 +65,7 @@ impl EnvConfigSource {
 
     // What kind of place it is.
     fn origin(&self) -> Origin
-        ensures { result ≡ origin_at (at_of self.now).reach (at_of self.now).holder }
+        ensures { result ≡ origin_at (found_at self.now).reach (found_at self.now).holder }
     {
         match (&self.scope, &self.location) {
             (Scope::Global, Location::Environment) => Origin::SharedEnvironment,
@@ -100,9 +100,9 @@ impl Location {
 
 impl From<&EnvConfigSource> for Origin {
     ghost use Rattle.std.specs.Prelude.{◌≡◌};
-    ghost use Rattle.env_config.specs.Values.{at_of, origin_at};
+    ghost use Rattle.env_config.specs.ValueSource.{found_at, origin_at};
 
-    ghost from_gives = { λ source origin. origin ≡ origin_at (at_of source.now).reach (at_of source.now).holder };
+    ghost from_gives = { λ source origin. origin ≡ origin_at (found_at source.now).reach (found_at source.now).holder };
 
     fn from(source: &EnvConfigSource) -> Origin {
         source.origin()
@@ -112,7 +112,7 @@ impl From<&EnvConfigSource> for Origin {
 impl fmt::Display for Scope {
     ghost use Rattle.std.specs.Prelude.{Some};
     ghost use Rattle.env_config.specs.Value.{reach_text};
-    ghost use Rattle.env_config.specs.Values.{reach_of};
+    ghost use Rattle.env_config.specs.ValueSource.{reach_of};
 
     ghost output = { λ scope. Some (reach_text (reach_of scope)) };
 
@@ -127,7 +127,7 @@ impl fmt::Display for Scope {
 impl fmt::Display for Location {
     ghost use Rattle.std.specs.Prelude.{Some};
     ghost use Rattle.env_config.specs.Value.{holder_text};
-    ghost use Rattle.env_config.specs.Values.{holder_of};
+    ghost use Rattle.env_config.specs.ValueSource.{holder_of};
 
     ghost output = { λ location. Some (holder_text (holder_of location)) };
 
@@ -142,9 +142,9 @@ impl fmt::Display for Location {
 impl fmt::Display for EnvConfigSource {
     ghost use Rattle.std.specs.Prelude.{Some};
     ghost use Rattle.env_config.specs.Value.{found_text};
-    ghost use Rattle.env_config.specs.Values.{at_of};
+    ghost use Rattle.env_config.specs.ValueSource.{found_at};
 
-    ghost output = { λ source. Some (found_text (at_of source)) };
+    ghost output = { λ source. Some (found_text (found_at source)) };
 
     fn fmt<W: fmt::Write>(&self, f: &mut fmt::Formatter<W>) -> fmt::Result {
         let (scope, location, key) = (&self.scope, &self.location, &self.key);

@@ -1,5 +1,5 @@
 ghost use Rattle.std.specs.Prelude.{◌≡◌, [], ◌∷◌, ◌++◌, IfOk, OnErr, OnOk, Some, option_map, string_bytes};
-ghost use Rattle.smithy_core.specs.TextPairs.{last_value};
+ghost use Rattle.smithy_core.specs.Pairs.{last_value};
 ghost use Rattle.aws_intercept.specs.Agent.{agent_for_tests, agent_from};
 
 mod text;
@@ -38,7 +38,7 @@ pub struct AwsUserAgent {
 
 impl Model for AwsUserAgent {
     ghost use Rattle.std.specs.Prelude.{option_map, string_bytes};
-    ghost use Rattle.aws_intercept.specs.AgentParts.{Agent};
+    ghost use Rattle.aws_intercept.specs.Agent.{Agent};
 
     ghost Value = { Agent };
 
@@ -52,7 +52,7 @@ impl Model for AwsUserAgent {
       execution_environment = option_map string_bytes agent.execution_environment;
       metrics = agent.metrics.items;
       frameworks = agent.frameworks.items;
-      additional = agent.additional.items;
+      additional_metadata = agent.additional.items;
       app_name = agent.app_name;
       build = agent.build;
     } };
@@ -136,7 +136,7 @@ impl AwsUserAgent {
         })
     }
 
-    /// The same with this metric, after the others.
+    /// The agent with this metric, after the others.
     pub fn with_business_metric(mut self, metric: BusinessMetric) -> Mem<AwsUserAgent>
         ensures { IfOk result (λ agent. agent ≡ record self { metrics = self.metrics ++ metric ∷ [] }) }
     {
@@ -144,7 +144,7 @@ impl AwsUserAgent {
         Ok(self)
     }
 
-    /// The same with this framework, after the others.
+    /// The agent with this framework, after the others.
     pub fn with_framework_metadata(mut self, metadata: FrameworkMetadata) -> Mem<AwsUserAgent>
         ensures { IfOk result (λ agent. agent ≡ record self { frameworks = self.frameworks ++ metadata ∷ [] }) }
     {
@@ -152,29 +152,29 @@ impl AwsUserAgent {
         Ok(self)
     }
 
-    /// The same with this additional value, after the others.
+    /// The agent with this additional value, after the others.
     pub fn with_additional_metadata(mut self, metadata: AdditionalMetadata) -> Mem<AwsUserAgent>
-        ensures { IfOk result (λ agent. agent ≡ record self { additional = self.additional ++ metadata ∷ [] }) }
+        ensures { IfOk result (λ agent. agent ≡ record self { additional_metadata = self.additional_metadata ++ metadata ∷ [] }) }
     {
         self.push_additional(metadata)?;
         Ok(self)
     }
 
-    /// The same: metadata of a feature isn't kept.
+    /// The agent as it is: metadata of a feature isn't kept.
     pub fn with_feature_metadata(self, _metadata: FeatureMetadata) -> AwsUserAgent
         ensures { result ≡ self }
     {
         self
     }
 
-    /// The same: metadata of the configuration isn't kept.
+    /// The agent as it is: metadata of the configuration isn't kept.
     pub fn with_config_metadata(self, _metadata: ConfigMetadata) -> AwsUserAgent
         ensures { result ≡ self }
     {
         self
     }
 
-    /// The same with this name of the application.
+    /// The agent with this name of the application.
     pub fn with_app_name(mut self, app_name: AppName) -> AwsUserAgent
         ensures { result ≡ record self { app_name = Some app_name } }
     {
@@ -220,7 +220,7 @@ impl AwsUserAgent {
         metadata: AdditionalMetadata,
     ) -> Mem<&mut AwsUserAgent>
         ensures same_agent { IfOk result (λ agent. agent.ghost_name ≡ self.entry.ghost_name) }
-        ensures added { IfOk result (λ agent. agent.now ≡ record self.old { additional = self.old.additional ++ metadata ∷ [] }) }
+        ensures added { IfOk result (λ agent. agent.now ≡ record self.old { additional_metadata = self.old.additional_metadata ++ metadata ∷ [] }) }
     {
         self.push_additional(metadata)?;
         Ok(self)
@@ -246,7 +246,7 @@ impl AwsUserAgent {
 
     // Appends the additional value, or leaves the agent as it was.
     fn push_additional(&mut self, metadata: AdditionalMetadata) -> Mem<()>
-        ensures ok { OnOk result (self.new ≡ record self.old { additional = self.old.additional ++ metadata ∷ [] }) }
+        ensures ok { OnOk result (self.new ≡ record self.old { additional_metadata = self.old.additional_metadata ++ metadata ∷ [] }) }
         ensures err { OnErr result (self.new ≡ self.old) }
     {
         self.additional.push(metadata)?;

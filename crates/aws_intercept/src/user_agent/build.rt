@@ -48,7 +48,7 @@ pub struct BuildMetadata {
 }
 
 impl BuildMetadata {
-    /// The same metadata.
+    /// Equal metadata.
     pub fn try_clone(&self) -> Mem<BuildMetadata>
         ensures { IfOk result (IsSameBuild self.now) }
     {

@@ -1,5 +1,5 @@
 ghost use Rattle.std.specs.Prelude.{◌≡◌, IfOk};
-ghost use Rattle.aws_intercept.specs.Metadata.{ChecksNamed};
+ghost use Rattle.aws_intercept.specs.Metadata.{ChecksNameVersion};
 
 use crate::user_agent::metadata::InvalidMetadataValue;
 use crate::user_agent::name_version::NameVersion;
@@ -16,9 +16,9 @@ pub struct ConfigMetadata {
 }
 
 impl Model for ConfigMetadata {
-    ghost use Rattle.aws_intercept.specs.Metadata.{Named};
+    ghost use Rattle.aws_intercept.specs.Metadata.{NameVersion};
 
-    ghost Value = { Named };
+    ghost Value = { NameVersion };
 
     ghost view = { λ config. config.named };
 }
@@ -33,7 +33,7 @@ impl ConfigMetadata {
         name: String,
         version: Option<String>,
     ) -> Result<ConfigMetadata, InvalidMetadataValue>
-        ensures { ChecksNamed name version result }
+        ensures { ChecksNameVersion name version result }
     {
         let named = NameVersion::new(name, version)?;
         Ok(ConfigMetadata { named })

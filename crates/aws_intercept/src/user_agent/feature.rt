@@ -47,7 +47,7 @@ impl FeatureMetadata {
         })
     }
 
-    /// The same with this additional value, after the others.
+    /// The feature with this additional value, after the others.
     pub fn with_additional(mut self, metadata: AdditionalMetadata) -> Mem<FeatureMetadata>
         ensures { IfOk result (λ feature. feature ≡ record self { additional = self.additional ++ metadata ∷ [] }) }
     {

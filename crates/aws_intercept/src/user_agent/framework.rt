@@ -1,5 +1,5 @@
 ghost use Rattle.std.specs.Prelude.{◌≡◌, IfOk, option_copied};
-ghost use Rattle.aws_intercept.specs.Metadata.{ChecksNamed, is_named};
+ghost use Rattle.aws_intercept.specs.Metadata.{ChecksNameVersion, same_name_version};
 
 use crate::user_agent::metadata::InvalidMetadataValue;
 use crate::user_agent::name_version::NameVersion;
@@ -16,9 +16,9 @@ pub struct FrameworkMetadata {
 }
 
 impl Model for FrameworkMetadata {
-    ghost use Rattle.aws_intercept.specs.Metadata.{Named};
+    ghost use Rattle.aws_intercept.specs.Metadata.{NameVersion};
 
-    ghost Value = { Named };
+    ghost Value = { NameVersion };
 
     ghost view = { λ framework. framework.named };
 }
@@ -33,7 +33,7 @@ impl FrameworkMetadata {
         name: String,
         version: Option<String>,
     ) -> Result<FrameworkMetadata, InvalidMetadataValue>
-        ensures { ChecksNamed name version result }
+        ensures { ChecksNameVersion name version result }
     {
         let named = NameVersion::new(name, version)?;
         Ok(FrameworkMetadata { named })
@@ -55,7 +55,7 @@ impl FrameworkMetadata {
 
     /// Whether name and version are the same.
     pub(crate) fn is_same(&self, other: &FrameworkMetadata) -> bool
-        ensures { result ≡ is_named self.now other.now }
+        ensures { result ≡ same_name_version self.now other.now }
     {
         self.named.is_same(&other.named)
     }

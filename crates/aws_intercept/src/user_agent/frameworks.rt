@@ -1,7 +1,7 @@
 ghost use Rattle.std.specs.Prelude.{◌≡◌, IfOk, OnOk};
 ghost use Rattle.std.specs.List.{list_any};
 ghost use Rattle.aws_intercept.specs.Frameworks.{first_frameworks, first_ten_with, oldest_frameworks};
-ghost use Rattle.aws_intercept.specs.Metadata.{is_named};
+ghost use Rattle.aws_intercept.specs.Metadata.{same_name_version};
 
 use crate::user_agent::framework::FrameworkMetadata;
 use smithy_core::Mem;
@@ -62,7 +62,7 @@ fn keep(kept: &mut Vec<FrameworkMetadata>, framework: &FrameworkMetadata) -> Mem
 }
 
 fn holds(frameworks: &[FrameworkMetadata], framework: &FrameworkMetadata) -> bool
-    ensures { result ≡ list_any (λ other. is_named other framework.now) frameworks.now }
+    ensures { result ≡ list_any (λ other. same_name_version other framework.now) frameworks.now }
 {
     frameworks.iter().any(|other| other.is_same(framework))
 }

@@ -1,5 +1,5 @@
 ghost use Rattle.std.specs.Prelude.{◌≡◌, [], ◌∷◌, ◌++◌, IfOk, codes, option_map, string_bytes};
-ghost use Rattle.aws_intercept.specs.UserAgent.{AddsConnector, MakesAgent, MakesNewAgent, SendsAgent, SendsText};
+ghost use Rattle.aws_intercept.specs.Interceptor.{AddsConnector, MakesAgent, MakesNewAgent, SendsAgent, SendsText};
 ghost use Rattle.aws_intercept.specs.declared.user_agent.interceptor.UserAgentFault.TheVariants.{InvalidMetadataValue as InvalidValue, NoMemory};
 
 use crate::bag::ConfigBag;
@@ -29,7 +29,7 @@ pub enum UserAgentFault {
 
 impl fmt::Display for UserAgentFault {
     ghost use Rattle.std.specs.Prelude.{Some};
-    ghost use Rattle.aws_intercept.specs.Texts.{user_agent_fault_text};
+    ghost use Rattle.aws_intercept.specs.Interceptor.{user_agent_fault_text};
 
     ghost output = { λ fault. Some (user_agent_fault_text fault) };
 

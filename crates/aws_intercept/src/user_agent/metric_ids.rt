@@ -1,7 +1,7 @@
 ghost use Rattle.std.specs.Prelude.{◌≡◌, ◌≤◌, ◌==◌, ◌++◌, IfOk, IfSome, OnOk, Some, codes, flat_map, if◌then◌else◌, length, string_bytes};
 ghost use Rattle.std.specs.Str.{IsAscii};
 ghost use Rattle.aws_intercept.specs.Metric.{metric_id};
-ghost use Rattle.aws_intercept.specs.MetricIds.{fitted, joined_ids, last_comma};
+ghost use Rattle.aws_intercept.specs.MetricIds.{comma, fitted, joined_ids, last_comma};
 
 use crate::user_agent::metric::{BusinessMetric, push_metric};
 use smithy_core::Mem;
@@ -70,7 +70,7 @@ fn last_comma(ids: &[u8]) -> Option<usize>
 
 // The place where the byte is a comma, or else the one before.
 fn if_comma(last: Option<usize>, at: usize, byte: u8) -> Option<usize>
-    ensures { result ≡ (if byte == 44 then Some at else last) }
+    ensures { result ≡ (if byte == comma then Some at else last) }
 {
     if byte == b',' { Some(at) } else { last }
 }

@@ -1,5 +1,5 @@
 ghost use Rattle.std.specs.Prelude.{◌≡◌, IfOk, option_copied, option_map, string_bytes};
-ghost use Rattle.aws_intercept.specs.Metadata.{ChecksNamed, is_named};
+ghost use Rattle.aws_intercept.specs.Metadata.{ChecksNameVersion, same_name_version};
 
 use crate::copied::copied_text;
 use crate::user_agent::metadata::{InvalidMetadataValue, is_metadata};
@@ -16,9 +16,9 @@ pub(crate) struct NameVersion {
 
 impl Model for NameVersion {
     ghost use Rattle.std.specs.Prelude.{option_map, string_bytes};
-    ghost use Rattle.aws_intercept.specs.Metadata.{Named};
+    ghost use Rattle.aws_intercept.specs.Metadata.{NameVersion};
 
-    ghost Value = { Named };
+    ghost Value = { NameVersion };
 
     ghost view = { λ named. record { name = string_bytes named.name; version = option_map string_bytes named.version } };
 }
@@ -29,7 +29,7 @@ impl NameVersion {
         name: String,
         version: Option<String>,
     ) -> Result<NameVersion, InvalidMetadataValue>
-        ensures { ChecksNamed name version result }
+        ensures { ChecksNameVersion name version result }
     {
         if !is_metadata(name.as_str()) {
             return Err(InvalidMetadataValue);
@@ -61,7 +61,7 @@ impl NameVersion {
 
     /// Whether both texts are the same.
     pub(crate) fn is_same(&self, other: &NameVersion) -> bool
-        ensures { result ≡ is_named self.now other.now }
+        ensures { result ≡ same_name_version self.now other.now }
     {
         self.name() == other.name() && self.version() == other.version()
     }
@@ -79,9 +79,9 @@ impl NameVersion {
 
 impl fmt::Display for NameVersion {
     ghost use Rattle.std.specs.Prelude.{Some};
-    ghost use Rattle.aws_intercept.specs.Metadata.{named_text};
+    ghost use Rattle.aws_intercept.specs.Metadata.{name_version_text};
 
-    ghost output = { λ named. Some (named_text named) };
+    ghost output = { λ named. Some (name_version_text named) };
 
     fn fmt<W: fmt::Write>(&self, f: &mut fmt::Formatter<W>) -> fmt::Result {
         let name = &self.name;

@@ -1,5 +1,5 @@
 ghost use Rattle.std.specs.Prelude.{◌≡◌};
-ghost use Rattle.aws_intercept.specs.Features.{aws_metric, credential_metric, smithy_metric};
+ghost use Rattle.aws_intercept.specs.SdkFeature.{aws_metric, credential_metric, smithy_metric};
 
 use crate::user_agent::metric::BusinessMetric;
 

@@ -1,5 +1,5 @@
 use Rattle.std.proofs.Common.{◌≡◌, drop, map, string_bytes}
-use Rattle.aws_intercept.specs.Codes.{is_listed}
+use Rattle.aws_intercept.specs.Classify.{is_listed}
 use Rattle.aws_intercept.proofs.classify.contains_text.Given as goal
 
 abbrev pub invariant-loop-known : goal.invariant-loop-known

@@ -29,7 +29,7 @@ impl AwsUserAgent {
         Ok(text)
     }
 
-    /// The text of the header `user-agent`, which is the same.
+    /// The text of the header `user-agent`, which is that of [`aws_ua_header`](Self::aws_ua_header).
     pub fn ua_header(&self) -> Mem<String>
         ensures { IfOk result (λ text. string_bytes text ≡ agent_text self.now) }
     {

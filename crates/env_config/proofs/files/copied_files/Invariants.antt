@@ -1,7 +1,7 @@
 use Rattle.std.proofs.Common.{◌≡◌, map, take}
-use Rattle.env_config.specs.Files.{place_of}
+use Rattle.env_config.specs.Files.{file_place}
 use Rattle.env_config.proofs.files.copied_files.Given as goal
 
 -- the files that passed are copied
 abbrev pub invariant-loop-file : goal.invariant-loop-file
-invariant-loop-file l = map place_of l.copies.items ≡ map place_of (take l.file-index l.files)
+invariant-loop-file l = map file_place l.copies.items ≡ map file_place (take l.file-index l.files)

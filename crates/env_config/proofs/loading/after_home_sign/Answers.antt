@@ -1,6 +1,6 @@
 use Rattle.std.proofs.Common.{◌∙◌, ap, sym, lit<, Bool, Some, None, cond, option_copied}
 use Rattle.std.proofs.lemmas.Str.Pattern.{strip_prefix_char}
-use Rattle.env_config.specs.Files.{below_home}
+use Rattle.env_config.specs.Loading.{below_home}
 use Rattle.env_config.proofs.LineLemmas.{after_is}
 use Rattle.env_config.proofs.loading.after_home_sign.Goals as goal
 

@@ -1,7 +1,8 @@
 use Rattle.std.proofs.Common.{◌≡◌, ◌≤◌, map, drop}
 use Rattle.std.specs.String.{string_bytes}
-use Rattle.env_config.specs.Files.{place_of, places_of, selected_profile}
-use Rattle.env_config.specs.Words.{file_of}
+use Rattle.env_config.specs.Files.{file_place, file_places}
+use Rattle.env_config.specs.Loading.{selected_profile}
+use Rattle.env_config.specs.Source.{file_of}
 use Rattle.env_config.proofs.LoadLemmas.{ReadSoFar}
 use Rattle.env_config.proofs.loading.load.Given as goal
 
@@ -10,6 +11,6 @@ abbrev pub invariant-loop-file : goal.invariant-loop-file
 invariant-loop-file g l = let disk = g.D.Disk in record {
   count : disk.faults l.fn.disk ≤ disk.faults l.disk;
   same : disk.files l.disk ≡ disk.files l.fn.disk;
-  read : ReadSoFar (disk.files l.fn.disk) l.env (places_of l.files) (disk.faults l.fn.disk) (map place_of (drop l.file-index l.file-items)) (disk.faults l.disk) (map file_of l.texts.items);
+  read : ReadSoFar disk.answers disk.faults (disk.files l.fn.disk) l.env (file_places l.files) l.fn.disk (map file_place (drop l.file-index l.file-items)) l.disk (map file_of l.texts.items);
   profile : string_bytes l.profile ≡ selected_profile l.env;
 }

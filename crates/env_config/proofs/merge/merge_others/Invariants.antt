@@ -1,7 +1,7 @@
 use Rattle.std.proofs.Common.{◌≡◌}
-use Rattle.env_config.specs.Drafting.{pairs_of}
+use Rattle.env_config.specs.Texts.{pairs_of}
 use Rattle.env_config.specs.Sections.{put_others}
-use Rattle.env_config.specs.Words.{others_of}
+use Rattle.env_config.specs.Properties.{others_of}
 use Rattle.env_config.proofs.merge.merge_others.Given as goal
 
 -- the pairs to come give what all pairs give

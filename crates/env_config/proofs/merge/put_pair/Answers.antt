@@ -1,7 +1,7 @@
 use Rattle.std.proofs.Common.{◌∙◌, refl, ap, sym, Bool, cond, string_bytes}
 use Rattle.env_config.specs.Sections.{is_identifier}
 use Rattle.env_config.specs.Texts.{put}
-use Rattle.env_config.specs.Words.{values_of}
+use Rattle.env_config.specs.Section.{values_of}
 use Rattle.env_config.proofs.KeyedLemmas.{property_keyed}
 use Rattle.env_config.proofs.MergeLemmas.{property_put}
 use Rattle.env_config.proofs.merge.put_pair.Goals as goal

@@ -1,7 +1,7 @@
 use Rattle.std.proofs.Common.{◌≡◌}
-use Rattle.env_config.specs.Drafting.{pairs_of}
+use Rattle.env_config.specs.Texts.{pairs_of}
 use Rattle.env_config.specs.Sections.{put_identifiers}
-use Rattle.env_config.specs.Words.{IsKeyed, contents_of, values_of}
+use Rattle.env_config.specs.Section.{IsKeyed, contents_of, values_of}
 use Rattle.env_config.proofs.merge.put_pairs.Given as goal
 
 -- the pairs to come give what all pairs give

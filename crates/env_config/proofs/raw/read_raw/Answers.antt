@@ -1,6 +1,6 @@
 use Rattle.std.proofs.Common.{◌≡◌, ◌∙◌, ap, sym, Ok, List, ℕ, length, eqb-true}
-use Rattle.env_config.specs.Drafting.{state_of}
-use Rattle.env_config.specs.Line.{lines_of}
+use Rattle.env_config.specs.Draft.{state_of}
+use Rattle.env_config.specs.Line.{profile_lines}
 use Rattle.env_config.specs.Raw.{raw, raw_from}
 use Rattle.env_config.specs.Texts.{Named}
 use Rattle.env_config.proofs.ApartLemmas.{read_apart}
@@ -12,7 +12,7 @@ returns-in-Err-clause-reads c =
     let draft = state_of c.loop-rest.draft in
     let number = c.loop-rest.number in
     let line = c.cut_line.result.0.now in
-    let lines = lines_of c.cut_line.result.1.now in
+    let lines = profile_lines c.cut_line.result.1.now in
     rw c.at.ensures (raw_refused number draft (state_of c.take_line.new.self) line lines c.in-Err.fault (raw c.args.text.now)
     (ap (raw_from number draft) (sym c.cut_line.ensures.lines) ∙ c.loop-rest.invariant.to_come) c.in-Err.ensures)
 

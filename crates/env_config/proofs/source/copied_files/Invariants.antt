@@ -1,5 +1,5 @@
 use Rattle.std.proofs.Common.{◌≡◌, map, take}
-use Rattle.env_config.specs.Words.{file_of}
+use Rattle.env_config.specs.Source.{file_of}
 use Rattle.env_config.proofs.source.copied_files.Given as goal
 
 -- the files that passed are copied

@@ -1,5 +1,5 @@
 use Rattle.std.proofs.Common.{◌∙◌, ap, sym, List, String, Global}
-use Rattle.env_config.specs.Texts.{Named, put_named, value_at}
+use Rattle.env_config.specs.Texts.{Named, put_named, value_under}
 use Rattle.env_config.proofs.TextsLemmas.{named_known, named_new, named_of, value_before}
 use Rattle.env_config.proofs.by_name.ByName.replace.Goals as goal
 
@@ -15,7 +15,7 @@ returns-then-is_some-clause-before g c =
     let name = c.args.name.now in
     value_before c.self.inside.names.items c.self.inside.values.entries c.insert.new.self.entries c.in_ok-from_str.field-0 name c.args.value c.in_ok-before.before
     c.in_ok-from_str.ensures.ok c.in_ok-before.ensures.entries c.in_ok-before.ensures.old
-    ∙ ap (λ (named : Named g.row.V.Denot). value_at named.values name) c.self.view_is
+    ∙ ap (λ (named : Named g.row.V.Denot). value_under named.values name) c.self.view_is
 
 pub returns-clause-now : goal.returns-clause-now
 returns-clause-now g c =
@@ -30,4 +30,4 @@ returns-clause-before g c =
     let name = c.args.name.now in
     value_before c.self.inside.names.items c.self.inside.values.entries c.insert.new.self.entries c.in_ok-from_str.field-0 name c.args.value c.in_ok-before.before
     c.in_ok-from_str.ensures.ok c.in_ok-before.ensures.entries c.in_ok-before.ensures.old
-    ∙ ap (λ (named : Named g.row.V.Denot). value_at named.values name) c.self.view_is
+    ∙ ap (λ (named : Named g.row.V.Denot). value_under named.values name) c.self.view_is

@@ -1,5 +1,5 @@
 use Rattle.std.proofs.Common.{string_bytes}
-use Rattle.env_config.specs.Drafting.{state_of}
+use Rattle.env_config.specs.Draft.{state_of}
 use Rattle.env_config.proofs.RawLemmas.{opened_is}
 use Rattle.env_config.proofs.draft.Draft.open.Goals as goal
 

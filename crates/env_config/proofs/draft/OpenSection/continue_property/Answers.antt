@@ -1,5 +1,5 @@
 use Rattle.std.specs.Prelude.{string_bytes}
-use Rattle.env_config.specs.Drafting.{last_of}
+use Rattle.env_config.specs.Draft.{last_of}
 use Rattle.env_config.proofs.RawLemmas.{section_grown}
 use Rattle.env_config.proofs.draft.OpenSection.continue_property.Goals as goal
 

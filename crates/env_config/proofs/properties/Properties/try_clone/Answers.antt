@@ -1,6 +1,6 @@
 use Rattle.std.proofs.Common.{ap₂, List, ℕ, String, Global, string_bytes}
 use Rattle.env_config.specs.Sections.{Key}
-use Rattle.env_config.specs.Words.{key_of}
+use Rattle.env_config.specs.PropertiesKey.{key_of}
 use Rattle.env_config.specs.declared.properties_key.PropertiesKey.{PropertiesKey}
 use Rattle.env_config.proofs.CloneLemmas.{map_alike}
 use Rattle.env_config.proofs.properties.Properties.try_clone.Goals as goal

@@ -1,7 +1,7 @@
 use Rattle.std.proofs.Common.{◌≡◌, ◌∙◌, ◌+◌, ◌∷◌, ap, sym, refl, subst, List, ℕ, [], map, drop, string_bytes}
 use Rattle.env_config.specs.Sections.{with_names}
-use Rattle.env_config.specs.Texts.{IsApart, Named, by_text, value_at}
-use Rattle.env_config.specs.Words.{sections_of}
+use Rattle.env_config.specs.Texts.{IsApart, Named, by_text, value_under}
+use Rattle.env_config.specs.EnvConfigSections.{sections_of}
 use Rattle.env_config.proofs.ApartLemmas.{all_always, name_merged, names_alike, names_front}
 use Rattle.env_config.proofs.sections.EnvConfigSections.merge_file.Goals as goal
 
@@ -15,7 +15,7 @@ loop-name-init c =
     record {
       to_come = ap (with_names before c.args.kind overridden texts) names
           ∙ names_alike before c.args.kind overridden raw texts raw.names
-          (all_always (λ (name : List ℕ). value_at texts.values name ≡ value_at raw.values name) (λ name. ap (λ (values : List (List ℕ × List (List ℕ × List ℕ))). value_at values name) c.into_parts-names.ensures.values) raw.names);
+          (all_always (λ (name : List ℕ). value_under texts.values name ≡ value_under raw.values name) (λ name. ap (λ (values : List (List ℕ × List (List ℕ × List ℕ))). value_under values name) c.into_parts-names.ensures.values) raw.names);
       apart = subst IsApart (sym names) c.requires;
       selected = refl;
       keys = λ keyed. keyed;

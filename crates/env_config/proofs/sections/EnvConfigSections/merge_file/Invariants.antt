@@ -2,7 +2,7 @@ use Rattle.std.proofs.Common.{◌≡◌, [], map, drop}
 use Rattle.std.specs.String.{string_bytes}
 use Rattle.env_config.specs.Sections.{with_names}
 use Rattle.env_config.specs.Texts.{IsApart, by_text}
-use Rattle.env_config.specs.Words.{AreKeyed, sections_of, selected_of}
+use Rattle.env_config.specs.EnvConfigSections.{AreKeyed, sections_of, selected_of}
 use Rattle.env_config.proofs.sections.EnvConfigSections.merge_file.Given as goal
 
 -- the names to come give what all names give

@@ -1,6 +1,7 @@
 use Rattle.std.proofs.Common.{◌≡◌, map, drop, string_bytes}
 use Rattle.env_config.specs.Sections.{files_from, no_sections}
-use Rattle.env_config.specs.Words.{AreKeyed, file_of, sections_of, selected_of}
+use Rattle.env_config.specs.EnvConfigSections.{AreKeyed, sections_of, selected_of}
+use Rattle.env_config.specs.Source.{file_of}
 use Rattle.env_config.proofs.sections.EnvConfigSections.parse.Given as goal
 
 -- the files to come give what all files give

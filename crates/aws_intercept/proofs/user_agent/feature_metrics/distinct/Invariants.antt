@@ -1,7 +1,0 @@
-use Rattle.std.proofs.Common.{◌≡◌, take}
-use Rattle.aws_intercept.specs.Distinct.{distinct}
-use Rattle.aws_intercept.specs.Metric.{is_metric}
-use Rattle.aws_intercept.proofs.user_agent.feature_metrics.distinct.Given as goal
-
-abbrev pub invariant-loop-metric : goal.invariant-loop-metric
-invariant-loop-metric l = l.kept.items ≡ distinct is_metric (take l.metric-index l.metrics)
