@@ -1,6 +1,9 @@
+pub mod CanonicalLemmas
 pub mod CopyLemmas
+pub mod HeaderLemmas
 pub mod JoinLemmas
 pub mod NameLemmas
+pub mod ParameterLemmas
 pub mod PathLemmas
 pub mod QueryLemmas
 pub mod RefusalLemmas

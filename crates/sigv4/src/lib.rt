@@ -14,22 +14,36 @@
 #![tactic(auto)]
 
 mod body;
+mod canonical;
+mod canonical_headers;
+mod canonical_query;
 mod credentials;
 mod error;
 pub mod event_stream;
+mod grammar;
 mod header;
+mod host;
 mod instructions;
 mod key;
 mod laws;
+mod line;
 mod modes;
 mod output;
+mod parameters;
 mod params;
 mod path;
+mod refusal;
 mod request;
 mod request_signing;
 mod settings;
 mod signature;
+mod signed;
 mod signing_params;
+mod signing_scope;
+mod signing_texts;
+mod signing_time;
+mod token_name;
+mod trim;
 pub mod v4;
 
 pub use crate::body::SignableBody;
