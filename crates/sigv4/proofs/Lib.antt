@@ -1,6 +1,6 @@
 pub mod CanonicalLemmas
 pub mod CopyLemmas
-pub mod HeadLemmas
+pub mod HeaderLemmas
 pub mod JoinLemmas
 pub mod NameLemmas
 pub mod ParameterLemmas

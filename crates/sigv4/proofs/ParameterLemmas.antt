@@ -1,10 +1,11 @@
 -- A target takes more parameters unless its text is `*` or gets too long.
-use Rattle.std.proofs.Common.{rules, ◌≡◌, ◌≢◌, ◌==◌, ◌||◌, ℕ, ◌+◌, ◌<◌, ◌≤◌, ◌⊎◌, cond, true, not, is_some, map, IsTrue, List, [], ◌∷◌, ◌++◌, length, get_or, drop, Option, Some, None, refl, sym, ap, subst, ◌∙◌, arith, inl, inr, take_at, take_all, drop_at, drop-drop, get_or-take, length-append, append-nil, append_assoc, ne_eqb, le-ltb, length-take-le, lt-ltb, All}
+use Rattle.std.proofs.Common.{rules, ◌≡◌, ◌≢◌, ◌==◌, ◌||◌, ℕ, ◌+◌, ◌<◌, ◌≤◌, cond, true, false, not, is_some, map, IsTrue, List, [], ◌∷◌, ◌++◌, length, get_or, drop, Option, Some, None, refl, sym, ap, subst, ◌∙◌, arith, inl, inr, take_at, take_all, drop_at, drop-drop, get_or-take, length-append, append-nil, append_assoc, ne_eqb, le-ltb, length-take-le, lt-ltb, All}
 use Rattle.std.specs.Prelude.{◌↔◌, IfSome, IsNone, IsSome, IsUtf8, bytes_eq, codes}
 use Rattle.std.specs.List.{join_with_byte}
-use Rattle.std.proofs.lemmas.Bool.{false≢true, cases_Bool, cases_lt, or_right}
+use Rattle.std.proofs.lemmas.Bool.{false≢true, cases_Bool, cases_lt, ltb-true, or_right}
 use Rattle.std.proofs.lemmas.Bool.Decides.{nat_tests}
 use Rattle.std.proofs.lemmas.List.{get_or_append_left}
+use Rattle.std.proofs.lemmas.Slice.Eq.{bytes_eq-Decides}
 use Rattle.std.proofs.lemmas.List.Elements.{All-append, All-nil, All-cons, All-get_or, All-from_get_or}
 use Rattle.std.proofs.lemmas.Str.{IsUtf8-from_ascii, IsUtf8-append, IsUtf8-take, IsUtf8-drop, IsCharBoundary-before_ascii, IsCharBoundary-after_ascii}
 use Rattle.http_uri.specs.ByteClasses.{lowercase, is_path_byte, is_query_byte, is_delimiter, index_of, framed_text, split_once_front, split_once_back}
@@ -15,14 +16,14 @@ use Rattle.http_uri.proofs.RunLemmas.{AllPass-at, IsAscii-pass, index_of_at_leas
 use Rattle.http_uri.proofs.AuthorityLemmas.{IsAuthority_no_delimiter}
 use Rattle.http_uri.proofs.PathLemmas.{path_byte_no_mark, query_byte_no_hash, IsPathAndQuery_slash}
 use Rattle.http_uri.proofs.UriLemmas.{cut_long, cut_scheme, none_of}
-use Rattle.smithy_http.specs.QueryWriter.{IsRefused, SpellsTarget, before_pair, escaped_pair, with_pair}
+use Rattle.smithy_http.specs.Building.{IsRefused, SpellsTarget, before_pair, escaped_pair, with_pair}
 use Rattle.smithy_http.specs.Escape.{base_set, escaped}
 use Rattle.smithy_http.specs.Query.{ampersand, pair, pair_text}
 use Rattle.smithy_http.specs.Target.{Target, target_of, target_text}
 use Rattle.smithy_http.proofs.FitLemmas.{is_harmless, base_harmless, query_of_harmless}
 use Rattle.smithy_http.proofs.QueryLemmas.{pairs_joined}
 use Rattle.sigv4.specs.Query.{Pair}
-use Rattle.sigv4.specs.Targets.{TakesNoMore, with_params}
+use Rattle.sigv4.specs.Parameters.{is_asterisk, is_too_long, takes_no_more, with_params}
 
 -- a text that may be a query
 abbrev IsQueryText : List ℕ → Type 0
@@ -247,41 +248,55 @@ star_refused query = none_of (42 ∷ 63 ∷ query) no_start (λ host _. false≢
     no_scheme : (scheme authority kept : List ℕ) → ¬ (IsAbsoluteForm (42 ∷ 63 ∷ query) scheme authority kept)
     no_scheme scheme authority kept h = let cut = (cut_scheme (42 ∷ 63 ∷ query) scheme authority kept h).1 in omega (arith, ap (λ t. get_or t 0 0) cut)
 
--- the text of a target that is `*`, or is past the limit, where it is refused with a query
-abbrev WhyRefused : List ℕ → List ℕ → Type 0
-WhyRefused text joined = (text ≡ 42 ∷ []) ⊎ (65534 < length joined)
-
-unless_long : (text joined : List ℕ) → (length joined ≤ 65534 → ¬ (SpellsNone joined)) → SpellsNone joined → WhyRefused text joined
-unless_long text joined accepted none = elim (cases_lt 65534 (length joined)) [ inl long ↦ inr long | inr short ↦ absurd (accepted short none) ]
-
 long_refused : (joined : List ℕ) → 65534 < length joined → SpellsNone joined
 long_refused joined long scheme authority kept h = omega (arith, long, h.0)
 
+-- a text isn't accepted exactly where its path is `*` or it is too long
+abbrev Verdict : List ℕ → List ℕ → Type 0
+Verdict path joined = SpellsNone joined ↔ ((bytes_eq path (42 ∷ []) || is_too_long joined) ≡ true)
+
+slash_no_star : (path : List ℕ) → get_or path 0 0 ≡ 47 → bytes_eq path (42 ∷ []) ≡ false
+slash_no_star path slash = elim (cases_Bool (bytes_eq path (42 ∷ []))) [
+  | inl star ↦ absurd (omega (arith, slash, ap (λ t. get_or t 0 0) ((bytes_eq-Decides path (42 ∷ [])).0 star)))
+  | inr other ↦ other
+]
+
+-- so it is of a path that begins with a slash, and a text that is accepted where it isn't too long
+verdict : (path joined : List ℕ) → get_or path 0 0 ≡ 47 → (length joined ≤ 65534 → ¬ (SpellsNone joined)) → Verdict path joined
+verdict path joined slash accepted = (none, refused)
+  where
+    none : SpellsNone joined → (bytes_eq path (42 ∷ []) || is_too_long joined) ≡ true
+    none spells = elim (cases_lt 65534 (length joined)) [
+      | inl long ↦ or_right (bytes_eq path (42 ∷ [])) (is_too_long joined) (lt-ltb 65534 (length joined) long)
+      | inr short ↦ absurd (accepted short spells)
+    ]
+
+    refused : (bytes_eq path (42 ∷ []) || is_too_long joined) ≡ true → SpellsNone joined
+    refused why = let long : is_too_long joined ≡ true = rw (slash_no_star path slash) at why in long_refused joined (ltb-true 65534 (length joined) long)
+
 -- a target with a query in place of its own is refused where it is `*`, or the text is past the limit, and nowhere else
 refused_by : (text : List ℕ) (scheme authority : Option (List ℕ)) (kept query : List ℕ) → IsForm text scheme authority kept → ¬ (IsNone scheme × IsSome authority) → IsQueryText query
-    → SpellsNone (text_by scheme authority kept query) ↔ WhyRefused text (text_by scheme authority kept query)
-refused_by text None None kept query h alone asked = subst (λ k. SpellsNone (text_by None None k query) ↔ WhyRefused text (text_by None None k query)) (sym h.1) (elim h.0.0 [
-  | inl star ↦ rw star (rw (append-nil query) ((λ none. inl refl), (λ _. star_refused query)))
+    → Verdict (path_by scheme kept) (text_by scheme authority kept query)
+refused_by text None None kept query h alone asked = subst (λ k. Verdict (path_by None k) (text_by None None k query)) (sym h.1) (elim h.0.0 [
+  | inl star ↦ rw star (rw (append-nil query) ((λ none. refl), (λ _. star_refused query)))
   | inr slash ↦
       let path = origin_path text slash h.0.1.kept in
       let joined : text_by None None (without_fragment text) query ≡ path_of (without_fragment text) ++ 63 ∷ query = rw (path.0, append-nil query) refl in
-      rw joined (unless_long text _ (accepted_origin _ query path.1 asked), other slash)
+      subst (λ p. Verdict p (text_by None None (without_fragment text) query)) (sym path.0)
+      (subst (Verdict (path_of (without_fragment text))) (sym joined)
+      (verdict (path_of (without_fragment text)) _ path.1.slash (accepted_origin _ query path.1 asked)))
 ])
-  where
-    other : get_or text 0 0 ≡ 47 → WhyRefused text (path_of (without_fragment text) ++ 63 ∷ query) → SpellsNone (path_of (without_fragment text) ++ 63 ∷ query)
-    other slash (inl star) = absurd (omega (arith, slash, ap (λ t. get_or t 0 0) star))
-    other slash (inr long) = long_refused _ long
 refused_by text None (Some authority) kept query h alone asked = absurd (alone (refl, refl))
 refused_by text (Some scheme) None kept query h alone asked = absurd h
 refused_by text (Some scheme) (Some authority) kept query h alone asked =
     let held = subst (λ s. IsScheme s × (normal_scheme s ≡ s)) (sym h.normal) (scheme_held h.name h.is_scheme) in
+    let is_path = tail_path h.tail kept h.is_tail in
+    let path : path_by (Some scheme) kept ≡ path_of kept = rw (or_right (not (length kept == 0)) true refl) refl in
     let joined : text_by (Some scheme) (Some authority) kept query ≡ scheme ++ 58 ∷ 47 ∷ 47 ∷ (authority ++ (path_of kept ++ 63 ∷ query)) =
     rw (or_right (not (length kept == 0)) true refl, append-nil authority, append-nil query) (append_assoc scheme (58 ∷ 47 ∷ 47 ∷ []) _) in
-    rw joined (unless_long text _ (accepted_absolute scheme authority (path_of kept) query held.0 held.1 h.is_authority (tail_path h.tail kept h.is_tail) asked), other)
-  where
-    other : WhyRefused text (scheme ++ 58 ∷ 47 ∷ 47 ∷ (authority ++ (path_of kept ++ 63 ∷ query))) → SpellsNone (scheme ++ 58 ∷ 47 ∷ 47 ∷ (authority ++ (path_of kept ++ 63 ∷ query)))
-    other (inl star) = absurd (omega (arith, ap length star, cut_long text scheme authority kept h))
-    other (inr long) = long_refused _ long
+    subst (λ p. Verdict p (text_by (Some scheme) (Some authority) kept query)) (sym path)
+    (subst (Verdict (path_of kept)) (sym joined)
+    (verdict (path_of kept) _ is_path.slash (accepted_absolute scheme authority (path_of kept) query held.0 held.1 h.is_authority is_path asked)))
 
 -- the query that is read of a target
 kept_asked : (text : List ℕ) (scheme authority : Option (List ℕ)) (kept : List ℕ) → IsForm text scheme authority kept → IfSome (query_of kept) IsQueryText
@@ -296,12 +311,12 @@ kept_asked text (Some scheme) (Some authority) kept h = tail_asked h.tail kept h
 
 -- a target with more parameters is refused exactly where it takes no more
 pub refused_where : (old : List ℕ) (uri : Uri) (param : Pair) (params : List Pair) → SpellsTarget old uri
-    → IsRefused (with_params (target_of uri) (param ∷ params)) ↔ TakesNoMore (param ∷ params) old uri
+    → IsRefused (with_params (target_of uri) (param ∷ params)) ↔ (takes_no_more (param ∷ params) (target_of uri) ≡ true)
 unfolding target_text
 refused_where old uri param params spells =
     let t = target_of uri in
     let query = query_with t param params in
     let asked = query_with_asked t param params (kept_asked old (uri_scheme uri) (uri_authority uri) (uri_data uri) spells.0.1) in
     let by = refused_by old (uri_scheme uri) (uri_authority uri) (uri_data uri) query spells.0.1 spells.1 asked in
-    subst (λ x. IsRefused x ↔ (old ≡ codes "*") ⊎ (65534 < length (target_text x))) (sym (with_query t param params))
+    subst (λ x. IsRefused x ↔ ((is_asterisk t || is_too_long (target_text x)) ≡ true)) (sym (with_query t param params))
     ((λ refused. elim refused [ inl alone ↦ absurd (spells.1 alone) | inr none ↦ by.0 none ]), λ why. inr (by.1 why))

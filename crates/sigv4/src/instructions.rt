@@ -1,19 +1,18 @@
-ghost use Rattle.std.specs.Prelude.{◌≡◌, ◌++◌, [], codes, map, true, false, IfOk, OnOk, OnErr, option_copied};
+ghost use Rattle.std.specs.Prelude.{◌≡◌, [], map, IfOk, OnOk, OnErr};
+ghost use Rattle.std.specs.Option.{option_map_or};
 ghost use Rattle.std.specs.String.{string_bytes};
-ghost use Rattle.smithy_core.specs.TextPairs.{text_pairs};
-ghost use Rattle.sigv4.specs.Canonical.{told_payload, token_name};
+ghost use Rattle.smithy_core.specs.Pairs.{text_pairs};
+ghost use Rattle.smithy_http.specs.Building.{SpellsTarget};
+ghost use Rattle.smithy_http.specs.Target.{target_of};
 ghost use Rattle.sigv4.specs.Instructions.{told_pair, with_instructions};
-ghost use Rattle.sigv4.specs.Settings.{settings_of};
-ghost use Rattle.sigv4.specs.Targets.{AppliesParams};
-ghost use Rattle.sigv4.specs.Signed.{instructions_for, optional};
+ghost use Rattle.sigv4.specs.Parameters.{AppliesParams, AppliesTo};
 
-use crate::apply::{headers_with, target_with};
 use crate::error::SigningError;
 use crate::header::{Header, HeaderPairs};
-use crate::heads::token_name;
-use crate::prepared::Prepared;
-use crate::settings::{PayloadChecksumKind, SigningSettings};
-use smithy_core::{HttpRequest, Mem};
+use crate::parameters::target_with;
+use http_uri::Uri;
+use smithy_core::{Headers, HttpRequest, Mem};
+use smithy_http::read_target;
 use std::alloc::Global;
 use std::marker::Model;
 
@@ -27,7 +26,7 @@ pub struct SigningInstructions {
 }
 
 impl Model for SigningInstructions {
-    ghost use Rattle.smithy_core.specs.TextPairs.{text_pairs};
+    ghost use Rattle.smithy_core.specs.Pairs.{text_pairs};
     ghost use Rattle.sigv4.specs.Instructions.{Instructions};
 
     ghost Value = { Instructions };
@@ -43,6 +42,16 @@ impl SigningInstructions {
         SigningInstructions {
             headers,
             params: Vec::new(alloc),
+        }
+    }
+
+    // These parameters, and no headers.
+    pub(crate) fn of_params(alloc: Global, params: Vec<(String, String)>) -> SigningInstructions
+        ensures { result ≡ record { headers = []; params = text_pairs params.items } }
+    {
+        SigningInstructions {
+            headers: Vec::new(alloc),
+            params,
         }
     }
 
@@ -83,13 +92,31 @@ impl SigningInstructions {
         ensures body { request.new.body ≡ request.old.body }
         ensures err { OnErr result ((request.new.headers ≡ request.old.headers) × (request.new.target ≡ request.old.target)) }
     {
+        let uri = read_target(*self.headers.allocator(), request.target.as_str())?;
+        self.apply_to_parsed(request, &uri)
+    }
+
+    /// Puts the signature into its request as [`SigningInstructions::apply_to_request`] does, where the request's target was
+    /// read already: `uri` has to be what it spells, as of [`SignableRequest::into_uri`](crate::SignableRequest::into_uri).
+    /// This crate's own.
+    ///
+    /// # Errors
+    ///
+    /// [`SigningError::InvalidUri`], and nothing changes, exactly where there are parameters and the target is `*` or the new
+    /// one passes 65,534 bytes.
+    pub fn apply_to_parsed(self, request: &mut HttpRequest, uri: &Uri) -> Result<(), SigningError>
+        requires { SpellsTarget (string_bytes request.old.target) uri.now }
+        ensures headers { OnOk result (request.new.headers ≡ with_instructions request.old.headers self.headers) }
+        ensures target { AppliesTo self.params (target_of uri.now) (string_bytes request.old.target) (string_bytes request.new.target) result }
+        ensures method { request.new.method ≡ request.old.method }
+        ensures body { request.new.body ≡ request.old.body }
+        ensures err { OnErr result ((request.new.headers ≡ request.old.headers) × (request.new.target ≡ request.old.target)) }
+    {
         let alloc = *self.headers.allocator();
-        let target = target_with(alloc, request.target.as_str(), self.params.as_slice())?;
+        let target = target_with(alloc, uri, self.params.as_slice())?;
         let headers = headers_with(&request.headers, self.headers.as_slice())?;
         request.headers = headers;
-        if let Some(target) = target {
-            request.target = target;
-        }
+        replace_text(&mut request.target, target);
         Ok(())
     }
 
@@ -112,65 +139,29 @@ impl Clone for SigningInstructions {
     }
 }
 
-/// The headers that go out: the date, the authorization with its signature, the payload's text and the token.
-pub(crate) fn header_instructions(
-    alloc: Global,
-    settings: &SigningSettings,
-    token: Option<&str>,
-    prepared: Prepared,
-    signature: &str,
-) -> Mem<Vec<Header>>
-    ensures { IfOk result (λ headers. headers.items ≡ instructions_for (settings_of settings.now)
-        (string_bytes prepared.stamp) (string_bytes prepared.authorization ++ signature.now)
-        (told_payload settings.now.payload_checksum_kind (string_bytes prepared.payload)) (option_copied token.entry)) }
+// Puts the new text in place of the old one, where there is a new one.
+fn replace_text(text: &mut String, new: Option<String>)
+    ensures { string_bytes text.new ≡ option_map_or string_bytes new (string_bytes text.old) }
 {
-    let Prepared {
-        stamp,
-        payload,
-        mut authorization,
-        text: _,
-    } = prepared;
-    authorization.push_str(signature)?;
-    let mut headers = Vec::with_capacity(alloc, 4)?;
-    headers.push(Header::new(alloc, "x-amz-date", stamp, false)?)?;
-    headers.push(Header::new(alloc, "authorization", authorization, false)?)?;
-    push_payload(alloc, &mut headers, settings, payload)?;
-    push_token(alloc, &mut headers, settings, token)?;
-    Ok(headers)
-}
-
-// Appends the header of the payload's text, where that has one.
-fn push_payload(
-    alloc: Global,
-    headers: &mut Vec<Header>,
-    settings: &SigningSettings,
-    payload: String,
-) -> Mem<()>
-    ensures { OnOk result (headers.new.items ≡ headers.old.items
-        ++ optional (codes "x-amz-content-sha256") false (told_payload settings.now.payload_checksum_kind (string_bytes payload))) }
-{
-    match settings.payload_checksum_kind {
-        PayloadChecksumKind::XAmzSha256 => {
-            headers.push(Header::new(alloc, "x-amz-content-sha256", payload, false)?)?;
-            Ok(())
-        }
-        PayloadChecksumKind::NoHeader => Ok(()),
+    if let Some(new) = new {
+        *text = new;
     }
 }
 
-// Appends the token's header, where one is held.
-fn push_token(
-    alloc: Global,
-    headers: &mut Vec<Header>,
-    settings: &SigningSettings,
-    token: Option<&str>,
-) -> Mem<()>
-    ensures { OnOk result (headers.new.items ≡ headers.old.items
-        ++ optional (token_name (settings_of settings.now)) true (option_copied token.entry)) }
+// The headers of a request after inserting these.
+fn headers_with(headers: &Headers, more: &[Header]) -> Mem<Headers>
+    ensures { IfOk result (λ all. all ≡ with_instructions headers.now more.now) }
 {
-    if let Some(token) = token {
-        let value = String::from_str(alloc, token)?;
-        headers.push(Header::new(alloc, token_name(settings), value, true)?)?;
+    let mut all = headers.try_clone()?;
+    insert_all(&mut all, more)?;
+    Ok(all)
+}
+
+fn insert_all(headers: &mut Headers, more: &[Header]) -> Mem<()>
+    ensures { OnOk result (headers.new ≡ with_instructions headers.old more.now) }
+{
+    for header in more {
+        headers.insert(header.name(), header.value())?;
     }
     Ok(())
 }

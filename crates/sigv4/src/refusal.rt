@@ -1,30 +1,44 @@
-ghost use Rattle.std.specs.Prelude.{◌≡◌, bytes_eq, codes, is_some, option_copied, IsTrue};
-ghost use Rattle.smithy_core.specs.TextPairs.{lower};
+ghost use Rattle.std.specs.Prelude.{◌≡◌, option_copied, if◌then◌else◌};
+ghost use Rattle.smithy_core.specs.Pairs.{AreLower};
 ghost use Rattle.smithy_http.specs.Target.{target_of};
-ghost use Rattle.sigv4.specs.Canonical.{has_host};
-ghost use Rattle.sigv4.specs.Refusal.{AddsHost, FindsHost, Tests, is_name, is_value, unfit_header, unfit_headers, unfit_host, unfit_optional, unfit_value};
+ghost use Rattle.sigv4.specs.Canonical.{has_host, told_payload};
+ghost use Rattle.sigv4.specs.Refusal.{AddsHost, FindsHost, Tests, unfit_early_text, unfit_header, unfit_headers, unfit_host, unfit_late_texts, unfit_optional, unfit_target, unfit_value};
+ghost use Rattle.sigv4.specs.Settings.{settings_of};
 
+use crate::canonical_headers::told_payload;
 use crate::error::{SigningError, ValuePlace};
+use crate::grammar::{is_name, is_value};
 use crate::host::host_text;
 use crate::request::SignableRequest;
+use crate::settings::{SignatureLocation, SigningSettings};
+use crate::token_name::test_token_name;
 use http_uri::Uri;
 use smithy_core::Headers;
-use smithy_http::{is_header_name, is_header_value};
 
-/// Tests the headers, the host, the token and the payload's text, where these go into headers. The answer is the host
-/// that is added to the headers.
-pub(crate) fn test_parts<'a>(
+/// The tests that need neither the body's hash nor the canonical headers. The answer is the host that is added to the headers.
+pub(crate) fn test_request<'a>(
     request: &'a SignableRequest<'_>,
+    settings: &SigningSettings,
     token: Option<&str>,
-    payload: Option<&str>,
 ) -> Result<Option<&'a str>, SigningError>
-    ensures { FindsHost (target_of request.now.uri) request.now.headers.now (option_copied token.entry) (option_copied payload.entry) result }
+    ensures { FindsHost (settings_of settings.now) (target_of request.now.uri) request.now.headers.now (option_copied token.entry) result }
 {
+    test_target(settings, &request.uri)?;
     test_headers(request.headers)?;
     let host = added_host(&request.uri, request.headers)?;
-    test_optional(ValuePlace::Token, token)?;
-    test_optional(ValuePlace::PayloadHash, payload)?;
+    test_token_name(settings)?;
+    test_early_text(settings, token)?;
     Ok(host)
+}
+
+// Tests that the target takes parameters, where the signature goes into these.
+fn test_target(settings: &SigningSettings, uri: &Uri) -> Result<(), SigningError>
+    ensures { Tests (unfit_target (settings_of settings.now) (target_of uri.now)) result }
+{
+    match settings.signature_location {
+        SignatureLocation::QueryParams if uri.path() == "*" => Err(SigningError::InvalidUri),
+        _ => Ok(()),
+    }
 }
 
 // Tests the headers in order, each by its name and then by its value.
@@ -48,8 +62,8 @@ fn test_header(place: usize, name: &str, value: &str) -> Result<(), SigningError
     test_value(ValuePlace::Header(place), value)
 }
 
-/// Tests the text at a place, which is to be a header's value.
-pub(crate) fn test_value(place: ValuePlace, value: &str) -> Result<(), SigningError>
+// Tests the text at a place, which is to be a header's value.
+fn test_value(place: ValuePlace, value: &str) -> Result<(), SigningError>
     ensures { Tests (unfit_value place value.now) result }
 {
     if is_value(value) {
@@ -59,7 +73,7 @@ pub(crate) fn test_value(place: ValuePlace, value: &str) -> Result<(), SigningEr
     }
 }
 
-// The same, where there is a text.
+// Tests the text at a place, where there is one.
 fn test_optional(place: ValuePlace, value: Option<&str>) -> Result<(), SigningError>
     ensures { Tests (unfit_optional place (option_copied value.entry)) result }
 {
@@ -87,32 +101,39 @@ fn added_host<'a>(uri: &'a Uri, headers: &Headers) -> Result<Option<&'a str>, Si
 
 // Whether a header is `host`.
 fn has_host(headers: &Headers) -> bool
-    ensures { result ≡ has_host headers.now }
+    ensures host { result ≡ has_host headers.now }
+    ensures lower { AreLower headers.now }
 {
-    for (name, _) in headers.iter() {
-        if is_host(name) {
-            return true;
+    headers.contains_key("host")
+}
+
+// Tests that there is an expiry in query form, and the token in header form.
+fn test_early_text(settings: &SigningSettings, token: Option<&str>) -> Result<(), SigningError>
+    ensures { Tests (unfit_early_text (settings_of settings.now) (option_copied token.entry)) result }
+{
+    match (settings.signature_location, settings.expires_in) {
+        (SignatureLocation::Headers, _) => test_optional(ValuePlace::Token, token),
+        (SignatureLocation::QueryParams, Some(_)) => Ok(()),
+        (SignatureLocation::QueryParams, None) => Err(SigningError::MissingExpires),
+    }
+}
+
+/// Tests the texts that go into headers in header form, and for which the body is hashed or the headers are put in order:
+/// the payload's text where it has a header, and the authorization, whose other parts are always a header's value.
+pub(crate) fn test_texts(
+    settings: &SigningSettings,
+    payload: &str,
+    credential: &str,
+    names: &str,
+) -> Result<(), SigningError>
+    ensures { Tests (unfit_late_texts (settings_of settings.now) payload.now credential.now names.now) result }
+{
+    match settings.signature_location {
+        SignatureLocation::QueryParams => Ok(()),
+        SignatureLocation::Headers => {
+            test_optional(ValuePlace::PayloadHash, told_payload(settings, payload))?;
+            test_value(ValuePlace::Authorization, credential)?;
+            test_value(ValuePlace::Authorization, names)
         }
     }
-    false
-}
-
-fn is_host(name: &str) -> bool
-    ensures { result ≡ bytes_eq (lower name.now) (codes "host") }
-{
-    name.eq_ignore_ascii_case("host")
-}
-
-// Whether the text may be a header's name.
-fn is_name(text: &str) -> bool
-    ensures { result ≡ is_name text.now }
-{
-    is_header_name(text)
-}
-
-// Whether the text may be a header's value.
-fn is_value(text: &str) -> bool
-    ensures { result ≡ is_value text.now }
-{
-    is_header_value(text)
 }
