@@ -1,10 +1,13 @@
+pub mod AgainLemmas
 pub mod CopyLemmas
+pub mod InsertedLemmas
 pub mod JoinLemmas
 pub mod NameLemmas
 pub mod PathLemmas
 pub mod QueryLemmas
 pub mod RefusalLemmas
 pub mod ScopeLemmas
+pub mod SetLemmas
 pub mod SignatureLemmas
 pub mod SortLemmas
 pub mod TargetLemmas
