@@ -8,20 +8,21 @@ use Rattle.smithy_core.specs.Civil.{stamp}
 use Rattle.smithy_core.specs.Pairs.{first_value, inserted, lower, named_values, without}
 use Rattle.smithy_core.specs.Text.{line}
 use Rattle.smithy_http.specs.Target.{Target}
-use Rattle.sigv4.specs.Again.{HasSameSignatureAgain, HasSameTarget, again}
-use Rattle.sigv4.specs.Canonical.{added_host, canonical, canonical_headers, canonical_lines, excluded_token, given_headers, header_line, hosted_headers, is_signed, joined_names, names, pairs, path_of, signed_names, told_payload, token_header, unsigned_in_query_form, unsigned_token, with_optional, with_signing_headers}
+use Rattle.sigv4.specs.Again.{HasSameTarget, SignsAgain, again}
+use Rattle.sigv4.specs.Canonical.{added_host, canonical, canonical_headers, canonical_lines, credential, excluded_token, given_headers, has_host, header_line, hosted_headers, is_signed, joined_names, names, pairs, path_of, signed_names, told_payload, token_header, unsigned_in_query_form, unsigned_token, with_optional, with_signing_headers}
 use Rattle.sigv4.specs.Host.{host_text}
 use Rattle.sigv4.specs.Instructions.{with_instructions}
 use Rattle.sigv4.specs.Parameters.{target_text_with}
 use Rattle.sigv4.specs.Query.{Pair, decoded, query}
-use Rattle.sigv4.specs.Refusal.{is_lower_name, is_reserved, is_token_name, unfit, unfit_headers, unfit_host, unfit_override, unfit_target, unfit_texts, unfit_token_name, unless}
+use Rattle.sigv4.specs.Refusal.{is_lower_name, is_name, is_reserved, is_token_name, is_value, unfit, unfit_expiry, unfit_headers, unfit_host, unfit_host_text, unfit_optional, unfit_override, unfit_target, unfit_texts, unfit_token_name, unfit_value}
 use Rattle.sigv4.specs.Request.{Case}
 use Rattle.sigv4.specs.Settings.{Settings, default_exclusions, is_query_form}
 use Rattle.sigv4.specs.Signature.{signature}
-use Rattle.sigv4.specs.Signed.{authorization, instructions, instructions_for, parameters, signature_of, signed_headers, signed_target}
+use Rattle.sigv4.specs.Signed.{authorization, authorization_front, authorization_text, instructions, instructions_for, parameters, signature_of, signed_headers, signed_target}
 use Rattle.sigv4.specs.Trim.{trim_all}
-use Rattle.sigv4.specs.declared.error.SigningError.{SigningError}
 use Rattle.sigv4.specs.declared.error.SigningError.TheVariants.{InvalidTokenName}
+use Rattle.sigv4.specs.declared.error.ValuePlace.TheVariants.{Authorization, PayloadHash, Token}
+use Rattle.sigv4.proofs.FitLemmas.{both_none, fit-from_none, fit-instructions, fit-with, none-from_fit, passed, stamp-value}
 use Rattle.sigv4.proofs.InsertedLemmas.{named-inserted_other, named-inserted_same, same_name, values_if}
 use Rattle.sigv4.proofs.SetLemmas.{among-set, any-filtered, any-named, flat_map-among, is_among, is_here, same_set}
 
@@ -111,10 +112,11 @@ first-here (pair ∷ pairs) name = by_test (bytes_eq pair.0 name) (first-here pa
     by_test false more = more
 
 -- headers with the same values of `host` have the same host added
+alike-has_host : (xs ys : List Pair) → given_values xs (codes "host") ≡ given_values ys (codes "host") → has_host xs ≡ has_host ys
+alike-has_host xs ys same = first-here (given_headers xs) (codes "host") ∙ ap is_here same ∙ sym (first-here (given_headers ys) (codes "host"))
+
 alike-host : (target : Target) (xs ys : List Pair) → given_values xs (codes "host") ≡ given_values ys (codes "host") → added_host target xs ≡ added_host target ys
-alike-host target xs ys same =
-    ap (λ b. cond {A = Option (List ℕ)} b None (host_text target))
-    (first-here (given_headers xs) (codes "host") ∙ ap is_here same ∙ sym (first-here (given_headers ys) (codes "host")))
+alike-host target xs ys same = ap (λ b. cond {A = Option (List ℕ)} b None (host_text target)) (alike-has_host xs ys same)
 
 alike-hosted : (target : Target) (xs ys : List Pair) (name : List ℕ) → given_values xs (codes "host") ≡ given_values ys (codes "host") → given_values xs name ≡ given_values ys name
     → named_values (hosted_headers target xs) name ≡ named_values (hosted_headers target ys) name
@@ -154,45 +156,49 @@ module _ (settings : Settings) (xs ys : List Pair) (same : (name : List ℕ) →
 
 -- ---- the token's name
 
--- the token's header has a name in lower case that isn't `host`
+-- the token's header has a header's name in lower case that isn't `host`
 record HasOwnName (name : List ℕ) : Type 0 where
   is_lower : lower name ≡ name
+  is_fit : is_name name ≡ true
   not_host : bytes_eq name (codes "host") ≡ false
-
-passed : (b : Bool) (error : SigningError) → unless b error ≡ None → b ≡ true
-passed true error e = refl
-passed false error e = absurd (true≢false (ap is_some e))
 
 own_name : (settings : Settings) (given : Option (List ℕ)) → is_query_form settings ≡ false → unfit_override settings given ≡ None
     → HasOwnName (unwrap_or given (codes "x-amz-security-token"))
-own_name settings None form e = record { is_lower = refl; not_host = refl }
+own_name settings None form e = record { is_lower = refl; is_fit = refl; not_host = refl }
 own_name settings (Some name) form e =
     let parts = and_parts (not (is_reserved name)) _ (passed (is_token_name settings name) InvalidTokenName e) in
-    let is_lower : lower name ≡ name = same_name _ _ ((and_parts _ _ (ap (λ b. cond b true (is_lower_name name)) (sym form) ∙ parts.1)).1) in
-    record { is_lower = is_lower; not_host = ap (λ n. bytes_eq n (codes "host")) (sym is_lower) ∙ (or_parts _ _ (unreserved (is_reserved name) parts.0)).0 }
+    let header = and_parts (is_name name) _ (ap (λ b. cond b true (is_lower_name name)) (sym form) ∙ parts.1) in
+    let same : lower name ≡ name = same_name _ _ header.1 in
+    record { is_lower = same; is_fit = header.0; not_host = ap (λ n. bytes_eq n (codes "host")) (sym same) ∙ (or_parts _ _ (unreserved (is_reserved name) parts.0)).0 }
   where
     unreserved : (b : Bool) → not b ≡ true → b ≡ false
     unreserved true e = absurd (true≢false (sym e))
     unreserved false e = refl
-
-both_none : {A : Type 0} (a b : Option A) → option_or a b ≡ None → (a ≡ None) × (b ≡ None)
-both_none None b e = (refl, e)
-both_none (Some a) b e = absurd (true≢false (ap is_some e))
-
--- where a case isn't refused the name of its token isn't
-token_fits : (c : Case) → unfit c ≡ None → unfit_token_name c.settings ≡ None
-unfolding unfit
-token_fits c e =
-    let after_target = (both_none (unfit_target c.settings c.target) _ e).1 in
-    let after_headers = (both_none (unfit_headers 1 c.headers) _ after_target).1 in
-    let after_host = (both_none (unfit_host c.target c.headers) _ after_headers).1 in
-    (both_none (unfit_token_name c.settings) (unfit_texts c) after_host).0
 
 -- ---- a case in header form
 
 otherwise : {A : Type 0} (b : Bool) (x y : A) → b ≡ false → cond b x y ≡ y
 otherwise true x y e = absurd (true≢false e)
 otherwise false x y e = refl
+
+-- what isn't refused of a case in header form
+record HasFitParts (c : Case) : Type 0 where
+  headers : unfit_headers 1 c.headers ≡ None
+  token_name : unfit_token_name c.settings ≡ None
+  token : unfit_optional Token c.token ≡ None
+  payload : unfit_optional PayloadHash (told_payload c.settings.payload_checksum_kind c.payload) ≡ None
+  authorization : is_value (authorization c) ≡ true
+
+fit_parts : (c : Case) → is_query_form c.settings ≡ false → unfit c ≡ None → HasFitParts c
+unfolding unfit
+fit_parts c form e =
+    let after_target = (both_none (unfit_target c.settings c.target) _ e).1 in
+    let headers = both_none (unfit_headers 1 c.headers) _ after_target in
+    let after_host = (both_none (unfit_host c.target c.headers) _ headers.1).1 in
+    let name = both_none (unfit_token_name c.settings) (unfit_texts c) after_host in
+    let token = both_none (unfit_optional Token c.token) _ (sym (otherwise (is_query_form c.settings) _ _ form) ∙ name.1) in
+    let payload = both_none (unfit_optional PayloadHash (told_payload c.settings.payload_checksum_kind c.payload)) (unfit_value Authorization (authorization c)) token.1 in
+    record { headers = headers.0; token_name = name.0; token = token.0; payload = payload.0; authorization = passed (is_value (authorization c)) _ payload.1 }
 
 module _ (c : Case) (form : is_query_form c.settings ≡ false) where
   abbrev told : Option (List ℕ)
@@ -246,30 +252,58 @@ module _ (c : Case) (form : is_query_form c.settings ≡ false) where
         ap (λ all. given_values (with_instructions c.headers all) name) instructions_are
         ∙ given-signed c.headers c.settings (stamp c.at) (authorization c) name told c.token d a p (is_lacked c.token name t)
 
+    given_host : given_values (signed_headers c) (codes "host") ≡ given_values c.headers (codes "host")
+    given_host = given-again (codes "host") refl refl (payload_isnt_host told) (isnt_host c.token)
+
+    host-again : has_host (signed_headers c) ≡ has_host c.headers
+    host-again = alike-has_host (signed_headers c) c.headers given_host
+
     values-again : (name : List ℕ) → is_signed c.settings name ≡ true → named_values (canonical_headers (again c)) name ≡ named_values (canonical_headers c) name
     values-again name is =
         ap (λ headers. named_values headers name) (headers_are (signed_headers c))
         ∙ alike-signing c.settings (stamp c.at) c.token told name (hosted_headers c.target (signed_headers c)) (hosted_headers c.target c.headers) (λ p t d.
-        alike-hosted c.target (signed_headers c) c.headers name
-        (given-again (codes "host") refl refl (payload_isnt_host told) (isnt_host c.token)) (given-again name d (other_name name is) p t))
+        alike-hosted c.target (signed_headers c) c.headers name given_host (given-again name d (other_name name is) p t))
         ∙ sym (ap (λ headers. named_values headers name) (headers_are c.headers))
+
+    names-again : names (again c) ≡ names c
+    unfolding names
+    names-again = alike-names c.settings (canonical_headers (again c)) (canonical_headers c) values-again
 
     canonical-again : canonical (again c) ≡ canonical c
     unfolding canonical names
     canonical-again =
-        let same_names = alike-names c.settings (canonical_headers (again c)) (canonical_headers c) values-again in
+        let same_pairs = pairs_are (signed_headers c) ∙ sym (pairs_are c.headers) in
         let same_lines = alike-lines c.settings (canonical_headers (again c)) (canonical_headers c) values-again in
-        λ i. canonical_lines c.method (path_of c) (query ((pairs_are (signed_headers c) ∙ sym (pairs_are c.headers)) i)) (same_lines i) (joined_names (same_names i)) c.payload
+        λ i. canonical_lines c.method (path_of c) (query (same_pairs i)) (same_lines i) (joined_names (names-again i)) c.payload
 
--- the signed request of a case has the case's signature
-pub same_signature : (c : Case) → HasSameSignatureAgain c
-unfolding signature_of
+    signature-again : signature_of (again c) ≡ signature_of c
+    unfolding signature_of
+    signature-again = ap (signature c.signer c.at) canonical-again
+
+    authorization-again : authorization (again c) ≡ authorization c
+    unfolding authorization authorization_front credential
+    authorization-again = λ i. authorization_text (credential c) (joined_names (names-again i)) ++ signature-again i
+
+    -- and is refused no more than the request
+    unfit-again : HasFitParts c → unfit (again c) ≡ unfit c
+    unfolding unfit signed_headers
+    unfit-again parts =
+        let own = fit-instructions c.settings (stamp c.at) (authorization c) told c.token (stamp-value c.at) parts.authorization parts.payload parts.token (ap is_name fits.is_lower ∙ fits.is_fit) in
+        let fit = fit-with (instructions_for c.settings (stamp c.at) (authorization c) told c.token) c.headers own (fit-from_none 1 c.headers parts.headers) in
+        let same_headers = ap (λ all. unfit_headers 1 (with_instructions c.headers all)) instructions_are ∙ none-from_fit 1 _ fit ∙ sym parts.headers in
+        let same_host = ap (λ b. cond b None (unfit_host_text (host_text c.target))) host-again in
+        let same_texts = ap (λ text. cond (is_query_form c.settings) (unfit_expiry c.settings.expires_in)
+        (option_or (unfit_optional Token c.token) (option_or (unfit_optional PayloadHash told) (unfit_value Authorization text)))) authorization-again in
+        λ i. option_or (unfit_target c.settings c.target) (option_or (same_headers i) (option_or (same_host i) (option_or (unfit_token_name c.settings) (same_texts i))))
+
+-- the signed request of a case isn't refused, and has the case's signature
+pub same_signature : (c : Case) → SignsAgain c
 same_signature c form usual fine =
-    ap (signature c.signer c.at) (canonical-again c form usual (own_name c.settings c.settings.session_token_name_override form (token_fits c fine)))
+    let parts = fit_parts c form fine in
+    let fits = own_name c.settings c.settings.session_token_name_override form parts.token_name in
+    record { unrefused = unfit-again c form usual fits parts ∙ fine; signature = signature-again c form usual fits }
 
 -- and its target is the request's
 pub same_target : (c : Case) → HasSameTarget c
 unfolding signed_target parameters
 same_target c text form = ap (λ more. target_text_with more c.target text) (otherwise (is_query_form c.settings) _ [] form)
-
-pub ruleset alike = (same_signature, same_target)

@@ -1,5 +1,6 @@
 pub mod AgainLemmas
 pub mod CopyLemmas
+pub mod FitLemmas
 pub mod InsertedLemmas
 pub mod JoinLemmas
 pub mod NameLemmas

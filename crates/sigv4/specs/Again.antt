@@ -14,8 +14,11 @@ again c = record c { headers = signed_headers c }
 abbrev pub HasSameTarget : Case → Type 0
 HasSameTarget c = (text : List ℕ) → is_query_form c.settings ≡ false → signed_target c text ≡ text
 
--- in header form, where the usual names aren't signed and nothing is refused, signing the signed request gives the same signature
-abbrev pub HasSameSignatureAgain : Case → Type 0
-HasSameSignatureAgain c =
-    is_query_form c.settings ≡ false → c.settings.excluded_headers ≡ Some default_exclusions → unfit c ≡ None
-    → signature_of (again c) ≡ signature_of c
+-- the signed request of a case isn't refused, and has the signature of the case
+pub record IsSignedAlike (c : Case) : Type 0 where
+  pub unrefused : unfit (again c) ≡ None
+  pub signature : signature_of (again c) ≡ signature_of c
+
+-- in header form, where the usual names aren't signed and nothing is refused, the signed request can be signed again, with the same signature
+abbrev pub SignsAgain : Case → Type 0
+SignsAgain c = is_query_form c.settings ≡ false → c.settings.excluded_headers ≡ Some default_exclusions → unfit c ≡ None → IsSignedAlike c
