@@ -1,6 +1,9 @@
+pub mod AgainLemmas
 pub mod CanonicalLemmas
 pub mod CopyLemmas
+pub mod FitLemmas
 pub mod HeaderLemmas
+pub mod InsertedLemmas
 pub mod JoinLemmas
 pub mod NameLemmas
 pub mod ParameterLemmas
@@ -8,6 +11,7 @@ pub mod PathLemmas
 pub mod QueryLemmas
 pub mod RefusalLemmas
 pub mod ScopeLemmas
+pub mod SetLemmas
 pub mod SignatureLemmas
 pub mod SortLemmas
 pub mod TargetLemmas

@@ -1,3 +1,4 @@
+pub mod Again
 pub mod Body
 pub mod Canonical
 pub mod CanonicalHeaders

@@ -3,6 +3,7 @@ ghost use Rattle.std.specs.Cmp.Lexicographic.{slice_cmp};
 ghost use Rattle.std.specs.List.Sorted.{IsStrictlySortedBy};
 ghost use Rattle.std.specs.Ordering.{nat_cmp};
 ghost use Rattle.std.specs.declared.cmp.Ordering.TheVariants.{Equal};
+ghost use Rattle.sigv4.specs.Again.{HasSameTarget, SignsAgain};
 ghost use Rattle.sigv4.specs.Canonical.{names};
 ghost use Rattle.sigv4.specs.Request.{Case};
 ghost use Rattle.sigv4.specs.Path.{norm};
@@ -25,4 +26,10 @@ pub fn trimmed_texts_stay()
 pub fn signed_names_ascend()
     ensures ascend { (c : Case) → IsStrictlySortedBy (slice_cmp nat_cmp) (names c) }
     ensures agree { (a b : List ℕ) → (slice_cmp nat_cmp a b ≡ Equal) ↔ (a ≡ b) }
+{}
+
+/// A request that was signed in header form with the default exclusions can be signed again, and has the same signature.
+pub fn signed_requests_sign_alike()
+    ensures target { (c : Case) → HasSameTarget c }
+    ensures signature { (c : Case) → SignsAgain c }
 {}

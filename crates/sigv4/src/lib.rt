@@ -50,7 +50,9 @@ pub use crate::body::SignableBody;
 pub use crate::error::{SigningError, ValuePlace};
 pub use crate::header::{Header, HeaderPairs};
 pub use crate::instructions::SigningInstructions;
-pub use crate::laws::{normal_paths_stay, signed_names_ascend, trimmed_texts_stay};
+pub use crate::laws::{
+    normal_paths_stay, signed_names_ascend, signed_requests_sign_alike, trimmed_texts_stay,
+};
 pub use crate::modes::{PercentEncodingMode, UriPathNormalizationMode};
 pub use crate::output::SigningOutput;
 pub use crate::path::normalize_uri_path;
