@@ -7,7 +7,7 @@ use Rattle.std.proofs.lemmas.List.{append-nil}
 use Rattle.std.proofs.lemmas.Int.{ints}
 use Rattle.smithy_core.specs.Civil.{IsInYears, is_in_years, civil_of, stamp}
 use Rattle.smithy_core.specs.CivilText.{stamp_of}
-use Rattle.smithy_core.specs.Instant.{Instant}
+use Rattle.smithy_core.specs.Moment.{Instant}
 use Rattle.smithy_core.specs.declared.client_config.RetryConfig.{RetryConfig}
 use Rattle.aws_intercept.specs.declared.bag.ConfigBag.{ConfigBag}
 use Rattle.aws_intercept.specs.RequestInfo.{info_text, max_end, stamped, ttl, ttl_front}

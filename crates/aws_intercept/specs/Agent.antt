@@ -1,7 +1,7 @@
 -- The user agent: its parts, how it is made, and its text (the SDKs' user agent, version 2.1).
 use Rattle.std.specs.Prelude.{ℕ, List, [], ◌∷◌, ◌++◌, Option, Some, None, codes, flat_map, map, option_map, option_to_list, string_bytes}
 use Rattle.std.specs.List.{join_by}
-use Rattle.smithy_core.specs.Pairs.{last_value}
+use Rattle.smithy_core.specs.TextPairs.{last_value}
 use Rattle.aws_intercept.specs.Build.{family_text}
 use Rattle.aws_intercept.specs.Metadata.{Api, NameVersion, additional_text, api_text, framework_text, with_value}
 use Rattle.aws_intercept.specs.MetricIds.{fitted, joined_ids}

@@ -4,7 +4,7 @@ use Rattle.std.specs.List.{list_any}
 use Rattle.std.specs.Option.{option_map_or}
 use Rattle.std.specs.declared.alloc.Global.{Global}
 use Rattle.std.specs.Str.Parse.{IsNumeral, digits_value, without_leading_plus}
-use Rattle.smithy_core.specs.Pairs.{first_value}
+use Rattle.smithy_core.specs.TextPairs.{first_value}
 use Rattle.smithy_core.specs.declared.error_metadata.ErrorMetadata.{ErrorMetadata}
 use Rattle.smithy_core.specs.declared.response.HttpResponse.{HttpResponse}
 use Rattle.aws_intercept.specs.declared.classify.RetryAction.{RetryAction}

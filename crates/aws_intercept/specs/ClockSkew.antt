@@ -2,8 +2,8 @@
 use Rattle.std.specs.Prelude.{ℕ, ℤ, pos, negsuc, ◌+ℤ◌, ◌-ℤ◌, ◌*ℤ◌, ◌≤ℤ◌, ◌||◌, ◌&&◌, Bool, false, List, Option, Some, None, if◌then◌else◌, codes, int_div, int_le, is_some, option_and_then, unwrap_or}
 use Rattle.std.specs.Int.{int_max}
 use Rattle.httpdate.specs.Date.{parse_secs}
-use Rattle.smithy_core.specs.Instant.{Instant, total_nanos}
-use Rattle.smithy_core.specs.Pairs.{first_value}
+use Rattle.smithy_core.specs.Moment.{Instant, total_nanos}
+use Rattle.smithy_core.specs.TextPairs.{first_value}
 use Rattle.smithy_core.specs.declared.response.HttpResponse.{HttpResponse}
 use Rattle.aws_intercept.specs.declared.bag.ConfigBag.{ConfigBag}
 

@@ -1,7 +1,7 @@
 -- The header that tells a trace.
 use Rattle.std.specs.Prelude.{ℕ, Bool, ◌&&◌, List, [], ◌∷◌, Option, Some, if◌then◌else◌, codes, flat_map, is_some, nat_le, nat_lt}
 use Rattle.percent_encoding.specs.Percent.{percent_encode_byte}
-use Rattle.smithy_core.specs.Pairs.{first_value, inserted, last_value}
+use Rattle.smithy_core.specs.TextPairs.{first_value, inserted, last_value}
 
 -- visible ASCII, or a space
 abbrev pub is_visible : ℕ → Bool

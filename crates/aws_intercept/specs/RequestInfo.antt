@@ -4,7 +4,7 @@ use Rattle.std.specs.Fmt.{decimal}
 use Rattle.std.specs.Int.{int_div_euclid, int_rem_euclid}
 use Rattle.std.specs.List.{join_by}
 use Rattle.smithy_core.specs.Civil.{is_in_years, stamp}
-use Rattle.smithy_core.specs.Instant.{Instant, total_nanos}
+use Rattle.smithy_core.specs.Moment.{Instant, total_nanos}
 use Rattle.smithy_core.specs.declared.client_config.RetryConfig.{RetryConfig}
 use Rattle.aws_intercept.specs.declared.bag.ConfigBag.{ConfigBag}
 

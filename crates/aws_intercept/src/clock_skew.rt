@@ -1,7 +1,7 @@
 ghost use Rattle.std.specs.Prelude.{◌≡◌, ◌+ℤ◌, ◌-ℤ◌, ◌*ℤ◌, ◌≤ℤ◌, negsuc, codes, option_and_then, pos, unwrap_or};
 ghost use Rattle.std.specs.Int.{int_max};
 ghost use Rattle.httpdate.specs.Date.{parse_secs};
-ghost use Rattle.smithy_core.specs.Pairs.{first_value};
+ghost use Rattle.smithy_core.specs.TextPairs.{first_value};
 ghost use Rattle.aws_intercept.specs.ClockSkew.{bag_with_kept, bag_with_skew, bag_with_time, is_off, if_i64, measured, most_elapsed, response_with_skew, skew_at, trusted_skew, twice_skew, IsNanos};
 
 use crate::bag::ConfigBag;

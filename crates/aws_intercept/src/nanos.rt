@@ -1,5 +1,5 @@
 ghost use Rattle.std.specs.Prelude.{◌≡◌, ◌≤ℤ◌, negsuc, pos};
-ghost use Rattle.smithy_core.specs.Instant.{total_nanos};
+ghost use Rattle.smithy_core.specs.Moment.{total_nanos};
 
 use smithy_core::Moment;
 

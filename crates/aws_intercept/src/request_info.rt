@@ -1,7 +1,7 @@
 ghost use Rattle.std.specs.Prelude.{◌≡◌, ◌≤ℤ◌, ◌+ℤ◌, ◌*ℤ◌, ◌++◌, false, pos, negsuc, IfOk, MatchOption, OnErr, OnOk, codes, option_map, string_bytes};
 ghost use Rattle.smithy_core.specs.Civil.{is_in_years};
-ghost use Rattle.smithy_core.specs.Instant.{total_nanos};
-ghost use Rattle.smithy_core.specs.Pairs.{inserted};
+ghost use Rattle.smithy_core.specs.Moment.{total_nanos};
+ghost use Rattle.smithy_core.specs.TextPairs.{inserted};
 ghost use Rattle.aws_intercept.specs.RequestInfo.{at_nanos, awaited, info_text, max_end, shifted, stamped, ttl, ttl_front};
 
 use crate::bag::ConfigBag;

@@ -1,7 +1,7 @@
 ghost use Rattle.std.specs.Prelude.{◌≡◌, [], ◌∷◌, codes};
 ghost use Rattle.aws_intercept.specs.Metric.{id_at};
 ghost use Rattle.aws_intercept.specs.MetricIds.{fitted};
-ghost use Rattle.aws_intercept.specs.Recursion.{escaped};
+ghost use Rattle.aws_intercept.specs.Recursion.{escaped_trace};
 
 /// What the definitions say where no call can show it: the ids of places past the last metric, as the tests of the Rust
 /// ask.
@@ -24,7 +24,7 @@ pub fn ids_that_do_not_fit()
 {}
 
 /// The escapes of the bytes that stand in no text.
-#[tactic(auto, unfolding(aws_intercept::specs::Recursion::escaped, percent_encoding::specs::Percent::percent_encode_byte))]
+#[tactic(auto, unfolding(aws_intercept::specs::Recursion::escaped_trace, percent_encoding::specs::Percent::percent_encode_byte))]
 pub fn escapes_of_stray_bytes()
-    ensures { escaped (192 ∷ 193 ∷ 245 ∷ 246 ∷ 247 ∷ 248 ∷ 249 ∷ 250 ∷ 251 ∷ 252 ∷ 253 ∷ 254 ∷ 255 ∷ []) ≡ codes "%C0%C1%F5%F6%F7%F8%F9%FA%FB%FC%FD%FE%FF" }
+    ensures { escaped_trace (192 ∷ 193 ∷ 245 ∷ 246 ∷ 247 ∷ 248 ∷ 249 ∷ 250 ∷ 251 ∷ 252 ∷ 253 ∷ 254 ∷ 255 ∷ []) ≡ codes "%C0%C1%F5%F6%F7%F8%F9%FA%FB%FC%FD%FE%FF" }
 {}

@@ -1,7 +1,7 @@
 -- The home directory, by the variables of the system.
 use Rattle.std.specs.Prelude.{ℕ, List, ◌++◌, codes, Option, Some, None}
 use Rattle.std.specs.Option.{option_or}
-use Rattle.smithy_core.specs.Pairs.{last_value}
+use Rattle.smithy_core.specs.TextPairs.{last_value}
 use Rattle.env_config.specs.declared.home.Os.{Os}
 use Rattle.env_config.specs.declared.home.Os.TheVariants.{Unix, Windows}
 

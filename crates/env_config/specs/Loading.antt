@@ -3,8 +3,8 @@ use Rattle.std.specs.Prelude.{◌≡◌, ◌⊎◌, ◌==◌, ◌||◌, ℕ, Boo
 use Rattle.std.specs.Global.{Vec}
 use Rattle.std.specs.Str.{is_utf8}
 use Rattle.std.specs.declared.alloc.Global.{Global}
-use Rattle.smithy_core.specs.Outside.{HasFile, LacksFile, Rose}
-use Rattle.smithy_core.specs.Pairs.{last_value}
+use Rattle.smithy_core.specs.Outside.{HasFile, LacksFile, RoseOrStands}
+use Rattle.smithy_core.specs.TextPairs.{last_value}
 use Rattle.smithy_core.specs.declared.outside.disk.DiskError.{DiskError}
 use Rattle.smithy_core.specs.declared.outside.disk.DiskError.TheVariants.{NotFound, Failed}
 use Rattle.smithy_core.specs.declared.outside.disk.DiskError.TheVariants as disk
@@ -84,7 +84,7 @@ module _ {D : Type 0} (answers : D → List ℕ → Result (Vec ℕ) DiskError �
   -- one read of the path gave no bytes: the disk lacks the file, or this read failed and the count of faults rose
   abbrev pub IsUnread : List ℕ → D → D → Type 0
   IsUnread path before now =
-      (answers before path (Err NotFound) now × LacksFile files path × (faults now ≡ faults before)) ⊎ (answers before path (Err Failed) now × Rose (faults before) (faults now))
+      (answers before path (Err NotFound) now × LacksFile files path × (faults now ≡ faults before)) ⊎ (answers before path (Err Failed) now × RoseOrStands (faults before) (faults now))
 
   -- one read of the path: its text, or why it gave none
   abbrev pub ReadsPath : List ℕ → D → D → Result (String Global) DiskError → Type 0

@@ -1,6 +1,6 @@
 -- The raw sections of a profile file: each line moves a state on, or is refused with a message.
 use Rattle.std.specs.Prelude.{◌≡◌, ℕ, ◌+◌, ◌==◌, Bool, List, [], ◌∷◌, ◌++◌, length, codes, slice_index, Option, Some, None, unwrap_or, Result, Ok, Err, if◌then◌else◌}
-use Rattle.smithy_core.specs.Pairs.{lower}
+use Rattle.smithy_core.specs.TextPairs.{lower}
 use Rattle.env_config.specs.declared.fault.RawFault.{RawFault}
 use Rattle.env_config.specs.declared.fault.RawFault.TheVariants as faults
 use Rattle.env_config.specs.declared.line.PropertyFault.{PropertyFault}

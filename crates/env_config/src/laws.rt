@@ -1,6 +1,6 @@
 ghost use Rattle.std.specs.Prelude.{◌≡◌, ℕ, List, [], ◌∷◌, ◌++◌, Ok, Some};
 ghost use Rattle.std.specs.Option.{option_or};
-ghost use Rattle.smithy_core.specs.Pairs.{lower};
+ghost use Rattle.smithy_core.specs.TextPairs.{lower};
 ghost use Rattle.env_config.specs.Laws.{value_in};
 ghost use Rattle.env_config.specs.Sections.{FileText, Key, Sections, sections, value_at_key};
 

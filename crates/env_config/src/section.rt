@@ -1,6 +1,6 @@
 ghost use Rattle.std.specs.Prelude.{◌≡◌, IfOk, option_copied};
 ghost use Rattle.std.specs.String.{string_bytes};
-ghost use Rattle.smithy_core.specs.Pairs.{lower};
+ghost use Rattle.smithy_core.specs.TextPairs.{lower};
 ghost use Rattle.env_config.specs.Section.{IsSameSection, contents_of, section_contents, section_of, values_of};
 ghost use Rattle.env_config.specs.Texts.{value_under};
 ghost use Rattle.env_config.specs.declared.section.Section.{Section as Held};

@@ -5,7 +5,7 @@ use Rattle.std.specs.List.{flat_map, join_with_byte, list_any}
 use Rattle.std.specs.Option.{option_or}
 use Rattle.std.proofs.lemmas.Bool.{and_parts, or_parts}
 use Rattle.smithy_core.specs.Civil.{stamp}
-use Rattle.smithy_core.specs.Pairs.{first_value, inserted, lower, named_values, without}
+use Rattle.smithy_core.specs.TextPairs.{first_value, inserted, lower, named_values, without}
 use Rattle.smithy_core.specs.Text.{line}
 use Rattle.smithy_http.specs.Target.{Target}
 use Rattle.sigv4.specs.Again.{HasSameTarget, SignsAgain, again}

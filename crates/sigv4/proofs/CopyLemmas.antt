@@ -4,7 +4,7 @@ use Rattle.std.specs.List.{AllZip}
 use Rattle.std.specs.Prelude.{String, string_bytes}
 use Rattle.std.specs.declared.alloc.Global.{Global}
 use Rattle.std.proofs.lemmas.List.Elements.{same_from_all_zip}
-use Rattle.smithy_core.specs.Pairs.{text_pairs}
+use Rattle.smithy_core.specs.TextPairs.{text_pairs}
 use Rattle.sigv4.specs.Instructions.{Instruction}
 
 pub texts_copied : (texts copies : List (String Global)) → AllZip (λ text copy. string_bytes copy ≡ string_bytes text) texts copies

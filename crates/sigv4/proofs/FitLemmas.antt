@@ -7,8 +7,8 @@ use Rattle.std.proofs.lemmas.Bool.{agree_below_at}
 use Rattle.http_header.specs.Token.{is_value_byte}
 use Rattle.smithy_core.specs.Civil.{civil_of, stamp}
 use Rattle.smithy_core.specs.CivilText.{date_of, stamp_of, two_digits}
-use Rattle.smithy_core.specs.Instant.{Instant}
-use Rattle.smithy_core.specs.Pairs.{inserted, lower, without}
+use Rattle.smithy_core.specs.Moment.{Instant}
+use Rattle.smithy_core.specs.TextPairs.{inserted, lower, without}
 use Rattle.sigv4.specs.Canonical.{token_header}
 use Rattle.sigv4.specs.Instructions.{Instruction, with_instructions}
 use Rattle.sigv4.specs.Query.{Pair}

@@ -20,7 +20,7 @@ use Rattle.std.proofs.lemmas.Map.Keys.{sorted_head, sorted_tail}
 use Rattle.std.proofs.lemmas.Map.Lookups.{exact_bytes}
 use Rattle.std.proofs.lemmas.Map.Text.{is_eq-slice_cmp}
 use Rattle.std.proofs.lemmas.Slice.Eq.{bytes_eq-Decides}
-use Rattle.smithy_core.specs.Pairs.{inserted, named_values, without}
+use Rattle.smithy_core.specs.TextPairs.{inserted, named_values, without}
 use Rattle.sigv4.specs.Canonical.{header_line, is_signed, joined_names, joined_values, signed_names, token_header, with_optional, with_signing_headers}
 use Rattle.sigv4.specs.Query.{Pair}
 use Rattle.sigv4.specs.CanonicalHeaders.{HeaderMap, HoldsHeaders, appended, pair_line, signed_values, header_texts, joined_value_at}

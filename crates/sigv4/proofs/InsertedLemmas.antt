@@ -2,7 +2,7 @@
 use Rattle.std.proofs.Common.{◌≡◌, ℕ, Bool, true, false, cond, not, List, [], ◌∷◌, refl, sym, ap, ◌∙◌}
 use Rattle.std.specs.Prelude.{bytes_eq}
 use Rattle.std.proofs.lemmas.Slice.Eq.{bytes_eq-Decides}
-use Rattle.smithy_core.specs.Pairs.{inserted, named_values, without}
+use Rattle.smithy_core.specs.TextPairs.{inserted, named_values, without}
 use Rattle.sigv4.specs.Query.{Pair}
 
 pub same_name : (a b : List ℕ) → bytes_eq a b ≡ true → a ≡ b

@@ -17,7 +17,7 @@ use Rattle.std.proofs.lemmas.Bool.{cases_Bool, false≢true}
 use Rattle.std.proofs.lemmas.Bool.Decides.{nat_tests}
 use Rattle.std.proofs.lemmas.Slice.Eq.{bytes_eq-Decides}
 use Rattle.std.proofs.lemmas.Str.Ascii.{lowercase-lowercase}
-use Rattle.smithy_core.specs.Pairs.{lower}
+use Rattle.smithy_core.specs.TextPairs.{lower}
 use Rattle.sigv4.specs.Canonical.{names}
 use Rattle.sigv4.specs.Request.{Case}
 use Rattle.sigv4.proofs.RefusalLemmas.{decides-text}

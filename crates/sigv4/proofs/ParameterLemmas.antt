@@ -16,7 +16,7 @@ use Rattle.http_uri.proofs.RunLemmas.{AllPass-at, IsAscii-pass, index_of_at_leas
 use Rattle.http_uri.proofs.AuthorityLemmas.{IsAuthority_no_delimiter}
 use Rattle.http_uri.proofs.PathLemmas.{path_byte_no_mark, query_byte_no_hash, IsPathAndQuery_slash}
 use Rattle.http_uri.proofs.UriLemmas.{cut_long, cut_scheme, none_of}
-use Rattle.smithy_http.specs.Building.{IsRefused, SpellsTarget, before_pair, escaped_pair, with_pair}
+use Rattle.smithy_http.specs.QueryWriter.{IsRefused, SpellsTarget, before_pair, escaped_pair, with_pair}
 use Rattle.smithy_http.specs.Escape.{base_set, escaped}
 use Rattle.smithy_http.specs.Query.{ampersand, pair, pair_text}
 use Rattle.smithy_http.specs.Target.{Target, target_of, target_text}

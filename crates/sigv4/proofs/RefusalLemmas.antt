@@ -9,7 +9,7 @@ use Rattle.http_header.specs.FieldName.{IsFieldName}
 use Rattle.http_header.specs.FieldValue.{IsFieldValue}
 use Rattle.http_header.specs.Token.{is_token_byte, is_value_byte, token_test}
 use Rattle.http_header.proofs.TokenLemmas.{IsFieldName-from_test}
-use Rattle.smithy_core.specs.Pairs.{AreLower, first_value, lower, value_if}
+use Rattle.smithy_core.specs.TextPairs.{AreLower, first_value, lower, value_if}
 use Rattle.sigv4.specs.Canonical.{given_headers}
 use Rattle.sigv4.specs.Query.{Pair}
 use Rattle.sigv4.specs.Refusal.{is_name, is_value}

@@ -2,7 +2,7 @@
 use lib.Utf8.{encode}
 use Rattle.std.proofs.Common.{ℕ, List, ◌++◌, IsUtf8, codes, refl}
 use Rattle.std.proofs.lemmas.Str.{IsUtf8-append}
-use Rattle.smithy_core.specs.Instant.{Instant}
+use Rattle.smithy_core.specs.Moment.{Instant}
 use Rattle.smithy_core.specs.Civil.{civil_of, date}
 use Rattle.smithy_core.specs.CivilText.{date_of}
 use Rattle.smithy_core.proofs.CivilTextLemmas.{date_utf8}

@@ -13,7 +13,7 @@ use Rattle.std.proofs.lemmas.Bool.{and_right, or_right}
 use Rattle.std.proofs.lemmas.Cmp.{eq_by_cmp_equiv, nat_list_cmp_total}
 use Rattle.std.proofs.lemmas.Map.Lookups.{exact_bytes}
 use Rattle.std.proofs.lemmas.Map.Text.{is_eq-slice_cmp}
-use Rattle.smithy_core.specs.Pairs.{named_values}
+use Rattle.smithy_core.specs.TextPairs.{named_values}
 use Rattle.sigv4.specs.Canonical.{ordered_set}
 use Rattle.sigv4.specs.Query.{Pair}
 

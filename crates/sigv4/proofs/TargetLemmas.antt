@@ -4,9 +4,9 @@ use Rattle.std.specs.Prelude.{String, Some, string_bytes}
 use Rattle.std.specs.declared.alloc.Global.{Global}
 use Rattle.std.proofs.lemmas.Bool.{cases_Bool, eqb-true, false≢true}
 use Rattle.http_uri.specs.declared.uri.Uri.{Uri}
-use Rattle.smithy_core.specs.Pairs.{text_pairs}
+use Rattle.smithy_core.specs.TextPairs.{text_pairs}
 use Rattle.smithy_core.specs.declared.request.HttpRequest.{HttpRequest}
-use Rattle.smithy_http.specs.Building.{Builds, BuildsText, IsRefused, ReadsTarget, SpellsNoTarget, SpellsTarget}
+use Rattle.smithy_http.specs.QueryWriter.{BuildsTarget, BuildsText, IsRefused, ReadsTarget, SpellsNoTarget, SpellsTarget}
 use Rattle.smithy_http.specs.Target.{IsAuthorityAlone, Target, target_of, target_text}
 use Rattle.smithy_http.specs.declared.uri_fault.UriFault.{UriFault}
 use Rattle.smithy_http.specs.declared.uri_fault.UriFault.TheVariants as fault
@@ -36,7 +36,7 @@ applied-none [] old uri e spells = (refl, refl, (uri, spells, refl))
 applied-none (param ∷ params) old uri e spells = absurd (let none = eqb-true _ _ e in omega arith)
 
 -- a target that is built isn't refused
-built_passes : (t : Target) (built : Uri) → Builds t (Ok built) → ¬ (IsRefused t)
+built_passes : (t : Target) (built : Uri) → BuildsTarget t (Ok built) → ¬ (IsRefused t)
 built_passes t built builds (inl alone) = builds.0 alone
 built_passes t built builds (inr none) = none _ _ _ builds.1
 

@@ -6,7 +6,7 @@ use Rattle.std.specs.Fmt.{decimal}
 use Rattle.std.specs.List.{flat_map, join_with_byte, list_any}
 use Rattle.std.specs.Ordering.{nat_cmp}
 use Rattle.smithy_core.specs.Civil.{stamp}
-use Rattle.smithy_core.specs.Pairs.{first_value, inserted, lower, named_values}
+use Rattle.smithy_core.specs.TextPairs.{first_value, inserted, lower, named_values}
 use Rattle.smithy_core.specs.Text.{line}
 use Rattle.smithy_http.specs.Target.{Target}
 use Rattle.eventstream.specs.Key.{scope}

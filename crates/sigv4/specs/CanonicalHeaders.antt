@@ -2,7 +2,7 @@
 use Rattle.std.specs.Prelude.{◌≡◌, ℕ, Bool, true, false, codes, List, [], ◌∷◌, ◌++◌, map, Option, Some, None, if◌then◌else◌, option_map, String, string_bytes}
 use Rattle.std.specs.BTreeMap.{BTreeMap, get_by_text}
 use Rattle.std.specs.declared.alloc.Global.{Global}
-use Rattle.smithy_core.specs.Pairs.{named_values}
+use Rattle.smithy_core.specs.TextPairs.{named_values}
 use Rattle.smithy_core.specs.Text.{line}
 use Rattle.sigv4.specs.Canonical.{is_signed}
 use Rattle.sigv4.specs.Query.{Pair}

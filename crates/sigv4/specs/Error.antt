@@ -1,7 +1,7 @@
 -- What the errors of the layer below become, and what is printed.
 use Rattle.std.specs.Prelude.{◌≡◌, ℕ, List, ◌++◌, codes}
 use Rattle.std.specs.Fmt.{decimal, signed_decimal}
-use Rattle.eventstream.specs.Errors.{IsSameKind, text_of as encoding_text}
+use Rattle.eventstream.specs.Error.{IsSameKind, error_kind_text as encoding_text}
 use Rattle.eventstream.specs.declared.error.Error.{Error}
 use Rattle.eventstream.specs.declared.error.ErrorKind.{ErrorKind}
 use Rattle.eventstream.specs.declared.error.ErrorKind.TheVariants.{NoMemory as NoRoom}

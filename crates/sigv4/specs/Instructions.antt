@@ -1,6 +1,6 @@
 -- What a signature adds to its request.
 use Rattle.std.specs.Prelude.{ℕ, Bool, List, fold}
-use Rattle.smithy_core.specs.Pairs.{inserted, lower}
+use Rattle.smithy_core.specs.TextPairs.{inserted, lower}
 use Rattle.sigv4.specs.Query.{Pair}
 
 -- a header that goes out: its name, its value, and whether that is to be kept out of logs

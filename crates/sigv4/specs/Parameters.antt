@@ -3,7 +3,7 @@ use Rattle.std.specs.Prelude.{◌≡◌, ◌⊎◌, ℕ, Bool, true, false, ◌|
 use Rattle.std.specs.Option.{option_map_or}
 use Rattle.std.specs.declared.alloc.Global.{Global}
 use Rattle.http_uri.specs.declared.uri.Uri.{Uri}
-use Rattle.smithy_http.specs.Building.{SpellsTarget, SpellsNoTarget, escaped_pair, with_pairs}
+use Rattle.smithy_http.specs.QueryWriter.{SpellsTarget, SpellsNoTarget, escaped_pair, with_pairs}
 use Rattle.smithy_http.specs.Target.{Target, target_of, target_text}
 use Rattle.sigv4.specs.Query.{Pair}
 use Rattle.sigv4.specs.declared.error.SigningError.{SigningError}

@@ -8,7 +8,7 @@ use Rattle.std.specs.List.{join_with_byte}
 use Rattle.std.specs.Ordering.{is_gt, nat_cmp, ordering_then}
 use Rattle.std.specs.Str.Lossy.{utf8_lossy}
 use Rattle.form_urlencoded.specs.Form.{decode, raw_pairs}
-use Rattle.smithy_http.specs.Building.{escaped_pair}
+use Rattle.smithy_http.specs.QueryWriter.{escaped_pair}
 use Rattle.smithy_http.specs.Query.{ampersand, pair_text}
 use Rattle.smithy_http.specs.Target.{Target}
 

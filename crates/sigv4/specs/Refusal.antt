@@ -5,7 +5,7 @@ use denote.Ref.{Bor}
 use Rattle.std.specs.Option.{option_or}
 use Rattle.http_header.specs.FieldName.{is_field_name}
 use Rattle.http_header.specs.Token.{is_value_byte}
-use Rattle.smithy_core.specs.Pairs.{AreLower, lower}
+use Rattle.smithy_core.specs.TextPairs.{AreLower, lower}
 use Rattle.smithy_core.specs.declared.identity.Identity.{Identity}
 use Rattle.smithy_http.specs.Target.{Target}
 use Rattle.sigv4.specs.Canonical.{added_host, has_host, told_payload}

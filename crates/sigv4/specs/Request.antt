@@ -1,12 +1,12 @@
 -- What is signed, and with what: a request and the parameters of its signature.
 use Rattle.std.specs.Prelude.{◌≡◌, ◌⊎◌, ℕ, List, [], Option, Some, None, option_map, Result, Ok, Err, string_bytes}
 use Rattle.http_uri.specs.declared.uri.Uri.{Uri}
-use Rattle.smithy_core.specs.Instant.{Instant}
+use Rattle.smithy_core.specs.Moment.{Instant}
 use Rattle.smithy_core.specs.declared.identity.Credentials.{Credentials as Keys}
 use Rattle.smithy_core.specs.declared.identity.Identity.{Identity}
 use Rattle.smithy_core.specs.declared.identity.Identity.TheVariants.{Credentials, Token}
 use Rattle.smithy_core.specs.declared.request.HttpRequest.{HttpRequest}
-use Rattle.smithy_http.specs.Building.{SpellsNoTarget, SpellsTarget}
+use Rattle.smithy_http.specs.QueryWriter.{SpellsNoTarget, SpellsTarget}
 use Rattle.smithy_http.specs.Target.{Target, target_of}
 use Rattle.eventstream.specs.Key.{Signer}
 use Rattle.sigv4.specs.Body.{IsSameBody, body_bytes, payload_text}

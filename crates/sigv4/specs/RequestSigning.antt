@@ -2,7 +2,7 @@
 use Rattle.std.specs.Prelude.{◌≡◌, ◌⊎◌, [], if◌then◌else◌, Option, Some, None, Result, Ok, Err, String, string_bytes}
 use Rattle.std.specs.declared.alloc.Global.{Global}
 use Rattle.smithy_core.specs.Civil.{stamp}
-use Rattle.smithy_core.specs.Pairs.{text_pairs}
+use Rattle.smithy_core.specs.TextPairs.{text_pairs}
 use Rattle.smithy_core.specs.declared.identity.Identity.{Identity}
 use Rattle.eventstream.specs.Key.{scope}
 use Rattle.sigv4.specs.Canonical.{canonical, credential, joined_names, names, signing_parameters}

@@ -4,7 +4,7 @@ use Rattle.sha2.specs.Sha256.{sha256}
 use Rattle.hex.specs.Hex.{encode_lower}
 use Rattle.mac_core.specs.Mac.{mac}
 use Rattle.smithy_core.specs.Civil.{stamp}
-use Rattle.smithy_core.specs.Instant.{Instant}
+use Rattle.smithy_core.specs.Moment.{Instant}
 use Rattle.smithy_core.specs.Text.{line}
 use Rattle.eventstream.specs.Key.{Signer, scope, signing_key}
 

@@ -1,6 +1,6 @@
 -- The parameters of a request's signature, of whatever version.
 use Rattle.std.specs.Prelude.{◌≡◌, ℕ, List}
-use Rattle.smithy_core.specs.Instant.{Instant}
+use Rattle.smithy_core.specs.Moment.{Instant}
 use Rattle.sigv4.specs.Params.{IsCopied}
 use Rattle.sigv4.specs.Settings.{settings_of}
 use Rattle.sigv4.specs.declared.settings.SigningSettings.{SigningSettings}

@@ -2,7 +2,7 @@ ghost use Rattle.std.specs.Prelude.{◌≡◌, ℕ, List, [], ◌∷◌, ◌++�
 ghost use Rattle.std.specs.BTreeMap.{IsOrdered};
 ghost use Rattle.std.specs.List.{flat_map, list_any};
 ghost use Rattle.std.specs.String.{string_cmp};
-ghost use Rattle.smithy_core.specs.Pairs.{AreLower, inserted, lower};
+ghost use Rattle.smithy_core.specs.TextPairs.{AreLower, inserted, lower};
 ghost use Rattle.sigv4.specs.Canonical.{excluded_token, given_headers, is_signed, joined_names, told_payload, token_header, unsigned_in_query_form, unsigned_token, with_optional, with_signing_headers};
 ghost use Rattle.sigv4.specs.CanonicalHeaders.{HoldsHeaders, appended, header_texts, joined_value_at, pair_line, separator_before, signed_values};
 ghost use Rattle.sigv4.specs.Query.{Pair};

@@ -1,7 +1,7 @@
 ghost use Rattle.std.specs.Prelude.{◌≡◌, ◌++◌, [], ◌∷◌, map, None, if◌then◌else◌, option_copied, IfOk, OnOk};
 ghost use Rattle.std.specs.String.{string_bytes};
-ghost use Rattle.smithy_core.specs.Pairs.{text_pairs};
-ghost use Rattle.smithy_http.specs.Building.{escaped_pair};
+ghost use Rattle.smithy_core.specs.TextPairs.{text_pairs};
+ghost use Rattle.smithy_http.specs.QueryWriter.{escaped_pair};
 ghost use Rattle.smithy_http.specs.Query.{pair_text};
 ghost use Rattle.smithy_http.specs.Target.{target_of};
 ghost use Rattle.sigv4.specs.Canonical.{expires_text, parameters_for, signed_token, token_pairs};

@@ -1,6 +1,6 @@
 ghost use Rattle.std.specs.Prelude.{◌≡◌, None, Some, MatchResult, if◌then◌else◌};
 ghost use Rattle.smithy_core.specs.Civil.{is_in_years};
-ghost use Rattle.smithy_core.specs.Instant.{Instant};
+ghost use Rattle.smithy_core.specs.Moment.{Instant};
 ghost use Rattle.sigv4.specs.EventStream.{unsignable};
 ghost use Rattle.sigv4.specs.Request.{HasKeys};
 

@@ -5,7 +5,7 @@ ghost use Rattle.std.specs.String.{string_bytes};
 ghost use Rattle.sha2.specs.Sha256.{sha256};
 ghost use Rattle.hex.specs.Hex.{encode_lower};
 ghost use Rattle.smithy_core.specs.Civil.{IsInYears};
-ghost use Rattle.smithy_core.specs.Instant.{floor_secs};
+ghost use Rattle.smithy_core.specs.Moment.{floor_secs};
 ghost use Rattle.eventstream.specs.Frame.{frame, spelling};
 ghost use Rattle.eventstream.specs.Link.{date_header, string_to_sign};
 ghost use Rattle.sigv4.specs.Params.{signer_of};

@@ -1,8 +1,8 @@
 ghost use Rattle.std.specs.Prelude.{◌≡◌, [], map, IfOk, OnOk, OnErr};
 ghost use Rattle.std.specs.Option.{option_map_or};
 ghost use Rattle.std.specs.String.{string_bytes};
-ghost use Rattle.smithy_core.specs.Pairs.{text_pairs};
-ghost use Rattle.smithy_http.specs.Building.{SpellsTarget};
+ghost use Rattle.smithy_core.specs.TextPairs.{text_pairs};
+ghost use Rattle.smithy_http.specs.QueryWriter.{SpellsTarget};
 ghost use Rattle.smithy_http.specs.Target.{target_of};
 ghost use Rattle.sigv4.specs.Instructions.{told_pair, with_instructions};
 ghost use Rattle.sigv4.specs.Parameters.{AppliesParams, AppliesTo};
@@ -26,7 +26,7 @@ pub struct SigningInstructions {
 }
 
 impl Model for SigningInstructions {
-    ghost use Rattle.smithy_core.specs.Pairs.{text_pairs};
+    ghost use Rattle.smithy_core.specs.TextPairs.{text_pairs};
     ghost use Rattle.sigv4.specs.Instructions.{Instructions};
 
     ghost Value = { Instructions };

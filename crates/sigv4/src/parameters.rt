@@ -1,6 +1,6 @@
 ghost use Rattle.std.specs.Prelude.{◌≡◌, ◌<◌, ℕ, List, length, OnOk};
-ghost use Rattle.smithy_core.specs.Pairs.{text_pairs};
-ghost use Rattle.smithy_http.specs.Building.{BuildsText, SpellsTarget};
+ghost use Rattle.smithy_core.specs.TextPairs.{text_pairs};
+ghost use Rattle.smithy_http.specs.QueryWriter.{BuildsText, SpellsTarget};
 ghost use Rattle.smithy_http.specs.Target.{target_of};
 ghost use Rattle.sigv4.specs.Parameters.{Retargets, with_params};
 

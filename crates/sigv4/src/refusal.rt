@@ -1,5 +1,5 @@
 ghost use Rattle.std.specs.Prelude.{◌≡◌, option_copied, if◌then◌else◌};
-ghost use Rattle.smithy_core.specs.Pairs.{AreLower};
+ghost use Rattle.smithy_core.specs.TextPairs.{AreLower};
 ghost use Rattle.smithy_http.specs.Target.{target_of};
 ghost use Rattle.sigv4.specs.Canonical.{has_host, told_payload};
 ghost use Rattle.sigv4.specs.Refusal.{AddsHost, FindsHost, Tests, unfit_early_text, unfit_header, unfit_headers, unfit_host, unfit_late_texts, unfit_optional, unfit_target, unfit_value};

@@ -1,5 +1,5 @@
 ghost use Rattle.std.specs.Prelude.{◌≡◌, ◌++◌, [], ◌∷◌, codes, true, false, if◌then◌else◌, IfOk, OnOk, option_copied, string_bytes};
-ghost use Rattle.smithy_core.specs.Pairs.{text_pairs};
+ghost use Rattle.smithy_core.specs.TextPairs.{text_pairs};
 ghost use Rattle.sigv4.specs.Canonical.{told_payload, token_header, token_pairs, token_parameter};
 ghost use Rattle.sigv4.specs.Settings.{is_query_form, settings_of};
 ghost use Rattle.sigv4.specs.Signed.{authorization_text, instructions_for, optional_header};

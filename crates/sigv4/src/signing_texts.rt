@@ -1,7 +1,7 @@
 ghost use Rattle.std.specs.Prelude.{◌≡◌, option_copied, IfOk, string_bytes};
 ghost use Rattle.hex.specs.Hex.{encode_lower};
 ghost use Rattle.mac_core.specs.Mac.{mac};
-ghost use Rattle.smithy_core.specs.Pairs.{AreLower};
+ghost use Rattle.smithy_core.specs.TextPairs.{AreLower};
 ghost use Rattle.smithy_http.specs.Target.{target_of};
 ghost use Rattle.sigv4.specs.Canonical.{added_host};
 ghost use Rattle.sigv4.specs.Request.{HasKeys, v4_request_case};

@@ -19,7 +19,7 @@ pub(crate) struct SigningTime {
 impl Model for SigningTime {
     ghost use Rattle.std.specs.Prelude.{◌≡◌};
     ghost use Rattle.smithy_core.specs.Civil.{IsInYears, civil_of};
-    ghost use Rattle.smithy_core.specs.Instant.{Instant};
+    ghost use Rattle.smithy_core.specs.Moment.{Instant};
 
     ghost Value = { Instant };
 

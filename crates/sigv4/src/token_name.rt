@@ -1,7 +1,7 @@
 ghost use Rattle.std.specs.Prelude.{◌≡◌, bytes_eq};
 ghost use Rattle.std.specs.Char.{is_ascii_uppercase};
 ghost use Rattle.std.specs.List.{list_any};
-ghost use Rattle.smithy_core.specs.Pairs.{lower};
+ghost use Rattle.smithy_core.specs.TextPairs.{lower};
 ghost use Rattle.sigv4.specs.Canonical.{token_header, token_parameter};
 ghost use Rattle.sigv4.specs.Refusal.{Tests, is_lower_name, is_reserved, is_token_name, unfit_token_name};
 ghost use Rattle.sigv4.specs.Settings.{settings_of};

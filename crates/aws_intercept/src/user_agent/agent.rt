@@ -1,5 +1,5 @@
 ghost use Rattle.std.specs.Prelude.{◌≡◌, [], ◌∷◌, ◌++◌, IfOk, OnErr, OnOk, Some, option_map, string_bytes};
-ghost use Rattle.smithy_core.specs.Pairs.{last_value};
+ghost use Rattle.smithy_core.specs.TextPairs.{last_value};
 ghost use Rattle.aws_intercept.specs.Agent.{agent_for_tests, agent_from};
 
 mod text;

@@ -1,5 +1,5 @@
 use Rattle.std.proofs.Common.{◌∙◌, ap, sym, Bool, cond, List, ℕ, Some, string_bytes, bytes_eq}
-use Rattle.smithy_core.specs.Pairs.{lower}
+use Rattle.smithy_core.specs.TextPairs.{lower}
 use Rattle.env_config.specs.Texts.{value_under}
 use Rattle.env_config.specs.Section.{values_of}
 use Rattle.env_config.proofs.TextsLemmas.{lower_step}

@@ -1,5 +1,5 @@
 use Rattle.std.proofs.Common.{◌≡◌}
-use Rattle.smithy_core.specs.Pairs.{lower}
+use Rattle.smithy_core.specs.TextPairs.{lower}
 use Rattle.env_config.specs.Texts.{value_under}
 use Rattle.env_config.specs.Section.{values_of}
 use Rattle.env_config.proofs.section.value_of.Given as goal

@@ -1,5 +1,5 @@
 use Rattle.std.proofs.Common.{◌≡◌, ℕ, List, None}
-use Rattle.smithy_core.specs.Pairs.{AreLower}
+use Rattle.smithy_core.specs.TextPairs.{AreLower}
 use Rattle.sigv4.specs.Canonical.{given_headers}
 use Rattle.sigv4.specs.CanonicalHeaders.{appended, joined_value_at, signed_values}
 use Rattle.sigv4.specs.Settings.{settings_of}

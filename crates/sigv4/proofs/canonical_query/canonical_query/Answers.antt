@@ -2,8 +2,8 @@ use Rattle.std.proofs.Common.{◌≡◌, ◌++◌, [], ℕ, Bor, List, Option, m
 use Rattle.std.proofs.lemmas.List.{map-append}
 use Rattle.std.specs.Prelude.{option_copied}
 use Rattle.http_uri.specs.Uri.{uri_query}
-use Rattle.smithy_core.specs.Pairs.{text_pairs}
-use Rattle.smithy_http.specs.Building.{escaped_pair}
+use Rattle.smithy_core.specs.TextPairs.{text_pairs}
+use Rattle.smithy_http.specs.QueryWriter.{escaped_pair}
 use Rattle.sigv4.specs.Canonical.{token_pairs}
 use Rattle.sigv4.specs.Query.{Pair, decoded, decoded_pairs, query}
 use Rattle.sigv4.proofs.QueryLemmas.{copied_or}

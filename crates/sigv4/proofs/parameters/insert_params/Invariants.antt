@@ -1,5 +1,5 @@
 use Rattle.std.proofs.Common.{◌≡◌, drop}
-use Rattle.smithy_core.specs.Pairs.{text_pairs}
+use Rattle.smithy_core.specs.TextPairs.{text_pairs}
 use Rattle.sigv4.specs.Parameters.{with_params}
 use Rattle.sigv4.proofs.parameters.insert_params.Given as goal
 

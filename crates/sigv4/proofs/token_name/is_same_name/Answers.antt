@@ -1,4 +1,4 @@
-use Rattle.smithy_core.specs.Pairs.{lower}
+use Rattle.smithy_core.specs.TextPairs.{lower}
 use Rattle.sigv4.proofs.RefusalLemmas.{decides-text}
 use Rattle.sigv4.proofs.token_name.is_same_name.Goals as goal
 

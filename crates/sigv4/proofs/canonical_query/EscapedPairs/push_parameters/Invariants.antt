@@ -1,6 +1,6 @@
 use Rattle.std.proofs.Common.{◌≡◌, ◌++◌, map, drop}
-use Rattle.smithy_core.specs.Pairs.{text_pairs}
-use Rattle.smithy_http.specs.Building.{escaped_pair}
+use Rattle.smithy_core.specs.TextPairs.{text_pairs}
+use Rattle.smithy_http.specs.QueryWriter.{escaped_pair}
 use Rattle.sigv4.proofs.canonical_query.EscapedPairs.push_parameters.Given as goal
 
 -- what was added and the pairs to come are all of them

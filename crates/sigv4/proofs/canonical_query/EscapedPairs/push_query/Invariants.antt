@@ -1,7 +1,7 @@
 use Rattle.std.proofs.Common.{◌≡◌, ◌++◌, map}
 use Rattle.form_urlencoded.specs.Form.{raw_pairs}
 use Rattle.form_urlencoded.specs.Parse.{pairs_left}
-use Rattle.smithy_http.specs.Building.{escaped_pair}
+use Rattle.smithy_http.specs.QueryWriter.{escaped_pair}
 use Rattle.sigv4.specs.Query.{decoded_pair}
 use Rattle.sigv4.proofs.canonical_query.EscapedPairs.push_query.Given as goal
 

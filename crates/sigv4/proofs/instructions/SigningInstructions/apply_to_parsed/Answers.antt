@@ -1,5 +1,5 @@
 use Rattle.std.proofs.Common.{◌≡◌, ap, ◌∙◌}
-use Rattle.smithy_core.specs.Pairs.{text_pairs}
+use Rattle.smithy_core.specs.TextPairs.{text_pairs}
 use Rattle.sigv4.specs.Instructions.{Instructions}
 use Rattle.sigv4.proofs.instructions.SigningInstructions.apply_to_parsed.Goals as goal
 

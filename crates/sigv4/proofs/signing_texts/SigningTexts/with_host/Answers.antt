@@ -2,7 +2,7 @@ use Rattle.std.proofs.Common.{◌≡◌, ◌++◌, [], ap, ◌∙◌}
 use Rattle.std.specs.Prelude.{codes, if◌then◌else◌, None}
 use Rattle.http_uri.specs.Uri.{uri_path}
 use Rattle.smithy_core.specs.Civil.{stamp}
-use Rattle.smithy_core.specs.Pairs.{text_pairs}
+use Rattle.smithy_core.specs.TextPairs.{text_pairs}
 use Rattle.smithy_http.specs.Target.{target_of}
 use Rattle.eventstream.specs.Key.{scope}
 use Rattle.sigv4.specs.Canonical.{canonical, canonical_headers, canonical_lines, credential, given_headers, joined_names, names, parameters_for, signed_token, signing_parameters, told_payload, token_pairs, token_parameter, with_optional, with_signing_headers}
