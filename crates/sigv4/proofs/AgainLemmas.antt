@@ -9,7 +9,7 @@ use Rattle.smithy_core.specs.TextPairs.{first_value, inserted, lower, named_valu
 use Rattle.smithy_core.specs.Text.{line}
 use Rattle.smithy_http.specs.Target.{Target}
 use Rattle.sigv4.specs.Again.{HasSameTarget, SignsAgain, again}
-use Rattle.sigv4.specs.Canonical.{added_host, canonical, canonical_headers, canonical_lines, credential, excluded_token, given_headers, has_host, header_line, hosted_headers, is_signed, joined_names, names, pairs, path_of, signed_names, told_payload, token_header, unsigned_in_query_form, unsigned_token, with_optional, with_signing_headers}
+use Rattle.sigv4.specs.Canonical.{added_host, canonical, canonical_headers, canonical_lines, credential, excluded_token, given_headers, has_host, header_line, hosted_headers, is_signed, joined_names, names, pairs, path_of, signed_names, told_payload, token_header, unsigned_in_query_form, unsigned_token, with_optional}
 use Rattle.sigv4.specs.Host.{host_text}
 use Rattle.sigv4.specs.Instructions.{with_instructions}
 use Rattle.sigv4.specs.Parameters.{target_text_with}
@@ -18,7 +18,7 @@ use Rattle.sigv4.specs.Refusal.{is_lower_name, is_name, is_reserved, is_token_na
 use Rattle.sigv4.specs.Request.{Case}
 use Rattle.sigv4.specs.Settings.{Settings, default_exclusions, is_query_form}
 use Rattle.sigv4.specs.Signature.{signature}
-use Rattle.sigv4.specs.Signed.{authorization, authorization_front, authorization_text, instructions, instructions_for, parameters, signature_of, signed_headers, signed_target}
+use Rattle.sigv4.specs.Signed.{authorization, authorization_text, instructions, instructions_for, parameters, signature_of, signed_headers, signed_target}
 use Rattle.sigv4.specs.Trim.{trim_all}
 use Rattle.sigv4.specs.declared.error.SigningError.TheVariants.{InvalidTokenName}
 use Rattle.sigv4.specs.declared.error.ValuePlace.TheVariants.{Authorization, PayloadHash, Token}
@@ -93,10 +93,15 @@ alike-optional header (Some value) name xs ys same = by_test (bytes_eq header na
         ∙ sym (named-inserted_same ys header value) ∙ ap (named_values (inserted ys header value)) (same_name header name e)
     by_test false e = named-inserted_other header value name e xs ∙ same e ∙ sym (named-inserted_other header value name e ys)
 
+-- the headers with those that a signature in headers adds
+abbrev added : Settings → List ℕ → Option (List ℕ) → Option (List ℕ) → List Pair → List Pair
+added settings date token payload headers =
+    with_optional (codes "x-amz-content-sha256") payload (with_optional (token_header settings) token (inserted headers (codes "x-amz-date") date))
+
 alike-signing : (settings : Settings) (date : List ℕ) (token payload : Option (List ℕ)) (name : List ℕ) (xs ys : List Pair)
     → (Lacks (codes "x-amz-content-sha256") payload name → Lacks (token_header settings) token name → bytes_eq (codes "x-amz-date") name ≡ false
     → named_values xs name ≡ named_values ys name)
-    → named_values (with_signing_headers settings date token payload xs) name ≡ named_values (with_signing_headers settings date token payload ys) name
+    → named_values (added settings date token payload xs) name ≡ named_values (added settings date token payload ys) name
 alike-signing settings date token payload name xs ys same =
     alike-optional (codes "x-amz-content-sha256") payload name _ _ (λ p. alike-optional (token_header settings) token name _ _ (λ t.
     alike-optional (codes "x-amz-date") (Some date) name xs ys (λ d. same p t d)))
@@ -209,7 +214,7 @@ module _ (c : Case) (form : is_query_form c.settings ≡ false) where
   instructions_are = otherwise (is_query_form c.settings) _ _ form
 
   headers_are : (headers : List Pair)
-      → canonical_headers (record c { headers = headers }) ≡ with_signing_headers c.settings (stamp c.at) c.token told (hosted_headers c.target headers)
+      → canonical_headers (record c { headers = headers }) ≡ added c.settings (stamp c.at) c.token told (hosted_headers c.target headers)
   unfolding canonical_headers
   headers_are headers = otherwise (is_query_form c.settings) _ _ form
 
@@ -281,8 +286,8 @@ module _ (c : Case) (form : is_query_form c.settings ≡ false) where
     signature-again = ap (signature c.signer c.at) canonical-again
 
     authorization-again : authorization (again c) ≡ authorization c
-    unfolding authorization authorization_front credential
-    authorization-again = λ i. authorization_text (credential c) (joined_names (names-again i)) ++ signature-again i
+    unfolding authorization credential
+    authorization-again = λ i. authorization_text (credential c) (joined_names (names-again i)) (signature-again i)
 
     -- and is refused no more than the request
     unfit-again : HasFitParts c → unfit (again c) ≡ unfit c

@@ -1,5 +1,5 @@
--- Maps of headers as lists of header_texts.
-use Rattle.std.proofs.Common.{◌≡◌, ℕ, Bool, true, false, cond, not, ◌&&◌, ◌||◌, List, [], ◌∷◌, ◌++◌, map, filter, Option, Some, None, is_some, refl, sym, ap, ◌∙◌, append_assoc, append-nil, subst, T}
+-- Maps of headers as lists of texts.
+use Rattle.std.proofs.Common.{◌≡◌, ℕ, Bool, true, false, cond, ◌&&◌, ◌||◌, List, [], ◌∷◌, ◌++◌, map, filter, Option, Some, None, is_some, refl, sym, ap, ◌∙◌, append_assoc, append-nil, subst, T}
 use Rattle.std.specs.Prelude.{String, string_bytes, bytes_eq, codes, option_map, if◌then◌else◌}
 use Rattle.std.specs.String.{string_cmp}
 use Rattle.std.specs.declared.alloc.Global.{Global}
@@ -8,21 +8,20 @@ use Rattle.std.specs.declared.cmp.Ordering.TheVariants.{Less, Equal, Greater}
 use Rattle.std.specs.Ordering.{nat_cmp, is_lt, is_eq, eq_by_cmp}
 use Rattle.std.proofs.lemmas.Cmp.{nat_list_cmp_total}
 use Rattle.std.specs.Cmp.Lexicographic.{slice_cmp}
-use Rattle.std.proofs.lemmas.Cmp.{eq_by_cmp_equiv}
 use Rattle.std.specs.BTreeMap.{is_at, IsOrdered}
 use Rattle.std.specs.List.{flat_map, join_with_byte, list_any, AllByRecursion}
 use Rattle.std.specs.List.Sorted.{IsStrictlySortedBy}
 use Rattle.std.specs.Map.{keys_of, lookup}
-use Rattle.std.specs.FinMap.{entries, entries_sorted, from_entries, get, get-entries, get-from_entries, find, is_sorted}
-use Rattle.std.specs.FinMap.Entries.{below_all, same_entries, is_some-find}
+use Rattle.std.specs.FinMap.{entries, entries_sorted, from_entries, get-entries, find, is_sorted}
+use Rattle.std.specs.FinMap.Entries.{below_all, same_entries}
 use Rattle.std.proofs.lemmas.List.Folds.{list_any-append}
 use Rattle.std.proofs.lemmas.Map.Keys.{sorted_head, sorted_tail}
 use Rattle.std.proofs.lemmas.Map.Lookups.{exact_bytes}
-use Rattle.std.proofs.lemmas.Map.Text.{is_eq-slice_cmp}
-use Rattle.std.proofs.lemmas.Slice.Eq.{bytes_eq-Decides}
-use Rattle.smithy_core.specs.TextPairs.{inserted, named_values, without}
+use Rattle.smithy_core.specs.TextPairs.{inserted, named_values}
 use Rattle.sigv4.specs.Canonical.{header_line, is_signed, joined_names, joined_values, signed_names, token_header, with_optional, with_signing_headers}
 use Rattle.sigv4.specs.Query.{Pair}
+use Rattle.sigv4.proofs.InsertedLemmas.{named-inserted_other, named-inserted_same, same_name}
+use Rattle.sigv4.proofs.SetLemmas.{any-filtered, any-named, is_here, order, set-contains}
 use Rattle.sigv4.specs.CanonicalHeaders.{HeaderMap, HoldsHeaders, appended, pair_line, signed_values, header_texts, joined_value_at}
 use Rattle.sigv4.specs.Settings.{Settings, is_query}
 use Rattle.sigv4.specs.declared.settings.SignatureLocation.{SignatureLocation}
@@ -45,9 +44,6 @@ Entry = String Global × String Global
 
 abbrev as_texts : Entry → Pair
 as_texts entry = (string_bytes entry.0, string_bytes entry.1)
-
-abbrev order : List ℕ → List ℕ → Ordering
-order = slice_cmp nat_cmp
 
 abbrev at_text : List ℕ → String Global → Ordering
 at_text name key = slice_cmp nat_cmp name (string_bytes key)
@@ -101,64 +97,6 @@ module _ (f : List ℕ → List ℕ) where
   with_value-names [] = refl
   with_value-names (e ∷ es) = ap (λ (rest : List Pair). (e.0, f e.0) ∷ rest) (with_value-names es)
 
--- ---- the set of the names
-
-map-units : (names : List (List ℕ)) → map (λ (e : List ℕ × Unit {0}). e.0) (map (λ name. (name, tt {0})) names) ≡ names
-map-units [] = refl
-map-units (name ∷ names) = ap (λ rest. name ∷ rest) (map-units names)
-
-set-contains : (name : List ℕ) (names : List (List ℕ)) → is_some (get (from_entries {R = order} (map (λ n. (n, tt {0})) names)) name) ≡ list_any (eq_by_cmp order name) names
-set-contains name names =
-    let es = map (λ n. (n, tt {0})) names in
-    ap is_some (get-from_entries nat_list_cmp_total es name) ∙ is_some-find order name es ∙ ap (list_any (eq_by_cmp order name)) (map-units names)
-
--- a name is found among those that pass a test where it passes and is found among all
-any-filtered : (test : List ℕ → Bool) (name : List ℕ) (names : List (List ℕ))
-    → list_any (eq_by_cmp order name) (filter test names) ≡ (test name && list_any (eq_by_cmp order name) names)
-any-filtered test name [] = sym (and-false (test name))
-  where
-    and-false : (b : Bool) → (b && false) ≡ false
-    and-false true = refl
-    and-false false = refl
-any-filtered test name (n ∷ names) = by_order (order name n) refl (test n) refl (any-filtered test name names)
-  where
-    passed : (b : Bool) → b ≡ true → true ≡ (b && true)
-    passed true e = refl
-    passed false e = absurd (subst T (sym e) tt)
-
-    failed : (b rest found : Bool) → b ≡ false → found ≡ (b && rest) → found ≡ (b && true)
-    failed true rest found e p = absurd (subst T e tt)
-    failed false rest found e p = p
-
-    by_order : (o : Ordering) → order name n ≡ o → (b : Bool) → test n ≡ b
-        → list_any (eq_by_cmp order name) (filter test names) ≡ (test name && list_any (eq_by_cmp order name) names)
-        → list_any (eq_by_cmp order name) (cond b (n ∷ filter test names) (filter test names)) ≡ (test name && (is_eq o || list_any (eq_by_cmp order name) names))
-    by_order Less p true s again = ap (λ o. is_eq o || list_any (eq_by_cmp order name) (filter test names)) p ∙ again
-    by_order Less p false s again = again
-    by_order Equal p true s again =
-        ap (λ o. is_eq o || list_any (eq_by_cmp order name) (filter test names)) p ∙ passed (test name) (ap test (exact_bytes name n p) ∙ s)
-    by_order Equal p false s again = failed (test name) (list_any (eq_by_cmp order name) names) _ (ap test (exact_bytes name n p) ∙ s) again
-    by_order Greater p true s again = ap (λ o. is_eq o || list_any (eq_by_cmp order name) (filter test names)) p ∙ again
-    by_order Greater p false s again = again
-
-abbrev is_here : List (List ℕ) → Bool
-is_here [] = false
-is_here (value ∷ values) = true
-
-bytes_eq-flipped : (a b : List ℕ) → bytes_eq a b ≡ bytes_eq b a
-bytes_eq-flipped a b = sym (is_eq-slice_cmp a b) ∙ (eq_by_cmp_equiv nat_list_cmp_total).symm a b ∙ is_eq-slice_cmp b a
-
-any-named : (name : List ℕ) (heads : List Pair) → list_any (eq_by_cmp order name) (map (λ head. head.0) heads) ≡ is_here (named_values heads name)
-any-named name [] = refl
-any-named name (head ∷ heads) =
-    ap (λ b. b || list_any (eq_by_cmp order name) (map (λ h. h.0) heads)) (is_eq-slice_cmp name head.0 ∙ bytes_eq-flipped name head.0)
-    ∙ by_test (bytes_eq head.0 name) (any-named name heads)
-  where
-    by_test : (b : Bool) → list_any (eq_by_cmp order name) (map (λ h. h.0) heads) ≡ is_here (named_values heads name)
-        → (b || list_any (eq_by_cmp order name) (map (λ h. h.0) heads)) ≡ is_here (cond b (head.1 ∷ named_values heads name) (named_values heads name))
-    by_test true again = refl
-    by_test false again = again
-
 -- ---- a map of headers
 
 -- what a name has, where it is signed and has values
@@ -191,9 +129,6 @@ texts-held settings pairs heads ordered holds =
     ∙ sym (with_value-names f es)
 
 -- ---- one header after another
-
-same_name : (a b : List ℕ) → bytes_eq a b ≡ true → a ≡ b
-same_name a b e = (bytes_eq-Decides a b).0 e
 
 -- no values are appended of a name that isn't signed
 none-signed : (settings : Settings) (name : List ℕ) → signed_values settings [] name ≡ []
@@ -243,51 +178,6 @@ appended-unsigned settings text head name is = by_test (bytes_eq head.0 name) re
     by_test true e false s = refl
     by_test false e true s = refl
     by_test false e false s = refl
-
--- the values of a name after an insertion
-
-named-without_same : (name : List ℕ) (pairs : List Pair) → named_values (without pairs name) name ≡ []
-named-without_same name [] = refl
-named-without_same name (pair ∷ pairs) = by_test (bytes_eq pair.0 name) refl (named-without_same name pairs)
-  where
-    by_test : (b : Bool) → bytes_eq pair.0 name ≡ b → named_values (without pairs name) name ≡ [] → named_values (cond (not b) (pair ∷ without pairs name) (without pairs name)) name ≡ []
-    by_test true e again = again
-    by_test false e again = ap (λ b. cond b (pair.1 ∷ named_values (without pairs name) name) (named_values (without pairs name) name)) e ∙ again
-
-named-without_other : (name other : List ℕ) → bytes_eq name other ≡ false → (pairs : List Pair) → named_values (without pairs name) other ≡ named_values pairs other
-named-without_other name other differ [] = refl
-named-without_other name other differ (pair ∷ pairs) = by_test (bytes_eq pair.0 name) refl (named-without_other name other differ pairs)
-  where
-    by_test : (b : Bool) → bytes_eq pair.0 name ≡ b → named_values (without pairs name) other ≡ named_values pairs other
-        → named_values (cond (not b) (pair ∷ without pairs name) (without pairs name)) other ≡ cond (bytes_eq pair.0 other) (pair.1 ∷ named_values pairs other) (named_values pairs other)
-    by_test true e again = again ∙ ap (λ b. cond b (pair.1 ∷ named_values pairs other) (named_values pairs other)) (sym (ap (λ n. bytes_eq n other) (same_name pair.0 name e) ∙ differ))
-    by_test false e again = ap (λ rest. cond (bytes_eq pair.0 other) (pair.1 ∷ rest) rest) again
-
-named-inserted_same : (pairs : List Pair) (name value : List ℕ) → named_values (inserted pairs name value) name ≡ value ∷ []
-named-inserted_same [] name value = ap (λ b. cond b (value ∷ []) []) (itself name)
-  where
-    itself : (n : List ℕ) → bytes_eq n n ≡ true
-    itself n = (bytes_eq-Decides n n).1 refl
-named-inserted_same (pair ∷ pairs) name value = by_test (bytes_eq pair.0 name) refl (named-inserted_same pairs name value)
-  where
-    itself : (n : List ℕ) → bytes_eq n n ≡ true
-    itself n = (bytes_eq-Decides n n).1 refl
-
-    by_test : (b : Bool) → bytes_eq pair.0 name ≡ b → named_values (inserted pairs name value) name ≡ value ∷ []
-        → named_values (cond b ((name, value) ∷ without pairs name) (pair ∷ inserted pairs name value)) name ≡ value ∷ []
-    by_test true e again = ap (λ b. cond b (value ∷ named_values (without pairs name) name) (named_values (without pairs name) name)) (itself name) ∙ ap (λ rest. value ∷ rest) (named-without_same name pairs)
-    by_test false e again = ap (λ b. cond b (pair.1 ∷ named_values (inserted pairs name value) name) (named_values (inserted pairs name value) name)) e ∙ again
-
-named-inserted_other : (name value other : List ℕ) → bytes_eq name other ≡ false → (pairs : List Pair) → named_values (inserted pairs name value) other ≡ named_values pairs other
-named-inserted_other name value other differ [] = ap (λ b. cond b (value ∷ []) []) differ
-named-inserted_other name value other differ (pair ∷ pairs) = by_test (bytes_eq pair.0 name) refl (named-inserted_other name value other differ pairs)
-  where
-    by_test : (b : Bool) → bytes_eq pair.0 name ≡ b → named_values (inserted pairs name value) other ≡ named_values pairs other
-        → named_values (cond b ((name, value) ∷ without pairs name) (pair ∷ inserted pairs name value)) other ≡ cond (bytes_eq pair.0 other) (pair.1 ∷ named_values pairs other) (named_values pairs other)
-    by_test true e again =
-        ap (λ b. cond b (value ∷ named_values (without pairs name) other) (named_values (without pairs name) other)) differ ∙ named-without_other name other differ pairs
-        ∙ ap (λ b. cond b (pair.1 ∷ named_values pairs other) (named_values pairs other)) (sym (ap (λ n. bytes_eq n other) (same_name pair.0 name e) ∙ differ))
-    by_test false e again = ap (λ rest. cond (bytes_eq pair.0 other) (pair.1 ∷ rest) rest) again
 
 -- a header that is signed is inserted
 pub held-inserted : (settings : Settings) (pairs : List Pair) (heads now : HeaderMap) (name value : List ℕ) → is_signed settings name ≡ true
