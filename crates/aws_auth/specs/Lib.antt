@@ -1,6 +1,9 @@
 pub mod Endpoint
-pub mod Errors
+pub mod Error
+pub mod Inputs
+pub mod MessageSigner
 pub mod Moment
+pub mod NameOverride
 pub mod Options
 pub mod Payload
-pub mod Signers
+pub mod Signer

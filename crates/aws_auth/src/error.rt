@@ -30,11 +30,11 @@ pub enum SigV4SigningError {
 }
 
 impl SigV4SigningError {
-    ghost use Rattle.aws_auth.specs.Errors.{IsSameError};
+    ghost use Rattle.aws_auth.specs.Error.{IsSameAuthError};
 
     /// An equal error.
     pub fn try_clone(&self) -> Mem<SigV4SigningError>
-        ensures { IfOk result (IsSameError self.now) }
+        ensures { IfOk result (IsSameAuthError self.now) }
     {
         Ok(match self {
             SigV4SigningError::MissingOperationSigningConfig => {
@@ -55,9 +55,9 @@ impl SigV4SigningError {
 
 impl fmt::Display for SigV4SigningError {
     ghost use Rattle.std.specs.Prelude.{Some};
-    ghost use Rattle.aws_auth.specs.Errors.{text_of};
+    ghost use Rattle.aws_auth.specs.Error.{auth_error_text};
 
-    ghost output = { λ error. Some (text_of error) };
+    ghost output = { λ error. Some (auth_error_text error) };
 
     fn fmt<W: fmt::Write>(&self, f: &mut fmt::Formatter<W>) -> fmt::Result {
         match self {
@@ -87,9 +87,9 @@ impl fmt::Display for SigV4SigningError {
 impl std::error::Error for SigV4SigningError {}
 
 impl From<SigningError> for SigV4SigningError {
-    ghost use Rattle.aws_auth.specs.Errors.{error_of};
+    ghost use Rattle.aws_auth.specs.Error.{auth_error};
 
-    ghost from_gives = { λ inner error. error ≡ error_of inner };
+    ghost from_gives = { λ inner error. error ≡ auth_error inner };
 
     fn from(inner: SigningError) -> SigV4SigningError {
         match inner {
@@ -100,9 +100,9 @@ impl From<SigningError> for SigV4SigningError {
 }
 
 impl From<OverrideError> for SigV4SigningError {
-    ghost use Rattle.aws_auth.specs.Errors.{refusal_of};
+    ghost use Rattle.aws_auth.specs.Error.{override_error};
 
-    ghost from_gives = { λ inner error. error ≡ refusal_of inner };
+    ghost from_gives = { λ inner error. error ≡ override_error inner };
 
     fn from(inner: OverrideError) -> SigV4SigningError {
         match inner {

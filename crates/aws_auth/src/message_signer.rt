@@ -1,6 +1,6 @@
 ghost use Rattle.std.specs.Prelude.{◌≡◌, IfOk};
 ghost use Rattle.std.specs.String.{string_bytes};
-ghost use Rattle.aws_auth.specs.Signers.{IsSameSigner};
+ghost use Rattle.aws_auth.specs.MessageSigner.{IsSameSigner};
 
 use smithy_core::{Identity, Mem, Moment, Region, SigningName};
 use std::fmt;

@@ -18,7 +18,7 @@ pub enum OverrideError {
 
 impl fmt::Display for OverrideError {
     ghost use Rattle.std.specs.Prelude.{Some};
-    ghost use Rattle.aws_auth.specs.Errors.{override_error_text};
+    ghost use Rattle.aws_auth.specs.NameOverride.{override_error_text};
 
     ghost output = { λ error. Some (override_error_text error) };
 

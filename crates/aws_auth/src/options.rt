@@ -128,10 +128,11 @@ impl PartialEq for SigV4OperationSigningConfig {
     ghost use Rattle.std.specs.Ordering.{eq_of_both, on};
     ghost use Rattle.std.specs.Cmp.{and_equiv, on_equiv, partial_equiv_from_equiv};
     ghost use Rattle.std.specs.Cmp.Lexicographic.{nat_list_eq_equiv, options_equiv};
+    ghost use Rattle.aws_auth.specs.contracts.options.SigningOptionsEq.TheImpl.Laws.{laws-law};
 
     ghost eq = { eq_of_both (on (λ config. config.region) (option_eq bytes_eq)) (eq_of_both (on (λ config. config.name) (option_eq bytes_eq)) (on (λ config. config.signing_options) ⟦<SigningOptions as PartialEq>⟧.eq)) };
 
-    ghost laws = { partial_equiv_from_equiv (and_equiv (on_equiv (λ config. config.region) (options_equiv nat_list_eq_equiv)) (and_equiv (on_equiv (λ config. config.name) (options_equiv nat_list_eq_equiv)) (on_equiv (λ config. config.signing_options) ⟦<SigningOptions as Eq>⟧.laws))) };
+    ghost laws = { partial_equiv_from_equiv (and_equiv (on_equiv (λ config. config.region) (options_equiv nat_list_eq_equiv)) (and_equiv (on_equiv (λ config. config.name) (options_equiv nat_list_eq_equiv)) (on_equiv (λ config. config.signing_options) laws-law))) };
 
     fn eq(&self, other: &SigV4OperationSigningConfig) -> bool {
         same_region(&self.region, &other.region)
@@ -143,8 +144,9 @@ impl PartialEq for SigV4OperationSigningConfig {
 impl Eq for SigV4OperationSigningConfig {
     ghost use Rattle.std.specs.Cmp.{and_equiv, on_equiv};
     ghost use Rattle.std.specs.Cmp.Lexicographic.{nat_list_eq_equiv, options_equiv};
+    ghost use Rattle.aws_auth.specs.contracts.options.SigningOptionsEq.TheImpl.Laws.{laws-law};
 
-    ghost laws = { and_equiv (on_equiv (λ config. config.region) (options_equiv nat_list_eq_equiv)) (and_equiv (on_equiv (λ config. config.name) (options_equiv nat_list_eq_equiv)) (on_equiv (λ config. config.signing_options) ⟦<SigningOptions as Eq>⟧.laws)) };
+    ghost laws = { and_equiv (on_equiv (λ config. config.region) (options_equiv nat_list_eq_equiv)) (and_equiv (on_equiv (λ config. config.name) (options_equiv nat_list_eq_equiv)) (on_equiv (λ config. config.signing_options) laws-law)) };
 }
 
 // Whether both regions are there and have the same text, or neither is.
