@@ -10,7 +10,7 @@ use Rattle.smithy_core.proofs.GainLemmas.{prefix_at_start}
 use Rattle.smithy_http.specs.Target.{Target}
 use Rattle.eventstream.specs.declared.error.ErrorKind.{ErrorKind}
 use Rattle.eventstream.specs.declared.error.ErrorKind.TheVariants as reasons
-use Rattle.sigv4.specs.Case.{Case}
+use Rattle.sigv4.specs.Request.{Case}
 use Rattle.sigv4.specs.Refusal.{unfit}
 use Rattle.sigv4.specs.declared.error.SigningError.{SigningError}
 use Rattle.signed_stream.specs.Command.{Wanted}

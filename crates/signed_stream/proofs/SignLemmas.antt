@@ -6,14 +6,14 @@ use Rattle.smithy_core.specs.declared.identity.Identity.{Identity}
 use Rattle.smithy_core.specs.declared.request.HttpRequest.{HttpRequest}
 use Rattle.smithy_http.specs.Building.{SpellsNoTarget, SpellsTarget}
 use Rattle.smithy_http.specs.Target.{Target, target_of}
-use Rattle.sigv4.specs.Case.{Case, case_of, payload_text}
+use Rattle.sigv4.specs.Request.{Case, request_case, payload_text}
 use Rattle.sigv4.specs.Refusal.{unfit}
-use Rattle.sigv4.specs.RequestSigning.{SignsRequest as SignsCase}
+use Rattle.sigv4.specs.RequestSigning.{SignsCase as SignsCase}
 use Rattle.sigv4.specs.Settings.{settings_of}
 use Rattle.sigv4.specs.Instructions.{Instruction, with_instructions}
 use Rattle.sigv4.specs.Signed.{instructions, signed_headers}
-use Rattle.sigv4.specs.Signing.{unsignable}
-use Rattle.sigv4.specs.Targets.{IsRetargeted}
+use Rattle.sigv4.specs.EventStream.{unsignable}
+use Rattle.sigv4.specs.Parameters.{IsRetargeted}
 use Rattle.sigv4.specs.declared.body.SignableBody.{SignableBody}
 use Rattle.sigv4.specs.declared.error.SigningError.{SigningError}
 use Rattle.sigv4.specs.declared.error.SigningError.TheVariants.{InvalidHeaderName, InvalidHeaderValue, InvalidUri, MissingHost, NoMemory}
@@ -32,7 +32,7 @@ use Rattle.signed_stream.specs.declared.words.options.StreamWords.{StreamWords}
 pub case_made : (request : HttpRequest) (identity : Bor Identity) (region : Bor (List ℕ)) (words : StreamWords) (settings : SigningSettings) (signable : SignableRequest) (body : SignableBody)
     → signable.method.now ≡ string_bytes request.method → signable.headers.now ≡ request.headers → signable.body ≡ body
     → payload_text body ≡ payload_with words.signing request.body → settings_of settings ≡ settings_with words.signing
-    → case_of signable (V4 (record { identity = identity; region = region; name = words.name; time = words.at; settings = settings }))
+    → request_case signable (V4 (record { identity = identity; region = region; name = words.name; time = words.at; settings = settings }))
     ≡ case_under request identity.now region.now words (target_of signable.uri)
 case_made request identity region words settings signable body method headers body_is payload settings_are =
     rw (method, headers, body_is, payload, settings_are) refl

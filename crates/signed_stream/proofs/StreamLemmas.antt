@@ -16,7 +16,7 @@ use Rattle.eventstream.specs.declared.error.Error.{Error}
 use Rattle.eventstream.specs.declared.error.ErrorKind.{ErrorKind}
 use Rattle.eventstream.proofs.LinkLemmas.{link_framed}
 use Rattle.eventstream.proofs.UnframedLemmas.{unframed_fault}
-use Rattle.sigv4.specs.Signing.{failed_encoding, refusal, unsignable}
+use Rattle.sigv4.specs.EventStream.{failed_encoding, message_refusal, unsignable}
 use Rattle.sigv4.specs.declared.error.SigningError.{SigningError}
 use Rattle.sigv4.specs.declared.error.SigningError.TheVariants.{FailedToEncodeMessage}
 use Rattle.signed_stream.specs.Refusal.{Refusal, fault_at, fault_of, first_refusal, unlinked}
@@ -32,7 +32,7 @@ pub closing_framed : (signer : Signer) (signature : List ℕ) (t : Instant) → 
 closing_framed signer signature t within = link_framed signer signature [] t within (omega arith)
 
 -- a message that is signed has a frame
-pub signed_framed : (m : Parts) (identity : Identity) (t : Instant) → refusal m identity t ≡ None → unframed m ≡ None
+pub signed_framed : (m : Parts) (identity : Identity) (t : Instant) → message_refusal m identity t ≡ None → unframed m ≡ None
 signed_framed m identity t = by_reason (unframed m)
   where
     by_reason : (reason : Option ErrorKind) → option_or (option_map failed_encoding reason) (unsignable identity t) ≡ None → reason ≡ None
@@ -47,7 +47,7 @@ refused_by (Some kind) identity t error signs is = is
 
 -- the reason why a message that can be signed isn't
 pub refused_for : (m : Parts) (identity : Identity) (t : Instant) (error : Error) → unsignable identity t ≡ None
-    → refusal m identity t ≡ Some (FailedToEncodeMessage error) → unframed m ≡ Some error.kind
+    → message_refusal m identity t ≡ Some (FailedToEncodeMessage error) → unframed m ≡ Some error.kind
 refused_for m identity t error signs is = by_reason (unframed m) (refused_by (unframed m) identity t (FailedToEncodeMessage error) signs is)
   where
     by_reason : (reason : Option ErrorKind) → option_map failed_encoding reason ≡ Some (FailedToEncodeMessage error) → reason ≡ Some error.kind
@@ -219,7 +219,7 @@ closing_sent {T} a b c signer place at signature text whole answer decided first
     by_answer (Err OutputFault) sends = prefix_join a b c (link_line signer signature [] at) text left sends
     by_answer (Err NoMemory) sends = prefix_join a b c (link_line signer signature [] at) text left sends
 
--- ## No refusal
+-- ## No message_refusal
 
 none_of : (a b : Option ErrorKind) → option_or a b ≡ None → (a ≡ None) × (b ≡ None)
 none_of None b none = (refl, none)

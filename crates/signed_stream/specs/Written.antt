@@ -3,7 +3,7 @@ use Rattle.std.specs.Prelude.{ℕ, List, [], ◌++◌, codes, Option, Some, None
 use Rattle.std.specs.List.{flat_map}
 use Rattle.smithy_core.specs.Parts.{Parts}
 use Rattle.smithy_core.specs.Text.{line}
-use Rattle.sigv4.specs.Case.{Case}
+use Rattle.sigv4.specs.Request.{Case}
 use Rattle.sigv4.specs.Signed.{signature_of, signed_headers}
 use Rattle.signed_stream.specs.Refusal.{Refusal, first_refusal}
 use Rattle.signed_stream.specs.Stream.{HasFrames, chain_lines, lines_before}

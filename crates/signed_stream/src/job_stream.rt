@@ -2,7 +2,7 @@ ghost use Rattle.std.specs.Prelude.{◌≡◌, ◌≤◌, ◌++◌, ℕ, List, S
 ghost use Rattle.std.specs.String.{string_bytes};
 ghost use Rattle.smithy_core.specs.Civil.{IsInYears, is_in_years};
 ghost use Rattle.smithy_core.specs.Outside.{IsAtEnd, IsRestOf, Rose};
-ghost use Rattle.sigv4.specs.Signing.{unsignable};
+ghost use Rattle.sigv4.specs.EventStream.{unsignable};
 ghost use Rattle.signed_stream.specs.Job.{job, plain_job};
 ghost use Rattle.signed_stream.specs.Plan.{ReadsTargetOf, job_plan, most_input, streams, target_plan};
 ghost use Rattle.signed_stream.specs.Reading.{plain_of};

@@ -1,8 +1,8 @@
 ghost use Rattle.std.specs.Prelude.{◌≡◌, None, IfOk};
 ghost use Rattle.std.specs.String.{string_bytes};
-ghost use Rattle.sigv4.specs.Case.{payload_text};
+ghost use Rattle.sigv4.specs.Request.{payload_text};
 ghost use Rattle.sigv4.specs.Settings.{settings_of};
-ghost use Rattle.sigv4.specs.Signing.{unsignable};
+ghost use Rattle.sigv4.specs.EventStream.{unsignable};
 ghost use Rattle.sigv4.specs.declared.signing_params.SigningParams.TheVariants.{V4};
 ghost use Rattle.signed_stream.specs.Signing.{case_under, payload_with, settings_with};
 ghost use Rattle.signed_stream.specs.Signs.{IsRequestError, SignsRequest, SignsText, halt_for};

@@ -8,7 +8,7 @@ ghost use Rattle.eventstream.specs.Frame.{frame, unframed};
 ghost use Rattle.eventstream.specs.Link.{link_message, link_signature};
 ghost use Rattle.eventstream.specs.Writing.{IsFrameFault};
 ghost use Rattle.sigv4.specs.Params.{signer_of};
-ghost use Rattle.sigv4.specs.Signing.{unsignable};
+ghost use Rattle.sigv4.specs.EventStream.{unsignable};
 ghost use Rattle.signed_stream.specs.Refusal.{fault_at, fault_of, first_refusal, unlinked};
 ghost use Rattle.signed_stream.specs.Sending.{Sends, unless_refused};
 ghost use Rattle.signed_stream.specs.Stream.{link_line, streamed_lines};

@@ -25,10 +25,10 @@ abbrev pub failed_encoding : ErrorKind → SigningError
 failed_encoding kind = FailedToEncodeMessage (record { kind = kind })
 
 -- why a message isn't signed: it has no frame, or the identity doesn't sign
-abbrev pub refusal : Parts → Identity → Instant → Option SigningError
-refusal message identity t = option_or (option_map failed_encoding (unframed message)) (unsignable identity t)
+abbrev pub message_refusal : Parts → Identity → Instant → Option SigningError
+message_refusal message identity t = option_or (option_map failed_encoding (unframed message)) (unsignable identity t)
 
--- with no refusal the answer is the link of the bytes over the signature before; with one it is the refusal, or want of memory
+-- with no reason against it the answer is the link of the bytes over the signature before; else it is the reason, or want of memory
 abbrev pub Links : {S : Type 0} → Option SigningError → SigningParams S → List ℕ → List ℕ → Result (SigningOutput Parts) SigningError → Type 0
 Links refused params signature bytes (Ok output) =
     (refused ≡ None)

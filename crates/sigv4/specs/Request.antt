@@ -1,17 +1,20 @@
 -- What is signed, and with what: a request and the parameters of its signature.
-use Rattle.std.specs.Prelude.{◌≡◌, ℕ, List, [], codes, Option, Some, None, option_map, string_bytes}
-use Rattle.sha2.specs.Sha256.{sha256}
-use Rattle.hex.specs.Hex.{encode_lower}
+use Rattle.std.specs.Prelude.{◌≡◌, ◌⊎◌, ℕ, List, [], Option, Some, None, option_map, Result, Ok, Err, string_bytes}
+use Rattle.http_uri.specs.declared.uri.Uri.{Uri}
 use Rattle.smithy_core.specs.Instant.{Instant}
 use Rattle.smithy_core.specs.declared.identity.Credentials.{Credentials as Keys}
 use Rattle.smithy_core.specs.declared.identity.Identity.{Identity}
 use Rattle.smithy_core.specs.declared.identity.Identity.TheVariants.{Credentials, Token}
+use Rattle.smithy_core.specs.declared.request.HttpRequest.{HttpRequest}
+use Rattle.smithy_http.specs.Building.{SpellsNoTarget, SpellsTarget}
 use Rattle.smithy_http.specs.Target.{Target, target_of}
 use Rattle.eventstream.specs.Key.{Signer}
+use Rattle.sigv4.specs.Body.{IsSameBody, body_bytes, payload_text}
 use Rattle.sigv4.specs.Params.{secret_of, signer_of}
 use Rattle.sigv4.specs.Settings.{Settings, settings_of}
 use Rattle.sigv4.specs.declared.body.SignableBody.{SignableBody}
-use Rattle.sigv4.specs.declared.body.SignableBody.TheVariants.{Bytes, UnsignedPayload, Precomputed, StreamingUnsignedPayloadTrailer, StreamingSignedPayloadTrailer}
+use Rattle.sigv4.specs.declared.error.SigningError.{SigningError}
+use Rattle.sigv4.specs.declared.error.SigningError.TheVariants.{InvalidUri, NoMemory}
 use Rattle.sigv4.specs.declared.params.SigningParams.{SigningParams as V4Params}
 use Rattle.sigv4.specs.declared.request.SignableRequest.{SignableRequest}
 use Rattle.sigv4.specs.declared.settings.SigningSettings.{SigningSettings}
@@ -28,28 +31,6 @@ pub record Case : Type 0 where
   pub token : Option (List ℕ)
   pub signer : Signer
   pub at : Instant
-
--- the payload's text: the digest of the bytes, the digest that is given, or the word for a payload that isn't signed as a whole
-abbrev pub payload_text : SignableBody → List ℕ
-payload_text (Bytes bytes) = encode_lower (sha256 bytes.now)
-payload_text UnsignedPayload = codes "UNSIGNED-PAYLOAD"
-payload_text (Precomputed text) = string_bytes text
-payload_text StreamingUnsignedPayloadTrailer = codes "STREAMING-UNSIGNED-PAYLOAD-TRAILER"
-payload_text StreamingSignedPayloadTrailer = codes "STREAMING-AWS4-HMAC-SHA256-PAYLOAD-TRAILER"
-
--- the bytes, where these are the body
-abbrev pub bytes_of : SignableBody → Option (List ℕ)
-bytes_of (Bytes bytes) = Some bytes.now
-bytes_of _ = None
-
--- the bodies are the same
-abbrev pub IsSameBody : SignableBody → SignableBody → Type 0
-IsSameBody (Bytes bytes) (Bytes copy) = copy.now ≡ bytes.now
-IsSameBody UnsignedPayload UnsignedPayload = Unit {0}
-IsSameBody (Precomputed text) (Precomputed copy) = string_bytes copy ≡ string_bytes text
-IsSameBody StreamingUnsignedPayloadTrailer StreamingUnsignedPayloadTrailer = Unit {0}
-IsSameBody StreamingSignedPayloadTrailer StreamingSignedPayloadTrailer = Unit {0}
-IsSameBody _ _ = ⊥
 
 -- the key id of credentials, and nothing of a token
 abbrev pub key_id_of : Identity → List ℕ
@@ -69,9 +50,13 @@ identity_of (V4 params) = params.identity.now
 abbrev pub params_settings : SigningParams → Settings
 params_settings (V4 params) = settings_of params.settings
 
+-- the URI that was read of the request's target
+abbrev pub request_uri : SignableRequest → Uri
+request_uri request = request.uri
+
 -- a request, and the parameters of Version 4
-abbrev pub case_under : SignableRequest → V4Params SigningSettings → Case
-case_under request params = record {
+abbrev pub v4_request_case : SignableRequest → V4Params SigningSettings → Case
+v4_request_case request params = record {
   method = request.method.now;
   target = target_of request.uri;
   headers = request.headers.now;
@@ -84,8 +69,8 @@ case_under request params = record {
 }
 
 -- a request and its parameters
-abbrev pub case_of : SignableRequest → SigningParams → Case
-case_of request (V4 params) = case_under request params
+abbrev pub request_case : SignableRequest → SigningParams → Case
+request_case request (V4 params) = v4_request_case request params
 
 -- what an identity and its credentials have in common
 pub record HasKeys (identity : Identity) (credentials : Keys) : Type 0 where
@@ -99,3 +84,16 @@ pub record IsSameRequest (request copy : SignableRequest) : Type 0 where
   pub target : target_of copy.uri ≡ target_of request.uri
   pub headers : copy.headers.now ≡ request.headers.now
   pub body : IsSameBody request.body copy.body
+
+-- a request of these parts, exactly where the text spells a target
+abbrev pub IsMadeOf : List ℕ → List ℕ → List (List ℕ × List ℕ) → SignableBody → Result SignableRequest SigningError → Type 0
+IsMadeOf method uri headers body (Ok request) =
+    (request.method.now ≡ method) × SpellsTarget uri request.uri × (request.headers.now ≡ headers) × (request.body ≡ body)
+IsMadeOf method uri headers body (Err error) = (SpellsNoTarget uri × (error ≡ InvalidUri)) ⊎ (error ≡ NoMemory)
+
+-- a request with this one's method, headers and bytes, exactly where its target's text spells a target
+abbrev pub IsMadeOfRequest : HttpRequest → Result SignableRequest SigningError → Type 0
+IsMadeOfRequest from (Ok request) =
+    (request.method.now ≡ string_bytes from.method) × SpellsTarget (string_bytes from.target) request.uri
+    × (request.headers.now ≡ from.headers) × (body_bytes request.body ≡ Some from.body)
+IsMadeOfRequest from (Err error) = (SpellsNoTarget (string_bytes from.target) × (error ≡ InvalidUri)) ⊎ (error ≡ NoMemory)

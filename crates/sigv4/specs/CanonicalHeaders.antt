@@ -8,16 +8,16 @@ use Rattle.sigv4.specs.Canonical.{is_signed}
 use Rattle.sigv4.specs.Query.{Pair}
 use Rattle.sigv4.specs.Settings.{Settings}
 
-abbrev pub HeadMap : Type 0
-HeadMap = BTreeMap (String Global) (String Global)
+abbrev pub HeaderMap : Type 0
+HeaderMap = BTreeMap (String Global) (String Global)
 
 -- the text at a name
-abbrev pub value_at : HeadMap → List ℕ → Option (List ℕ)
-value_at heads name = option_map string_bytes (get_by_text heads name)
+abbrev pub joined_value_at : HeaderMap → List ℕ → Option (List ℕ)
+joined_value_at headers name = option_map string_bytes (get_by_text headers name)
 
 -- the entries, as texts
-abbrev pub texts : HeadMap → List Pair
-texts heads = map (λ entry. (string_bytes entry.0, string_bytes entry.1)) heads.entries
+abbrev pub header_texts : HeaderMap → List Pair
+header_texts headers = map (λ entry. (string_bytes entry.0, string_bytes entry.1)) headers.entries
 
 -- a text with more values behind it, each behind `,`
 abbrev pub appended : Option (List ℕ) → List (List ℕ) → Option (List ℕ)
@@ -30,12 +30,12 @@ abbrev pub signed_values : Settings → List Pair → List ℕ → List (List �
 signed_values settings pairs name = if is_signed settings name then named_values pairs name else []
 
 -- the map has each signed name of these headers, with its values
-abbrev pub HoldsHeads : Settings → List Pair → HeadMap → Type 0
-HoldsHeads settings pairs heads = (name : List ℕ) → value_at heads name ≡ appended None (signed_values settings pairs name)
+abbrev pub HoldsHeaders : Settings → List Pair → HeaderMap → Type 0
+HoldsHeaders settings pairs headers = (name : List ℕ) → joined_value_at headers name ≡ appended None (signed_values settings pairs name)
 
 -- `name:value`, as a line
 abbrev pub pair_line : Pair → List ℕ
-pair_line head = line (head.0 ++ codes ":" ++ head.1)
+pair_line header = line (header.0 ++ codes ":" ++ header.1)
 
 -- what stands before a name
 abbrev pub separator_before : Bool → List ℕ

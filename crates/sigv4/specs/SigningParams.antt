@@ -7,17 +7,17 @@ use Rattle.sigv4.specs.declared.settings.SigningSettings.{SigningSettings}
 use Rattle.sigv4.specs.declared.signing_params.SigningParams.{SigningParams}
 use Rattle.sigv4.specs.declared.signing_params.SigningParams.TheVariants.{V4}
 
-abbrev pub region_of : SigningParams → List ℕ
-region_of (V4 p) = p.region.now
+abbrev pub params_region : SigningParams → List ℕ
+params_region (V4 p) = p.region.now
 
-abbrev pub name_of : SigningParams → List ℕ
-name_of (V4 p) = p.name.now
+abbrev pub params_name : SigningParams → List ℕ
+params_name (V4 p) = p.name.now
 
-abbrev pub time_of : SigningParams → Instant
-time_of (V4 p) = p.time
+abbrev pub params_time : SigningParams → Instant
+params_time (V4 p) = p.time
 
-abbrev pub settings_in : SigningParams → SigningSettings
-settings_in (V4 p) = p.settings
+abbrev pub params_signing_settings : SigningParams → SigningSettings
+params_signing_settings (V4 p) = p.settings
 
 -- the parameters are the same, and so are the contents of the settings
 abbrev pub IsSameParams : SigningParams → SigningParams → Type 0
