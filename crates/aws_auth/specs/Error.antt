@@ -1,6 +1,6 @@
 -- What the errors of the layers below become, and what is printed.
 use Rattle.std.specs.Prelude.{◌≡◌, ℕ, List, ◌++◌, codes}
-use Rattle.sigv4.specs.Error.{IsSameError, signing_error_text}
+use Rattle.sigv4.specs.Error.{IsSameError, error_text as signing_error_text}
 use Rattle.sigv4.specs.declared.error.SigningError.{SigningError}
 use Rattle.sigv4.specs.declared.error.SigningError.TheVariants.{NoMemory as NoRoom}
 use Rattle.aws_auth.specs.Endpoint.{field_name}

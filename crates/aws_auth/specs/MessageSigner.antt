@@ -2,7 +2,7 @@
 use Rattle.std.specs.Prelude.{◌≡◌, string_bytes}
 use Rattle.smithy_core.specs.Signers.{IsSameIdentity}
 use Rattle.smithy_core.specs.declared.identity.Identity.{Identity}
-use Rattle.sigv4.specs.Case.{Case}
+use Rattle.sigv4.specs.Request.{Case}
 use Rattle.sigv4.specs.Settings.{settings_of}
 use Rattle.sigv4.specs.Signed.{signature_of}
 use Rattle.aws_auth.specs.declared.message_signer.SigV4MessageSigner.{SigV4MessageSigner}
