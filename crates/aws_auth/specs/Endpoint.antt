@@ -1,5 +1,5 @@
 -- The fields that an endpoint may have for signing.
-use Rattle.std.specs.Prelude.{◌≡◌, ℕ, Bool, true, false, List, codes, Option, Some, None, option_copied, Result, Ok, Err}
+use Rattle.std.specs.Prelude.{◌≡◌, ℕ, Bool, List, codes, Option, Some, None, option_copied, Result, Ok, Err}
 use Rattle.std.specs.Borrow.{Bor}
 use Rattle.std.specs.Option.{option_or}
 use Rattle.smithy_core.specs.Document.{Data, get, text, truth}

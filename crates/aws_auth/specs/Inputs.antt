@@ -9,15 +9,17 @@ use Rattle.smithy_core.specs.declared.identity.Identity.{Identity}
 use Rattle.smithy_core.specs.declared.request.HttpRequest.{HttpRequest}
 use Rattle.smithy_http.specs.Target.{Target}
 use Rattle.sigv4.specs.Body.{payload_text}
-use Rattle.sigv4.specs.Params.{secret_of}
+use Rattle.sigv4.specs.Params.{secret_of, signer_of}
 use Rattle.sigv4.specs.Request.{Case, key_id_of, token_of}
-use Rattle.sigv4.specs.Settings.{Settings, default_exclusions}
+use Rattle.sigv4.specs.Settings.{Settings, default_exclusions, settings_of}
 use Rattle.sigv4.specs.declared.modes.PercentEncodingMode.TheVariants.{Double, Single}
 use Rattle.sigv4.specs.declared.modes.UriPathNormalizationMode.TheVariants.{Enabled, Disabled}
 use Rattle.sigv4.specs.declared.settings.PayloadChecksumKind.TheVariants.{XAmzSha256, NoHeader}
 use Rattle.sigv4.specs.declared.settings.SessionTokenMode.TheVariants.{Include, Exclude}
 use Rattle.sigv4.specs.declared.settings.SignatureLocation.{SignatureLocation}
 use Rattle.sigv4.specs.declared.settings.SignatureLocation.TheVariants.{Headers, QueryParams}
+use Rattle.sigv4.specs.declared.signing_params.SigningParams.{SigningParams}
+use Rattle.sigv4.specs.declared.signing_params.SigningParams.TheVariants.{V4}
 use Rattle.aws_auth.specs.Endpoint.{Fields, fields_of}
 use Rattle.aws_auth.specs.Moment.{signing_moment}
 use Rattle.aws_auth.specs.Options.{default_config}
@@ -89,18 +91,19 @@ pub record Chosen : Type 0 where
   pub settings : Settings
   pub at : Instant
 
--- what is chosen by the inputs for a request that is signed now
+-- what is chosen by the fields of an endpoint, the inputs and a config, for a request that is signed now
+abbrev pub chosen_by : Fields → SigningInputs → SigV4OperationSigningConfig → Instant → Chosen
+chosen_by fields inputs config now = record {
+  region = chosen_region fields inputs config;
+  name = chosen_name fields inputs config;
+  payload = chosen_payload inputs config;
+  settings = made_settings fields config.signing_options;
+  at = signing_moment now config.signing_options.signature_type inputs.skew_millis;
+}
+
+-- the same by the endpoint and the config of the inputs
 unfoldable pub chosen : SigningInputs → Instant → Chosen
-chosen inputs now =
-    let config = given_config inputs in
-    let fields = fields_of (given_endpoint inputs) in
-    record {
-      region = chosen_region fields inputs config;
-      name = chosen_name fields inputs config;
-      payload = chosen_payload inputs config;
-      settings = made_settings fields config.signing_options;
-      at = signing_moment now config.signing_options.signature_type inputs.skew_millis;
-    }
+chosen inputs now = chosen_by (fields_of (given_endpoint inputs)) inputs (given_config inputs) now
 
 -- the case of a request that an identity signs, for the name that an override gives the token and what the target spells; a region and a name that
 -- are missing are refused
@@ -115,4 +118,18 @@ chosen_case request identity choice token_name target = record {
   token = token_of identity;
   signer = record { secret = secret_of identity; region = unwrap_or choice.region []; name = unwrap_or choice.name [] };
   at = choice.at;
+}
+
+-- the case of a request that is signed by parameters, for what its target spells
+abbrev pub params_case : HttpRequest → Option PayloadSigningOverride → SigningParams → Target → Case
+params_case request payload (V4 params) target = record {
+  method = string_bytes request.method;
+  target = target;
+  headers = request.headers;
+  payload = chosen_text payload request.body;
+  settings = settings_of params.settings;
+  key_id = key_id_of params.identity.now;
+  token = token_of params.identity.now;
+  signer = signer_of params;
+  at = params.time;
 }

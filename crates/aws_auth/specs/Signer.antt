@@ -9,21 +9,29 @@ use Rattle.smithy_core.specs.Instant.{Instant}
 use Rattle.smithy_core.specs.declared.identity.Identity.{Identity}
 use Rattle.smithy_core.specs.declared.identity.Identity.TheVariants.{Credentials, Token}
 use Rattle.smithy_core.specs.declared.request.HttpRequest.{HttpRequest}
-use Rattle.smithy_http.specs.Building.{SpellsNoTarget}
-use Rattle.smithy_http.specs.Target.{Target}
+use Rattle.http_uri.specs.declared.uri.Uri.{Uri}
+use Rattle.smithy_http.specs.Building.{SpellsNoTarget, SpellsTarget}
+use Rattle.smithy_http.specs.Target.{Target, target_of}
 use Rattle.sigv4.specs.Parameters.{SpellsParts}
+use Rattle.sigv4.specs.Params.{signer_of}
 use Rattle.sigv4.specs.Refusal.{unfit, unfit_signed_target}
 use Rattle.sigv4.specs.Request.{Case}
+use Rattle.sigv4.specs.RequestSigning.{IsSigned}
 use Rattle.sigv4.specs.Settings.{settings_of}
 use Rattle.sigv4.specs.Signed.{signature_of, signed_headers, signed_target}
 use Rattle.sigv4.specs.declared.error.SigningError.{SigningError}
-use Rattle.sigv4.specs.declared.error.SigningError.TheVariants.{InvalidUri, MomentOutOfRange}
+use Rattle.sigv4.specs.declared.error.SigningError.TheVariants.{InvalidUri, MomentOutOfRange, NoMemory as NoRoom}
+use Rattle.sigv4.specs.declared.instructions.SigningInstructions.{SigningInstructions}
+use Rattle.sigv4.specs.declared.output.SigningOutput.{SigningOutput}
 use Rattle.sigv4.specs.declared.settings.SigningSettings.{SigningSettings}
-use Rattle.aws_auth.specs.Endpoint.{bad_field}
+use Rattle.sigv4.specs.declared.signing_params.SigningParams.{SigningParams}
+use Rattle.sigv4.specs.declared.signing_params.SigningParams.TheVariants.{V4}
+use Rattle.aws_auth.specs.Endpoint.{bad_field, fields_of, found}
 use Rattle.aws_auth.specs.Error.{override_error}
 use Rattle.aws_auth.specs.Inputs.{Chosen, chosen, chosen_case, given_config, given_endpoint}
 use Rattle.aws_auth.specs.MessageSigner.{GoesOn}
 use Rattle.aws_auth.specs.NameOverride.{Answers, NameAnswer}
+use Rattle.aws_auth.specs.declared.endpoint.EndpointFields.{EndpointFields}
 use Rattle.aws_auth.specs.declared.error.SigV4SigningError.{SigV4SigningError}
 use Rattle.aws_auth.specs.declared.error.SigV4SigningError.TheVariants.{MissingOperationSigningConfig, MissingSigningRegion, MissingSigningName, WrongIdentityType, Signing, NoMemory}
 use Rattle.aws_auth.specs.declared.inputs.SigningInputs.{SigningInputs}
@@ -49,10 +57,14 @@ refused_name (Err error) = Some (override_error error)
 abbrev pub out_of_years : Instant → Option SigV4SigningError
 out_of_years t = if is_in_years t then None else Some (Signing (MomentOutOfRange t))
 
--- the error of a request whose case is this for what its target spells: it spells none, or the request isn't signed, or its target gets too long
-abbrev pub unsigned_target : (Target → Case) → Option Target → Option SigV4SigningError
-unsigned_target case None = Some (Signing InvalidUri)
-unsigned_target case (Some target) = option_map Signing (option_or (unfit (case target)) (unfit_signed_target (case target)))
+-- the first of a region, a name and a moment that is missing or out of the years
+abbrev pub unfit_params : Option (List ℕ) → Option (List ℕ) → Instant → Option SigV4SigningError
+unfit_params region name at = option_or (unless_there region MissingSigningRegion) (option_or (unless_there name MissingSigningName) (out_of_years at))
+
+-- why a request isn't signed, whose case is this for what its target spells: that is none, or the request is refused, or its target takes no more
+abbrev pub unsigned_target : (Target → Case) → Option Target → Option SigningError
+unsigned_target case None = Some InvalidUri
+unsigned_target case (Some target) = option_or (unfit (case target)) (unfit_signed_target (case target))
 
 -- the first test that fails before an override is asked: who signs, the config, and the endpoint's fields in order
 abbrev pub refusal_before_override : Identity → SigningInputs → Option SigV4SigningError
@@ -62,8 +74,7 @@ refusal_before_override identity inputs =
 -- the first test that fails from there on, before the target is read: the override's answer, the region, the name and the moment
 abbrev pub refusal_before_target : Chosen → NameAnswer → Option SigV4SigningError
 refusal_before_target choice answer =
-    option_or (refused_name answer) (option_or (unless_there choice.region MissingSigningRegion)
-    (option_or (unless_there choice.name MissingSigningName) (out_of_years choice.at)))
+    option_or (refused_name answer) (unfit_params choice.region choice.name choice.at)
 
 -- the name in an answer that gives one
 abbrev pub name_in : NameAnswer → Option (List ℕ)
@@ -75,7 +86,7 @@ abbrev pub signing_refusal : HttpRequest → Identity → SigningInputs → Inst
 signing_refusal request identity inputs now answer target =
     let choice = chosen inputs now in
     option_or (refusal_before_override identity inputs) (option_or (refusal_before_target choice answer)
-    (unsigned_target (chosen_case request identity choice (name_in answer)) target))
+    (option_map Signing (unsigned_target (chosen_case request identity choice (name_in answer)) target)))
 
 -- the text spells a target of these parts, or none
 abbrev pub SpellsAs : List ℕ → Option Target → Type 0
@@ -87,9 +98,49 @@ pub record IsSignedCase (identity : Identity) (c : Case) (old new : HttpRequest)
   pub headers : new.headers ≡ signed_headers c
   pub target : string_bytes new.target ≡ signed_target c (string_bytes old.target)
   pub signature : string_bytes signed.signature ≡ signature_of c
-  pub message_signer : GoesOn identity c signed.message_signer
-  pub chunk_signer : GoesOn identity c signed.chunk_signer
+  pub message_signer : GoesOn identity (signature_of c) c.signer c.at signed.message_signer
+  pub chunk_signer : GoesOn identity (signature_of c) c.signer c.at signed.chunk_signer
   pub chunk_settings : settings_of signed.chunk_signer.settings ≡ c.settings
+
+-- the config and what the endpoint's fields say, or the first test that fails before an override is asked
+abbrev pub TestsInputs : Identity → SigningInputs → Result (Bor SigV4OperationSigningConfig × EndpointFields) SigV4SigningError → Type 0
+TestsInputs identity inputs (Ok tested) =
+    (refusal_before_override identity inputs ≡ None) × (inputs.config ≡ Some tested.0) × (found tested.1 ≡ fields_of (given_endpoint inputs))
+TestsInputs identity inputs (Err error) = refusal_before_override identity inputs ≡ Some error
+
+-- these are the parameters
+abbrev pub IsParamsOf : Identity → Option (List ℕ) → Option (List ℕ) → Instant → SigningSettings → SigningParams → Type 0
+IsParamsOf identity region name at settings (V4 params) =
+    (params.identity.now ≡ identity) × (Some params.region.now ≡ region) × (Some params.name.now ≡ name) × (params.time ≡ at) × (params.settings ≡ settings)
+
+-- the parameters, or the first that is missing or out of the years
+abbrev pub TestsParams : Identity → Option (List ℕ) → Option (List ℕ) → Instant → SigningSettings → Result SigningParams SigV4SigningError → Type 0
+TestsParams identity region name at settings (Ok params) = (unfit_params region name at ≡ None) × IsParamsOf identity region name at settings params
+TestsParams identity region name at settings (Err error) = unfit_params region name at ≡ Some error
+
+-- the signature, and two signers that go on from it
+abbrev pub IsSignedWith : SigningParams → List ℕ → Signed → Type 0
+IsSignedWith (V4 params) signature signed =
+    (string_bytes signed.signature ≡ signature) × GoesOn params.identity.now signature (signer_of params) params.time signed.message_signer
+    × GoesOn params.identity.now signature (signer_of params) params.time signed.chunk_signer
+    × (settings_of signed.chunk_signer.settings ≡ settings_of params.settings)
+
+-- a test of the target of a text fails with this error, and no test before it, or memory ran out
+abbrev pub RefusesTarget : List ℕ → (Target → Case) → SigningError → Type 0
+RefusesTarget text case error = ((target : Option Target) × SpellsAs text target × (unsigned_target case target ≡ Some error)) ⊎ (error ≡ NoRoom)
+
+-- what a signature adds to the request of a case and what was read of its target, or why it isn't signed
+abbrev pub SignsParts : List ℕ → (Target → Case) → Result (SigningOutput SigningInstructions × Uri) SigningError → Type 0
+SignsParts text case (Ok parts) =
+    SpellsTarget text parts.1 × (unfit (case (target_of parts.1)) ≡ None) × IsSigned (case (target_of parts.1)) parts.0
+SignsParts text case (Err error) = RefusesTarget text case error
+
+-- the request of a case is signed, or why it isn't
+abbrev pub SignsTarget : Identity → (Target → Case) → HttpRequest → HttpRequest → Result Signed SigningError → Type 0
+SignsTarget identity case old new (Ok signed) =
+    (target : Target) × SpellsAs (string_bytes old.target) (Some target) × (unsigned_target case (Some target) ≡ None)
+    × IsSignedCase identity (case target) old new signed
+SignsTarget identity case old new (Err error) = RefusesTarget (string_bytes old.target) case error
 
 module _ {F : Type 0} (calls : Shared F (Bor SigningSettings × (Bor SigV4OperationSigningConfig × Unit {0})) NameAnswer) (closure : Option F)
     (identity : Identity) (inputs : SigningInputs) (now : Instant) (old : HttpRequest) where

@@ -45,6 +45,7 @@ impl fmt::Display for EndpointField {
 }
 
 /// What an endpoint's fields say, as far as it has them.
+#[derive(Drop)]
 pub(crate) struct EndpointFields<'a> {
     pub(crate) name: Option<&'a str>,
     pub(crate) region: Option<&'a str>,

@@ -1,6 +1,13 @@
+ghost use Rattle.std.specs.Prelude.{◌≡◌, IfOk, option_copied};
+ghost use Rattle.sigv4.specs.Body.{payload_text};
+ghost use Rattle.aws_auth.specs.Endpoint.{found};
+ghost use Rattle.aws_auth.specs.Inputs.{chosen_name, chosen_payload, chosen_region, chosen_text};
+
+use crate::endpoint::EndpointFields;
 use crate::options::SigV4OperationSigningConfig;
 use crate::payload::PayloadSigningOverride;
-use smithy_core::{Document, Region, SigningName};
+use sigv4::SignableBody;
+use smithy_core::{Document, Mem, Region, SigningName};
 
 /// What a request is signed by, beside who signs and when.
 #[derive(Debug, Drop)]
@@ -17,4 +24,62 @@ pub struct SigningInputs<'a> {
     pub payload: Option<&'a PayloadSigningOverride>,
     /// By how many milliseconds the service's clock is ahead.
     pub skew_millis: Option<i64>,
+}
+
+/// The region: the endpoint's, or else that of the inputs, or else the config's.
+pub(crate) fn chosen_region<'a>(
+    fields: &EndpointFields<'a>,
+    inputs: &SigningInputs<'a>,
+    config: &'a SigV4OperationSigningConfig,
+) -> Option<&'a str>
+    ensures { option_copied result ≡ chosen_region (found fields.now) inputs.now config.entry.now }
+{
+    match (fields.region, inputs.region, &config.region) {
+        (Some(region), _, _) => Some(region),
+        (None, Some(region), _) => Some(region.as_str()),
+        (None, None, Some(region)) => Some(region.as_str()),
+        (None, None, None) => None,
+    }
+}
+
+/// The name of the service: the endpoint's, or else that of the inputs, or else the config's.
+pub(crate) fn chosen_name<'a>(
+    fields: &EndpointFields<'a>,
+    inputs: &SigningInputs<'a>,
+    config: &'a SigV4OperationSigningConfig,
+) -> Option<&'a str>
+    ensures { option_copied result ≡ chosen_name (found fields.now) inputs.now config.entry.now }
+{
+    match (fields.name, inputs.name, &config.name) {
+        (Some(name), _, _) => Some(name),
+        (None, Some(name), _) => Some(name.as_str()),
+        (None, None, Some(name)) => Some(name.as_str()),
+        (None, None, None) => None,
+    }
+}
+
+/// What is signed in place of the body: that of the inputs, or else the config's.
+pub(crate) fn chosen_payload<'a>(
+    inputs: &SigningInputs<'a>,
+    config: &'a SigV4OperationSigningConfig,
+) -> Option<&'a PayloadSigningOverride>
+    ensures { option_copied result ≡ chosen_payload inputs.now config.entry.now }
+{
+    match inputs.payload {
+        Some(payload) => Some(payload),
+        None => config.signing_options.payload_override.as_ref(),
+    }
+}
+
+/// What is signed of a body, or in its place.
+pub(crate) fn signable_body<'a>(
+    payload: Option<&PayloadSigningOverride>,
+    body: &'a [u8],
+) -> Mem<SignableBody<'a>>
+    ensures { IfOk result (λ signable. payload_text signable ≡ chosen_text (option_copied payload.entry) body.now) }
+{
+    match payload {
+        Some(payload) => Ok(payload.try_clone()?.to_signable_body()),
+        None => Ok(SignableBody::Bytes(body)),
+    }
 }

@@ -14,6 +14,7 @@ mod name_override;
 mod options;
 mod payload;
 mod scheme;
+mod settings;
 mod signer;
 
 pub use crate::endpoint::EndpointField;
