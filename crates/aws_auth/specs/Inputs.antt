@@ -24,6 +24,7 @@ use Rattle.aws_auth.specs.Endpoint.{Fields, fields_of}
 use Rattle.aws_auth.specs.Moment.{signing_moment}
 use Rattle.aws_auth.specs.Options.{default_config}
 use Rattle.aws_auth.specs.Payload.{signed_in_place}
+use Rattle.aws_auth.specs.declared.inputs.Choice.{Choice}
 use Rattle.aws_auth.specs.declared.inputs.SigningInputs.{SigningInputs}
 use Rattle.aws_auth.specs.declared.options.HttpSignatureType.{HttpSignatureType}
 use Rattle.aws_auth.specs.declared.options.HttpSignatureType.TheVariants.{HttpRequestHeaders, HttpRequestQueryParams}
@@ -104,6 +105,16 @@ chosen_by fields inputs config now = record {
 -- the same by the endpoint and the config of the inputs
 unfoldable pub chosen : SigningInputs → Instant → Chosen
 chosen inputs now = chosen_by (fields_of (given_endpoint inputs)) inputs (given_config inputs) now
+
+-- what was chosen
+abbrev pub choice_of : Choice → Chosen
+choice_of choice = record {
+  region = option_copied choice.region;
+  name = option_copied choice.name;
+  payload = option_copied choice.payload;
+  settings = settings_of choice.settings;
+  at = choice.at;
+}
 
 -- the case of a request that an identity signs, for the name that an override gives the token and what the target spells; a region and a name that
 -- are missing are refused

@@ -26,14 +26,14 @@ use Rattle.sigv4.specs.declared.output.SigningOutput.{SigningOutput}
 use Rattle.sigv4.specs.declared.settings.SigningSettings.{SigningSettings}
 use Rattle.sigv4.specs.declared.signing_params.SigningParams.{SigningParams}
 use Rattle.sigv4.specs.declared.signing_params.SigningParams.TheVariants.{V4}
-use Rattle.aws_auth.specs.Endpoint.{bad_field, fields_of, found}
+use Rattle.aws_auth.specs.Endpoint.{bad_field}
 use Rattle.aws_auth.specs.Error.{override_error}
-use Rattle.aws_auth.specs.Inputs.{Chosen, chosen, chosen_case, given_config, given_endpoint}
+use Rattle.aws_auth.specs.Inputs.{Chosen, choice_of, chosen, chosen_case, given_config, given_endpoint}
 use Rattle.aws_auth.specs.MessageSigner.{GoesOn}
 use Rattle.aws_auth.specs.NameOverride.{Answers, NameAnswer}
-use Rattle.aws_auth.specs.declared.endpoint.EndpointFields.{EndpointFields}
 use Rattle.aws_auth.specs.declared.error.SigV4SigningError.{SigV4SigningError}
 use Rattle.aws_auth.specs.declared.error.SigV4SigningError.TheVariants.{MissingOperationSigningConfig, MissingSigningRegion, MissingSigningName, WrongIdentityType, Signing, NoMemory}
+use Rattle.aws_auth.specs.declared.inputs.Choice.{Choice}
 use Rattle.aws_auth.specs.declared.inputs.SigningInputs.{SigningInputs}
 use Rattle.aws_auth.specs.declared.options.SigV4OperationSigningConfig.{SigV4OperationSigningConfig}
 use Rattle.aws_auth.specs.declared.signer.Signed.{Signed}
@@ -102,11 +102,11 @@ pub record IsSignedCase (identity : Identity) (c : Case) (old new : HttpRequest)
   pub chunk_signer : GoesOn identity (signature_of c) c.signer c.at signed.chunk_signer
   pub chunk_settings : settings_of signed.chunk_signer.settings ≡ c.settings
 
--- the config and what the endpoint's fields say, or the first test that fails before an override is asked
-abbrev pub TestsInputs : Identity → SigningInputs → Result (Bor SigV4OperationSigningConfig × EndpointFields) SigV4SigningError → Type 0
-TestsInputs identity inputs (Ok tested) =
-    (refusal_before_override identity inputs ≡ None) × (inputs.config ≡ Some tested.0) × (found tested.1 ≡ fields_of (given_endpoint inputs))
-TestsInputs identity inputs (Err error) = refusal_before_override identity inputs ≡ Some error
+-- the config and what is chosen, or the first test that fails before an override is asked, or want of memory
+abbrev pub Chooses : Identity → SigningInputs → Instant → Result (Bor SigV4OperationSigningConfig × Choice) SigV4SigningError → Type 0
+Chooses identity inputs now (Ok chose) =
+    (refusal_before_override identity inputs ≡ None) × (given_config inputs ≡ chose.0.now) × (chosen inputs now ≡ choice_of chose.1)
+Chooses identity inputs now (Err error) = (refusal_before_override identity inputs ≡ Some error) ⊎ (error ≡ NoMemory)
 
 -- these are the parameters
 abbrev pub IsParamsOf : Identity → Option (List ℕ) → Option (List ℕ) → Instant → SigningSettings → SigningParams → Type 0

@@ -76,7 +76,7 @@ pub(crate) fn named_settings<F>(
 where
     F: Fn(&SigningSettings, &SigV4OperationSigningConfig) -> Result<Option<String>, OverrideError>,
     requires callable { IfSome (option_copied name_override) F.IsAlwaysCallable }
-    requires usual { settings.session_token_name_override ≡ None }
+    requires usual { (settings_of settings).session_token_name_override ≡ None }
     ensures { NamesToken F.Fn (option_copied name_override.entry) (settings_of settings) config.now result }
 {
     match name_override {

@@ -5,17 +5,15 @@ ghost use Rattle.sigv4.specs.Request.{identity_of};
 ghost use Rattle.sigv4.specs.SigningParams.{params_time};
 ghost use Rattle.aws_auth.specs.Inputs.{params_case};
 ghost use Rattle.aws_auth.specs.MessageSigner.{GoesOn};
-ghost use Rattle.aws_auth.specs.Signer.{IsSignedWith, SignsByInputs, SignsParts, SignsTarget, TestsInputs, TestsParams};
+ghost use Rattle.aws_auth.specs.Signer.{IsSignedWith, SignsByInputs, SignsParts, SignsTarget, TestsParams};
 
-use crate::endpoint::EndpointFields;
 use crate::error::SigV4SigningError;
-use crate::inputs::{SigningInputs, chosen_name, chosen_payload, chosen_region, signable_body};
+use crate::inputs::{SigningInputs, choose, signable_body};
 use crate::message_signer::SigV4MessageSigner;
-use crate::moment::signing_moment;
 use crate::name_override::{OverrideError, SigV4SessionTokenNameOverride};
 use crate::options::SigV4OperationSigningConfig;
 use crate::payload::PayloadSigningOverride;
-use crate::settings::{made_settings, named_settings};
+use crate::settings::named_settings;
 use http_uri::Uri;
 use sigv4::{
     SignableRequest, SigningError, SigningInstructions, SigningOutput, SigningParams,
@@ -86,35 +84,10 @@ impl SigV4Signer {
         ensures err { OnErr result (request.new ≡ request.old) }
     {
         let alloc = *request.method.allocator();
-        let (config, fields) = tested_inputs(identity, inputs)?;
-        let settings = made_settings(alloc, &fields, &config.signing_options)?;
-        let settings = named_settings(settings, config, name_override)?;
-        let at = signing_moment(
-            now,
-            config.signing_options.signature_type,
-            inputs.skew_millis,
-        );
-        let region = chosen_region(&fields, inputs, config);
-        let name = chosen_name(&fields, inputs, config);
-        let params = tested_params(identity, region, name, at, settings)?;
-        let payload = chosen_payload(inputs, config);
-        Ok(sign_by(alloc, request, payload, &params)?)
-    }
-}
-
-// The config, and what the endpoint's fields say, where the identity is credentials.
-fn tested_inputs<'a>(
-    identity: &Identity,
-    inputs: &SigningInputs<'a>,
-) -> Result<(&'a SigV4OperationSigningConfig, EndpointFields<'a>), SigV4SigningError>
-    ensures { TestsInputs identity.now inputs.now result }
-{
-    if let Identity::Token(_) = identity {
-        return Err(SigV4SigningError::WrongIdentityType);
-    }
-    match inputs.config {
-        Some(config) => Ok((config, EndpointFields::of(inputs.endpoint)?)),
-        None => Err(SigV4SigningError::MissingOperationSigningConfig),
+        let (config, choice) = choose(alloc, identity, inputs, now)?;
+        let settings = named_settings(choice.settings, config, name_override)?;
+        let params = tested_params(identity, choice.region, choice.name, choice.at, settings)?;
+        Ok(sign_by(alloc, request, choice.payload, &params)?)
     }
 }
 
