@@ -1,5 +1,5 @@
 -- What signing a request by its inputs promises.
-use Rattle.std.specs.Prelude.{◌≡◌, ◌⊎◌, ℕ, List, Option, Some, None, option_map, Result, Ok, Err, String, string_bytes, if◌then◌else◌}
+use Rattle.std.specs.Prelude.{◌≡◌, ◌⊎◌, ⊤, ℕ, List, Option, Some, None, option_map, Result, Ok, Err, String, string_bytes, if◌then◌else◌}
 use Rattle.std.specs.Borrow.{Bor}
 use Rattle.std.specs.Fn.{Shared}
 use Rattle.std.specs.Option.{option_or}
@@ -29,7 +29,7 @@ use Rattle.sigv4.specs.declared.signing_params.SigningParams.TheVariants.{V4}
 use Rattle.aws_auth.specs.Endpoint.{bad_field}
 use Rattle.aws_auth.specs.Error.{override_error}
 use Rattle.aws_auth.specs.Inputs.{Chosen, choice_of, chosen, chosen_case, given_config, given_endpoint}
-use Rattle.aws_auth.specs.MessageSigner.{GoesOn}
+use Rattle.aws_auth.specs.MessageSigner.{GoesOn, IsSameSigner}
 use Rattle.aws_auth.specs.NameOverride.{Answers, NameAnswer}
 use Rattle.aws_auth.specs.declared.error.SigV4SigningError.{SigV4SigningError}
 use Rattle.aws_auth.specs.declared.error.SigV4SigningError.TheVariants.{MissingOperationSigningConfig, MissingSigningRegion, MissingSigningName, WrongIdentityType, Signing, NoMemory}
@@ -141,6 +141,12 @@ SignsTarget identity case old new (Ok signed) =
     (target : Target) × SpellsAs (string_bytes old.target) (Some target) × (unsigned_target case (Some target) ≡ None)
     × IsSignedCase identity (case target) old new signed
 SignsTarget identity case old new (Err error) = RefusesTarget (string_bytes old.target) case error
+
+-- the signatures are the same, and so are the signers that go on
+pub record IsSameSigned (signed copy : Signed) : Type 0 where
+  pub signature : string_bytes copy.signature ≡ string_bytes signed.signature
+  pub message_signer : IsSameSigner (λ _ _. ⊤) signed.message_signer copy.message_signer
+  pub chunk_signer : IsSameSigner (λ settings other. settings_of other ≡ settings_of settings) signed.chunk_signer copy.chunk_signer
 
 module _ {F : Type 0} (calls : Shared F (Bor SigningSettings × (Bor SigV4OperationSigningConfig × Unit {0})) NameAnswer) (closure : Option F)
     (identity : Identity) (inputs : SigningInputs) (now : Instant) (old : HttpRequest) where

@@ -15,7 +15,7 @@ use smithy_core::{Document, Identity, Mem, Moment, Region, SigningName};
 use std::alloc::Global;
 
 /// What a request is signed by, beside who signs and when.
-#[derive(Debug, Drop)]
+#[derive(Clone, Copy, Debug)]
 pub struct SigningInputs<'a> {
     /// The operation's config, without which nothing is signed.
     pub config: Option<&'a SigV4OperationSigningConfig>,

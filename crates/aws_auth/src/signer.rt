@@ -5,7 +5,7 @@ ghost use Rattle.sigv4.specs.Request.{identity_of};
 ghost use Rattle.sigv4.specs.SigningParams.{params_time};
 ghost use Rattle.aws_auth.specs.Inputs.{params_case};
 ghost use Rattle.aws_auth.specs.MessageSigner.{GoesOn};
-ghost use Rattle.aws_auth.specs.Signer.{IsSignedWith, SignsByInputs, SignsParts, SignsTarget, TestsParams};
+ghost use Rattle.aws_auth.specs.Signer.{IsSameSigned, IsSignedWith, SignsByInputs, SignsParts, SignsTarget, TestsParams};
 
 use crate::error::SigV4SigningError;
 use crate::inputs::{SigningInputs, choose, signable_body};
@@ -31,6 +31,19 @@ pub struct Signed {
     pub message_signer: SigV4MessageSigner<()>,
     /// What signs the chunks that follow, at the moment of the request.
     pub chunk_signer: SigV4MessageSigner<SigningSettings>,
+}
+
+impl Signed {
+    /// The same signature, and signers that go on from the same ones.
+    pub fn try_clone(&self) -> Mem<Signed>
+        ensures { IfOk result (IsSameSigned self.now) }
+    {
+        Ok(Signed {
+            signature: self.signature.clone()?,
+            message_signer: self.message_signer.try_clone()?,
+            chunk_signer: self.chunk_signer.try_clone()?,
+        })
+    }
 }
 
 /// What signs a request.
