@@ -15,9 +15,10 @@ use Rattle.sigv4.specs.declared.settings.SigningSettings.{SigningSettings}
 use Rattle.sigv4.specs.declared.signing_params.SigningParams.{SigningParams}
 use Rattle.sigv4.specs.declared.signing_params.SigningParams.TheVariants.{V4}
 use Rattle.aws_auth.specs.Error.{auth_error, override_error}
-use Rattle.aws_auth.specs.Inputs.{Chosen, chosen, chosen_case, given_config, params_case, with_token_name}
+use Rattle.aws_auth.specs.Inputs.{Chosen, chosen, chosen_case, given_config, with_token_name}
 use Rattle.aws_auth.specs.NameOverride.{Answers, NameAnswer}
-use Rattle.aws_auth.specs.Signer.{IsAnswer, IsParamsOf, IsSignedCase, RefusesRequest, RefusesTarget, SignsRequest, SignsTarget, SpellsAs, refusal_before_override, unfit_params, unsigned_target}
+use Rattle.aws_auth.specs.Signer.{IsAnswer, IsSignedCase, RefusesRequest, SignsRequest, SpellsAs, refusal_before_override, unfit_params, unsigned_target}
+use Rattle.aws_auth.specs.Steps.{IsParamsOf, RefusesTarget, SignsTarget, params_case}
 use Rattle.aws_auth.specs.declared.error.SigV4SigningError.{SigV4SigningError}
 use Rattle.aws_auth.specs.declared.error.SigV4SigningError.TheVariants.{NoMemory, Signing}
 use Rattle.aws_auth.specs.declared.inputs.SigningInputs.{SigningInputs}

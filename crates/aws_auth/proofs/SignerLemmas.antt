@@ -23,8 +23,9 @@ use Rattle.sigv4.specs.declared.output.SigningOutput.{SigningOutput}
 use Rattle.sigv4.specs.declared.request.SignableRequest.{SignableRequest}
 use Rattle.sigv4.specs.declared.signing_params.SigningParams.{SigningParams}
 use Rattle.sigv4.specs.declared.signing_params.SigningParams.TheVariants.{V4}
-use Rattle.aws_auth.specs.Inputs.{chosen_text, params_case}
-use Rattle.aws_auth.specs.Signer.{IsSignedCase, IsSignedWith, RefusesTarget, SignsParts, SignsTarget}
+use Rattle.aws_auth.specs.Inputs.{chosen_text}
+use Rattle.aws_auth.specs.Signer.{IsSignedCase}
+use Rattle.aws_auth.specs.Steps.{IsSignedWith, RefusesTarget, SignsParts, SignsTarget, params_case}
 use Rattle.aws_auth.specs.declared.payload.PayloadSigningOverride.{PayloadSigningOverride}
 use Rattle.aws_auth.specs.declared.signer.Signed.{Signed}
 

@@ -9,22 +9,19 @@ use Rattle.smithy_core.specs.declared.identity.Identity.{Identity}
 use Rattle.smithy_core.specs.declared.request.HttpRequest.{HttpRequest}
 use Rattle.smithy_http.specs.Target.{Target}
 use Rattle.sigv4.specs.Body.{payload_text}
-use Rattle.sigv4.specs.Params.{secret_of, signer_of}
+use Rattle.sigv4.specs.Params.{secret_of}
 use Rattle.sigv4.specs.Request.{Case, key_id_of, token_of}
-use Rattle.sigv4.specs.Settings.{Settings, default_exclusions, settings_of}
+use Rattle.sigv4.specs.Settings.{Settings, default_exclusions}
 use Rattle.sigv4.specs.declared.modes.PercentEncodingMode.TheVariants.{Double, Single}
 use Rattle.sigv4.specs.declared.modes.UriPathNormalizationMode.TheVariants.{Enabled, Disabled}
 use Rattle.sigv4.specs.declared.settings.PayloadChecksumKind.TheVariants.{XAmzSha256, NoHeader}
 use Rattle.sigv4.specs.declared.settings.SessionTokenMode.TheVariants.{Include, Exclude}
 use Rattle.sigv4.specs.declared.settings.SignatureLocation.{SignatureLocation}
 use Rattle.sigv4.specs.declared.settings.SignatureLocation.TheVariants.{Headers, QueryParams}
-use Rattle.sigv4.specs.declared.signing_params.SigningParams.{SigningParams}
-use Rattle.sigv4.specs.declared.signing_params.SigningParams.TheVariants.{V4}
 use Rattle.aws_auth.specs.Endpoint.{Fields, fields_of}
 use Rattle.aws_auth.specs.Moment.{signing_moment}
 use Rattle.aws_auth.specs.Options.{default_config}
 use Rattle.aws_auth.specs.Payload.{signed_in_place}
-use Rattle.aws_auth.specs.declared.inputs.Choice.{Choice}
 use Rattle.aws_auth.specs.declared.inputs.SigningInputs.{SigningInputs}
 use Rattle.aws_auth.specs.declared.options.HttpSignatureType.{HttpSignatureType}
 use Rattle.aws_auth.specs.declared.options.HttpSignatureType.TheVariants.{HttpRequestHeaders, HttpRequestQueryParams}
@@ -106,16 +103,6 @@ chosen_by fields inputs config now = record {
 unfoldable pub chosen : SigningInputs → Instant → Chosen
 chosen inputs now = chosen_by (fields_of (given_endpoint inputs)) inputs (given_config inputs) now
 
--- what was chosen
-abbrev pub choice_of : Choice → Chosen
-choice_of choice = record {
-  region = option_copied choice.region;
-  name = option_copied choice.name;
-  payload = option_copied choice.payload;
-  settings = settings_of choice.settings;
-  at = choice.at;
-}
-
 -- the case of a request that an identity signs, for the name that an override gives the token and what the target spells; a region and a name that
 -- are missing are refused
 abbrev pub chosen_case : HttpRequest → Identity → Chosen → Option (List ℕ) → Target → Case
@@ -129,18 +116,4 @@ chosen_case request identity choice token_name target = record {
   token = token_of identity;
   signer = record { secret = secret_of identity; region = unwrap_or choice.region []; name = unwrap_or choice.name [] };
   at = choice.at;
-}
-
--- the case of a request that is signed by parameters, for what its target spells
-abbrev pub params_case : HttpRequest → Option PayloadSigningOverride → SigningParams → Target → Case
-params_case request payload (V4 params) target = record {
-  method = string_bytes request.method;
-  target = target;
-  headers = request.headers;
-  payload = chosen_text payload request.body;
-  settings = settings_of params.settings;
-  key_id = key_id_of params.identity.now;
-  token = token_of params.identity.now;
-  signer = signer_of params;
-  at = params.time;
 }

@@ -1,13 +1,10 @@
 -- What an override of the session token's name answers.
-use Rattle.std.specs.Prelude.{◌≡◌, ℕ, List, codes, Option, Some, None, option_map, Result, Ok, Err, String, string_bytes}
+use Rattle.std.specs.Prelude.{◌≡◌, ℕ, List, codes, Option, Some, None, Result, Ok, String}
 use Rattle.std.specs.Borrow.{Bor}
 use Rattle.std.specs.Fn.{FnReturns, Shared}
 use Rattle.std.specs.declared.alloc.Global.{Global}
 use Rattle.sigv4.specs.Settings.{Settings, settings_of}
 use Rattle.sigv4.specs.declared.settings.SigningSettings.{SigningSettings}
-use Rattle.aws_auth.specs.Error.{override_error}
-use Rattle.aws_auth.specs.Inputs.{with_token_name}
-use Rattle.aws_auth.specs.declared.error.SigV4SigningError.{SigV4SigningError}
 use Rattle.aws_auth.specs.declared.name_override.OverrideError.{OverrideError}
 use Rattle.aws_auth.specs.declared.name_override.OverrideError.TheVariants as overrides
 use Rattle.aws_auth.specs.declared.options.SigV4OperationSigningConfig.{SigV4OperationSigningConfig}
@@ -29,13 +26,6 @@ module _ {F : Type 0} (calls : Shared F (Bor SigningSettings × (Bor SigV4Operat
   abbrev pub Answers : Option F → Settings → SigV4OperationSigningConfig → NameAnswer → Type 0
   Answers None settings config answer = answer ≡ Ok None
   Answers (Some closure) settings config answer = MayAnswer closure settings config answer
-
-  -- the settings with the name that the override gives the token, or the error of an override that gives none
-  abbrev pub NamesToken : Option F → Settings → SigV4OperationSigningConfig → Result SigningSettings SigV4SigningError → Type 0
-  NamesToken closure settings config (Ok named) =
-      (name : Option (String Global)) × Answers closure settings config (Ok name) × (settings_of named ≡ with_token_name settings (option_map string_bytes name))
-  NamesToken closure settings config (Err error) =
-      (refused : OverrideError) × Answers closure settings config (Err refused) × (error ≡ override_error refused)
 
 -- what is printed of an override that gives no name
 abbrev pub override_error_text : OverrideError → List ℕ

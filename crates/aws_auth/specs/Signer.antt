@@ -9,31 +9,23 @@ use Rattle.smithy_core.specs.Instant.{Instant}
 use Rattle.smithy_core.specs.declared.identity.Identity.{Identity}
 use Rattle.smithy_core.specs.declared.identity.Identity.TheVariants.{Credentials, Token}
 use Rattle.smithy_core.specs.declared.request.HttpRequest.{HttpRequest}
-use Rattle.http_uri.specs.declared.uri.Uri.{Uri}
-use Rattle.smithy_http.specs.Building.{SpellsNoTarget, SpellsTarget}
-use Rattle.smithy_http.specs.Target.{Target, target_of}
+use Rattle.smithy_http.specs.Building.{SpellsNoTarget}
+use Rattle.smithy_http.specs.Target.{Target}
 use Rattle.sigv4.specs.Parameters.{SpellsParts}
-use Rattle.sigv4.specs.Params.{signer_of}
 use Rattle.sigv4.specs.Refusal.{unfit, unfit_signed_target}
 use Rattle.sigv4.specs.Request.{Case}
-use Rattle.sigv4.specs.RequestSigning.{IsSigned}
 use Rattle.sigv4.specs.Settings.{settings_of}
 use Rattle.sigv4.specs.Signed.{signature_of, signed_headers, signed_target}
 use Rattle.sigv4.specs.declared.error.SigningError.{SigningError}
-use Rattle.sigv4.specs.declared.error.SigningError.TheVariants.{InvalidUri, MomentOutOfRange, NoMemory as NoRoom}
-use Rattle.sigv4.specs.declared.instructions.SigningInstructions.{SigningInstructions}
-use Rattle.sigv4.specs.declared.output.SigningOutput.{SigningOutput}
+use Rattle.sigv4.specs.declared.error.SigningError.TheVariants.{InvalidUri, MomentOutOfRange}
 use Rattle.sigv4.specs.declared.settings.SigningSettings.{SigningSettings}
-use Rattle.sigv4.specs.declared.signing_params.SigningParams.{SigningParams}
-use Rattle.sigv4.specs.declared.signing_params.SigningParams.TheVariants.{V4}
 use Rattle.aws_auth.specs.Endpoint.{bad_field}
 use Rattle.aws_auth.specs.Error.{override_error}
-use Rattle.aws_auth.specs.Inputs.{Chosen, choice_of, chosen, chosen_case, given_config, given_endpoint}
+use Rattle.aws_auth.specs.Inputs.{Chosen, chosen, chosen_case, given_config, given_endpoint}
 use Rattle.aws_auth.specs.MessageSigner.{GoesOn, IsSameSigner}
 use Rattle.aws_auth.specs.NameOverride.{Answers, NameAnswer}
 use Rattle.aws_auth.specs.declared.error.SigV4SigningError.{SigV4SigningError}
 use Rattle.aws_auth.specs.declared.error.SigV4SigningError.TheVariants.{MissingOperationSigningConfig, MissingSigningRegion, MissingSigningName, WrongIdentityType, Signing, NoMemory}
-use Rattle.aws_auth.specs.declared.inputs.Choice.{Choice}
 use Rattle.aws_auth.specs.declared.inputs.SigningInputs.{SigningInputs}
 use Rattle.aws_auth.specs.declared.options.SigV4OperationSigningConfig.{SigV4OperationSigningConfig}
 use Rattle.aws_auth.specs.declared.signer.Signed.{Signed}
@@ -101,46 +93,6 @@ pub record IsSignedCase (identity : Identity) (c : Case) (old new : HttpRequest)
   pub message_signer : GoesOn identity (signature_of c) c.signer c.at signed.message_signer
   pub chunk_signer : GoesOn identity (signature_of c) c.signer c.at signed.chunk_signer
   pub chunk_settings : settings_of signed.chunk_signer.settings ≡ c.settings
-
--- the config and what is chosen, or the first test that fails before an override is asked, or want of memory
-abbrev pub Chooses : Identity → SigningInputs → Instant → Result (Bor SigV4OperationSigningConfig × Choice) SigV4SigningError → Type 0
-Chooses identity inputs now (Ok chose) =
-    (refusal_before_override identity inputs ≡ None) × (given_config inputs ≡ chose.0.now) × (chosen inputs now ≡ choice_of chose.1)
-Chooses identity inputs now (Err error) = (refusal_before_override identity inputs ≡ Some error) ⊎ (error ≡ NoMemory)
-
--- these are the parameters
-abbrev pub IsParamsOf : Identity → Option (List ℕ) → Option (List ℕ) → Instant → SigningSettings → SigningParams → Type 0
-IsParamsOf identity region name at settings (V4 params) =
-    (params.identity.now ≡ identity) × (Some params.region.now ≡ region) × (Some params.name.now ≡ name) × (params.time ≡ at) × (params.settings ≡ settings)
-
--- the parameters, or the first that is missing or out of the years
-abbrev pub TestsParams : Identity → Option (List ℕ) → Option (List ℕ) → Instant → SigningSettings → Result SigningParams SigV4SigningError → Type 0
-TestsParams identity region name at settings (Ok params) = (unfit_params region name at ≡ None) × IsParamsOf identity region name at settings params
-TestsParams identity region name at settings (Err error) = unfit_params region name at ≡ Some error
-
--- the signature, and two signers that go on from it
-abbrev pub IsSignedWith : SigningParams → List ℕ → Signed → Type 0
-IsSignedWith (V4 params) signature signed =
-    (string_bytes signed.signature ≡ signature) × GoesOn params.identity.now signature (signer_of params) params.time signed.message_signer
-    × GoesOn params.identity.now signature (signer_of params) params.time signed.chunk_signer
-    × (settings_of signed.chunk_signer.settings ≡ settings_of params.settings)
-
--- a test of the target of a text fails with this error, and no test before it, or memory ran out
-abbrev pub RefusesTarget : List ℕ → (Target → Case) → SigningError → Type 0
-RefusesTarget text case error = ((target : Option Target) × SpellsAs text target × (unsigned_target case target ≡ Some error)) ⊎ (error ≡ NoRoom)
-
--- what a signature adds to the request of a case and what was read of its target, or why it isn't signed
-abbrev pub SignsParts : List ℕ → (Target → Case) → Result (SigningOutput SigningInstructions × Uri) SigningError → Type 0
-SignsParts text case (Ok parts) =
-    SpellsTarget text parts.1 × (unfit (case (target_of parts.1)) ≡ None) × IsSigned (case (target_of parts.1)) parts.0
-SignsParts text case (Err error) = RefusesTarget text case error
-
--- the request of a case is signed, or why it isn't
-abbrev pub SignsTarget : Identity → (Target → Case) → HttpRequest → HttpRequest → Result Signed SigningError → Type 0
-SignsTarget identity case old new (Ok signed) =
-    (target : Target) × SpellsAs (string_bytes old.target) (Some target) × (unsigned_target case (Some target) ≡ None)
-    × IsSignedCase identity (case target) old new signed
-SignsTarget identity case old new (Err error) = RefusesTarget (string_bytes old.target) case error
 
 -- the signatures are the same, and so are the signers that go on
 pub record IsSameSigned (signed copy : Signed) : Type 0 where

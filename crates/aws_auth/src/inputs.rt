@@ -1,8 +1,7 @@
 ghost use Rattle.std.specs.Prelude.{◌≡◌, IfOk, option_copied};
 ghost use Rattle.sigv4.specs.Body.{payload_text};
-ghost use Rattle.aws_auth.specs.Endpoint.{found};
-ghost use Rattle.aws_auth.specs.Inputs.{choice_of, chosen_by, chosen_name, chosen_payload, chosen_region, chosen_text};
-ghost use Rattle.aws_auth.specs.Signer.{Chooses};
+ghost use Rattle.aws_auth.specs.Inputs.{chosen_by, chosen_name, chosen_payload, chosen_region, chosen_text};
+ghost use Rattle.aws_auth.specs.Steps.{Chooses, choice_of, found};
 
 use crate::endpoint::EndpointFields;
 use crate::error::SigV4SigningError;

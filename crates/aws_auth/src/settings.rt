@@ -1,8 +1,7 @@
 ghost use Rattle.std.specs.Prelude.{◌≡◌, None, IfOk, IfSome, option_copied};
 ghost use Rattle.sigv4.specs.Settings.{settings_of};
-ghost use Rattle.aws_auth.specs.Endpoint.{found};
 ghost use Rattle.aws_auth.specs.Inputs.{is_enabled, location_of, made_settings};
-ghost use Rattle.aws_auth.specs.NameOverride.{NamesToken};
+ghost use Rattle.aws_auth.specs.Steps.{NamesToken, found};
 
 use crate::endpoint::EndpointFields;
 use crate::error::SigV4SigningError;

@@ -3,9 +3,9 @@ ghost use Rattle.sigv4.specs.EventStream.{unsignable};
 ghost use Rattle.sigv4.specs.Params.{signer_of};
 ghost use Rattle.sigv4.specs.Request.{identity_of};
 ghost use Rattle.sigv4.specs.SigningParams.{params_time};
-ghost use Rattle.aws_auth.specs.Inputs.{params_case};
 ghost use Rattle.aws_auth.specs.MessageSigner.{GoesOn};
-ghost use Rattle.aws_auth.specs.Signer.{IsSameSigned, IsSignedWith, SignsByInputs, SignsParts, SignsTarget, TestsParams};
+ghost use Rattle.aws_auth.specs.Signer.{IsSameSigned, SignsByInputs};
+ghost use Rattle.aws_auth.specs.Steps.{IsSignedWith, SignsParts, SignsTarget, TestsParams, params_case};
 
 use crate::error::SigV4SigningError;
 use crate::inputs::{SigningInputs, choose, signable_body};

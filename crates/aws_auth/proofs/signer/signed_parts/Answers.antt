@@ -1,7 +1,7 @@
 use Rattle.std.proofs.lemmas.Result.{err_from_is_err_and}
 use Rattle.std.specs.Prelude.{option_copied}
 use Rattle.sigv4.specs.Request.{identity_of}
-use Rattle.aws_auth.specs.Inputs.{params_case}
+use Rattle.aws_auth.specs.Steps.{params_case}
 use Rattle.aws_auth.proofs.SignerLemmas.{case_able, case_made, refused, signed, unread}
 use Rattle.aws_auth.proofs.signer.signed_parts.Goals as goal
 

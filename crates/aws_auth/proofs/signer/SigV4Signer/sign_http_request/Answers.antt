@@ -1,7 +1,7 @@
 use Rattle.std.proofs.Common.{inl}
 use Rattle.std.proofs.lemmas.Result.{err_from_is_err_and}
 use Rattle.std.specs.Prelude.{option_copied}
-use Rattle.aws_auth.specs.Inputs.{choice_of}
+use Rattle.aws_auth.specs.Steps.{choice_of}
 use Rattle.aws_auth.proofs.InputsLemmas.{kept_early, refused_name_by, refused_params, refused_target, signed_request, usual_name}
 use Rattle.aws_auth.proofs.signer.SigV4Signer.sign_http_request.Goals as goal
 
