@@ -2,7 +2,6 @@
 use Rattle.std.proofs.Common.{◌≡◌, ℕ, Bool, true, false, ◌&&◌, cond, List, [], ◌++◌, Option, Some, None, refl, sym, ap, ◌∙◌, append-nil}
 use Rattle.std.specs.Prelude.{if◌then◌else◌}
 use Rattle.std.specs.Option.{option_or}
-use Rattle.smithy_core.proofs.PairLemmas.{option_or_assoc}
 use Rattle.sigv4.specs.Canonical.{credential, joined_names, names, pairs, signed_token, signing_parameters, token_pairs, token_parameter, told_payload}
 use Rattle.sigv4.specs.Query.{Pair, decoded}
 use Rattle.sigv4.specs.Refusal.{is_value, unfit, unfit_early_text, unfit_expiry, unfit_headers, unfit_host, unfit_late_texts, unfit_optional, unfit_target, unfit_texts, unfit_token_name, unfit_unhashed, unfit_value, unless}

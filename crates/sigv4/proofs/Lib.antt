@@ -9,6 +9,7 @@ pub mod QueryLemmas
 pub mod RefusalLemmas
 pub mod ScopeLemmas
 pub mod SignatureLemmas
+pub mod SignedLemmas
 pub mod SortLemmas
 pub mod TargetLemmas
 pub mod TrimLemmas

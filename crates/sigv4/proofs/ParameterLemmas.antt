@@ -15,7 +15,7 @@ use Rattle.http_uri.specs.declared.uri.Uri.{Uri}
 use Rattle.http_uri.proofs.RunLemmas.{AllPass-at, IsAscii-pass, index_of_at_least, index_of_is, index_of_found, index_of_le, run-append}
 use Rattle.http_uri.proofs.AuthorityLemmas.{IsAuthority_no_delimiter}
 use Rattle.http_uri.proofs.PathLemmas.{path_byte_no_mark, query_byte_no_hash, IsPathAndQuery_slash}
-use Rattle.http_uri.proofs.UriLemmas.{cut_long, cut_scheme, none_of}
+use Rattle.http_uri.proofs.UriLemmas.{cut_scheme, none_of}
 use Rattle.smithy_http.specs.Building.{IsRefused, SpellsTarget, before_pair, escaped_pair, with_pair}
 use Rattle.smithy_http.specs.Escape.{base_set, escaped}
 use Rattle.smithy_http.specs.Query.{ampersand, pair, pair_text}

@@ -1,5 +1,5 @@
 -- Requests that are made of the parts of another one, and targets that get more parameters.
-use Rattle.std.proofs.Common.{◌≡◌, ℕ, ◌==◌, true, false, List, [], ◌∷◌, length, Result, Ok, Err, arith, refl, sym, subst, ap, ◌∙◌, inl, inr}
+use Rattle.std.proofs.Common.{◌≡◌, ℕ, ◌==◌, true, false, List, [], ◌∷◌, length, Result, Ok, Err, arith, refl, sym, subst, inl, inr}
 use Rattle.std.specs.Prelude.{String, Some, string_bytes}
 use Rattle.std.specs.declared.alloc.Global.{Global}
 use Rattle.std.proofs.lemmas.Bool.{cases_Bool, eqb-true, false≢true}
@@ -7,7 +7,7 @@ use Rattle.http_uri.specs.declared.uri.Uri.{Uri}
 use Rattle.smithy_core.specs.Pairs.{text_pairs}
 use Rattle.smithy_core.specs.declared.request.HttpRequest.{HttpRequest}
 use Rattle.smithy_http.specs.Building.{Builds, BuildsText, IsRefused, ReadsTarget, SpellsNoTarget, SpellsTarget}
-use Rattle.smithy_http.specs.Target.{IsAuthorityAlone, Target, target_of, target_text}
+use Rattle.smithy_http.specs.Target.{IsAuthorityAlone, Target, target_of}
 use Rattle.smithy_http.specs.declared.uri_fault.UriFault.{UriFault}
 use Rattle.smithy_http.specs.declared.uri_fault.UriFault.TheVariants as fault
 use Rattle.smithy_http.proofs.TargetLemmas.{pairs_read_back}

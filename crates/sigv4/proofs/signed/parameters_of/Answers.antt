@@ -1,5 +1,5 @@
 use Rattle.std.proofs.Common.{◌++◌, List, append_assoc, ap, ◌∙◌}
-use Rattle.std.specs.Prelude.{codes, option_copied}
+use Rattle.std.specs.Prelude.{option_copied}
 use Rattle.smithy_core.specs.Pairs.{text_pairs}
 use Rattle.sigv4.specs.Canonical.{token_pairs, token_parameter}
 use Rattle.sigv4.specs.Query.{Pair}

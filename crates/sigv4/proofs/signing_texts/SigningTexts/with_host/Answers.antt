@@ -1,4 +1,4 @@
-use Rattle.std.proofs.Common.{◌≡◌, ◌++◌, [], ap, ◌∙◌}
+use Rattle.std.proofs.Common.{◌++◌, [], ap, ◌∙◌}
 use Rattle.std.specs.Prelude.{codes, if◌then◌else◌, None}
 use Rattle.http_uri.specs.Uri.{uri_path}
 use Rattle.smithy_core.specs.Civil.{stamp}
