@@ -4,7 +4,7 @@ use Rattle.std.specs.Prelude.{Ok, Err, string_bytes}
 use Rattle.http_uri.specs.declared.uri.Uri.{Uri}
 use Rattle.smithy_core.specs.declared.identity.Identity.{Identity}
 use Rattle.smithy_core.specs.declared.request.HttpRequest.{HttpRequest}
-use Rattle.smithy_http.specs.Building.{SpellsNoTarget, SpellsTarget}
+use Rattle.smithy_http.specs.QueryWriter.{SpellsNoTarget, SpellsTarget}
 use Rattle.smithy_http.specs.Target.{Target, target_of}
 use Rattle.sigv4.specs.Body.{payload_text}
 use Rattle.sigv4.specs.EventStream.{unsignable}

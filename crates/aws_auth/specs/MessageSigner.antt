@@ -1,7 +1,7 @@
 -- What contracts see of the signers that go on from a signature.
 use Rattle.std.specs.Prelude.{◌≡◌, ℕ, List, string_bytes}
-use Rattle.smithy_core.specs.Instant.{Instant}
-use Rattle.smithy_core.specs.Signers.{IsSameIdentity}
+use Rattle.smithy_core.specs.Moment.{Instant}
+use Rattle.smithy_core.specs.Identity.{IsSameIdentity}
 use Rattle.smithy_core.specs.declared.identity.Identity.{Identity}
 use Rattle.eventstream.specs.Key.{Signer}
 use Rattle.aws_auth.specs.declared.message_signer.SigV4MessageSigner.{SigV4MessageSigner}

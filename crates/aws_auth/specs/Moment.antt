@@ -1,7 +1,7 @@
 -- The moment of a signature.
 use Rattle.std.specs.Prelude.{Option, Some, None, ℤ, pos, negsuc, ◌+ℤ◌, ◌*ℤ◌, ◌&&◌, int_le, option_map, unsigned_abs, unwrap_or, if◌then◌else◌}
 use Rattle.std.specs.Int.{int_div_euclid, int_rem_euclid}
-use Rattle.smithy_core.specs.Instant.{Instant, total_nanos}
+use Rattle.smithy_core.specs.Moment.{Instant, total_nanos}
 use Rattle.aws_auth.specs.declared.options.HttpSignatureType.{HttpSignatureType}
 use Rattle.aws_auth.specs.declared.options.HttpSignatureType.TheVariants.{HttpRequestHeaders, HttpRequestQueryParams}
 

@@ -1,5 +1,5 @@
 ghost use Rattle.std.specs.Prelude.{◌≡◌, ◌≤ℤ◌, ◌+ℤ◌, ◌*ℤ◌, negsuc, pos};
-ghost use Rattle.smithy_core.specs.Instant.{total_nanos};
+ghost use Rattle.smithy_core.specs.Moment.{total_nanos};
 ghost use Rattle.aws_auth.specs.Moment.{at_nanos, if_i64, shifted, signing_moment};
 
 use crate::options::HttpSignatureType;

@@ -114,18 +114,18 @@ value-signed settings pairs name =
     by_test false values = refl
 
 -- a map that holds the values of each name that is signed has these names in order, each with its values joined
-pub texts-held : (settings : Settings) (pairs : List Pair) (heads : HeaderMap) → IsOrdered string_cmp heads → HoldsHeaders settings pairs heads
-    → header_texts heads ≡ map (λ name. (name, joined_values pairs name)) (signed_names settings pairs)
-texts-held settings pairs heads ordered holds =
+pub texts-held : (settings : Settings) (pairs : List Pair) (headers : HeaderMap) → IsOrdered string_cmp headers → HoldsHeaders settings pairs headers
+    → header_texts headers ≡ map (λ name. (name, joined_values pairs name)) (signed_names settings pairs)
+texts-held settings pairs headers ordered holds =
     let names = filter (is_signed settings) (map (λ head. head.0) pairs) in
     let set = from_entries {R = order} (map (λ n. (n, tt {0})) names) in
     let es = entries set in
     let f : List ℕ → List ℕ = joined_values pairs in
-    let same : (name : List ℕ) → find order name (header_texts heads) ≡ find order name (with_value f es) =
-    λ name. find-texts name heads.entries ∙ holds name ∙ value-signed settings pairs name
+    let same : (name : List ℕ) → find order name (header_texts headers) ≡ find order name (with_value f es) =
+    λ name. find-texts name headers.entries ∙ holds name ∙ value-signed settings pairs name
     ∙ ap (λ b. cond b (Some (f name)) None) (sym (set-contains name names) ∙ ap is_some (get-entries set name)) ∙ sym (find-with_value f name es) in
-    same_entries order nat_list_cmp_total exact_bytes (header_texts heads) (with_value f es)
-    (sorted-texts heads.entries ordered) (subst T (sym (sorted-with_value f es)) (entries_sorted set)) same
+    same_entries order nat_list_cmp_total exact_bytes (header_texts headers) (with_value f es)
+    (sorted-texts headers.entries ordered) (subst T (sym (sorted-with_value f es)) (entries_sorted set)) same
     ∙ sym (with_value-names f es)
 
 -- ---- one header after another
@@ -139,17 +139,17 @@ none-signed settings name = by_test (is_signed settings name)
     by_test false = refl
 
 -- an empty map holds no headers
-pub held-none : (settings : Settings) (heads : HeaderMap) → ((name : List ℕ) → joined_value_at heads name ≡ None) → HoldsHeaders settings [] heads
-held-none settings heads none name = none name ∙ ap (appended None) (sym (none-signed settings name))
+pub held-none : (settings : Settings) (headers : HeaderMap) → ((name : List ℕ) → joined_value_at headers name ≡ None) → HoldsHeaders settings [] headers
+held-none settings headers none name = none name ∙ ap (appended None) (sym (none-signed settings name))
 
 -- values appended in two steps
-pub appended-next : (settings : Settings) (text : Option (List ℕ)) (head : Pair) (heads : List Pair) (name : List ℕ)
-    → appended (appended text (signed_values settings (head ∷ []) name)) (signed_values settings heads name) ≡ appended text (signed_values settings (head ∷ heads) name)
-appended-next settings text head heads name = by_test (is_signed settings name) (bytes_eq head.0 name) text
+pub appended-next : (settings : Settings) (text : Option (List ℕ)) (head : Pair) (headers : List Pair) (name : List ℕ)
+    → appended (appended text (signed_values settings (head ∷ []) name)) (signed_values settings headers name) ≡ appended text (signed_values settings (head ∷ headers) name)
+appended-next settings text head headers name = by_test (is_signed settings name) (bytes_eq head.0 name) text
   where
     by_test : (signed here : Bool) (text : Option (List ℕ))
-        → appended (appended text (cond signed (cond here (head.1 ∷ []) []) [])) (cond signed (named_values heads name) [])
-        ≡ appended text (cond signed (cond here (head.1 ∷ named_values heads name) (named_values heads name)) [])
+        → appended (appended text (cond signed (cond here (head.1 ∷ []) []) [])) (cond signed (named_values headers name) [])
+        ≡ appended text (cond signed (cond here (head.1 ∷ named_values headers name) (named_values headers name)) [])
     by_test false here text = refl
     by_test true false text = refl
     by_test true true None = refl
@@ -180,15 +180,15 @@ appended-unsigned settings text head name is = by_test (bytes_eq head.0 name) re
     by_test false e false s = refl
 
 -- a header that is signed is inserted
-pub held-inserted : (settings : Settings) (pairs : List Pair) (heads now : HeaderMap) (name value : List ℕ) → is_signed settings name ≡ true
-    → ((q : List ℕ) → joined_value_at now q ≡ (if bytes_eq name q then Some value else joined_value_at heads q)) → HoldsHeaders settings pairs heads → HoldsHeaders settings (inserted pairs name value) now
-held-inserted settings pairs heads now name value is puts holds q = puts q ∙ by_test (bytes_eq name q) refl
+pub held-inserted : (settings : Settings) (pairs : List Pair) (headers now : HeaderMap) (name value : List ℕ) → is_signed settings name ≡ true
+    → ((q : List ℕ) → joined_value_at now q ≡ (if bytes_eq name q then Some value else joined_value_at headers q)) → HoldsHeaders settings pairs headers → HoldsHeaders settings (inserted pairs name value) now
+held-inserted settings pairs headers now name value is puts holds q = puts q ∙ by_test (bytes_eq name q) refl
   where
     signed : (b : Bool) → b ≡ true → Some value ≡ appended None (cond b (value ∷ []) [])
     signed true e = refl
     signed false e = absurd (subst T (sym e) tt)
 
-    by_test : (b : Bool) → bytes_eq name q ≡ b → cond b (Some value) (joined_value_at heads q) ≡ appended None (signed_values settings (inserted pairs name value) q)
+    by_test : (b : Bool) → bytes_eq name q ≡ b → cond b (Some value) (joined_value_at headers q) ≡ appended None (signed_values settings (inserted pairs name value) q)
     by_test true e =
         let same = same_name name q e in
         signed (is_signed settings q) (ap (is_signed settings) (sym same) ∙ is)
@@ -196,9 +196,9 @@ held-inserted settings pairs heads now name value is puts holds q = puts q ∙ b
     by_test false e = holds q ∙ ap (λ values. appended None (cond (is_signed settings q) values [])) (sym (named-inserted_other name value q e pairs))
 
 -- a header that isn't signed stays out
-pub held-unsigned : (settings : Settings) (pairs : List Pair) (heads : HeaderMap) (name value : List ℕ) → is_signed settings name ≡ false
-    → HoldsHeaders settings pairs heads → HoldsHeaders settings (inserted pairs name value) heads
-held-unsigned settings pairs heads name value is holds q = holds q ∙ by_test (bytes_eq name q) refl
+pub held-unsigned : (settings : Settings) (pairs : List Pair) (headers : HeaderMap) (name value : List ℕ) → is_signed settings name ≡ false
+    → HoldsHeaders settings pairs headers → HoldsHeaders settings (inserted pairs name value) headers
+held-unsigned settings pairs headers name value is holds q = holds q ∙ by_test (bytes_eq name q) refl
   where
     unsigned : (b : Bool) (some other : List (List ℕ)) → b ≡ false → appended None (cond b some []) ≡ appended None (cond b other [])
     unsigned true some other e = absurd (subst T e tt)
@@ -246,22 +246,22 @@ flat_map-lines : (pairs : List Pair) (names : List (List ℕ)) → flat_map pair
 flat_map-lines pairs [] = refl
 flat_map-lines pairs (name ∷ names) = ap (λ rest. header_line pairs name ++ rest) (flat_map-lines pairs names)
 
-pub names-held : (settings : Settings) (pairs : List Pair) (heads : HeaderMap) → IsOrdered string_cmp heads → HoldsHeaders settings pairs heads
-    → map (λ (head : Pair). head.0) (header_texts heads) ≡ signed_names settings pairs
-names-held settings pairs heads ordered holds =
-    ap (map (λ (head : Pair). head.0)) (texts-held settings pairs heads ordered holds) ∙ map-first (joined_values pairs) (signed_names settings pairs)
+pub names-held : (settings : Settings) (pairs : List Pair) (headers : HeaderMap) → IsOrdered string_cmp headers → HoldsHeaders settings pairs headers
+    → map (λ (head : Pair). head.0) (header_texts headers) ≡ signed_names settings pairs
+names-held settings pairs headers ordered holds =
+    ap (map (λ (head : Pair). head.0)) (texts-held settings pairs headers ordered holds) ∙ map-first (joined_values pairs) (signed_names settings pairs)
 
-pub lines-held : (settings : Settings) (pairs : List Pair) (heads : HeaderMap) → IsOrdered string_cmp heads → HoldsHeaders settings pairs heads
-    → flat_map pair_line (header_texts heads) ≡ flat_map (header_line pairs) (signed_names settings pairs)
-lines-held settings pairs heads ordered holds =
-    ap (flat_map pair_line) (texts-held settings pairs heads ordered holds) ∙ flat_map-lines pairs (signed_names settings pairs)
+pub lines-held : (settings : Settings) (pairs : List Pair) (headers : HeaderMap) → IsOrdered string_cmp headers → HoldsHeaders settings pairs headers
+    → flat_map pair_line (header_texts headers) ≡ flat_map (header_line pairs) (signed_names settings pairs)
+lines-held settings pairs headers ordered holds =
+    ap (flat_map pair_line) (texts-held settings pairs headers ordered holds) ∙ flat_map-lines pairs (signed_names settings pairs)
 
 -- ---- the headers that a signature adds
 
 -- a map that holds headers holds the same headers under other words
-pub held-same : {settings settings' : Settings} {pairs pairs' : List Pair} (heads : HeaderMap) → settings ≡ settings' → pairs ≡ pairs'
-    → HoldsHeaders settings pairs heads → HoldsHeaders settings' pairs' heads
-held-same heads e f holds name = holds name ∙ (λ i. appended None (signed_values (e i) (f i) name))
+pub held-same : {settings settings' : Settings} {pairs pairs' : List Pair} (headers : HeaderMap) → settings ≡ settings' → pairs ≡ pairs'
+    → HoldsHeaders settings pairs headers → HoldsHeaders settings' pairs' headers
+held-same headers e f holds name = holds name ∙ (λ i. appended None (signed_values (e i) (f i) name))
 
 -- the headers that the signature adds in header form, under other words
 pub header-form : (settings : Settings) (date : List ℕ) (token payload : Option (List ℕ)) (pairs : List Pair) {name : List ℕ} {told : Option (List ℕ)}

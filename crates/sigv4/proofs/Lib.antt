@@ -13,6 +13,7 @@ pub mod RefusalLemmas
 pub mod ScopeLemmas
 pub mod SetLemmas
 pub mod SignatureLemmas
+pub mod SignedLemmas
 pub mod SortLemmas
 pub mod TargetLemmas
 pub mod TrimLemmas

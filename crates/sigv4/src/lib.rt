@@ -1,9 +1,9 @@
-//! AWS Signature Version 4: signing keys, signed requests in header form, and signed messages.
+//! AWS Signature Version 4: signing keys, signed requests in header form and in query form, and signed messages.
 //!
-//! The layer above is promised that [`sign`] answers the headers and the signature of a request, and [`canonical_text`] its
-//! canonical text (`specs/Canonical.antt`, `specs/Signed.antt`), or exactly the first test that the request fails
-//! (`specs/Refusal.antt`), and that [`SigningInstructions::apply_to_request`] puts the signature into the request
-//! (`specs/Parameters.antt`).
+//! The layer above is promised that [`sign`] answers the headers or the parameters and the signature of a request, and
+//! [`canonical_text`] its canonical text (`specs/Canonical.antt`, `specs/Signed.antt`), or exactly the first test that the
+//! request fails (`specs/Refusal.antt`), and that [`SigningInstructions::apply_to_request`] puts the signature into the
+//! request (`specs/Parameters.antt`).
 //!
 //! The layer above is promised that [`v4::generate_signing_key`] is the signing key of a secret, a date, a
 //! region and a name, and takes no memory, and that [`v4::request_signature`] is the signature of a
@@ -51,7 +51,8 @@ pub use crate::error::{SigningError, ValuePlace};
 pub use crate::header::{Header, HeaderPairs};
 pub use crate::instructions::SigningInstructions;
 pub use crate::laws::{
-    normal_paths_stay, signed_names_ascend, signed_requests_sign_alike, trimmed_texts_stay,
+    instructions_make_the_signed_request, normal_paths_stay, signed_names_ascend,
+    signed_requests_sign_alike, trimmed_texts_stay,
 };
 pub use crate::modes::{PercentEncodingMode, UriPathNormalizationMode};
 pub use crate::output::SigningOutput;
