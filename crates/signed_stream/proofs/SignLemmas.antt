@@ -13,7 +13,7 @@ use Rattle.sigv4.specs.Settings.{settings_of}
 use Rattle.sigv4.specs.Instructions.{Instruction, with_instructions}
 use Rattle.sigv4.specs.Signed.{instructions, signed_headers}
 use Rattle.sigv4.specs.Signing.{unsignable}
-use Rattle.sigv4.specs.Targets.{IsRetargeted}
+use Rattle.sigv4.specs.Targets.{AppliesParams, IsRetargeted}
 use Rattle.sigv4.specs.declared.body.SignableBody.{SignableBody}
 use Rattle.sigv4.specs.declared.error.SigningError.{SigningError}
 use Rattle.sigv4.specs.declared.error.SigningError.TheVariants.{InvalidHeaderName, InvalidHeaderValue, InvalidUri, MissingHost, NoMemory}
@@ -22,25 +22,27 @@ use Rattle.sigv4.specs.declared.output.SigningOutput.{SigningOutput}
 use Rattle.sigv4.specs.declared.request.SignableRequest.{SignableRequest}
 use Rattle.sigv4.specs.declared.settings.SigningSettings.{SigningSettings}
 use Rattle.sigv4.specs.declared.signing_params.SigningParams.TheVariants.{V4}
-use Rattle.signed_stream.specs.Signing.{case_under, payload_with, settings_with}
-use Rattle.signed_stream.specs.Plan.{unsigned}
-use Rattle.signed_stream.specs.Signs.{IsRequestError, SignsText, Unsigned}
+use Rattle.signed_stream.specs.Case.{payload_with, request_case, settings_with}
+use Rattle.signed_stream.specs.Plan.{TargetRead, accepted, unaccepted, unread}
+use Rattle.signed_stream.specs.Sign.{IsRequestError, SignsJob, SignsText, TellsError, Unsigned, unsigned}
 use Rattle.signed_stream.proofs.TestLemmas.{IsTestError, unfit_test}
-use Rattle.signed_stream.specs.declared.words.options.StreamWords.{StreamWords}
+use Rattle.signed_stream.specs.declared.halt.Halt.{Halt}
+use Rattle.signed_stream.specs.declared.halt.Halt.TheVariants as halts
+use Rattle.signed_stream.specs.declared.command.options.StreamWords.{StreamWords}
 
 -- the case that is signed is that of the request
 pub case_made : (request : HttpRequest) (identity : Bor Identity) (region : Bor (List ℕ)) (words : StreamWords) (settings : SigningSettings) (signable : SignableRequest) (body : SignableBody)
     → signable.method.now ≡ string_bytes request.method → signable.headers.now ≡ request.headers → signable.body ≡ body
     → payload_text body ≡ payload_with words.signing request.body → settings_of settings ≡ settings_with words.signing
     → case_of signable (V4 (record { identity = identity; region = region; name = words.name; time = words.at; settings = settings }))
-    ≡ case_under request identity.now region.now words (target_of signable.uri)
+    ≡ request_case request identity.now region.now words (target_of signable.uri)
 case_made request identity region words settings signable body method headers body_is payload settings_are =
     rw (method, headers, body_is, payload, settings_are) refl
 
 -- a target that isn't read isn't signed
-pub unread : (text : List ℕ) (case : Target → Case) (error : SigningError) → (SpellsNoTarget text × (error ≡ InvalidUri)) ⊎ (error ≡ NoMemory) → Unsigned text case error
-unread text case error (inl none) = inl (None, none.0, ap Some (sym none.1))
-unread text case error (inr is) = inr is
+pub untold : (text : List ℕ) (case : Target → Case) (error : SigningError) → (SpellsNoTarget text × (error ≡ InvalidUri)) ⊎ (error ≡ NoMemory) → Unsigned text case error
+untold text case error (inl none) = inl (unaccepted, none.0, ap Some (sym none.1))
+untold text case error (inr is) = inr is
 
 -- what signing a case gives for the text of its target
 pub signs_text : (text : List ℕ) (case : Target → Case) (identity : Identity) (c : Case) (uri : Uri) (answer : Result (SigningOutput SigningInstructions) SigningError)
@@ -50,7 +52,7 @@ signs_text text case identity c uri (Ok output) spells same able signs =
     (target_of uri, (uri, spells, refl), rw (← same) fit, rw (← same) signs.1)
 signs_text text case identity c uri (Err error) spells same able (inl refused) =
     let refusal : unfit c ≡ Some error = rw able at refused in
-    inl (Some (target_of uri), (uri, spells, refl), rw (← same) refusal)
+    inl (accepted (target_of uri), (uri, spells, refl), rw (← same) refusal)
 signs_text text case identity c uri (Err error) spells same able (inr is) = inr is
 
 -- the headers that go out are those of the signed request
@@ -75,7 +77,21 @@ test_error error test = absurd test
 pub unsigned_error : (text : List ℕ) (case : Target → Case) (error : SigningError) → Unsigned text case error → IsRequestError error
 unsigned_error text case error (inl found) = by_target found.0 found.2
   where
-    by_target : (target : Option Target) → unsigned case target ≡ Some error → IsRequestError error
-    by_target None is = let same : error ≡ InvalidUri = cc in rw same tt
-    by_target (Some target) is = test_error error (unfit_test (case target) error is)
+    by_target : (target : TargetRead) → unsigned case target ≡ Some error → IsRequestError error
+    by_target unread is = cc
+    by_target unaccepted is = let same : error ≡ InvalidUri = cc in rw same tt
+    by_target (accepted target) is = test_error error (unfit_test (case target) error is)
 unsigned_error text case error (inr is) = rw is tt
+
+-- a request to which nothing can be applied isn't signed
+pub unapplied : (text : List ℕ) (case : Target → Case) (headers : List (List ℕ × List ℕ)) (params : List (List ℕ × List ℕ)) (new : List ℕ) (error : SigningError) (halt : Halt)
+    → params ≡ [] → AppliesParams params text new (Err error) → TellsError error halt → SignsJob text case headers (Err halt)
+unapplied text case headers (param ∷ params) new error halt none applies tells = cc
+unapplied text case headers [] new error halt none (inr is) tells =
+    let same : halt ≡ halts.NoMemory = (let told : TellsError NoMemory halt = rw is at tells in told) in rw same tt
+unapplied text case headers [] new error halt none (inl untargeted) tells = by_halt halt (rw untargeted.1 at tells)
+  where
+    by_halt : (halt : Halt) → TellsError InvalidUri halt → SignsJob text case headers (Err halt)
+    by_halt (halts.Refused fault) told = (unaccepted, untargeted.0, ap Some (sym told))
+    by_halt halts.OutputFault told = absurd told
+    by_halt halts.NoMemory told = absurd told

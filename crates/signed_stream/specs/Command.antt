@@ -5,8 +5,8 @@ use Rattle.std.specs.Int.{w64}
 use Rattle.smithy_core.specs.Instant.{Instant}
 use Rattle.signed_stream.specs.Numbers.{number}
 use Rattle.signed_stream.specs.declared.signing_options.SigningOptions.{SigningOptions}
-use Rattle.signed_stream.specs.declared.words.options.Valued.{Valued}
-use Rattle.signed_stream.specs.declared.words.options.Valued.TheVariants.{Name, At}
+use Rattle.signed_stream.specs.declared.command.options.Valued.{Valued}
+use Rattle.signed_stream.specs.declared.command.options.Valued.TheVariants.{Name, At}
 
 -- an option of `stream` that isn't built
 abbrev pub is_later_option : List ℕ → Bool
@@ -49,17 +49,17 @@ abbrev pub no_options : Options
 no_options = record { name = None; at = None; signing = default_signing; awaited = None }
 
 -- goes on with more words, or ends
-pub data OptionStep : Type 0 where
-  options : Options → OptionStep
-  ends : Command → OptionStep
+pub data WordTaken : Type 0 where
+  options : Options → WordTaken
+  ends : Command → WordTaken
 
 -- an option that stands once
-abbrev pub once : ℕ → Bool → Options → OptionStep
+abbrev pub once : ℕ → Bool → Options → WordTaken
 once place stood given = if stood then ends (bad_word place) else options given
 
 -- the word at a place, where it is an option
-abbrev pub option_step : ℕ → Options → List ℕ → OptionStep
-option_step place given word =
+abbrev pub take_option : ℕ → Options → List ℕ → WordTaken
+take_option place given word =
     if bytes_eq word (codes "--name") then once place (is_some given.name) (record given { awaited = Some Name })
     else if bytes_eq word (codes "--at") then once place (is_some given.at) (record given { awaited = Some At })
     else if bytes_eq word (codes "--sha256") then once place given.signing.content_sha256_header (record given { signing = record given.signing { content_sha256_header = true } })
@@ -70,15 +70,15 @@ option_step place given word =
     else ends (bad_word place)
 
 -- the value of `--at` at a place: the seconds of the moment, where the word is a number of 64 bits
-abbrev pub moment_step : ℕ → Options → Option ℤ → OptionStep
-moment_step place given None = ends (bad_word place)
-moment_step place given (Some secs) = options (record given { at = Some (record { secs = secs; nanos = 0 }); awaited = None })
+abbrev pub take_moment : ℕ → Options → Option ℤ → WordTaken
+take_moment place given None = ends (bad_word place)
+take_moment place given (Some secs) = options (record given { at = Some (record { secs = secs; nanos = 0 }); awaited = None })
 
 -- the word at a place: the value of the option that waits for one, or else an option
-abbrev pub word_step : ℕ → Options → Option Valued → List ℕ → OptionStep
-word_step place given None word = option_step place given word
-word_step place given (Some Name) word = options (record given { name = Some word; awaited = None })
-word_step place given (Some At) word = moment_step place given (number w64 word)
+abbrev pub take_word : ℕ → Options → Option Valued → List ℕ → WordTaken
+take_word place given None word = take_option place given word
+take_word place given (Some Name) word = options (record given { name = Some word; awaited = None })
+take_word place given (Some At) word = take_moment place given (number w64 word)
 
 -- the words are over: the command, or the place after the last word
 abbrev pub command_of : ℕ → Options → Option (List ℕ) → Option Instant → Option Valued → Command
@@ -88,14 +88,14 @@ command_of place given (Some name) None None = unbuilt_word place
 command_of place given (Some name) (Some at) None = stream (record { name = name; at = at; signing = given.signing })
 
 -- goes on, where the word didn't end the matter
-abbrev pub after_word : OptionStep → (Options → Command) → Command
-after_word (options given) others = others given
-after_word (ends command) others = command
+abbrev pub after_taken : WordTaken → (Options → Command) → Command
+after_taken (options given) others = others given
+after_taken (ends command) others = command
 
 -- the words from a place on, after those that gave this
 abbrev pub options_from : ℕ → Options → List (List ℕ) → Command
 options_from place given [] = command_of place given given.name given.at given.awaited
-options_from place given (word ∷ words) = after_word (word_step place given given.awaited word) (λ more. options_from (place + 1) more words)
+options_from place given (word ∷ words) = after_taken (take_word place given given.awaited word) (λ more. options_from (place + 1) more words)
 
 -- the command that the words spell, or the place of the first word that is bad or not built
 unfoldable pub command : List (List ℕ) → Command

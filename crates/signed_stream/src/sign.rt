@@ -4,13 +4,13 @@ ghost use Rattle.sigv4.specs.Case.{payload_text};
 ghost use Rattle.sigv4.specs.Settings.{settings_of};
 ghost use Rattle.sigv4.specs.Signing.{unsignable};
 ghost use Rattle.sigv4.specs.declared.signing_params.SigningParams.TheVariants.{V4};
-ghost use Rattle.signed_stream.specs.Signing.{case_under, payload_with, settings_with};
-ghost use Rattle.signed_stream.specs.Signs.{IsRequestError, SignsRequest, SignsText, halt_for};
+ghost use Rattle.signed_stream.specs.Case.{payload_with, request_case, settings_with};
+ghost use Rattle.signed_stream.specs.Sign.{IsRequestError, SignsJob, SignsText, TellsError};
 
+use crate::command::StreamWords;
 use crate::halt::Halt;
 use crate::signing_options::SigningOptions;
 use crate::status::StreamFault;
-use crate::words::StreamWords;
 use sigv4::{
     PayloadChecksumKind, PercentEncodingMode, SignableBody, SignableRequest, SigningError,
     SigningInstructions, SigningOutput, SigningParams, SigningSettings, UriPathNormalizationMode,
@@ -35,7 +35,7 @@ pub fn sign_request(
     requires { unsignable identity.now words.now.at ≡ None }
     ensures method { request.new.method ≡ request.old.method }
     ensures target { string_bytes request.new.target ≡ string_bytes request.old.target }
-    ensures signs { SignsRequest (string_bytes request.old.target) (case_under request.old identity.now region.now words.now) request.new.headers result }
+    ensures signs { SignsJob (string_bytes request.old.target) (request_case request.old identity.now region.now words.now) request.new.headers result }
 {
     let signed = match sign_text(alloc, request, identity, region, words) {
         Ok(signed) => signed,
@@ -51,7 +51,7 @@ pub fn sign_request(
 // How an error of signing a request halts the stream.
 fn halt_of(error: SigningError) -> Halt
     requires { IsRequestError error }
-    ensures { result ≡ halt_for error }
+    ensures { TellsError error result }
 {
     match error {
         SigningError::InvalidUri => Halt::Refused(StreamFault::InvalidUri),
@@ -76,7 +76,7 @@ fn sign_text(
     words: &StreamWords<'_>,
 ) -> Result<SigningOutput<SigningInstructions>, SigningError>
     requires { unsignable identity.now words.now.at ≡ None }
-    ensures { SignsText (string_bytes request.now.target) (case_under request.now identity.now region.now words.now) result }
+    ensures { SignsText (string_bytes request.now.target) (request_case request.now identity.now region.now words.now) result }
 {
     let settings = settings_under(alloc, words.signing)?;
     let params = params_of(identity, region, words, settings);

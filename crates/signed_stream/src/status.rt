@@ -1,17 +1,16 @@
-ghost use Rattle.std.specs.Prelude.{◌≡◌, IfOk};
-ghost use Rattle.std.specs.String.{string_bytes};
+ghost use Rattle.std.specs.Prelude.{◌≡◌};
 
 use sigv4::ValuePlace;
 use smithy_core::Moment;
 
 /// Why a stream was refused.
-#[derive(Clone, Copy, Debug, PartialEq, Eq)]
+#[derive(Debug, PartialEq, Eq, Drop)]
 pub enum StreamFault {
     /// The selected profile lacks `aws_access_key_id` or `aws_secret_access_key`.
     MissingCredentials,
     /// No place gives a region.
     MissingSigningRegion,
-    /// The moment of the request lies outside the years 0 to 9999.
+    /// The moment of the request, of an event or of the closing frame lies outside the years 0 to 9999.
     MomentOutOfRange(Moment),
     /// The target isn't accepted, or has an authority without a scheme.
     InvalidUri,
@@ -36,7 +35,7 @@ pub enum StreamFault {
 }
 
 /// How a run ended.
-#[derive(Clone, Copy, Debug, PartialEq, Eq)]
+#[derive(Debug, PartialEq, Eq, Drop)]
 pub enum Status {
     /// All was written.
     Done,
@@ -60,11 +59,11 @@ pub enum Status {
 }
 
 impl Status {
-    ghost use Rattle.signed_stream.specs.Status.{exit_code};
+    ghost use Rattle.signed_stream.specs.Status.{ending_of, exit_code};
 
     /// The number that the process ends with.
-    pub fn code(self) -> u8
-        ensures { result ≡ exit_code self }
+    pub fn code(&self) -> u8
+        ensures { result ≡ exit_code (ending_of self.now) }
     {
         match self {
             Status::Done => 0,
