@@ -17,7 +17,7 @@ use Rattle.eventstream.specs.declared.error.Error.{Error}
 use Rattle.eventstream.specs.declared.error.ErrorKind.{ErrorKind}
 use Rattle.eventstream.proofs.LinkLemmas.{link_framed}
 use Rattle.eventstream.proofs.UnframedLemmas.{unframed_fault}
-use Rattle.sigv4.specs.Signing.{failed_encoding, refusal, unsignable}
+use Rattle.sigv4.specs.EventStream.{failed_encoding, message_refusal, unsignable}
 use Rattle.sigv4.specs.declared.error.SigningError.{SigningError}
 use Rattle.sigv4.specs.declared.error.SigningError.TheVariants as errors
 use Rattle.signed_stream.specs.Chain.{IsChained, IsCredentials, Refusal, chain_lines, fault_at, first_refusal, frame_lines, lines_before, link_line, outside_years, refusal_at, refusal_fault, streamed_lines, unframed_at, unlinked}
@@ -67,7 +67,7 @@ inside_years t = by_years (is_in_years t)
     by_years false none = cc
 
 -- a message that is signed has a frame, and its moment lies in the years
-pub signed_framed : (m : Parts) (identity : Identity) (t : Instant) → IsCredentials identity → refusal m identity t ≡ None → (unframed m ≡ None) × (is_in_years t ≡ true)
+pub signed_framed : (m : Parts) (identity : Identity) (t : Instant) → IsCredentials identity → message_refusal m identity t ≡ None → (unframed m ≡ None) × (is_in_years t ≡ true)
 signed_framed m identity t can = by_reason (unframed m)
   where
     by_reason : (reason : Option ErrorKind) → option_or (option_map failed_encoding reason) (unsignable identity t) ≡ None → (reason ≡ None) × (is_in_years t ≡ true)
@@ -79,7 +79,7 @@ pub data WhyUnsigned (m : Parts) (t : Instant) (error : SigningError) : Type 0 w
   has_no_frame : (kind : ErrorKind) → error ≡ failed_encoding kind → unframed m ≡ Some kind → WhyUnsigned m t error
   lies_outside : error ≡ errors.MomentOutOfRange t → unframed m ≡ None → is_in_years t ≡ false → WhyUnsigned m t error
 
-pub why_unsigned : (m : Parts) (identity : Identity) (t : Instant) (error : SigningError) → IsCredentials identity → refusal m identity t ≡ Some error → WhyUnsigned m t error
+pub why_unsigned : (m : Parts) (identity : Identity) (t : Instant) (error : SigningError) → IsCredentials identity → message_refusal m identity t ≡ Some error → WhyUnsigned m t error
 why_unsigned m identity t error can = by_reason (unframed m) refl
   where
     by_reason : (reason : Option ErrorKind) → unframed m ≡ reason → option_or (option_map failed_encoding reason) (unsignable identity t) ≡ Some error → WhyUnsigned m t error

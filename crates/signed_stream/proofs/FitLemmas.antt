@@ -5,7 +5,7 @@ use Rattle.smithy_core.specs.Civil.{is_in_years}
 use Rattle.smithy_core.specs.Instant.{Instant}
 use Rattle.smithy_core.specs.Parts.{Parts}
 use Rattle.smithy_http.specs.Target.{Target}
-use Rattle.sigv4.specs.Case.{Case}
+use Rattle.sigv4.specs.Request.{Case}
 use Rattle.sigv4.specs.Refusal.{unfit}
 use Rattle.sigv4.specs.Signed.{signature_of, signed_headers}
 use Rattle.sigv4.specs.declared.error.SigningError.{SigningError}

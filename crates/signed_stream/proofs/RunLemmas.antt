@@ -15,7 +15,7 @@ use Rattle.eventstream.specs.Key.{Signer}
 use Rattle.eventstream.specs.Link.{link_message, link_signature}
 use Rattle.eventstream.specs.declared.error.ErrorKind.{ErrorKind}
 use Rattle.eventstream.specs.declared.error.ErrorKind.TheVariants as reasons
-use Rattle.sigv4.specs.Case.{Case}
+use Rattle.sigv4.specs.Request.{Case}
 use Rattle.sigv4.specs.Refusal.{unfit}
 use Rattle.sigv4.specs.Signed.{signature_of}
 use Rattle.sigv4.specs.declared.error.SigningError.{SigningError}

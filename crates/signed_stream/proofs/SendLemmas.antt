@@ -6,7 +6,7 @@ use Rattle.smithy_core.specs.Instant.{Instant}
 use Rattle.smithy_core.specs.Outside.{Gains}
 use Rattle.smithy_core.specs.Parts.{Parts}
 use Rattle.smithy_core.proofs.GainLemmas.{gains_front, gains_last, prefix_join, prefix_within}
-use Rattle.sigv4.specs.Case.{Case}
+use Rattle.sigv4.specs.Request.{Case}
 use Rattle.sigv4.specs.Signed.{signature_of}
 use Rattle.signed_stream.specs.Chain.{Refusal, refusal_fault, streamed_lines}
 use Rattle.signed_stream.specs.Halt.{Halts, Sends, ended}

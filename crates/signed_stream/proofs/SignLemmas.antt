@@ -6,13 +6,13 @@ use Rattle.smithy_core.specs.declared.identity.Identity.{Identity}
 use Rattle.smithy_core.specs.declared.request.HttpRequest.{HttpRequest}
 use Rattle.smithy_http.specs.Building.{SpellsNoTarget, SpellsTarget}
 use Rattle.smithy_http.specs.Target.{Target, target_of}
-use Rattle.sigv4.specs.Case.{Case, case_of, payload_text}
+use Rattle.sigv4.specs.Request.{Case, case_of, payload_text}
 use Rattle.sigv4.specs.Refusal.{unfit}
 use Rattle.sigv4.specs.RequestSigning.{SignsRequest as SignsCase}
 use Rattle.sigv4.specs.Settings.{settings_of}
 use Rattle.sigv4.specs.Instructions.{Instruction, with_instructions}
 use Rattle.sigv4.specs.Signed.{instructions, signed_headers}
-use Rattle.sigv4.specs.Signing.{unsignable}
+use Rattle.sigv4.specs.EventStream.{unsignable}
 use Rattle.sigv4.specs.Targets.{AppliesParams, IsRetargeted}
 use Rattle.sigv4.specs.declared.body.SignableBody.{SignableBody}
 use Rattle.sigv4.specs.declared.error.SigningError.{SigningError}

@@ -4,7 +4,7 @@ use Rattle.std.specs.Prelude.{if◌then◌else◌}
 use Rattle.std.specs.Option.{option_or}
 use Rattle.smithy_http.specs.Target.{Target}
 use Rattle.sigv4.specs.Canonical.{has_host, told_payload}
-use Rattle.sigv4.specs.Case.{Case}
+use Rattle.sigv4.specs.Request.{Case}
 use Rattle.sigv4.specs.Host.{host_text}
 use Rattle.sigv4.specs.Query.{Pair}
 use Rattle.sigv4.specs.Refusal.{is_name, is_value, unfit, unfit_header, unfit_headers, unfit_host, unfit_host_text, unfit_optional, unfit_parts, unfit_value, unless}

@@ -6,7 +6,7 @@ use Rattle.smithy_core.specs.Instant.{Instant}
 use Rattle.smithy_core.specs.Parts.{Parts}
 use Rattle.smithy_http.specs.Building.{SpellsNoTarget}
 use Rattle.smithy_http.specs.Target.{Target}
-use Rattle.sigv4.specs.Case.{Case}
+use Rattle.sigv4.specs.Request.{Case}
 use Rattle.sigv4.specs.Refusal.{unfit}
 use Rattle.sigv4.specs.Signed.{signature_of}
 use Rattle.sigv4.specs.declared.error.SigningError.{SigningError}

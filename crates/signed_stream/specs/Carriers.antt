@@ -4,7 +4,7 @@ use Rattle.std.specs.Prelude.{◌≡◌, ℕ, List, Option, Result, Ok, Err}
 use Rattle.smithy_core.specs.Instant.{Instant}
 use Rattle.smithy_core.specs.Parts.{Parts}
 use Rattle.smithy_http.specs.Target.{Target}
-use Rattle.sigv4.specs.Case.{Case}
+use Rattle.sigv4.specs.Request.{Case}
 use Rattle.signed_stream.specs.Command.{Wanted}
 use Rattle.signed_stream.specs.Job.{Reading}
 use Rattle.signed_stream.specs.Options.{wanted_of}

@@ -4,7 +4,7 @@ use Rattle.std.specs.List.{flat_map}
 use Rattle.smithy_core.specs.Instant.{Instant}
 use Rattle.smithy_core.specs.Parts.{Parts}
 use Rattle.smithy_core.specs.Text.{line}
-use Rattle.sigv4.specs.Case.{Case}
+use Rattle.sigv4.specs.Request.{Case}
 use Rattle.sigv4.specs.Signed.{signature_of, signed_headers}
 use Rattle.signed_stream.specs.Chain.{Refusal, chain_lines, first_refusal, lines_before}
 use Rattle.signed_stream.specs.Status.{Ending, done, no_memory, refused}

@@ -1,8 +1,8 @@
 ghost use Rattle.std.specs.Prelude.{◌≡◌, None, IfOk};
 ghost use Rattle.std.specs.String.{string_bytes};
-ghost use Rattle.sigv4.specs.Case.{payload_text};
+ghost use Rattle.sigv4.specs.Request.{payload_text};
 ghost use Rattle.sigv4.specs.Settings.{settings_of};
-ghost use Rattle.sigv4.specs.Signing.{unsignable};
+ghost use Rattle.sigv4.specs.EventStream.{unsignable};
 ghost use Rattle.sigv4.specs.declared.signing_params.SigningParams.TheVariants.{V4};
 ghost use Rattle.signed_stream.specs.Case.{payload_with, request_case, settings_with};
 ghost use Rattle.signed_stream.specs.Sign.{IsRequestError, SignsJob, SignsText, TellsError};

@@ -2,7 +2,7 @@ ghost use Rattle.std.specs.Prelude.{◌≡◌, ◌≤◌, ◌+◌, ◌++◌, ℕ
 ghost use Rattle.std.specs.String.{string_bytes};
 ghost use Rattle.smithy_core.specs.Civil.{is_in_years};
 ghost use Rattle.smithy_core.specs.Outside.{IsAtEnd, IsRestOf, Rose};
-ghost use Rattle.sigv4.specs.Signing.{unsignable};
+ghost use Rattle.sigv4.specs.EventStream.{unsignable};
 ghost use Rattle.signed_stream.specs.Carriers.{GoesForInput, GoesForJob, GoesForTarget};
 ghost use Rattle.signed_stream.specs.Case.{request_case, signer_under};
 ghost use Rattle.signed_stream.specs.Chain.{IsCredentials, first_refusal, refusal_fault, streamed_lines};

@@ -1,6 +1,6 @@
 //! A request and how it is signed, from the words `METHOD TARGET`, `header NAME: VALUE`, `body TEXT` and so on.
 ghost use Rattle.std.specs.Prelude.{◌≡◌, IfOk};
-ghost use Rattle.sigv4.specs.Case.{params_settings};
+ghost use Rattle.sigv4.specs.Request.{params_settings};
 ghost use Rattle.sigv4.specs.Settings.{IsHeaderForm, settings_of};
 
 use crate::moments::moment_of;

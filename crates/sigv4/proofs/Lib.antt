@@ -1,9 +1,6 @@
-pub mod CanonicalLemmas
 pub mod CopyLemmas
-pub mod HeadLemmas
 pub mod JoinLemmas
 pub mod NameLemmas
-pub mod ParameterLemmas
 pub mod PathLemmas
 pub mod QueryLemmas
 pub mod RefusalLemmas

@@ -13,7 +13,7 @@ use Rattle.std.proofs.lemmas.Cmp.{nat_list_cmp_total}
 use Rattle.std.proofs.lemmas.Map.Lookups.{exact_bytes}
 use Rattle.std.specs.Cmp.{tied_itself}
 use Rattle.sigv4.specs.Canonical.{names}
-use Rattle.sigv4.specs.Case.{Case}
+use Rattle.sigv4.specs.Request.{Case}
 
 abbrev order : List ℕ → List ℕ → Ordering
 order = slice_cmp nat_cmp

@@ -7,18 +7,18 @@ use Rattle.std.proofs.lemmas.List.{length_push}
 use Rattle.std.proofs.Math.Seq.{get_or-append_seam}
 use Rattle.std.proofs.lemmas.List.Elements.{All-from_recursion, All-get_or, All-nil, All-push, All-take, recursion_from_All}
 use Rattle.std.proofs.lemmas.List.Sums.{fold-append, fold_push}
-use Rattle.sigv4.specs.Path.{after_segment, after_slash, ends_open, kept, names_here, names_parent, norm, norm_of, segment_texts, segments, slash, tail}
+use Rattle.sigv4.specs.Path.{with_segment, after_slash, ends_open, kept, is_dropped_segment, is_parent_segment, norm, norm_of, segment_texts, segments, slash, closing_slash}
 use Rattle.sigv4.proofs.JoinLemmas.{AllLack, Lacks, join_more, split_joined, split_lacks}
 
 -- the last segment of all
-pub ends_push : (ps : List (List ℕ)) (p : List ℕ) → ends_open (ps ++ p ∷ []) ≡ (names_here p || names_parent p)
+pub ends_push : (ps : List (List ℕ)) (p : List ℕ) → ends_open (ps ++ p ∷ []) ≡ (is_dropped_segment p || is_parent_segment p)
 ends_push ps p =
     let at : length (ps ++ p ∷ []) - 1 ≡ length ps = omega (arith, length_push ps p) in
-    ap (λ (last : List ℕ). names_here last || names_parent last) (ap (λ (i : ℕ). get_or (ps ++ p ∷ []) i []) at ∙ get_or-append_seam ps p [] [])
+    ap (λ (last : List ℕ). is_dropped_segment last || is_parent_segment last) (ap (λ (i : ℕ). get_or (ps ++ p ∷ []) i []) at ∙ get_or-append_seam ps p [] [])
 
 -- one more segment
-pub kept_push : (ps : List (List ℕ)) (p : List ℕ) → kept (ps ++ p ∷ []) ≡ after_segment (kept ps) p
-kept_push ps p = fold_push after_segment [] ps p
+pub kept_push : (ps : List (List ℕ)) (p : List ℕ) → kept (ps ++ p ∷ []) ≡ with_segment (kept ps) p
+kept_push ps p = fold_push with_segment [] ps p
 
 -- each segment after a slash
 slashed : (p : List ℕ) (ps : List (List ℕ)) → flat_map after_slash (p ∷ ps) ≡ slash ∷ join_with_byte slash (p ∷ ps)
@@ -26,12 +26,12 @@ slashed p [] = ap (λ (rest : List ℕ). slash ∷ rest) (append-nil p)
 slashed p (next ∷ ps) = ap (λ (rest : List ℕ). slash ∷ (p ++ rest)) (slashed next ps)
 
 -- no segment, and a segment at least
-pub none_joined : (ks : List (Bor (List ℕ))) (opens : Bool) → (length ks == 0) ≡ true → codes "/" ++ (join_with_byte slash (segment_texts ks) ++ tail opens (segment_texts ks)) ≡ codes "/"
+pub none_joined : (ks : List (Bor (List ℕ))) (opens : Bool) → (length ks == 0) ≡ true → codes "/" ++ (join_with_byte slash (segment_texts ks) ++ closing_slash opens (segment_texts ks)) ≡ codes "/"
 none_joined [] true none = refl
 none_joined [] false none = refl
 none_joined (k ∷ ks) opens none = absurd (false≢true (sym (eqb-suc-zero (length ks)) ∙ none))
 
-pub some_joined : (ks : List (Bor (List ℕ))) (opens : Bool) → (length ks == 0) ≡ false → codes "/" ++ (join_with_byte slash (segment_texts ks) ++ tail opens (segment_texts ks)) ≡ flat_map after_slash (segment_texts ks) ++ cond opens (codes "/") []
+pub some_joined : (ks : List (Bor (List ℕ))) (opens : Bool) → (length ks == 0) ≡ false → codes "/" ++ (join_with_byte slash (segment_texts ks) ++ closing_slash opens (segment_texts ks)) ≡ flat_map after_slash (segment_texts ks) ++ cond opens (codes "/") []
 some_joined [] opens some = absurd (false≢true (sym some))
 some_joined (k ∷ ks) true some = sym (ap (λ (front : List ℕ). front ++ codes "/") (slashed k.now (segment_texts ks)))
 some_joined (k ∷ ks) false some = sym (ap (λ (front : List ℕ). front ++ []) (slashed k.now (segment_texts ks)))
@@ -40,25 +40,25 @@ some_joined (k ∷ ks) false some = sym (ap (λ (front : List ℕ). front ++ [])
 
 -- a segment that is kept
 abbrev IsKept : List ℕ → Type 0
-IsKept segment = (names_here segment ≡ false) × (names_parent segment ≡ false) × Lacks slash segment
+IsKept segment = (is_dropped_segment segment ≡ false) × (is_parent_segment segment ≡ false) × Lacks slash segment
 
-after_kept : (ks : List (List ℕ)) (p : List ℕ) → All IsKept ks → Lacks slash p → All IsKept (after_segment ks p)
-after_kept ks p all lack = by (names_parent p) refl (names_here p) refl
+after_kept : (ks : List (List ℕ)) (p : List ℕ) → All IsKept ks → Lacks slash p → All IsKept (with_segment ks p)
+after_kept ks p all lack = by (is_parent_segment p) refl (is_dropped_segment p) refl
   where
-    by : (parent : Bool) → names_parent p ≡ parent → (here : Bool) → names_here p ≡ here → All IsKept (cond parent (take (length ks - 1) ks) (cond here ks (ks ++ p ∷ [])))
+    by : (parent : Bool) → is_parent_segment p ≡ parent → (here : Bool) → is_dropped_segment p ≡ here → All IsKept (cond parent (take (length ks - 1) ks) (cond here ks (ks ++ p ∷ [])))
     by true e here f = All-take IsKept (length ks - 1) ks all
     by false e true f = all
     by false e false f = All-push IsKept ks p all (f, e, lack)
 
-all_kept : (ks ps : List (List ℕ)) → All IsKept ks → AllLack slash ps → All IsKept (fold after_segment ks ps)
+all_kept : (ks ps : List (List ℕ)) → All IsKept ks → AllLack slash ps → All IsKept (fold with_segment ks ps)
 all_kept ks [] all lack = all
-all_kept ks (p ∷ ps) all lack = all_kept (after_segment ks p) ps (after_kept ks p all lack.0) lack.1
+all_kept ks (p ∷ ps) all lack = all_kept (with_segment ks p) ps (after_kept ks p all lack.0) lack.1
 
-kept_again : (ks ps : List (List ℕ)) → AllByRecursion IsKept ps → fold after_segment ks ps ≡ ks ++ ps
+kept_again : (ks ps : List (List ℕ)) → AllByRecursion IsKept ps → fold with_segment ks ps ≡ ks ++ ps
 kept_again ks [] all = sym (append-nil ks)
 kept_again ks (p ∷ ps) all =
-    let one : after_segment ks p ≡ ks ++ p ∷ [] = rw (all.0.1, all.0.0) refl in
-    ap (λ (front : List (List ℕ)). fold after_segment front ps) one ∙ kept_again (ks ++ p ∷ []) ps all.1 ∙ append_assoc ks (p ∷ []) ps
+    let one : with_segment ks p ≡ ks ++ p ∷ [] = rw (all.0.1, all.0.0) refl in
+    ap (λ (front : List (List ℕ)). fold with_segment front ps) one ∙ kept_again (ks ++ p ∷ []) ps all.1 ∙ append_assoc ks (p ∷ []) ps
 
 lacking : (ps : List (List ℕ)) → AllByRecursion IsKept ps → AllLack slash ps
 lacking [] all = tt
@@ -68,7 +68,7 @@ lacking_push : (ps : List (List ℕ)) → AllLack slash ps → AllLack slash (ps
 lacking_push [] all = (All-nil (λ b. (b == slash) ≡ false), tt)
 lacking_push (p ∷ ps) all = (all.0, lacking_push ps all.1)
 
-not_open : (p : List ℕ) → IsKept p → (names_here p || names_parent p) ≡ false
+not_open : (p : List ℕ) → IsKept p → (is_dropped_segment p || is_parent_segment p) ≡ false
 not_open p is = rw (is.0, is.1) refl
 
 last_kept : (first p : List ℕ) (ps : List (List ℕ)) → AllByRecursion IsKept (p ∷ ps) → ends_open (first ∷ p ∷ ps) ≡ false
@@ -77,7 +77,7 @@ last_kept first p ps all =
     rw at (not_open (get_or (p ∷ ps) (length ps) []) (All-get_or IsKept (p ∷ ps) (length ps) [] (omega arith) (All-from_recursion IsKept (p ∷ ps) all)))
 
 abbrev text_of : List (List ℕ) → Bool → List ℕ
-text_of ks opens = codes "/" ++ (join_with_byte slash ks ++ tail opens ks)
+text_of ks opens = codes "/" ++ (join_with_byte slash ks ++ closing_slash opens ks)
 
 again : (ks : List (List ℕ)) (opens : Bool) → AllByRecursion IsKept ks → norm_of (segments (text_of ks opens)) ≡ text_of ks opens
 again [] true all = refl
@@ -87,7 +87,7 @@ again (k ∷ ks) true all =
     let cut : slice_split (λ b. b == slash) (join_with_byte slash (k ∷ ks) ++ codes "/") ≡ k ∷ (ks ++ [] ∷ []) =
     ap (slice_split (λ b. b == slash)) joined ∙ split_joined slash k (ks ++ [] ∷ []) (lacking_push (k ∷ ks) (lacking (k ∷ ks) all)) in
     let same : kept ([] ∷ k ∷ (ks ++ [] ∷ [])) ≡ k ∷ ks =
-    fold-append after_segment [] (k ∷ ks) ([] ∷ []) ∙ ap (λ (front : List (List ℕ)). after_segment front []) (kept_again [] (k ∷ ks) all) in
+    fold-append with_segment [] (k ∷ ks) ([] ∷ []) ∙ ap (λ (front : List (List ℕ)). with_segment front []) (kept_again [] (k ∷ ks) all) in
     let ended : ends_open ([] ∷ k ∷ (ks ++ [] ∷ [])) ≡ true = ends_push ([] ∷ k ∷ ks) [] in
     ap (λ (rest : List (List ℕ)). norm_of ([] ∷ rest)) cut
     ∙ ap (λ (front : List (List ℕ)). text_of front (ends_open ([] ∷ k ∷ (ks ++ [] ∷ [])))) same

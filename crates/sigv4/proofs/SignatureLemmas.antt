@@ -9,7 +9,7 @@ use Rattle.sha2.specs.Sha256.{sha256, digest_bytes, final_hash, initial_hash_256
 use Rattle.hex.specs.Hex.{encode_lower, encode_with, lower_digits}
 use Rattle.http_header.specs.Token.{is_value_byte}
 use Rattle.mac_core.specs.Mac.{mac, mac_of_block}
-use Rattle.sigv4.specs.Case.{Case}
+use Rattle.sigv4.specs.Request.{Case}
 use Rattle.sigv4.specs.Refusal.{is_value}
 use Rattle.sigv4.specs.Signature.{signature}
 use Rattle.sigv4.specs.Signed.{authorization, authorization_front, signature_of}

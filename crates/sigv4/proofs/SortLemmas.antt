@@ -15,7 +15,7 @@ use Rattle.std.proofs.lemmas.List.{get_or-map, length-map}
 use Rattle.std.proofs.lemmas.List.Sorted.{IsPermutation-cons, IsPermutation-map, IsPermutation-middle, IsPermutation-refl, IsPermutation-sym, IsPermutation-trans, ranks_by, sorted_far, sum_by-IsPermutation}
 use Rattle.std.proofs.lemmas.List.Sums.{sum_by-cons}
 use Rattle.std.proofs.lemmas.Map.Lookups.{exact_bytes, exact_pairs}
-use Rattle.sigv4.specs.Query.{Pair, inserted, pair_cmp, sorted, string_pair}
+use Rattle.sigv4.specs.Query.{Pair, inserted_in_order, pair_cmp, sorted, string_pair}
 
 total : IsTotalOrder pair_cmp
 total = then_total (on_total (λ (p : Pair). p.0) nat_list_cmp_total) (on_total (λ (p : Pair). p.1) nat_list_cmp_total)
@@ -96,39 +96,39 @@ above p q e = by (pair_cmp p q) e
     by Equal f = refl
     by Greater f = refl
 
-first_inserted : (q p : Pair) (qs : List Pair) (d : Pair) → lt p q ≡ false → IsSorted pair_cmp (q ∷ qs) → lt (get_or (inserted p qs) 0 d) q ≡ false
+first_inserted : (q p : Pair) (qs : List Pair) (d : Pair) → lt p q ≡ false → IsSorted pair_cmp (q ∷ qs) → lt (get_or (inserted_in_order p qs) 0 d) q ≡ false
 first_inserted q p [] d over up = over
 first_inserted q p (r ∷ rs) d over up = by (is_gt (pair_cmp p r))
   where
-    by : (b : Bool) → lt (get_or (cond b (r ∷ inserted p rs) (p ∷ r ∷ rs)) 0 d) q ≡ false
+    by : (b : Bool) → lt (get_or (cond b (r ∷ inserted_in_order p rs) (p ∷ r ∷ rs)) 0 d) q ≡ false
     by true = up 0 d (omega arith) (omega arith)
     by false = over
 
-insert_sorted : (p : Pair) (qs : List Pair) → IsSorted pair_cmp qs → IsSorted pair_cmp (inserted p qs)
+insert_sorted : (p : Pair) (qs : List Pair) → IsSorted pair_cmp qs → IsSorted pair_cmp (inserted_in_order p qs)
 insert_sorted p [] up = λ k d low high. absurd (omega arith)
 insert_sorted p (q ∷ qs) up = by (is_gt (pair_cmp p q)) refl (insert_sorted p qs (tail_sorted q qs up))
   where
-    by : (b : Bool) → is_gt (pair_cmp p q) ≡ b → IsSorted pair_cmp (inserted p qs) → IsSorted pair_cmp (cond b (q ∷ inserted p qs) (p ∷ q ∷ qs))
-    by true e rest = cons_sorted q (inserted p qs) rest (λ d h. first_inserted q p qs d (above p q e) up)
+    by : (b : Bool) → is_gt (pair_cmp p q) ≡ b → IsSorted pair_cmp (inserted_in_order p qs) → IsSorted pair_cmp (cond b (q ∷ inserted_in_order p qs) (p ∷ q ∷ qs))
+    by true e rest = cons_sorted q (inserted_in_order p qs) rest (λ d h. first_inserted q p qs d (above p q e) up)
     by false e rest = cons_sorted p (q ∷ qs) up (λ d h. not_below p q e)
 
 is_sorted : (ps : List Pair) → IsSorted pair_cmp (sorted ps)
 is_sorted [] = λ k d low high. absurd (omega arith)
 is_sorted (p ∷ ps) = insert_sorted p (sorted ps) (is_sorted ps)
 
-insert_moves : (p : Pair) (qs : List Pair) → IsPermutation (p ∷ qs) (inserted p qs)
+insert_moves : (p : Pair) (qs : List Pair) → IsPermutation (p ∷ qs) (inserted_in_order p qs)
 insert_moves p [] = IsPermutation-refl (p ∷ [])
 insert_moves p (q ∷ qs) = by (is_gt (pair_cmp p q)) (insert_moves p qs)
   where
-    by : (b : Bool) → IsPermutation (p ∷ qs) (inserted p qs) → IsPermutation (p ∷ q ∷ qs) (cond b (q ∷ inserted p qs) (p ∷ q ∷ qs))
+    by : (b : Bool) → IsPermutation (p ∷ qs) (inserted_in_order p qs) → IsPermutation (p ∷ q ∷ qs) (cond b (q ∷ inserted_in_order p qs) (p ∷ q ∷ qs))
     by true rest =
-        IsPermutation-trans (p ∷ q ∷ qs) (q ∷ p ∷ qs) (q ∷ inserted p qs) (IsPermutation-middle (p ∷ []) q qs) (IsPermutation-cons q (p ∷ qs) (inserted p qs) rest)
+        IsPermutation-trans (p ∷ q ∷ qs) (q ∷ p ∷ qs) (q ∷ inserted_in_order p qs) (IsPermutation-middle (p ∷ []) q qs) (IsPermutation-cons q (p ∷ qs) (inserted_in_order p qs) rest)
     by false rest = IsPermutation-refl (p ∷ q ∷ qs)
 
 sorted_moves : (ps : List Pair) → IsPermutation ps (sorted ps)
 sorted_moves [] = IsPermutation-refl []
 sorted_moves (p ∷ ps) =
-    IsPermutation-trans (p ∷ ps) (p ∷ sorted ps) (inserted p (sorted ps)) (IsPermutation-cons p ps (sorted ps) (sorted_moves ps)) (insert_moves p (sorted ps))
+    IsPermutation-trans (p ∷ ps) (p ∷ sorted ps) (inserted_in_order p (sorted ps)) (IsPermutation-cons p ps (sorted ps) (sorted_moves ps)) (insert_moves p (sorted ps))
 
 -- ---- the pairs of the code
 

@@ -30,11 +30,11 @@ first_missing builder =
     (option_or (unless_given builder.name Name) (option_or (unless_given builder.time Time) (unless_given builder.settings Settings))))
 
 -- the parts, or the first one that is missing
-abbrev pub Builds : {S : Type 0} → Builder S → Result (SigningParams S) BuildError → Type 0
-Builds builder (Ok params) =
+abbrev pub BuildsParams : {S : Type 0} → Builder S → Result (SigningParams S) BuildError → Type 0
+BuildsParams builder (Ok params) =
     (builder.identity ≡ Some params.identity) × (builder.region ≡ Some params.region) × (builder.name ≡ Some params.name)
     × (builder.time ≡ Some params.time) × (builder.settings ≡ Some params.settings)
-Builds builder (Err error) = first_missing builder ≡ Some error
+BuildsParams builder (Err error) = first_missing builder ≡ Some error
 
 -- the parameters are the same, and the settings a copy
 abbrev pub IsCopied : {S : Type 0} → (S → S → Type 0) → SigningParams S → SigningParams S → Type 0
@@ -55,9 +55,9 @@ HasSameParts copies builder copy =
     × (copy.time ≡ builder.time) × BothOrNone copies builder.settings copy.settings
 
 -- what is printed
-abbrev pub text_of : BuildError → List ℕ
-text_of NoIdentity = codes "identity is required"
-text_of Region = codes "region is required"
-text_of Name = codes "name is required"
-text_of Time = codes "time is required"
-text_of Settings = codes "settings are required"
+abbrev pub build_error_text : BuildError → List ℕ
+build_error_text NoIdentity = codes "identity is required"
+build_error_text Region = codes "region is required"
+build_error_text Name = codes "name is required"
+build_error_text Time = codes "time is required"
+build_error_text Settings = codes "settings are required"

@@ -17,25 +17,25 @@ abbrev pub segments : List ℕ → List (List ℕ)
 segments path = slice_split (λ b. b == slash) path
 
 -- a segment that is empty or `.`, and one that is `..`
-abbrev pub names_here : List ℕ → Bool
-names_here segment = bytes_eq segment [] || bytes_eq segment (codes ".")
+abbrev pub is_dropped_segment : List ℕ → Bool
+is_dropped_segment segment = bytes_eq segment [] || bytes_eq segment (codes ".")
 
-abbrev pub names_parent : List ℕ → Bool
-names_parent segment = bytes_eq segment (codes "..")
+abbrev pub is_parent_segment : List ℕ → Bool
+is_parent_segment segment = bytes_eq segment (codes "..")
 
 -- the kept segments after one more: an empty segment and `.` are dropped, and `..` drops the kept segment before it, if any
-abbrev pub after_segment : List (List ℕ) → List ℕ → List (List ℕ)
-after_segment kept segment =
-    if names_parent segment then take (length kept - 1) kept
-    else if names_here segment then kept else kept ++ segment ∷ []
+abbrev pub with_segment : List (List ℕ) → List ℕ → List (List ℕ)
+with_segment kept segment =
+    if is_parent_segment segment then take (length kept - 1) kept
+    else if is_dropped_segment segment then kept else kept ++ segment ∷ []
 
 -- the segments that are kept
 abbrev pub kept : List (List ℕ) → List (List ℕ)
-kept segments = fold after_segment [] segments
+kept segments = fold with_segment [] segments
 
 -- the last segment of all is empty, `.` or `..`
 abbrev pub ends_open : List (List ℕ) → Bool
-ends_open segments = let last = slice_index_or segments (length segments - 1) [] in names_here last || names_parent last
+ends_open segments = let last = slice_index_or segments (length segments - 1) [] in is_dropped_segment last || is_parent_segment last
 
 -- what the segments point to
 abbrev pub segment_texts : List (Bor (List ℕ)) → List (List ℕ)
@@ -46,13 +46,13 @@ abbrev pub after_slash : List ℕ → List ℕ
 after_slash segment = slash ∷ segment
 
 -- one more `/` where the last segment of all names no file and any segment is kept
-abbrev pub tail : Bool → List (List ℕ) → List ℕ
-tail true (segment ∷ segments) = codes "/"
-tail is_open segments = []
+abbrev pub closing_slash : Bool → List (List ℕ) → List ℕ
+closing_slash true (segment ∷ segments) = codes "/"
+closing_slash is_open segments = []
 
--- `/`, the kept segments with `/` between, and the tail
+-- `/`, the kept segments with `/` between, and the closing_slash
 abbrev pub norm_of : List (List ℕ) → List ℕ
-norm_of segments = codes "/" ++ (join_with_byte slash (kept segments) ++ tail (ends_open segments) (kept segments))
+norm_of segments = codes "/" ++ (join_with_byte slash (kept segments) ++ closing_slash (ends_open segments) (kept segments))
 
 -- the path in its normal form
 unfoldable pub norm : List ℕ → List ℕ

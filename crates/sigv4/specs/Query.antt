@@ -36,26 +36,26 @@ abbrev pub pair_cmp : Pair → Pair → Ordering
 pair_cmp p q = ordering_then (slice_cmp nat_cmp p.0 q.0) (slice_cmp nat_cmp p.1 q.1)
 
 -- the pair before the first one that isn't less
-abbrev pub inserted : Pair → List Pair → List Pair
-inserted p [] = p ∷ []
-inserted p (q ∷ pairs) = if is_gt (pair_cmp p q) then q ∷ inserted p pairs else p ∷ q ∷ pairs
+abbrev pub inserted_in_order : Pair → List Pair → List Pair
+inserted_in_order p [] = p ∷ []
+inserted_in_order p (q ∷ pairs) = if is_gt (pair_cmp p q) then q ∷ inserted_in_order p pairs else p ∷ q ∷ pairs
 
 -- the pairs in ascending order
 abbrev pub sorted : List Pair → List Pair
 sorted [] = []
-sorted (p ∷ pairs) = inserted p (sorted pairs)
+sorted (p ∷ pairs) = inserted_in_order p (sorted pairs)
 
 -- what stands before a pair: `&`, unless it is the first
-abbrev pub mark : Bool → List ℕ
-mark is_first = if is_first then [] else ampersand ∷ []
+abbrev pub pair_separator : Bool → List ℕ
+pair_separator is_first = if is_first then [] else ampersand ∷ []
 
 -- the pairs as `key=value` with `&` between
-abbrev pub joined : List Pair → List ℕ
-joined pairs = join_with_byte ampersand (map pair_text pairs)
+abbrev pub joined_pairs : List Pair → List ℕ
+joined_pairs pairs = join_with_byte ampersand (map pair_text pairs)
 
 -- the pairs, escaped and then sorted, as `key=value` with `&` between
 unfoldable pub query : List Pair → List ℕ
-query pairs = joined (sorted (map escaped_pair pairs))
+query pairs = joined_pairs (sorted (map escaped_pair pairs))
 
 -- a pair of texts, as contracts see it
 abbrev pub string_pair : String Global × String Global → Pair

@@ -1,5 +1,5 @@
 -- What contracts see of the settings of a signature.
-use Rattle.std.specs.Prelude.{◌≡◌, ℕ, List, [], ◌∷◌, codes, map, Option, Some, None, option_map, string_bytes}
+use Rattle.std.specs.Prelude.{ℕ, Bool, true, false, List, [], ◌∷◌, codes, map, Option, Some, None, option_map, string_bytes}
 use Rattle.sigv4.specs.declared.modes.PercentEncodingMode.{PercentEncodingMode}
 use Rattle.sigv4.specs.declared.modes.PercentEncodingMode.TheVariants.{Double, Single}
 use Rattle.sigv4.specs.declared.modes.UriPathNormalizationMode.{UriPathNormalizationMode}
@@ -9,7 +9,7 @@ use Rattle.sigv4.specs.declared.settings.PayloadChecksumKind.TheVariants.{NoHead
 use Rattle.sigv4.specs.declared.settings.SessionTokenMode.{SessionTokenMode}
 use Rattle.sigv4.specs.declared.settings.SessionTokenMode.TheVariants.{Include}
 use Rattle.sigv4.specs.declared.settings.SignatureLocation.{SignatureLocation}
-use Rattle.sigv4.specs.declared.settings.SignatureLocation.TheVariants.{Headers}
+use Rattle.sigv4.specs.declared.settings.SignatureLocation.TheVariants.{Headers, QueryParams}
 use Rattle.sigv4.specs.declared.settings.SigningSettings.{SigningSettings}
 
 -- the settings, with names as texts
@@ -60,6 +60,11 @@ s3_settings = record default_settings {
   uri_path_normalization_mode = Disabled;
 }
 
--- the signature goes into headers, and the token's header has its default name
-abbrev pub IsHeaderForm : Settings → Type 0
-IsHeaderForm s = (s.signature_location ≡ Headers) × (s.session_token_name_override ≡ None)
+-- the signature goes into the parameters of the target's query
+abbrev pub is_query : SignatureLocation → Bool
+is_query Headers = false
+is_query QueryParams = true
+
+-- the settings are those of query form, not of header form
+abbrev pub is_query_form : Settings → Bool
+is_query_form s = is_query s.signature_location

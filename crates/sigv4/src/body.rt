@@ -1,5 +1,5 @@
 ghost use Rattle.std.specs.Prelude.{◌≡◌, [], Some, IfOk, string_bytes};
-ghost use Rattle.sigv4.specs.Case.{IsSameBody, bytes_of, payload_text};
+ghost use Rattle.sigv4.specs.Body.{IsSameBody, body_bytes, payload_text};
 
 use mac_core::sha256_hex;
 use smithy_core::Mem;
@@ -24,7 +24,7 @@ pub enum SignableBody<'a> {
 impl<'a> SignableBody<'a> {
     /// No bytes.
     pub fn empty() -> SignableBody<'static>
-        ensures { bytes_of result ≡ Some [] }
+        ensures { body_bytes result ≡ Some [] }
     {
         SignableBody::Bytes(b"".as_slice())
     }

@@ -1,7 +1,7 @@
 ghost use Rattle.std.specs.Prelude.{◌≡◌, Some, None, MatchResult};
 ghost use Rattle.smithy_core.specs.Civil.{IsInYears};
-ghost use Rattle.sigv4.specs.Case.{HasKeys};
-ghost use Rattle.sigv4.specs.Signing.{unsignable};
+ghost use Rattle.sigv4.specs.Request.{HasKeys};
+ghost use Rattle.sigv4.specs.EventStream.{unsignable};
 
 use crate::error::SigningError;
 use smithy_core::{Credentials, Identity, Moment, civil};

@@ -34,6 +34,11 @@ pub enum SigningError {
     InvalidHeaderValue(ValuePlace),
     /// Neither the target nor a header has a host.
     MissingHost,
+    /// The name that is given in place of the session token's usual one is one of a signature's own, or in header form
+    /// isn't a header's name in lower case.
+    InvalidTokenName,
+    /// The signature goes into the target's query, and the settings don't say for how long it is good.
+    MissingExpires,
     /// The identity is no AWS credentials.
     UnsupportedIdentityType,
     /// The message has no frame, for this reason.
@@ -45,7 +50,7 @@ pub enum SigningError {
 }
 
 impl SigningError {
-    ghost use Rattle.sigv4.specs.Errors.{IsSameError};
+    ghost use Rattle.sigv4.specs.Error.{IsSameError};
 
     /// An equal error.
     pub fn try_clone(&self) -> Mem<SigningError>
@@ -56,6 +61,8 @@ impl SigningError {
             SigningError::InvalidHeaderName(place) => SigningError::InvalidHeaderName(*place),
             SigningError::InvalidHeaderValue(place) => SigningError::InvalidHeaderValue(*place),
             SigningError::MissingHost => SigningError::MissingHost,
+            SigningError::InvalidTokenName => SigningError::InvalidTokenName,
+            SigningError::MissingExpires => SigningError::MissingExpires,
             SigningError::UnsupportedIdentityType => SigningError::UnsupportedIdentityType,
             SigningError::FailedToEncodeMessage(error) => {
                 SigningError::FailedToEncodeMessage(error.try_clone()?)
@@ -68,7 +75,7 @@ impl SigningError {
 
 impl fmt::Display for ValuePlace {
     ghost use Rattle.std.specs.Prelude.{Some};
-    ghost use Rattle.sigv4.specs.Errors.{place_text};
+    ghost use Rattle.sigv4.specs.Error.{place_text};
 
     ghost output = { λ place. Some (place_text place) };
 
@@ -85,9 +92,9 @@ impl fmt::Display for ValuePlace {
 
 impl fmt::Display for SigningError {
     ghost use Rattle.std.specs.Prelude.{Some};
-    ghost use Rattle.sigv4.specs.Errors.{text_of};
+    ghost use Rattle.sigv4.specs.Error.{error_text};
 
-    ghost output = { λ error. Some (text_of error) };
+    ghost output = { λ error. Some (error_text error) };
 
     fn fmt<W: fmt::Write>(&self, f: &mut fmt::Formatter<W>) -> fmt::Result {
         match self {
@@ -97,6 +104,8 @@ impl fmt::Display for SigningError {
             }
             SigningError::InvalidHeaderValue(place) => write!(f, "invalid value of {place}"),
             SigningError::MissingHost => f.write_str("missing host"),
+            SigningError::InvalidTokenName => f.write_str("invalid name of the session token"),
+            SigningError::MissingExpires => f.write_str("missing expiry"),
             SigningError::UnsupportedIdentityType => {
                 f.write_str("only AWS credentials are supported for signing")
             }
@@ -115,9 +124,9 @@ impl fmt::Display for SigningError {
 impl std::error::Error for SigningError {}
 
 impl From<eventstream::Error> for SigningError {
-    ghost use Rattle.sigv4.specs.Errors.{error_of};
+    ghost use Rattle.sigv4.specs.Error.{encoding_error};
 
-    ghost from_gives = { λ inner error. error ≡ error_of inner };
+    ghost from_gives = { λ inner error. error ≡ encoding_error inner };
 
     fn from(inner: eventstream::Error) -> SigningError {
         match inner.kind() {
@@ -128,7 +137,7 @@ impl From<eventstream::Error> for SigningError {
 }
 
 impl From<UriFault> for SigningError {
-    ghost use Rattle.sigv4.specs.Targets.{target_error};
+    ghost use Rattle.sigv4.specs.Error.{target_error};
 
     ghost from_gives = { λ inner error. error ≡ target_error inner };
 

@@ -10,7 +10,7 @@ ghost use Rattle.eventstream.specs.Frame.{frame, spelling};
 ghost use Rattle.eventstream.specs.Key.{signing_key};
 ghost use Rattle.eventstream.specs.Link.{date_header, link_message, link_signature, string_to_sign};
 ghost use Rattle.sigv4.specs.Params.{secret_of, signer_of};
-ghost use Rattle.sigv4.specs.Signing.{Links, refusal, unsignable};
+ghost use Rattle.sigv4.specs.EventStream.{Links, message_refusal, unsignable};
 
 use crate::credentials::credentials_for;
 use crate::error::SigningError;
@@ -51,7 +51,7 @@ pub fn sign_message(
     last_signature: &str,
     params: &SigningParams<'_>,
 ) -> Result<SigningOutput<Message>, SigningError>
-    ensures { Links (refusal message.now params.now.identity.now params.now.time)
+    ensures { Links (message_refusal message.now params.now.identity.now params.now.time)
         params.now last_signature.now (frame message.now) result }
 {
     let mut bytes = Vec::new(alloc);

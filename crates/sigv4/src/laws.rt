@@ -4,7 +4,7 @@ ghost use Rattle.std.specs.List.Sorted.{IsStrictlySortedBy};
 ghost use Rattle.std.specs.Ordering.{nat_cmp};
 ghost use Rattle.std.specs.declared.cmp.Ordering.TheVariants.{Equal};
 ghost use Rattle.sigv4.specs.Canonical.{names};
-ghost use Rattle.sigv4.specs.Case.{Case};
+ghost use Rattle.sigv4.specs.Request.{Case};
 ghost use Rattle.sigv4.specs.Path.{norm};
 ghost use Rattle.sigv4.specs.Trim.{trim_all};
 

@@ -3,27 +3,21 @@
 //! The layer above is promised that [`sign`] answers the headers and the signature of a request, and [`canonical_text`] its
 //! canonical text (`specs/Canonical.antt`, `specs/Signed.antt`), or exactly the first test that the request fails
 //! (`specs/Refusal.antt`), and that [`SigningInstructions::apply_to_request`] puts the signature into the request
-//! (`specs/Targets.antt`).
+//! (`specs/Parameters.antt`).
 //!
 //! The layer above is promised that [`v4::generate_signing_key`] is the signing key of a secret, a date, a
 //! region and a name, and takes no memory, and that [`v4::request_signature`] is the signature of a
 //! canonical text (`specs/Signature.antt`). It is promised that [`event_stream::sign_message`] and
 //! [`event_stream::sign_empty_message`] answer the next link of a chain, or exactly the first reason why
-//! there is none (`specs/Signing.antt`), and that a builder gives back its parts or names the first that
+//! there is none (`specs/EventStream.antt`), and that a builder gives back its parts or names the first that
 //! is missing (`specs/Params.antt`).
 #![tactic(auto)]
 
-mod apply;
-mod authorization;
 mod body;
-mod canonical;
-mod canonical_query;
 mod credentials;
 mod error;
 pub mod event_stream;
 mod header;
-mod heads;
-mod host;
 mod instructions;
 mod key;
 mod laws;
@@ -31,14 +25,11 @@ mod modes;
 mod output;
 mod params;
 mod path;
-mod prepared;
-mod refusal;
 mod request;
+mod request_signing;
 mod settings;
 mod signature;
-mod signing;
 mod signing_params;
-mod trim;
 pub mod v4;
 
 pub use crate::body::SignableBody;
@@ -50,8 +41,8 @@ pub use crate::modes::{PercentEncodingMode, UriPathNormalizationMode};
 pub use crate::output::SigningOutput;
 pub use crate::path::normalize_uri_path;
 pub use crate::request::SignableRequest;
+pub use crate::request_signing::{canonical_text, sign, sign_request};
 pub use crate::settings::{
     PayloadChecksumKind, SessionTokenMode, SignatureLocation, SigningSettings,
 };
-pub use crate::signing::{canonical_text, sign};
 pub use crate::signing_params::{SignatureVersion, SigningParams};

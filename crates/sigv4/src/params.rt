@@ -1,5 +1,5 @@
 ghost use Rattle.std.specs.Prelude.{◌≡◌, Some, None, codes, IfOk};
-ghost use Rattle.sigv4.specs.Params.{Builds, HasSameParts, IsCopied, text_of};
+ghost use Rattle.sigv4.specs.Params.{BuildsParams, HasSameParts, IsCopied, build_error_text};
 
 use smithy_core::{Identity, Mem, Moment};
 use std::fmt;
@@ -230,7 +230,7 @@ impl<'a, S: Drop> Builder<'a, S> {
     /// The first part that is missing: [`BuildError::Identity`], [`BuildError::Region`],
     /// [`BuildError::Name`], [`BuildError::Time`] or [`BuildError::Settings`], in this order.
     pub fn build(self) -> Result<SigningParams<'a, S>, BuildError>
-        ensures { Builds self.entry result }
+        ensures { BuildsParams self.entry result }
     {
         let Builder {
             identity,
@@ -283,7 +283,7 @@ pub enum BuildError {
 }
 
 impl fmt::Display for BuildError {
-    ghost output = { λ error. Some (text_of error) };
+    ghost output = { λ error. Some (build_error_text error) };
 
     fn fmt<W: fmt::Write>(&self, f: &mut fmt::Formatter<W>) -> fmt::Result {
         f.write_str(match self {

@@ -1,7 +1,7 @@
 ghost use Rattle.std.specs.Prelude.{◌≡◌, ◌++◌, ◌||◌, not, codes, IfOk, OnOk};
 ghost use Rattle.std.specs.List.{flat_map, join_with_byte};
 ghost use Rattle.std.specs.String.{string_bytes};
-ghost use Rattle.sigv4.specs.Path.{after_segment, after_slash, canonical_path, names_here, names_parent, norm, segment_texts, slash, tail};
+ghost use Rattle.sigv4.specs.Path.{with_segment, after_slash, canonical_path, is_dropped_segment, is_parent_segment, norm, segment_texts, slash, closing_slash};
 
 use crate::modes::{PercentEncodingMode, UriPathNormalizationMode};
 use smithy_core::Mem;
@@ -23,8 +23,8 @@ pub fn normalize_uri_path(alloc: Global, path: &str) -> Mem<String>
 
 // Keeps the segment, where it names something; `..` drops the kept segment before it. Answers whether the segment was kept.
 fn keep<'a>(kept: &mut Vec<&'a str>, segment: &'a str) -> Mem<bool>
-    ensures kept { OnOk result (segment_texts kept.new.items ≡ after_segment (segment_texts kept.old.items) segment.now) }
-    ensures answer { IfOk result (λ is_kept. is_kept ≡ not (names_here segment.now || names_parent segment.now)) }
+    ensures kept { OnOk result (segment_texts kept.new.items ≡ with_segment (segment_texts kept.old.items) segment.now) }
+    ensures answer { IfOk result (λ is_kept. is_kept ≡ not (is_dropped_segment segment.now || is_parent_segment segment.now)) }
 {
     if segment == ".." {
         kept.pop();
@@ -41,7 +41,7 @@ fn keep<'a>(kept: &mut Vec<&'a str>, segment: &'a str) -> Mem<bool>
 #[tactic(auto, using(crate::proofs::PathLemmas::none_joined, crate::proofs::PathLemmas::some_joined))]
 fn join_segments(alloc: Global, kept: &[&str], ends_open: bool) -> Mem<String>
     ensures { IfOk result (λ text. string_bytes text
-        ≡ codes "/" ++ (join_with_byte slash (segment_texts kept.now) ++ tail ends_open (segment_texts kept.now))) }
+        ≡ codes "/" ++ (join_with_byte slash (segment_texts kept.now) ++ closing_slash ends_open (segment_texts kept.now))) }
 {
     if kept.is_empty() {
         return String::from_str(alloc, "/");

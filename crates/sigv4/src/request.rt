@@ -1,6 +1,5 @@
 ghost use Rattle.std.specs.Prelude.{◌≡◌, IfOk};
-ghost use Rattle.sigv4.specs.Case.{IsSameRequest};
-ghost use Rattle.sigv4.specs.Targets.{IsMadeOf, IsMadeOfRequest};
+ghost use Rattle.sigv4.specs.Request.{IsMadeOf, IsMadeOfRequest, IsSameRequest, request_uri};
 
 use crate::body::SignableBody;
 use crate::error::SigningError;
@@ -70,6 +69,13 @@ impl<'a> SignableRequest<'a> {
             headers: self.headers,
             body: self.body.try_clone()?,
         })
+    }
+
+    /// The URI that was read of the request's target. This crate's own.
+    pub fn into_uri(self) -> Uri
+        ensures { result ≡ request_uri self.entry }
+    {
+        self.uri
     }
 
     /// The body.

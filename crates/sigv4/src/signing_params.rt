@@ -1,5 +1,5 @@
 ghost use Rattle.std.specs.Prelude.{◌≡◌, Some, codes, option_copied, IfOk};
-ghost use Rattle.sigv4.specs.RequestParams.{IsSameParams, name_of, region_of, settings_in, time_of};
+ghost use Rattle.sigv4.specs.SigningParams.{IsSameParams, params_name, params_region, params_signing_settings, params_time};
 ghost use Rattle.sigv4.specs.declared.signing_params.SignatureVersion.TheVariants.{V4};
 
 use crate::settings::SigningSettings;
@@ -56,7 +56,7 @@ impl<'a> SigningParams<'a> {
 
     /// The region that the signature is for, where the version has one.
     pub fn region(&self) -> Option<&str>
-        ensures { option_copied result ≡ Some (region_of self.now) }
+        ensures { option_copied result ≡ Some (params_region self.now) }
     {
         match self {
             SigningParams::V4(params) => Some(params.region()),
@@ -65,7 +65,7 @@ impl<'a> SigningParams<'a> {
 
     /// The settings.
     pub fn settings(&self) -> &SigningSettings
-        ensures { result.now ≡ settings_in self.now }
+        ensures { result.now ≡ params_signing_settings self.now }
     {
         match self {
             SigningParams::V4(params) => params.settings(),
@@ -74,7 +74,7 @@ impl<'a> SigningParams<'a> {
 
     /// The settings, to be changed.
     pub fn settings_mut(&mut self) -> &mut SigningSettings
-        ensures { result.now ≡ settings_in self.old }
+        ensures { result.now ≡ params_signing_settings self.old }
     {
         match self {
             SigningParams::V4(params) => &mut params.settings,
@@ -83,7 +83,7 @@ impl<'a> SigningParams<'a> {
 
     /// The moment of the signature.
     pub fn time(&self) -> &Moment
-        ensures { result.now ≡ time_of self.now }
+        ensures { result.now ≡ params_time self.now }
     {
         match self {
             SigningParams::V4(params) => &params.time,
@@ -92,7 +92,7 @@ impl<'a> SigningParams<'a> {
 
     /// The name of the service that the signature is for.
     pub fn name(&self) -> &str
-        ensures { result.now ≡ name_of self.now }
+        ensures { result.now ≡ params_name self.now }
     {
         match self {
             SigningParams::V4(params) => params.name(),

@@ -1,0 +1,9 @@
+pub mod Endpoint
+pub mod Error
+pub mod Inputs
+pub mod MessageSigner
+pub mod Moment
+pub mod NameOverride
+pub mod Options
+pub mod Payload
+pub mod Signer

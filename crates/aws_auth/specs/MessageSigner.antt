@@ -1,0 +1,25 @@
+-- What contracts see of the signers that go on from a signature.
+use Rattle.std.specs.Prelude.{◌≡◌, string_bytes}
+use Rattle.smithy_core.specs.Signers.{IsSameIdentity}
+use Rattle.smithy_core.specs.declared.identity.Identity.{Identity}
+use Rattle.sigv4.specs.Request.{Case}
+use Rattle.sigv4.specs.Settings.{settings_of}
+use Rattle.sigv4.specs.Signed.{signature_of}
+use Rattle.aws_auth.specs.declared.message_signer.SigV4MessageSigner.{SigV4MessageSigner}
+
+-- the signers are the same, and the settings a copy
+pub record IsSameSigner {S : Type 0} (copies : S → S → Type 0) (signer copy : SigV4MessageSigner S) : Type 0 where
+  pub signature : string_bytes copy.running_signature ≡ string_bytes signer.running_signature
+  pub identity : IsSameIdentity signer.identity copy.identity
+  pub region : copy.region ≡ signer.region
+  pub name : copy.name ≡ signer.name
+  pub time : copy.time ≡ signer.time
+  pub settings : copies signer.settings copy.settings
+
+-- a signer that goes on from the signature of a case, for the same identity, region, name and moment
+pub record GoesOn {S : Type 0} (who : Identity) (c : Case) (signer : SigV4MessageSigner S) : Type 0 where
+  pub signature : string_bytes signer.running_signature ≡ signature_of c
+  pub identity : IsSameIdentity who signer.identity
+  pub region : signer.region ≡ c.signer.region
+  pub name : signer.name ≡ c.signer.name
+  pub time : signer.time ≡ c.at

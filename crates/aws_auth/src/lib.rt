@@ -1,0 +1,27 @@
+//! The signer of an operation's requests: AWS Signature Version 4 by options, an endpoint's fields and overrides.
+//!
+//! The layer above is promised that [`SigV4Signer::sign_http_request`] makes the signed request of its case and two signers that
+//! go on from its signature, or leaves the request and answers exactly the first test that fails (`specs/Signing.antt`); the
+//! region, the name, the settings, the payload and the moment of the case are chosen as `specs/Choice.antt` says.
+#![tactic(auto)]
+
+mod endpoint;
+mod error;
+mod inputs;
+mod message_signer;
+mod moment;
+mod name_override;
+mod options;
+mod payload;
+mod scheme;
+mod signer;
+
+pub use crate::endpoint::EndpointField;
+pub use crate::error::SigV4SigningError;
+pub use crate::inputs::SigningInputs;
+pub use crate::message_signer::SigV4MessageSigner;
+pub use crate::name_override::{OverrideError, SigV4SessionTokenNameOverride};
+pub use crate::options::{HttpSignatureType, SigV4OperationSigningConfig, SigningOptions};
+pub use crate::payload::{PayloadSigningOverride, PayloadSigningOverrideRuntimePlugin};
+pub use crate::scheme::{SCHEME_ID, SigV4AuthScheme};
+pub use crate::signer::{SigV4Signer, Signed};

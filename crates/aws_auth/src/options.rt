@@ -1,0 +1,172 @@
+ghost use Rattle.std.specs.Prelude.{◌≡◌, IfOk, bytes_eq};
+ghost use Rattle.std.specs.Option.{option_eq};
+ghost use Rattle.aws_auth.specs.Options.{IsSameConfig, IsSameOptions};
+
+use crate::payload::PayloadSigningOverride;
+use smithy_core::{Mem, Region, SigningName};
+
+/// Where the signature of a request goes.
+#[derive(Clone, Copy, Debug, PartialEq, Eq)]
+pub enum HttpSignatureType {
+    /// Into headers.
+    HttpRequestHeaders,
+    /// Into the parameters of the target's query, which makes a presigned request.
+    HttpRequestQueryParams,
+}
+
+/// How the requests of an operation are signed.
+#[derive(Debug, Drop, PartialEq, Eq)]
+pub struct SigningOptions {
+    /// Whether the path is escaped once more than in the request.
+    pub double_uri_encode: bool,
+    /// Whether the payload's text goes into the header `x-amz-content-sha256`.
+    pub content_sha256_header: bool,
+    /// Whether the path is put into its normal form.
+    pub normalize_uri_path: bool,
+    /// Whether the session token is left out of the signature. It goes out either way.
+    pub omit_session_token: bool,
+    /// What is signed in place of the body's bytes.
+    pub payload_override: Option<PayloadSigningOverride>,
+    /// Where the signature goes.
+    pub signature_type: HttpSignatureType,
+    /// Whether the operation may be sent without a signature. The signer signs either way.
+    pub signing_optional: bool,
+    /// For how many seconds a signature in the query is good.
+    pub expires_in: Option<u64>,
+}
+
+impl Default for SigningOptions {
+    ghost use Rattle.std.specs.Prelude.{◌≡◌};
+    ghost use Rattle.aws_auth.specs.Options.{default_options};
+
+    ghost is_default = { λ options. options ≡ default_options };
+
+    fn default() -> SigningOptions {
+        SigningOptions {
+            double_uri_encode: true,
+            content_sha256_header: false,
+            normalize_uri_path: true,
+            omit_session_token: false,
+            payload_override: None,
+            signature_type: HttpSignatureType::HttpRequestHeaders,
+            signing_optional: false,
+            expires_in: None,
+        }
+    }
+}
+
+impl SigningOptions {
+    /// Equal options.
+    pub fn try_clone(&self) -> Mem<SigningOptions>
+        ensures { IfOk result (IsSameOptions self.now) }
+    {
+        Ok(SigningOptions {
+            double_uri_encode: self.double_uri_encode,
+            content_sha256_header: self.content_sha256_header,
+            normalize_uri_path: self.normalize_uri_path,
+            omit_session_token: self.omit_session_token,
+            payload_override: match &self.payload_override {
+                Some(payload) => Some(payload.try_clone()?),
+                None => None,
+            },
+            signature_type: self.signature_type,
+            signing_optional: self.signing_optional,
+            expires_in: self.expires_in,
+        })
+    }
+}
+
+/// The region, the name and the options with which the requests of an operation are signed.
+#[derive(Debug, Drop)]
+pub struct SigV4OperationSigningConfig {
+    /// The region, where neither the endpoint nor the inputs have one.
+    pub region: Option<Region>,
+    /// The name of the service, where neither the endpoint nor the inputs have one.
+    pub name: Option<SigningName>,
+    /// How the requests are signed.
+    pub signing_options: SigningOptions,
+}
+
+impl Default for SigV4OperationSigningConfig {
+    ghost use Rattle.std.specs.Prelude.{◌≡◌};
+    ghost use Rattle.aws_auth.specs.Options.{default_config};
+
+    ghost is_default = { λ config. config ≡ default_config };
+
+    fn default() -> SigV4OperationSigningConfig {
+        SigV4OperationSigningConfig {
+            region: None,
+            name: None,
+            signing_options: SigningOptions::default(),
+        }
+    }
+}
+
+impl SigV4OperationSigningConfig {
+    /// An equal config.
+    pub fn try_clone(&self) -> Mem<SigV4OperationSigningConfig>
+        ensures { IfOk result (IsSameConfig self.now) }
+    {
+        Ok(SigV4OperationSigningConfig {
+            region: match &self.region {
+                Some(region) => Some(region.try_clone()?),
+                None => None,
+            },
+            name: match &self.name {
+                Some(name) => Some(name.try_clone()?),
+                None => None,
+            },
+            signing_options: self.signing_options.try_clone()?,
+        })
+    }
+}
+
+// Configs are equal by the texts of their regions and names, and by their options.
+impl PartialEq for SigV4OperationSigningConfig {
+    ghost use Rattle.std.specs.Prelude.{bytes_eq};
+    ghost use Rattle.std.specs.Option.{option_eq};
+    ghost use Rattle.std.specs.Ordering.{eq_of_both, on};
+    ghost use Rattle.std.specs.Cmp.{and_equiv, on_equiv, partial_equiv_from_equiv};
+    ghost use Rattle.std.specs.Cmp.Lexicographic.{nat_list_eq_equiv, options_equiv};
+    ghost use Rattle.aws_auth.specs.contracts.options.SigningOptionsEq.TheImpl.Laws.{laws-law};
+
+    ghost eq = { eq_of_both (on (λ config. config.region) (option_eq bytes_eq)) (eq_of_both (on (λ config. config.name) (option_eq bytes_eq)) (on (λ config. config.signing_options) ⟦<SigningOptions as PartialEq>⟧.eq)) };
+
+    ghost laws = { partial_equiv_from_equiv (and_equiv (on_equiv (λ config. config.region) (options_equiv nat_list_eq_equiv)) (and_equiv (on_equiv (λ config. config.name) (options_equiv nat_list_eq_equiv)) (on_equiv (λ config. config.signing_options) laws-law))) };
+
+    fn eq(&self, other: &SigV4OperationSigningConfig) -> bool {
+        same_region(&self.region, &other.region)
+            && same_name(&self.name, &other.name)
+            && self.signing_options == other.signing_options
+    }
+}
+
+impl Eq for SigV4OperationSigningConfig {
+    ghost use Rattle.std.specs.Cmp.{and_equiv, on_equiv};
+    ghost use Rattle.std.specs.Cmp.Lexicographic.{nat_list_eq_equiv, options_equiv};
+    ghost use Rattle.aws_auth.specs.contracts.options.SigningOptionsEq.TheImpl.Laws.{laws-law};
+
+    ghost laws = { and_equiv (on_equiv (λ config. config.region) (options_equiv nat_list_eq_equiv)) (and_equiv (on_equiv (λ config. config.name) (options_equiv nat_list_eq_equiv)) (on_equiv (λ config. config.signing_options) laws-law)) };
+}
+
+// Whether both regions are there and have the same text, or neither is.
+fn same_region(region: &Option<Region>, other: &Option<Region>) -> bool
+    ensures { result ≡ option_eq bytes_eq region.now other.now }
+{
+    match (region, other) {
+        (Some(region), Some(other)) => region.as_str() == other.as_str(),
+        (None, None) => true,
+        _ => false,
+    }
+}
+
+// Whether both names are there and have the same text, or neither is.
+fn same_name(name: &Option<SigningName>, other: &Option<SigningName>) -> bool
+    ensures { result ≡ option_eq bytes_eq name.now other.now }
+{
+    match (name, other) {
+        (Some(name), Some(other)) => name.as_str() == other.as_str(),
+        (None, None) => true,
+        _ => false,
+    }
+}

@@ -1,0 +1,37 @@
+-- What signing a message promises.
+use Rattle.std.specs.Prelude.{◌≡◌, ℕ, ◌⊎◌, List, if◌then◌else◌, Option, Some, None, Result, Ok, Err, option_map, string_bytes}
+use Rattle.std.specs.Option.{option_or}
+use Rattle.smithy_core.specs.Civil.{is_in_years}
+use Rattle.smithy_core.specs.Instant.{Instant}
+use Rattle.smithy_core.specs.Parts.{Parts}
+use Rattle.smithy_core.specs.declared.identity.Identity.{Identity}
+use Rattle.smithy_core.specs.declared.identity.Identity.TheVariants.{Credentials, Token}
+use Rattle.eventstream.specs.Frame.{unframed}
+use Rattle.eventstream.specs.Link.{link_message, link_signature}
+use Rattle.eventstream.specs.declared.error.ErrorKind.{ErrorKind}
+use Rattle.sigv4.specs.Params.{signer_of}
+use Rattle.sigv4.specs.declared.error.SigningError.{SigningError}
+use Rattle.sigv4.specs.declared.error.SigningError.TheVariants.{FailedToEncodeMessage, MomentOutOfRange, NoMemory, UnsupportedIdentityType}
+use Rattle.sigv4.specs.declared.output.SigningOutput.{SigningOutput}
+use Rattle.sigv4.specs.declared.params.SigningParams.{SigningParams}
+
+-- why an identity doesn't sign at a moment: it has no secret, or the moment lies outside the years
+abbrev pub unsignable : Identity → Instant → Option SigningError
+unsignable (Token token) t = Some UnsupportedIdentityType
+unsignable (Credentials credentials) t = if is_in_years t then None else Some (MomentOutOfRange t)
+
+-- the reason why a message has no frame, as an error
+abbrev pub failed_encoding : ErrorKind → SigningError
+failed_encoding kind = FailedToEncodeMessage (record { kind = kind })
+
+-- why a message isn't signed: it has no frame, or the identity doesn't sign
+abbrev pub message_refusal : Parts → Identity → Instant → Option SigningError
+message_refusal message identity t = option_or (option_map failed_encoding (unframed message)) (unsignable identity t)
+
+-- with no reason against it the answer is the link of the bytes over the signature before; else it is the reason, or want of memory
+abbrev pub Links : {S : Type 0} → Option SigningError → SigningParams S → List ℕ → List ℕ → Result (SigningOutput Parts) SigningError → Type 0
+Links refused params signature bytes (Ok output) =
+    (refused ≡ None)
+    × (output.output ≡ link_message (signer_of params) signature bytes params.time)
+    × (string_bytes output.signature ≡ link_signature (signer_of params) signature bytes params.time)
+Links refused params signature bytes (Err error) = (refused ≡ Some error) ⊎ (error ≡ NoMemory)
