@@ -1,6 +1,7 @@
 -- A run that is done has streamed, and what is valid is done.
-use Rattle.std.proofs.Common.{◌≡◌, ◌==◌, ℕ, ◌+◌, ◌≤◌, ◌⊎◌, inl, inr, Bool, true, false, List, [], ◌∷◌, Option, Some, None, nat_lt, length, replicate, refl, sym, ◌∙◌, arith}
+use Rattle.std.proofs.Common.{◌≡◌, ◌==◌, ℕ, ◌+◌, ◌≤◌, ◌⊎◌, inl, inr, Bool, true, false, List, [], ◌∷◌, Option, Some, None, option_map, nat_lt, length, replicate, refl, sym, ◌∙◌, arith}
 use Rattle.std.specs.Prelude.{if◌then◌else◌}
+use Rattle.std.specs.Option.{option_or}
 use Rattle.std.proofs.lemmas.Bool.{eq-eqb, eqb-true}
 use Rattle.std.proofs.lemmas.Bool.Decides.{nat_tests}
 use Rattle.smithy_core.specs.Civil.{IsInYears, is_in_years}
@@ -9,17 +10,18 @@ use Rattle.smithy_core.specs.Outside.{Gains}
 use Rattle.smithy_core.specs.Parts.{Parts}
 use Rattle.smithy_http.specs.Target.{Target}
 use Rattle.sigv4.specs.Request.{Case}
-use Rattle.sigv4.specs.Refusal.{unfit}
+use Rattle.sigv4.specs.Refusal.{unfit, unfit_signed_target}
 use Rattle.sigv4.specs.Signed.{signature_of}
 use Rattle.sigv4.specs.declared.error.SigningError.{SigningError}
 use Rattle.signed_stream.specs.Carriers.{GoesForInput}
-use Rattle.signed_stream.specs.Case.{Selected, job_case, profile_giving}
+use Rattle.signed_stream.specs.Case.{Selected, job_case, profile_giving, request_moment}
 use Rattle.signed_stream.specs.Chain.{IsChained, Refusal}
 use Rattle.signed_stream.specs.Command.{Command, Wanted, bad_word, command, stream, unbuilt_word}
 use Rattle.signed_stream.specs.Job.{JobParts, Reading, bad_line, job, unbuilt_line, whole_job}
 use Rattle.signed_stream.specs.Plan.{EndsAsPlanned, GoesAsPlanned, ReadsTarget, Supplied, TargetRead, accepted, most_input, stops, unaccepted, unless_large, unread, writes}
 use Rattle.signed_stream.specs.Running.{Completes, Gave, IsValid, RunsAsPlanned, Streams, ask, ask_plan, command_ask, ends, has_later_variable, streams}
-use Rattle.signed_stream.specs.Status.{Ending, done, job_too_large, no_memory, not_built, output_fault, read_fault, refused, moment_out_of_range}
+use Rattle.signed_stream.specs.Sign.{case_fault, fault_for, unsigned}
+use Rattle.signed_stream.specs.Status.{Ending, Fault, done, job_too_large, no_memory, not_built, output_fault, read_fault, refused, moment_out_of_range}
 use Rattle.signed_stream.specs.Stream.{GaveJob, GaveReading, IsStreamable, case_plan, input_plan, job_plan, profile_plan, selected_plan, streamed, target_plan}
 use Rattle.signed_stream.specs.Written.{refusal_of, written, written_before, written_end, written_until}
 use Rattle.signed_stream.proofs.ChainLemmas.{chained_moments, frames_unrefused, unrefused_frames}
@@ -50,19 +52,32 @@ writes_done text end before now goes = by_end goes.ends
 -- a case that is done
 record DoneCase (text : List ℕ) (c : Case) (events : List Parts) (moments : List Instant) (before now : Option (List ℕ)) : Type 0 where
   fit : unfit c ≡ None
+  fits : unfit_signed_target c ≡ None
   chained : IsChained c.signer events moments (signature_of c)
   gains : Gains before now (written text c events moments)
 
-done_case : (text : List ℕ) (c : Case) (events : List Parts) (moments : List Instant) (before now : Option (List ℕ)) (error : Option SigningError) → unfit c ≡ error
-    → GoesAsPlanned (case_plan text c events moments error) done before now → DoneCase text c events moments before now
-done_case text c events moments before now (Some error) is goes = absurd (stops_undone _ before now (λ e. cc) goes)
-done_case text c events moments before now None fit goes = by_refusal (refusal_of c events moments) refl goes
+no_fault : (error : Option SigningError) → option_map fault_for error ≡ None → error ≡ None
+no_fault None none = refl
+no_fault (Some error) none = cc
+
+none_of : (a b : Option SigningError) → option_or a b ≡ None → (a ≡ None) × (b ≡ None)
+none_of None b none = (refl, none)
+none_of (Some error) b none = cc
+
+done_case : (text : List ℕ) (c : Case) (events : List Parts) (moments : List Instant) (before now : Option (List ℕ)) (fault : Option Fault) → case_fault c ≡ fault
+    → GoesAsPlanned (case_plan text c events moments fault) done before now → DoneCase text c events moments before now
+done_case text c events moments before now (Some fault) is goes = absurd (stops_undone _ before now (λ e. cc) goes)
+done_case text c events moments before now None is goes = by_refusal (refusal_of c events moments) refl goes
   where
+    passed : (unfit c ≡ None) × (unfit_signed_target c ≡ None)
+    passed = none_of (unfit c) (unfit_signed_target c) (no_fault (unsigned c) is)
+
     by_count : (whole : Bool) → (length moments == length events + 1) ≡ whole → refusal_of c events moments ≡ None
         → GoesAsPlanned (writes (written text c events moments) (if whole then done else no_memory)) done before now → DoneCase text c events moments before now
     by_count false counted none goes = let wrong : no_memory ≡ done = writes_done _ _ before now goes in cc
     by_count true counted none goes = record {
-      fit = fit;
+      fit = passed.0;
+      fits = passed.1;
       chained = unrefused_frames c.signer 1 events moments (signature_of c) (eqb-true _ _ counted) none;
       gains = goes.gains;
     }
@@ -79,10 +94,10 @@ record DoneJob (j : JobParts) (wanted : Wanted) (selected : Selected) (given : S
   target : Target
   moments : given.moments ≡ first ∷ others
   targets : given.target ≡ accepted target
-  years : IsInYears first
+  years : IsInYears (request_moment wanted first)
   case : DoneCase j.target (job_case j wanted selected first target) j.events others before now
 
-done_target : (j : JobParts) (wanted : Wanted) (selected : Selected) (given : Supplied) (first : Instant) (others : List Instant) (before now : Option (List ℕ)) → given.moments ≡ first ∷ others → IsInYears first
+done_target : (j : JobParts) (wanted : Wanted) (selected : Selected) (given : Supplied) (first : Instant) (others : List Instant) (before now : Option (List ℕ)) → given.moments ≡ first ∷ others → IsInYears (request_moment wanted first)
     → (target : TargetRead) → given.target ≡ target → GoesAsPlanned (target_plan j.target (job_case j wanted selected first) j.events others target) done before now → DoneJob j wanted selected given before now
 done_target j wanted selected given first others before now moments years unread is goes = absurd (stops_undone _ before now (λ e. cc) goes)
 done_target j wanted selected given first others before now moments years unaccepted is goes = absurd (stops_undone _ before now (λ e. cc) goes)
@@ -94,18 +109,18 @@ done_target j wanted selected given first others before now moments years (accep
       moments = moments;
       targets = is;
       years = years;
-      case = done_case j.target c j.events others before now (unfit c) refl goes;
+      case = done_case j.target c j.events others before now (case_fault c) refl goes;
     }
 
 done_selected : (j : JobParts) (wanted : Wanted) (selected : Selected) (given : Supplied) (before now : Option (List ℕ)) (moments : List Instant) → given.moments ≡ moments
     → GoesAsPlanned (selected_plan j wanted selected given.target moments) done before now → DoneJob j wanted selected given before now
 done_selected j wanted selected given before now [] is goes = absurd (stops_undone _ before now (λ e. cc) goes)
-done_selected j wanted selected given before now (first ∷ others) is goes = by_years (is_in_years first) refl goes
+done_selected j wanted selected given before now (first ∷ others) is goes = by_years (is_in_years (request_moment wanted first)) refl goes
   where
-    by_years : (years : Bool) → is_in_years first ≡ years
-        → GoesAsPlanned (if years then target_plan j.target (job_case j wanted selected first) j.events others given.target else stops (refused (moment_out_of_range first))) done before now
+    by_years : (years : Bool) → is_in_years (request_moment wanted first) ≡ years
+        → GoesAsPlanned (if years then target_plan j.target (job_case j wanted selected first) j.events others given.target else stops (refused (moment_out_of_range (request_moment wanted first)))) done before now
         → DoneJob j wanted selected given before now
-    by_years true within goes = done_target j wanted selected given first others before now is (in_years first within) given.target refl goes
+    by_years true within goes = done_target j wanted selected given first others before now is (in_years (request_moment wanted first) within) given.target refl goes
     by_years false within goes = absurd (stops_undone _ before now (λ e. cc) goes)
 
 -- an input that has streamed
@@ -133,6 +148,7 @@ done_profile wanted bytes j given before now (Some key_id) (Some secret) (Some r
       settled = settled;
       years = did.years;
       fit = did.case.fit;
+      fits = did.case.fits;
       chained = did.case.chained;
     } in
     (input, did.case.gains)
@@ -189,7 +205,7 @@ valid_plan : (wanted : Wanted) (bytes : List ℕ) (given other : Supplied) (inpu
 unfolding input_plan
 valid_plan wanted bytes given other input moments =
     let large : nat_lt most_input (length bytes) ≡ false = (let short = input.short in grind (arith, nat_tests)) in
-    rw (large, input.spelled, input.settled, moments, years_in input.first input.years) refl
+    rw (large, input.spelled, input.settled, moments, years_in (request_moment wanted input.first) input.years) refl
 
 -- for its target it is to write all
 valid_target : (wanted : Wanted) (bytes : List ℕ) (given : Supplied) (input : IsStreamable wanted bytes given)
@@ -198,7 +214,7 @@ valid_target wanted bytes given input =
     let c = job_case input.read wanted input.selected input.first input.target in
     let none = frames_unrefused c.signer 1 input.read.events input.others (signature_of c) input.chained in
     let counted : (length input.others == length input.read.events + 1) ≡ true = eq-eqb _ _ (chained_moments c.signer input.read.events input.others (signature_of c) input.chained) in
-    rw (input.fit, none, counted) refl
+    rw (input.fit, input.fits, none, counted) refl
 
 -- what stops for want of memory completes
 stopped_completes : (answer : Ending) → EndsAsPlanned (stops no_memory) answer → Completes answer

@@ -16,18 +16,17 @@ use Rattle.eventstream.specs.Link.{link_message, link_signature}
 use Rattle.eventstream.specs.declared.error.ErrorKind.{ErrorKind}
 use Rattle.eventstream.specs.declared.error.ErrorKind.TheVariants as reasons
 use Rattle.sigv4.specs.Request.{Case}
-use Rattle.sigv4.specs.Refusal.{unfit}
 use Rattle.sigv4.specs.Signed.{signature_of}
-use Rattle.sigv4.specs.declared.error.SigningError.{SigningError}
 use Rattle.signed_stream.specs.Carriers.{GoesForInput, GoesForJob, IsEarly}
-use Rattle.signed_stream.specs.Case.{Selected, job_case}
+use Rattle.signed_stream.specs.Case.{Selected, job_case, request_moment}
 use Rattle.signed_stream.specs.Chain.{Refusal, fault_at, first_refusal, outside_years, refusal_at, unframed_at, unlinked}
 use Rattle.signed_stream.specs.Command.{Wanted}
 use Rattle.signed_stream.specs.Job.{JobParts, Reading, bad_line, job, unbuilt_line, whole_job}
 use Rattle.signed_stream.specs.Plan.{EndsAsPlanned, GainsAsPlanned, GoesAsPlanned, Plan, Supplied, TargetRead, accepted, most_input, stops, unaccepted, unread, writes}
 use Rattle.signed_stream.specs.Running.{Ask, EndsAsAsked, Gave, IfEnds, Keeps, RunsAsPlanned, ask_plan, asks_in_years, ends, streams}
-use Rattle.signed_stream.specs.Status.{Ending, Fault, bad_job, bad_words, done, header_value_too_long, headers_too_long, invalid_header_name, invalid_header_name_length, invalid_header_value, invalid_uri, job_too_large, message_too_long, missing_credentials, missing_host, missing_signing_region, moment_out_of_range, no_memory, not_built, output_fault, payload_too_long, read_fault, refused, timestamp_value_too_large}
-use Rattle.signed_stream.specs.Stream.{GaveJob, GaveReading, case_plan, input_plan, job_plan, profile_plan, selected_plan, target_plan}
+use Rattle.signed_stream.specs.Sign.{case_fault}
+use Rattle.signed_stream.specs.Status.{Ending, Fault, bad_job, bad_words, done, header_value_too_long, headers_too_long, invalid_header_name, invalid_header_name_length, invalid_header_value, invalid_token_name, invalid_uri, job_too_large, message_too_long, missing_credentials, missing_expires, missing_host, missing_signing_region, moment_out_of_range, no_memory, not_built, output_fault, payload_too_long, read_fault, refused, timestamp_value_too_large}
+use Rattle.signed_stream.specs.Stream.{GaveJob, GaveReading, case_plan, input_plan, job_plan, profile_plan, request_plan, selected_plan, target_plan}
 use Rattle.signed_stream.specs.Written.{refusal_of, written_end, written_until}
 
 -- ## As planned
@@ -66,6 +65,8 @@ keeps_same in_years (refused invalid_uri) before now same = same
 keeps_same in_years (refused (invalid_header_name place)) before now same = same
 keeps_same in_years (refused (invalid_header_value place)) before now same = same
 keeps_same in_years (refused missing_host) before now same = same
+keeps_same in_years (refused invalid_token_name) before now same = same
+keeps_same in_years (refused missing_expires) before now same = same
 keeps_same in_years (refused (invalid_header_name_length place)) before now same = tt
 keeps_same in_years (refused (header_value_too_long place)) before now same = tt
 keeps_same in_years (refused (timestamp_value_too_large place)) before now same = tt
@@ -174,11 +175,11 @@ keeps_target : (text : List ℕ) (case : Target → Case) (events : List Parts) 
     → GoesAsPlanned (target_plan text case events moments target) answer before now → Keeps true answer before now
 keeps_target text case events moments unread answer before now goes = keeps_same true answer before now goes.gains
 keeps_target text case events moments unaccepted answer before now goes = keeps_same true answer before now goes.gains
-keeps_target text case events moments (accepted target) answer before now goes = by_error (unfit (case target)) goes
+keeps_target text case events moments (accepted target) answer before now goes = by_fault (case_fault (case target)) goes
   where
-    by_error : (error : Option SigningError) → GoesAsPlanned (case_plan text (case target) events moments error) answer before now → Keeps true answer before now
-    by_error (Some error) goes = keeps_same true answer before now goes.gains
-    by_error None goes =
+    by_fault : (fault : Option Fault) → GoesAsPlanned (case_plan text (case target) events moments fault) answer before now → Keeps true answer before now
+    by_fault (Some fault) goes = keeps_same true answer before now goes.gains
+    by_fault None goes =
         let c = case target in
         let refusal = refusal_of c events moments in
         keeps_written (written_until refusal text c events moments) (written_end refusal events moments) answer before now
@@ -188,26 +189,28 @@ keeps_target text case events moments (accepted target) answer before now goes =
 pub first_moment : (events : List Parts) (t : Instant) → replicate (length events + 2) t ≡ t ∷ replicate (length events + 1) t
 first_moment events t = let more : length events + 2 ≡ suc (length events + 1) = omega arith in rw more refl
 
-keeps_job : (wanted : Wanted) (j : JobParts) (given : Supplied) (answer : Ending) (before now : Option (List ℕ)) → given.moments ≡ replicate (length j.events + 2) wanted.at
-    → (key_id secret region : Option (List ℕ)) → GoesAsPlanned (profile_plan j wanted given key_id secret region) answer before now → Keeps (is_in_years wanted.at) answer before now
-keeps_job wanted j given answer before now moments (Some key_id) (Some secret) (Some region) goes =
-    by_years (is_in_years wanted.at) (rw (moments, first_moment j.events wanted.at) at goes)
+keeps_request : (text : List ℕ) (at : Instant) (case : Target → Case) (events : List Parts) (moments : List Instant) (target : TargetRead) (answer : Ending) (before now : Option (List ℕ))
+    → GoesAsPlanned (request_plan text at case events moments target) answer before now → Keeps (is_in_years at) answer before now
+keeps_request text at case events moments target answer before now goes = by_years (is_in_years at) goes
   where
-    selected : Selected
-    selected = record { key_id = key_id; secret = secret; token = j.profile.token; region = region }
-
-    by_years : (years : Bool)
-        → GoesAsPlanned (if years then target_plan j.target (job_case j wanted selected wanted.at) j.events (replicate (length j.events + 1) wanted.at) given.target else stops (refused (moment_out_of_range wanted.at))) answer before now
-        → Keeps years answer before now
-    by_years true goes = keeps_target j.target (job_case j wanted selected wanted.at) j.events (replicate (length j.events + 1) wanted.at) given.target answer before now goes
+    by_years : (years : Bool) → GoesAsPlanned (if years then target_plan text case events moments target else stops (refused (moment_out_of_range at))) answer before now → Keeps years answer before now
+    by_years true goes = keeps_target text case events moments target answer before now goes
     by_years false goes = keeps_same false answer before now goes.gains
-keeps_job wanted j given answer before now moments (Some key_id) (Some secret) None goes = keeps_same (is_in_years wanted.at) answer before now goes.gains
-keeps_job wanted j given answer before now moments (Some key_id) None region goes = keeps_same (is_in_years wanted.at) answer before now goes.gains
-keeps_job wanted j given answer before now moments None secret region goes = keeps_same (is_in_years wanted.at) answer before now goes.gains
 
-pub read_keeps : (wanted : Wanted) (reading : Reading) (answer : Ending) (before now : Option (List ℕ)) → GoesForJob wanted reading answer before now → Keeps (is_in_years wanted.at) answer before now
-read_keeps wanted (bad_line place) answer before now found = keeps_same (is_in_years wanted.at) answer before now found.2.gains
-read_keeps wanted (unbuilt_line place) answer before now found = keeps_same (is_in_years wanted.at) answer before now found.2.gains
+keeps_job : (wanted : Wanted) (j : JobParts) (given : Supplied) (answer : Ending) (before now : Option (List ℕ)) → given.moments ≡ replicate (length j.events + 2) wanted.at
+    → (key_id secret region : Option (List ℕ)) → GoesAsPlanned (profile_plan j wanted given key_id secret region) answer before now
+    → Keeps (is_in_years (request_moment wanted wanted.at)) answer before now
+keeps_job wanted j given answer before now moments (Some key_id) (Some secret) (Some region) goes =
+    let selected : Selected = record { key_id = key_id; secret = secret; token = j.profile.token; region = region } in
+    keeps_request j.target (request_moment wanted wanted.at) (job_case j wanted selected wanted.at) j.events (replicate (length j.events + 1) wanted.at) given.target answer before now
+    (rw (moments, first_moment j.events wanted.at) at goes)
+keeps_job wanted j given answer before now moments (Some key_id) (Some secret) None goes = keeps_same (is_in_years (request_moment wanted wanted.at)) answer before now goes.gains
+keeps_job wanted j given answer before now moments (Some key_id) None region goes = keeps_same (is_in_years (request_moment wanted wanted.at)) answer before now goes.gains
+keeps_job wanted j given answer before now moments None secret region goes = keeps_same (is_in_years (request_moment wanted wanted.at)) answer before now goes.gains
+
+pub read_keeps : (wanted : Wanted) (reading : Reading) (answer : Ending) (before now : Option (List ℕ)) → GoesForJob wanted reading answer before now → Keeps (is_in_years (request_moment wanted wanted.at)) answer before now
+read_keeps wanted (bad_line place) answer before now found = keeps_same (is_in_years (request_moment wanted wanted.at)) answer before now found.2.gains
+read_keeps wanted (unbuilt_line place) answer before now found = keeps_same (is_in_years (request_moment wanted wanted.at)) answer before now found.2.gains
 read_keeps wanted (whole_job j) answer before now found = keeps_job wanted j found.0 answer before now found.1.moments j.profile.key_id j.profile.secret j.profile.region found.2
 
 -- ## The input
@@ -321,7 +324,7 @@ pub later_runs : (asked : Ask) (wanted : Wanted) (end : Ending) (bytes : List �
 later_runs asked wanted end bytes before now is runs = rw (← is) runs
 
 pub later_keeps : (asked : Ask) (wanted : Wanted) (end : Ending) (before now : Option (List ℕ)) → streams wanted ≡ asked
-    → Keeps (is_in_years wanted.at) end before now → Keeps (asks_in_years asked) end before now
+    → Keeps (asks_in_years (streams wanted)) end before now → Keeps (asks_in_years asked) end before now
 later_keeps asked wanted end before now is keeps = rw (← is) keeps
 
 pub later_ends : (asked : Ask) (wanted : Wanted) (P : Type 0) → streams wanted ≡ asked → IfEnds asked P

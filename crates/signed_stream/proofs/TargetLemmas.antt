@@ -36,7 +36,7 @@ spells_one_way text uri (inr other) spells = spells.1 (subst IsAuthorityAlone (o
 
 -- what a text spells is determined
 pub reads_one : (text : List ℕ) (a b : Target) → ReadsTarget text (accepted a) → ReadsTarget text (accepted b) → a ≡ b
-reads_one text a b first second = first.2 ∙ one_target text first.0 second.0 first.1.0 second.1.0 ∙ sym second.2
+reads_one text a b first second = sym first.2 ∙ one_target text first.0 second.0 first.1.0 second.1.0 ∙ second.2
 
 -- a text that spells a target is accepted
 pub reads_one_way : (text : List ℕ) (a : Target) → ReadsTarget text unaccepted → ReadsTarget text (accepted a) → ⊥

@@ -10,7 +10,13 @@ use Rattle.signed_stream.specs.declared.command.options.GivenOptions.{GivenOptio
 
 -- what the words ask `stream` for
 abbrev pub wanted_of : StreamWords → Wanted
-wanted_of words = record { name = words.name.now; at = words.at; signing = words.signing }
+wanted_of words = record {
+  name = words.name.now;
+  at = words.at;
+  signing = words.signing;
+  token_name = option_copied words.token_name;
+  skew_millis = words.skew_millis;
+}
 
 -- the command that a fault tells
 abbrev pub fault_told : WordsFault → Command
@@ -29,7 +35,14 @@ command_told (Err fault) = fault_told fault
 
 -- what the words so far gave
 abbrev pub options_of : GivenOptions → Options
-options_of given = record { name = option_copied given.name; at = given.at; signing = given.signing; awaited = given.awaited }
+options_of given = record {
+  name = option_copied given.name;
+  at = given.at;
+  signing = given.signing;
+  token_name = option_copied given.token_name;
+  skew_millis = given.skew_millis;
+  awaited = given.awaited;
+}
 
 -- the step that an answer tells, with what the words gave after it
 abbrev pub taken_told : Result (Unit {0}) WordsFault → Options → WordTaken

@@ -1,10 +1,10 @@
 -- What a run is to do with what the outside gave, and what it means that it goes so.
 use Rattle.std.specs.Prelude.{◌≡◌, ℕ, ◌⊎◌, nat_lt, if◌then◌else◌, List, length, Option}
-use Rattle.http_uri.specs.declared.uri.Uri.{Uri}
 use Rattle.smithy_core.specs.Instant.{Instant}
 use Rattle.smithy_core.specs.Outside.{Gains, GainsPrefix}
-use Rattle.smithy_http.specs.Building.{SpellsNoTarget, SpellsTarget}
-use Rattle.smithy_http.specs.Target.{Target, target_of}
+use Rattle.smithy_http.specs.Building.{SpellsNoTarget}
+use Rattle.smithy_http.specs.Target.{Target}
+use Rattle.sigv4.specs.Parameters.{SpellsParts}
 use Rattle.signed_stream.specs.Status.{Ending, done, job_too_large, no_memory, output_fault, read_fault, refused}
 
 -- ## What the outside gave
@@ -21,7 +21,7 @@ pub data TargetRead : Type 0 where
 abbrev pub ReadsTarget : List ℕ → TargetRead → Type 0
 ReadsTarget text unread = Unit {0}
 ReadsTarget text unaccepted = SpellsNoTarget text
-ReadsTarget text (accepted target) = (uri : Uri) × SpellsTarget text uri × (target ≡ target_of uri)
+ReadsTarget text (accepted target) = SpellsParts text target
 
 -- what the outside gave in one call
 pub record Supplied : Type 0 where

@@ -3,6 +3,7 @@ use Rattle.std.specs.Prelude.{◌≡◌, ℕ, ◌≤◌, ◌⊎◌, Bool, true, 
 use Rattle.smithy_core.specs.Civil.{is_in_years}
 use Rattle.smithy_core.specs.Outside.{Gains, Rose}
 use Rattle.smithy_core.specs.Pairs.{last_value}
+use Rattle.signed_stream.specs.Case.{request_moment}
 use Rattle.signed_stream.specs.Command.{Command, Wanted, bad_word, command, stream, unbuilt_word}
 use Rattle.signed_stream.specs.Job.{job}
 use Rattle.signed_stream.specs.Plan.{GoesAsPlanned, Plan, Supplied, stops}
@@ -37,6 +38,11 @@ ask words env = command_ask env (command words)
 abbrev pub IfEnds : Ask → Type 0 → Type 0
 IfEnds (ends end) P = P
 IfEnds (streams wanted) P = Unit {0}
+
+-- where they ask to stream, what holds of that
+abbrev pub IfStreams : Ask → (Wanted → Type 0) → Type 0
+IfStreams (ends end) P = ⊥
+IfStreams (streams wanted) P = P wanted
 
 -- ## The plan
 
@@ -78,7 +84,7 @@ CountsWrites answer before now = now ≡ before
 -- whether the moment that is asked for the request lies in the years
 abbrev pub asks_in_years : Ask → Bool
 asks_in_years (ends end) = false
-asks_in_years (streams wanted) = is_in_years wanted.at
+asks_in_years (streams wanted) = is_in_years (request_moment wanted wanted.at)
 
 -- where the test fails
 abbrev pub Unless : Bool → Type 0 → Type 0

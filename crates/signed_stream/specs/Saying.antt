@@ -3,7 +3,7 @@ use Rattle.std.specs.Prelude.{◌≡◌, ℕ, ◌⊎◌, List, [], ◌++◌, cod
 use Rattle.std.specs.Fmt.{decimal}
 use Rattle.smithy_core.specs.Outside.{Gains, GainsPrefix, GainsProperPrefix, Rose}
 use Rattle.smithy_core.specs.Text.{line}
-use Rattle.signed_stream.specs.Status.{Ending, done, bad_words, job_too_large, bad_job, read_fault, refused, output_fault, no_memory, not_built, Fault, missing_credentials, missing_signing_region, moment_out_of_range, invalid_uri, invalid_header_name, invalid_header_value, missing_host, invalid_header_name_length, header_value_too_long, timestamp_value_too_large, headers_too_long, payload_too_long, message_too_long}
+use Rattle.signed_stream.specs.Status.{Ending, done, bad_words, job_too_large, bad_job, read_fault, refused, output_fault, no_memory, not_built, Fault, missing_credentials, missing_signing_region, moment_out_of_range, invalid_uri, invalid_header_name, invalid_header_value, missing_host, invalid_token_name, missing_expires, invalid_header_name_length, header_value_too_long, timestamp_value_too_large, headers_too_long, payload_too_long, message_too_long}
 
 -- the number and the name of a fault
 abbrev pub fault_text : Fault → List ℕ
@@ -14,6 +14,8 @@ fault_text invalid_uri = codes "5 InvalidUri"
 fault_text (invalid_header_name place) = codes "6 InvalidHeaderName"
 fault_text (invalid_header_value place) = codes "7 InvalidHeaderValue"
 fault_text missing_host = codes "8 MissingHost"
+fault_text invalid_token_name = codes "9 InvalidTokenName"
+fault_text missing_expires = codes "10 MissingExpires"
 fault_text (invalid_header_name_length place) = codes "11 InvalidHeaderNameLength"
 fault_text (header_value_too_long place) = codes "12 HeaderValueTooLong"
 fault_text (timestamp_value_too_large place) = codes "13 TimestampValueTooLarge"

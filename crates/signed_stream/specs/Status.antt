@@ -18,6 +18,8 @@ pub data Fault : Type 0 where
   invalid_header_name : ℕ → Fault
   invalid_header_value : ValuePlace → Fault
   missing_host : Fault
+  invalid_token_name : Fault
+  missing_expires : Fault
   -- of the event at this place
   invalid_header_name_length : ℕ → Fault
   header_value_too_long : ℕ → Fault
@@ -50,6 +52,8 @@ fault_of faults.InvalidUri = invalid_uri
 fault_of (faults.InvalidHeaderName place) = invalid_header_name place
 fault_of (faults.InvalidHeaderValue place) = invalid_header_value place
 fault_of faults.MissingHost = missing_host
+fault_of faults.InvalidTokenName = invalid_token_name
+fault_of faults.MissingExpires = missing_expires
 fault_of (faults.InvalidHeaderNameLength place) = invalid_header_name_length place
 fault_of (faults.HeaderValueTooLong place) = header_value_too_long place
 fault_of (faults.TimestampValueTooLarge place) = timestamp_value_too_large place

@@ -17,7 +17,6 @@ mod numbers;
 mod running;
 mod saying;
 mod sign;
-mod signing_options;
 mod status;
 mod stream;
 mod written;

@@ -4,9 +4,9 @@ ghost use Rattle.smithy_core.specs.Outside.{IsAtEnd, IsRestOf, Rose};
 ghost use Rattle.signed_stream.specs.Carriers.{GoesForInput, IsEarly, ask_told};
 ghost use Rattle.signed_stream.specs.Job.{job};
 ghost use Rattle.signed_stream.specs.Plan.{Supplied};
-ghost use Rattle.signed_stream.specs.Running.{Completes, EndsAsAsked, IfEnds, IsValid, Keeps, Ran, Streams, ask, asks_in_years, has_later_variable};
+ghost use Rattle.signed_stream.specs.Running.{Completes, EndsAsAsked, IfEnds, IfStreams, IsValid, Keeps, Ran, Streams, ask, asks_in_years, has_later_variable};
 ghost use Rattle.signed_stream.specs.Status.{done, ending_of, invalid_uri, output_fault, read_fault, refused};
-ghost use Rattle.signed_stream.specs.Stream.{ReadsNoTarget};
+ghost use Rattle.signed_stream.specs.Stream.{ReadsUnfitTarget};
 
 use crate::command::{Command, WordsFault, read_words};
 use crate::saying::say;
@@ -18,15 +18,16 @@ use std::alloc::Global;
 /// Does what the words ask for, on the objects of the outside, and says on `err` how it ended.
 ///
 /// The words are those after the program's name. `stream --name NAME --at N` reads a job from `input`, signs its
-/// request by AWS Signature Version 4 in header form, and writes to `out` the head of the signed request and then a
-/// chain of event stream frames: one for each event in order and an empty one last, each signed over the signature
-/// before it, the first over that of the request. All of them have the moment N. `--sha256`, `--single-encode`,
-/// `--no-normalize` and `--unsigned` say how the request is signed.
+/// request by AWS Signature Version 4, and writes to `out` the head of the signed request and then a chain of event
+/// stream frames: one for each event in order and an empty one last, each signed over the signature before it, the
+/// first over that of the request. All of them have the moment N, but the request where `--skew` shifts it. Options
+/// say how the request is signed: `--query` with `--expires N` makes a presigned one.
 ///
 /// The first test that fails ends the run, in this order: the words, the variables, the length of the input, the
-/// job, what its profile gives, the moment, the target, each header of the request, the host, the token and the
-/// authorization. Until then nothing is written. Then each event is tested before its frame is written, so a refused
-/// event leaves the head and the frames of the events before it.
+/// job, what its profile gives, the moment, the target, each header of the request, the host, the token's name, the
+/// signature's own texts or the expiry, and the length of the signed target. Until then nothing is written. Then each
+/// event is tested before its frame is written, and last the closing frame's moment, so a refused event leaves the head
+/// and the frames of the events before it.
 pub fn run<S: ByteSource, D: Disk, C: Clock, K: ByteSink, E: ByteSink>(
     alloc: Global,
     words: &[String],
@@ -53,8 +54,9 @@ pub fn run<S: ByteSource, D: Disk, C: Clock, K: ByteSink, E: ByteSink>(
         (record { held_before = K.held out.old; held_now = K.held out.new; faults_before = K.faults out.old; faults_now = K.faults out.new })
         (record { held_before = E.held err.old; held_now = E.held err.new; faults_before = E.faults err.old; faults_now = E.faults err.new }) }
 
-    // It is refused for the target only where the job's target isn't accepted.
-    ensures target { ending_of result ≡ refused invalid_uri → (bytes : List ℕ) → S.left input.old ≡ Some bytes → ReadsNoTarget (job bytes) }
+    // It is refused for the target only where the job's target isn't accepted, or takes no parameters of its signature.
+    ensures target { ending_of result ≡ refused invalid_uri → (bytes : List ℕ) → S.left input.old ≡ Some bytes
+        → IfStreams (ask (map string_bytes words.now) env.now) (λ wanted. ReadsUnfitTarget wanted (job bytes)) }
 
     // Where words or variables end it, input and output are as they were.
     ensures untouched { IfEnds (ask (map string_bytes words.now) env.now)
@@ -94,7 +96,7 @@ fn answer<S: ByteSource, K: ByteSink>(
         × (S.faults input.old ≤ S.faults input.new) × (K.faults out.old ≤ K.faults out.new) }
 {
     match read_ask(words, env) {
-        Ok(Command::Stream(words)) => stream_input(alloc, &words, input, out),
+        Ok(Command::Stream(words)) => stream_input(alloc, words, input, out),
         Err(status) => status,
     }
 }

@@ -63,6 +63,8 @@ fn refusal_line(alloc: Global, fault: &StreamFault) -> Mem<String>
         StreamFault::InvalidHeaderName(_) => "refused 6 InvalidHeaderName\n",
         StreamFault::InvalidHeaderValue(_) => "refused 7 InvalidHeaderValue\n",
         StreamFault::MissingHost => "refused 8 MissingHost\n",
+        StreamFault::InvalidTokenName => "refused 9 InvalidTokenName\n",
+        StreamFault::MissingExpires => "refused 10 MissingExpires\n",
         StreamFault::InvalidHeaderNameLength(_) => "refused 11 InvalidHeaderNameLength\n",
         StreamFault::HeaderValueTooLong(_) => "refused 12 HeaderValueTooLong\n",
         StreamFault::TimestampValueTooLarge(_) => "refused 13 TimestampValueTooLarge\n",

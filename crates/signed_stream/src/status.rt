@@ -12,7 +12,8 @@ pub enum StreamFault {
     MissingSigningRegion,
     /// The moment of the request, of an event or of the closing frame lies outside the years 0 to 9999.
     MomentOutOfRange(Moment),
-    /// The target isn't accepted, or has an authority without a scheme.
+    /// The target isn't accepted, or has an authority without a scheme; or it is `*`, or passes 65,534 bytes, and the
+    /// signature goes into its query.
     InvalidUri,
     /// The name of the request's header at this place is outside the grammar of header names; places count from 1.
     InvalidHeaderName(usize),
@@ -20,6 +21,11 @@ pub enum StreamFault {
     InvalidHeaderValue(ValuePlace),
     /// Neither the target nor a header has a host.
     MissingHost,
+    /// The name that is asked for the session token is reserved, or is no header name in lower case where it is a
+    /// header's.
+    InvalidTokenName,
+    /// The signature goes into the query, and no expiry is given.
+    MissingExpires,
     /// The event at this place has a header name over 255 bytes; places count from 1.
     InvalidHeaderNameLength(usize),
     /// The event at this place has a byte array or a text over 32,767 bytes.

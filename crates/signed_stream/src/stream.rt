@@ -1,17 +1,17 @@
 ghost use Rattle.std.specs.Prelude.{◌≡◌, ◌≤◌, ◌+◌, ◌++◌, ℕ, List, Some, None, IsErrOf, length, replicate};
 ghost use Rattle.std.specs.String.{string_bytes};
-ghost use Rattle.smithy_core.specs.Civil.{is_in_years};
 ghost use Rattle.smithy_core.specs.Outside.{IsAtEnd, IsRestOf, Rose};
-ghost use Rattle.sigv4.specs.EventStream.{unsignable};
+ghost use Rattle.sigv4.specs.Params.{signer_of};
 ghost use Rattle.signed_stream.specs.Carriers.{GoesForInput, GoesForJob, GoesForTarget};
-ghost use Rattle.signed_stream.specs.Case.{request_case, signer_under};
+ghost use Rattle.signed_stream.specs.Case.{request_moment};
 ghost use Rattle.signed_stream.specs.Chain.{IsCredentials, first_refusal, refusal_fault, streamed_lines};
 ghost use Rattle.signed_stream.specs.Draft.{job_parts};
 ghost use Rattle.signed_stream.specs.Halt.{Sends, ended};
 ghost use Rattle.signed_stream.specs.Job.{job, whole_job};
 ghost use Rattle.signed_stream.specs.Options.{wanted_of};
 ghost use Rattle.signed_stream.specs.Plan.{most_input};
-ghost use Rattle.signed_stream.specs.Running.{Keeps, streams};
+ghost use Rattle.signed_stream.specs.Running.{Keeps, asks_in_years, streams};
+ghost use Rattle.signed_stream.specs.Sign.{identity_case};
 ghost use Rattle.signed_stream.specs.Status.{bad_words, done, ending_of, output_fault, read_fault};
 ghost use Rattle.signed_stream.specs.Written.{head};
 
@@ -24,8 +24,7 @@ use crate::status::{Status, StreamFault};
 use crate::written::head_of;
 use sigv4::event_stream::SigningParams;
 use smithy_core::{
-    ByteSink, ByteSource, Credentials, HttpRequest, Identity, Message, Moment, ReadFault, civil,
-    read_all,
+    ByteSink, ByteSource, Credentials, HttpRequest, Identity, Message, ReadFault, read_all,
 };
 use std::alloc::Global;
 
@@ -35,14 +34,14 @@ const MOST_INPUT: usize = 67_108_864;
 /// Streams the job that the input has, as the words ask.
 pub fn stream_input<S: ByteSource, K: ByteSink>(
     alloc: Global,
-    words: &StreamWords<'_>,
+    words: StreamWords<'_>,
     input: &mut S,
     out: &mut K,
 ) -> Status
     ensures never_bad_words { (place : ℕ) → ending_of result ≡ bad_words place → ⊥ }
     ensures planned { (bytes : List ℕ) → S.left input.old ≡ Some bytes
-        → GoesForInput (streams (wanted_of words.now)) bytes (ending_of result) (K.held out.old) (K.held out.new) }
-    ensures kept { Keeps (is_in_years words.now.at) (ending_of result) (K.held out.old) (K.held out.new) }
+        → GoesForInput (streams (wanted_of words.entry)) bytes (ending_of result) (K.held out.old) (K.held out.new) }
+    ensures kept { Keeps (asks_in_years (streams (wanted_of words.entry))) (ending_of result) (K.held out.old) (K.held out.new) }
     ensures read_failed { ending_of result ≡ read_fault → Rose (S.faults input.old) (S.faults input.new) }
     ensures read_steady { (ending_of result ≡ read_fault → ⊥) → S.faults input.new ≡ S.faults input.old }
     ensures output_failed { ending_of result ≡ output_fault → Rose (K.faults out.old) (K.faults out.new) }
@@ -62,12 +61,12 @@ pub fn stream_input<S: ByteSource, K: ByteSink>(
 fn stream_bytes<K: ByteSink>(
     alloc: Global,
     bytes: &[u8],
-    words: &StreamWords<'_>,
+    words: StreamWords<'_>,
     out: &mut K,
 ) -> Status
     ensures never_bad_words { (place : ℕ) → ending_of result ≡ bad_words place → ⊥ }
     ensures never_read_fault { ending_of result ≡ read_fault → ⊥ }
-    ensures planned { GoesForJob (wanted_of words.now) (job bytes.now) (ending_of result) (K.held out.old) (K.held out.new) }
+    ensures planned { GoesForJob (wanted_of words.entry) (job bytes.now) (ending_of result) (K.held out.old) (K.held out.new) }
     ensures output_failed { ending_of result ≡ output_fault → Rose (K.faults out.old) (K.faults out.new) }
     ensures output_steady { (ending_of result ≡ output_fault → ⊥) → K.faults out.new ≡ K.faults out.old }
     ensures count { K.faults out.old ≤ K.faults out.new }
@@ -81,10 +80,10 @@ fn stream_bytes<K: ByteSink>(
 }
 
 // Streams a job, under the credentials and the region that its profile gives.
-fn stream_job<K: ByteSink>(alloc: Global, job: Job, words: &StreamWords<'_>, out: &mut K) -> Status
+fn stream_job<K: ByteSink>(alloc: Global, job: Job, words: StreamWords<'_>, out: &mut K) -> Status
     ensures never_bad_words { (place : ℕ) → ending_of result ≡ bad_words place → ⊥ }
     ensures never_read_fault { ending_of result ≡ read_fault → ⊥ }
-    ensures planned { GoesForJob (wanted_of words.now) (whole_job (job_parts job)) (ending_of result) (K.held out.old) (K.held out.new) }
+    ensures planned { GoesForJob (wanted_of words.entry) (whole_job (job_parts job)) (ending_of result) (K.held out.old) (K.held out.new) }
     ensures output_failed { ending_of result ≡ output_fault → Rose (K.faults out.old) (K.faults out.new) }
     ensures output_steady { (ending_of result ≡ output_fault → ⊥) → K.faults out.new ≡ K.faults out.old }
     ensures count { K.faults out.old ≤ K.faults out.new }
@@ -109,9 +108,6 @@ fn stream_job<K: ByteSink>(alloc: Global, job: Job, words: &StreamWords<'_>, out
     let Some(region) = region else {
         return Status::Refused(StreamFault::MissingSigningRegion);
     };
-    if !is_in_years(words.at) {
-        return Status::Refused(StreamFault::MomentOutOfRange(words.at));
-    }
     let credentials = Credentials::new(key_id, secret, token, None);
     let identity = Identity::Credentials(credentials);
     let streamed = stream_request(
@@ -126,13 +122,6 @@ fn stream_job<K: ByteSink>(alloc: Global, job: Job, words: &StreamWords<'_>, out
     status_of(streamed)
 }
 
-// Whether the moment lies in the years 0 to 9999.
-fn is_in_years(moment: Moment) -> bool
-    ensures { result ≡ is_in_years moment }
-{
-    civil(moment).is_some()
-}
-
 // Signs the request, and streams its head and the events.
 fn stream_request<K: ByteSink>(
     alloc: Global,
@@ -140,21 +129,22 @@ fn stream_request<K: ByteSink>(
     events: &[Message],
     identity: &Identity,
     region: &str,
-    words: &StreamWords<'_>,
+    words: StreamWords<'_>,
     out: &mut K,
 ) -> Result<(), Halt>
-    requires signs { unsignable identity.now words.now.at ≡ None }
-    requires credentials { IsCredentials identity.now }
+    requires { IsCredentials identity.now }
     ensures count { K.faults out.old ≤ K.faults out.new }
-    ensures planned { GoesForTarget (string_bytes request.target) (request_case request identity.now region.now words.now) events.now
-        (replicate (length events.now + 1) words.now.at) (ended result) (K.held out.old) (K.held out.new) }
+    ensures planned { let wanted = wanted_of words.entry in
+        GoesForTarget (string_bytes request.target) (request_moment wanted wanted.at) (identity_case request identity.now region.now wanted) events.now
+        (replicate (length events.now + 1) wanted.at) (ended result) (K.held out.old) (K.held out.new) }
     ensures failed { IsErrOf result Halt.OutputFault → Rose (K.faults out.old) (K.faults out.new) }
     ensures steady { (IsErrOf result Halt.OutputFault → ⊥) → K.faults out.new ≡ K.faults out.old }
 {
+    let name = words.name;
+    let at = words.at;
     let signature = sign_request(alloc, &mut request, identity, region, words)?;
-    stream_signed(
-        alloc, &request, signature, events, identity, region, words, out,
-    )
+    let params = SigningParams::new(identity, region, name, at, ());
+    stream_signed(alloc, &request, signature, events, &params, out)
 }
 
 // Streams the head of a signed request, and the events.
@@ -164,15 +154,13 @@ fn stream_signed<K: ByteSink>(
     request: &HttpRequest,
     signature: String,
     events: &[Message],
-    identity: &Identity,
-    region: &str,
-    words: &StreamWords<'_>,
+    params: &SigningParams<'_>,
     out: &mut K,
 ) -> Result<(), Halt>
-    requires { IsCredentials identity.now }
+    requires { IsCredentials params.now.identity.now }
     ensures count { K.faults out.old ≤ K.faults out.new }
-    ensures sends { let signer = signer_under identity.now region.now words.now.name.now in
-        let moments = replicate (length events.now + 1) words.now.at in
+    ensures sends { let signer = signer_of params.now in
+        let moments = replicate (length events.now + 1) params.now.time in
         let refusal = first_refusal signer 1 events.now moments (string_bytes signature) in
         Sends (refusal_fault refusal)
         (head (string_bytes request.now.method) (string_bytes request.now.target) request.now.headers
@@ -183,6 +171,5 @@ fn stream_signed<K: ByteSink>(
 {
     let head = head_of(alloc, request)?;
     write_text(out, head.as_slice())?;
-    let params = SigningParams::new(identity, region, words.name, words.at, ());
-    stream_events(alloc, &params, signature, events, out)
+    stream_events(alloc, params, signature, events, out)
 }

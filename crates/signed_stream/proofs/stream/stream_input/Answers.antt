@@ -11,19 +11,19 @@ pub returns-in-Ok-clause-planned : goal.returns-in-Ok-clause-planned
 returns-in-Ok-clause-planned g c = λ bytes told.
     let counted = rw c.as_slice.ensures.value at c.as_slice.ensures.len in
     let short : length c.in-Ok.bytes.items ≤ most_input = omega (arith, counted, c.in-Ok.ensures.short) in
-    read_runs (wanted_of c.args.words.now) (g.S.ByteSource.left c.args.input.now) c.in-Ok.bytes.items bytes (ending_of c.stream_bytes.result) (g.K.ByteSink.held c.args.out.now) (g.K.ByteSink.held c.stream_bytes.new.out)
+    read_runs (wanted_of c.args.words) (g.S.ByteSource.left c.args.input.now) c.in-Ok.bytes.items bytes (ending_of c.stream_bytes.result) (g.K.ByteSink.held c.args.out.now) (g.K.ByteSink.held c.stream_bytes.new.out)
     c.in-Ok.ensures.bytes short told (rw c.as_slice.ensures.value at c.stream_bytes.ensures.planned)
 
 pub returns-in-Ok-clause-kept : goal.returns-in-Ok-clause-kept
 returns-in-Ok-clause-kept g c =
-    read_keeps (wanted_of c.args.words.now) (job c.as_slice.result.now) (ending_of c.stream_bytes.result) (g.K.ByteSink.held c.args.out.now) (g.K.ByteSink.held c.stream_bytes.new.out) c.stream_bytes.ensures.planned
+    read_keeps (wanted_of c.args.words) (job c.as_slice.result.now) (ending_of c.stream_bytes.result) (g.K.ByteSink.held c.args.out.now) (g.K.ByteSink.held c.stream_bytes.new.out) c.stream_bytes.ensures.planned
 
 pub returns-in-Err-TooLarge-clause-planned : goal.returns-in-Err-TooLarge-clause-planned
 returns-in-Err-TooLarge-clause-planned g c = λ bytes told.
-    too_large_runs (wanted_of c.args.words.now) (g.S.ByteSource.left c.args.input.now) bytes (g.K.ByteSink.held c.args.out.now) (c.in-Err-TooLarge.ensures.too_large (cc)) told
+    too_large_runs (wanted_of c.args.words) (g.S.ByteSource.left c.args.input.now) bytes (g.K.ByteSink.held c.args.out.now) (c.in-Err-TooLarge.ensures.too_large (cc)) told
 
 pub returns-in-Err-Failed-clause-planned : goal.returns-in-Err-Failed-clause-planned
-returns-in-Err-Failed-clause-planned g c = λ bytes told. read_fault_runs (streams (wanted_of c.args.words.now)) bytes (g.K.ByteSink.held c.args.out.now)
+returns-in-Err-Failed-clause-planned g c = λ bytes told. read_fault_runs (streams (wanted_of c.args.words)) bytes (g.K.ByteSink.held c.args.out.now)
 
-pub returns-in-Err-NoMemory-clause-planned : goal.returns-in-Err-NoMemory-clause-planned
-returns-in-Err-NoMemory-clause-planned g c = λ bytes told. no_memory_runs (streams (wanted_of c.args.words.now)) bytes (g.K.ByteSink.held c.args.out.now)
+pub returns-clause-planned : goal.returns-clause-planned
+returns-clause-planned g c = λ bytes told. no_memory_runs (streams (wanted_of c.args.words)) bytes (g.K.ByteSink.held c.args.out.now)
