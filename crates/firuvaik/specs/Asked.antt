@@ -8,10 +8,11 @@ unfoldable pub help : List ℕ
 help = flat_map line
     (codes "firuvaik signs a request and streams its events as a chain of signed frames."
     ∷ codes ""
-    ∷ codes "usage: firuvaik stream --name NAME --at N [--sha256] [--single-encode]"
-    ∷ codes "                [--no-normalize] [--unsigned] | firuvaik --help | --version"
+    ∷ codes "usage: firuvaik stream --name NAME --at N [--skew MILLISECONDS] [--omit-token]"
+    ∷ codes "         [--token-name NAME] [--query --expires SECONDS] [--sha256] [--unsigned]"
+    ∷ codes "         [--single-encode] [--no-normalize] | firuvaik --help | --version"
     ∷ codes ""
-    ∷ codes "NAME is the signing name of the service. N is the moment in seconds since"
+    ∷ codes "The first NAME is the service's signing name. N is the moment in seconds since"
     ∷ codes "1970-01-01T00:00:00Z. Standard input is the job, in these lines, and standard"
     ∷ codes "output gets the signed head and a line of hexadecimal for each frame."
     ∷ codes ""
@@ -26,10 +27,9 @@ help = flat_map line
     ∷ codes "  h NAME KIND VALUE          a header of the event"
     ∷ codes "  payload HEX                at most once an event"
     ∷ codes ""
-    ∷ codes "Exit status, and its line on standard error; N counts words or lines from 1:"
-    ∷ codes "  0 (no line)       2 bad word N    3 input over 67108864 bytes"
-    ∷ codes "  4 bad line N      5 read fault    7 refused CODE NAME"
-    ∷ codes "  9 output fault   10 no memory    11 not built N"
+    ∷ codes "Exit status, 0 or with its line on standard error; N is a word or line, from 1:"
+    ∷ codes "  2 bad word N    3 input over 67108864 bytes    4 bad line N    5 read fault"
+    ∷ codes "  7 refused CODE NAME    9 output fault    10 no memory    11 not built N"
     ∷ [])
 
 -- the name and the version of the program

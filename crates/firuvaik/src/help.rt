@@ -5,10 +5,11 @@ ghost use Rattle.firuvaik.specs.Asked.{text_asked, text_for};
 const HELP: &str = "\
 firuvaik signs a request and streams its events as a chain of signed frames.
 
-usage: firuvaik stream --name NAME --at N [--sha256] [--single-encode]
-                [--no-normalize] [--unsigned] | firuvaik --help | --version
+usage: firuvaik stream --name NAME --at N [--skew MILLISECONDS] [--omit-token]
+         [--token-name NAME] [--query --expires SECONDS] [--sha256] [--unsigned]
+         [--single-encode] [--no-normalize] | firuvaik --help | --version
 
-NAME is the signing name of the service. N is the moment in seconds since
+The first NAME is the service's signing name. N is the moment in seconds since
 1970-01-01T00:00:00Z. Standard input is the job, in these lines, and standard
 output gets the signed head and a line of hexadecimal for each frame.
 
@@ -23,10 +24,9 @@ output gets the signed head and a line of hexadecimal for each frame.
   h NAME KIND VALUE          a header of the event
   payload HEX                at most once an event
 
-Exit status, and its line on standard error; N counts words or lines from 1:
-  0 (no line)       2 bad word N    3 input over 67108864 bytes
-  4 bad line N      5 read fault    7 refused CODE NAME
-  9 output fault   10 no memory    11 not built N
+Exit status, 0 or with its line on standard error; N is a word or line, from 1:
+  2 bad word N    3 input over 67108864 bytes    4 bad line N    5 read fault
+  7 refused CODE NAME    9 output fault    10 no memory    11 not built N
 ";
 
 const VERSION: &str = "firuvaik 0.1.0\n";

@@ -1,13 +1,14 @@
 //! The program: makes the real objects, hands them to `run`, and ends with the number of its status.
 #![tactic(auto)]
 
-ghost use Rattle.std.specs.Prelude.{◌≡◌, ◌≤◌, ◌⊎◌, None, IfErr, IfSome, map};
+ghost use Rattle.std.specs.Prelude.{◌≡◌, ◌≤◌, ◌⊎◌, IfErr, IfSome, map};
 ghost use Rattle.std.specs.Process.{exit_status};
 ghost use Rattle.std.specs.String.{string_bytes};
 ghost use Rattle.firuvaik.specs.Asked.{text_asked};
-ghost use Rattle.signed_stream.specs.Plan.{writes};
-ghost use Rattle.signed_stream.specs.Run.{CountsWrites, GoesAsPlanned, Says};
-ghost use Rattle.signed_stream.specs.Status.{exit_code};
+ghost use Rattle.signed_stream.specs.Plan.{GoesAsPlanned, writes};
+ghost use Rattle.signed_stream.specs.Running.{CountsWrites};
+ghost use Rattle.signed_stream.specs.Saying.{Says};
+ghost use Rattle.signed_stream.specs.Status.{bad_words, done, ending_of, exit_code, no_memory};
 
 mod help;
 
@@ -30,14 +31,14 @@ fn main(rt: HostRuntime) -> ExitCode {
 
 // The exit code of a status.
 fn exit_code_of(status: Status) -> ExitCode
-    ensures { exit_status result ≡ exit_code status }
+    ensures { exit_status result ≡ exit_code (ending_of status) }
 {
     ExitCode::from(status.code())
 }
 
 // The words after the program's name, or how the run ends without them.
 fn words_of<R: rt::Env + Alloc<A = Global>>(rt: &R) -> Result<Vec<String>, Status>
-    ensures { IfErr result (λ status. (status ≡ Status.NoMemory) ⊎ (status ≡ Status.BadWords 1)) }
+    ensures { IfErr result (λ status. (ending_of status ≡ no_memory) ⊎ (ending_of status ≡ bad_words 1)) }
 {
     let mut args = match env::args(rt) {
         Ok(args) => args,
@@ -58,9 +59,9 @@ fn answer<R: rt::Clock + Input + Alloc<A = Global>, K: ByteSink, E: ByteSink>(
     out: &mut K,
     err: &mut E,
 ) -> Status
-    ensures printed { IfSome (text_asked (map string_bytes words.now)) (λ text. GoesAsPlanned (writes text None) result (K.held out.old) (K.held out.new)) }
-    ensures counted { CountsWrites result (K.faults out.old) (K.faults out.new) }
-    ensures said { Says result (E.held err.old) (E.held err.new) (E.faults err.old) (E.faults err.new) }
+    ensures printed { IfSome (text_asked (map string_bytes words.now)) (λ text. GoesAsPlanned (writes text done) (ending_of result) (K.held out.old) (K.held out.new)) }
+    ensures counted { CountsWrites (ending_of result) (K.faults out.old) (K.faults out.new) }
+    ensures said { Says (ending_of result) (E.held err.old) (E.held err.new) (E.faults err.old) (E.faults err.new) }
 {
     match help::text_asked(words) {
         Some(text) => say(rt.alloc(), print_text(text, out), err),
@@ -75,8 +76,8 @@ fn sign<R: rt::Clock + Input + Alloc<A = Global>, K: ByteSink, E: ByteSink>(
     out: &mut K,
     err: &mut E,
 ) -> Status
-    ensures counted { CountsWrites result (K.faults out.old) (K.faults out.new) }
-    ensures said { Says result (E.held err.old) (E.held err.new) (E.faults err.old) (E.faults err.new) }
+    ensures counted { CountsWrites (ending_of result) (K.faults out.old) (K.faults out.new) }
+    ensures said { Says (ending_of result) (E.held err.old) (E.held err.new) (E.faults err.old) (E.faults err.new) }
 {
     let alloc = rt.alloc();
     let mut input = StdSource::new(rt.reader());
@@ -96,8 +97,8 @@ fn sign<R: rt::Clock + Input + Alloc<A = Global>, K: ByteSink, E: ByteSink>(
 
 // Prints a text, and answers how the run ends.
 fn print_text<K: ByteSink>(text: &str, out: &mut K) -> Status
-    ensures printed { GoesAsPlanned (writes text.now None) result (K.held out.old) (K.held out.new) }
-    ensures counted { CountsWrites result (K.faults out.old) (K.faults out.new) }
+    ensures printed { GoesAsPlanned (writes text.now done) (ending_of result) (K.held out.old) (K.held out.new) }
+    ensures counted { CountsWrites (ending_of result) (K.faults out.old) (K.faults out.new) }
     ensures count { K.faults out.old ≤ K.faults out.new }
 {
     match write_all(out, text.as_bytes()) {

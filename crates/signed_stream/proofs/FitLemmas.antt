@@ -1,82 +1,97 @@
--- How the stream of a job fits its plan.
-use Rattle.std.proofs.Common.{◌≡◌, ℕ, inl, inr, true, List, ◌++◌, Option, Some, None, option_map, refl, sym, ap}
-use Rattle.std.specs.Prelude.{Result, Err}
+-- How the stream of a job goes as planned.
+use Rattle.std.proofs.Common.{◌≡◌, ℕ, ◌+◌, inl, inr, Bool, true, false, List, [], ◌∷◌, ◌++◌, length, replicate, suc, Option, Some, None, option_map, refl, sym, ap, arith}
+use Rattle.std.specs.Prelude.{Result, Ok, Err, String, string_bytes, if◌then◌else◌}
+use Rattle.std.specs.Option.{option_or}
+use Rattle.std.specs.declared.alloc.Global.{Global}
 use Rattle.smithy_core.specs.Civil.{is_in_years}
-use Rattle.smithy_core.specs.Message.{Parts}
+use Rattle.smithy_core.specs.Instant.{Instant}
+use Rattle.smithy_core.specs.Parts.{Parts}
+use Rattle.smithy_core.specs.declared.request.HttpRequest.{HttpRequest}
 use Rattle.smithy_http.specs.Target.{Target}
+use Rattle.eventstream.specs.Key.{Signer}
 use Rattle.sigv4.specs.Request.{Case}
-use Rattle.sigv4.specs.Refusal.{unfit}
-use Rattle.sigv4.specs.Signed.{signature_of, signed_headers}
-use Rattle.sigv4.specs.declared.error.SigningError.{SigningError}
+use Rattle.signed_stream.specs.Carriers.{GoesForJob, GoesForTarget}
+use Rattle.signed_stream.specs.Case.{Selected, job_case, request_moment}
+use Rattle.signed_stream.specs.Chain.{first_refusal, refusal_fault, streamed_lines}
 use Rattle.signed_stream.specs.Command.{Wanted}
-use Rattle.signed_stream.specs.Job.{PlainJob, plain_job}
-use Rattle.signed_stream.specs.Plan.{Plan, stops, case_plan, job_plan, target_plan, unsigned}
-use Rattle.signed_stream.specs.Refusal.{fault_for, fault_of, first_refusal}
-use Rattle.signed_stream.specs.Sending.{Sends, ended, halted}
-use Rattle.signed_stream.specs.Signing.{Selected, case_of}
-use Rattle.signed_stream.specs.Signs.{SignsRequest}
-use Rattle.signed_stream.specs.Steps.{Fits, FitsTarget}
-use Rattle.signed_stream.specs.Stream.{streamed_lines}
-use Rattle.signed_stream.specs.Targets.{SpellsAs}
+use Rattle.signed_stream.specs.Halt.{Sends, ended, halted}
+use Rattle.signed_stream.specs.Job.{JobParts, whole_job}
+use Rattle.signed_stream.specs.Plan.{GoesAsPlanned, Plan, ReadsTarget, Supplied, TargetRead, accepted, stops, unaccepted, unread}
+use Rattle.signed_stream.specs.Sign.{SignsJob, case_fault, request_fault, target_fault}
+use Rattle.signed_stream.specs.Status.{Ending, Fault, fault_of, invalid_uri, moment_out_of_range, no_memory, refused}
+use Rattle.signed_stream.specs.Stream.{GaveJob, case_plan, job_plan, profile_plan, request_plan, target_plan}
 use Rattle.signed_stream.specs.Written.{head, refusal_of}
-use Rattle.signed_stream.proofs.RunLemmas.{fits_no_memory}
-use Rattle.signed_stream.proofs.SendLemmas.{sends_fits, written_lines}
+use Rattle.signed_stream.proofs.RunLemmas.{first_moment, goes_no_memory, goes_stopped}
+use Rattle.signed_stream.proofs.SendLemmas.{end_counted, end_of, sends_goes, written_lines}
 use Rattle.signed_stream.specs.declared.halt.Halt.{Halt}
 use Rattle.signed_stream.specs.declared.halt.Halt.TheVariants as halts
-use Rattle.signed_stream.specs.declared.status.Status.{Status}
-use Rattle.signed_stream.specs.declared.status.Status.TheVariants.{Refused}
-use Rattle.signed_stream.specs.declared.status.StreamFault.{StreamFault}
-use Rattle.signed_stream.specs.declared.status.StreamFault.TheVariants.{InvalidUri}
 
 -- a fault that stops
-stopped : (fault told : StreamFault) (held : Option (List ℕ)) → fault ≡ told → Fits (stops (Refused fault)) (Refused told) held held
-stopped fault told held is = (inl (ap Refused (sym is)), refl)
+stopped : (fault told : Fault) (held : Option (List ℕ)) → fault ≡ told → GoesAsPlanned (stops (refused fault)) (refused told) held held
+stopped fault told held is = rw is (goes_stopped (refused told) held)
 
 -- a request that isn't signed is refused
-refused_fits : (text : List ℕ) (case : Target → Case) (events : List Parts) (target : Option Target) (told : StreamFault) (held : Option (List ℕ))
-    → option_map fault_for (unsigned case target) ≡ Some told → Fits (target_plan text case events target) (Refused told) held held
-refused_fits text case events None told held is = stopped InvalidUri told held cc
-refused_fits text case events (Some target) told held is = by_error (unfit (case target)) is
+refused_goes : (text : List ℕ) (at : Instant) (case : Target → Case) (events : List Parts) (moments : List Instant) (target : TargetRead) (told : Fault) (held : Option (List ℕ))
+    → request_fault at case target ≡ Some told → GoesAsPlanned (request_plan text at case events moments target) (refused told) held held
+refused_goes text at case events moments target told held is = by_years (is_in_years at) is
   where
-    by_error : (error : Option SigningError) → option_map fault_for error ≡ Some told → Fits (case_plan text (case target) events error) (Refused told) held held
-    by_error None is = cc
-    by_error (Some error) is = stopped (fault_for error) told held cc
+    by_target : (target : TargetRead) → target_fault case target ≡ Some told → GoesAsPlanned (target_plan text case events moments target) (refused told) held held
+    by_target unread is = cc
+    by_target unaccepted is = stopped invalid_uri told held cc
+    by_target (accepted target) is = rw is (goes_stopped (refused told) held)
 
-pub unsigned_fits : (text : List ℕ) (case : Target → Case) (events : List Parts) (headers : List (List ℕ × List ℕ)) (halt : Halt) (held : Option (List ℕ))
-    → SignsRequest text case headers (Err halt) → FitsTarget (SpellsAs text) (target_plan text case events) (halted halt) held held
-unsigned_fits text case events headers (halts.Refused told) held refused = inl (refused.0, refused.1, refused_fits text case events refused.0 told held refused.2)
-unsigned_fits text case events headers halts.OutputFault held refused = absurd refused
-unsigned_fits text case events headers halts.NoMemory held refused = inr (tt, λ target. fits_no_memory (target_plan text case events target) held)
+    by_years : (years : Bool) → option_or (if years then None else Some (moment_out_of_range at)) (target_fault case target) ≡ Some told
+        → GoesAsPlanned (if years then target_plan text case events moments target else stops (refused (moment_out_of_range at))) (refused told) held held
+    by_years true is = by_target target is
+    by_years false is = stopped (moment_out_of_range at) told held cc
+
+pub unsigned_goes : (text : List ℕ) (at : Instant) (case : Target → Case) (events : List Parts) (moments : List Instant) (new : HttpRequest) (halt : Halt) (held : Option (List ℕ))
+    → SignsJob text at case new (Err halt) → GoesForTarget text at case events moments (halted halt) held held
+unsigned_goes text at case events moments new (halts.Refused told) held signs = (signs.0, signs.1, refused_goes text at case events moments signs.0 (fault_of told) held signs.2)
+unsigned_goes text at case events moments new halts.OutputFault held signs = absurd signs
+unsigned_goes text at case events moments new halts.NoMemory held signs = (unread, tt, goes_no_memory (request_plan text at case events moments unread) held)
+
+-- a request that no test refuses is written
+passed_plan : (text : List ℕ) (at : Instant) (case : Target → Case) (events : List Parts) (moments : List Instant) (target : Target) → request_fault at case (accepted target) ≡ None
+    → request_plan text at case events moments (accepted target) ≡ case_plan text (case target) events moments None
+passed_plan text at case events moments target passed = by_years (is_in_years at) (case_fault (case target)) passed
+  where
+    by_years : (years : Bool) (fault : Option Fault) → option_or (if years then None else Some (moment_out_of_range at)) fault ≡ None
+        → (if years then case_plan text (case target) events moments fault else stops (refused (moment_out_of_range at))) ≡ case_plan text (case target) events moments None
+    by_years true None passed = refl
+    by_years true (Some fault) passed = cc
+    by_years false fault passed = cc
 
 -- a request that is signed is sent, and its events after it
-pub signed_fits : {T : Type 0} (text method : List ℕ) (case : Target → Case) (events : List Parts) (target : Target) (headers : List (List ℕ × List ℕ)) (signature : List ℕ) (before now : Option (List ℕ)) (answer : Result T Halt)
-    → SpellsAs text (Some target) → unfit (case target) ≡ None → method ≡ (case target).method → headers ≡ signed_headers (case target) → signature ≡ signature_of (case target)
-    → (let c = case target in let refusal = first_refusal c.signer 1 events c.at signature in
-    Sends (option_map fault_of refusal) (head method text headers ++ streamed_lines c.signer events c.at signature refusal) before now answer)
-    → FitsTarget (SpellsAs text) (target_plan text case events) (ended answer) before now
-signed_fits text method case events target headers signature before now answer reads fit method_is headers_are signature_is sends =
+pub signed_goes : {T : Type 0} (text method : List ℕ) (at : Instant) (case : Target → Case) (events : List Parts) (moments : List Instant) (new : HttpRequest) (signature : String Global) (before now : Option (List ℕ)) (answer : Result T Halt)
+    → (signs : SignsJob text at case new (Ok signature)) → ((target : Target) → method ≡ (case target).method) → string_bytes new.method ≡ method → length moments ≡ length events + 1
+    → (signer : Signer) → ((target : Target) → signer ≡ (case target).signer)
+    → (let refusal = first_refusal signer 1 events moments (string_bytes signature) in
+    Sends (refusal_fault refusal) (head (string_bytes new.method) (string_bytes new.target) new.headers ++ streamed_lines signer events moments (string_bytes signature) refusal) before now answer)
+    → GoesForTarget text at case events moments (ended answer) before now
+signed_goes text method at case events moments new signature before now answer signs method_is method_stays counted signer signer_is sends =
+    let target = signs.0 in
     let c = case target in
-    let sent = rw (method_is, headers_are, signature_is, ← written_lines (refusal_of c events) text c events) at sends in
-    inl (Some target, reads, rw fit (sends_fits _ _ before now answer sent))
+    let refusal = refusal_of c events moments in
+    let sent = rw (method_stays, method_is target, signer_is target, signs.3, signs.4, signs.5, ← written_lines refusal text c events moments) at sends in
+    (accepted target, signs.1, rw (passed_plan text at case events moments target signs.2, end_counted refusal events moments counted) (sends_goes _ _ before now answer sent))
 
 -- ## The job
 
--- an answer that fits one plan fits a plan that is the same
-fits_same : (Reads : Option Target → Type 0) (one other : Option Target → Plan) (answer : Status) (before now : Option (List ℕ))
-    → ((target : Option Target) → other target ≡ one target) → FitsTarget Reads one answer before now → FitsTarget Reads other answer before now
-fits_same Reads one other answer before now same (inl found) = inl (found.0, found.1, rw (same found.0) found.2)
-fits_same Reads one other answer before now same (inr first) = inr (first.0, λ target. rw (same target) (first.1 target))
-
 -- what the profile of a job gives
-pub record Gives (j : PlainJob) (k s r : List ℕ) : Type 0 where
-  pub key_id : j.settings.key_id ≡ Some k
-  pub secret : j.settings.secret ≡ Some s
-  pub region : j.settings.region ≡ Some r
+pub record Gives (j : JobParts) (k s r : List ℕ) : Type 0 where
+  pub key_id : j.profile.key_id ≡ Some k
+  pub secret : j.profile.secret ≡ Some s
+  pub region : j.profile.region ≡ Some r
 
-pub job_fits : (wanted : Wanted) (j : PlainJob) (selected : Selected) (answer : Status) (before now : Option (List ℕ))
-    → Gives j selected.key_id selected.secret selected.region → selected.token ≡ j.settings.token → is_in_years wanted.at ≡ true
-    → FitsTarget (SpellsAs j.target) (target_plan j.target (case_of j wanted selected) j.events) answer before now
-    → FitsTarget (SpellsAs j.target) (λ target. job_plan wanted target (plain_job j)) answer before now
-job_fits wanted j selected answer before now gives token years =
-    fits_same (SpellsAs j.target) (target_plan j.target (case_of j wanted selected) j.events) (λ target. job_plan wanted target (plain_job j)) answer before now
-    (λ target. rw (gives.key_id, gives.secret, gives.region, years, ← token) refl)
+pub job_goes : (wanted : Wanted) (j : JobParts) (selected : Selected) (answer : Ending) (before now : Option (List ℕ))
+    → Gives j selected.key_id selected.secret selected.region → selected.token ≡ j.profile.token
+    → GoesForTarget j.target (request_moment wanted wanted.at) (job_case j wanted selected wanted.at) j.events (replicate (length j.events + 1) wanted.at) answer before now
+    → GoesForJob wanted (whole_job j) answer before now
+job_goes wanted j selected answer before now gives token goes =
+    let given : Supplied = record { texts = []; moments = replicate (length j.events + 2) wanted.at; target = goes.0 } in
+    let gave : GaveJob wanted j given = record { texts = refl; moments = refl; target = goes.1 } in
+    let same : job_plan wanted given (whole_job j)
+    ≡ request_plan j.target (request_moment wanted wanted.at) (job_case j wanted selected wanted.at) j.events (replicate (length j.events + 1) wanted.at) goes.0 =
+    rw (gives.key_id, gives.secret, gives.region, first_moment j.events wanted.at, ← token) refl in
+    (given, gave, rw same goes.2)

@@ -1,147 +1,248 @@
 -- A run that is done has streamed, and what is valid is done.
-use Rattle.std.proofs.Common.{◌≡◌, ℕ, ◌≤◌, ◌⊎◌, inl, inr, Bool, true, false, List, Option, Some, None, option_map, nat_lt, length, refl, sym, arith}
+use Rattle.std.proofs.Common.{◌≡◌, ◌==◌, ℕ, ◌+◌, ◌≤◌, ◌⊎◌, inl, inr, Bool, true, false, List, [], ◌∷◌, Option, Some, None, option_map, nat_lt, length, replicate, refl, sym, ◌∙◌, arith}
 use Rattle.std.specs.Prelude.{if◌then◌else◌}
+use Rattle.std.specs.Option.{option_or}
+use Rattle.std.proofs.lemmas.Bool.{eq-eqb, eqb-true}
 use Rattle.std.proofs.lemmas.Bool.Decides.{nat_tests}
 use Rattle.smithy_core.specs.Civil.{IsInYears, is_in_years}
+use Rattle.smithy_core.specs.Instant.{Instant}
+use Rattle.smithy_core.specs.Outside.{Gains}
+use Rattle.smithy_core.specs.Parts.{Parts}
 use Rattle.smithy_http.specs.Target.{Target}
-use Rattle.sigv4.specs.Refusal.{unfit}
+use Rattle.sigv4.specs.Request.{Case}
+use Rattle.sigv4.specs.Refusal.{unfit, unfit_signed_target}
 use Rattle.sigv4.specs.Signed.{signature_of}
 use Rattle.sigv4.specs.declared.error.SigningError.{SigningError}
-use Rattle.signed_stream.specs.Command.{Command, Wanted, bad_word, unbuilt_word, stream, command}
-use Rattle.signed_stream.specs.Job.{PlainJob, Reading, plain_job, bad_line, unbuilt_line, job}
-use Rattle.signed_stream.specs.Plan.{ReadsTargetOf, ends, streams, stops, writes, ask, ask_plan, case_plan, command_ask, has_later_variable, input_plan, job_plan, most_input, settings_plan, target_plan}
-use Rattle.signed_stream.specs.Refusal.{Refusal, fault_of}
-use Rattle.signed_stream.specs.Run.{Completes, EndsAsPlanned, IsStreamable, IsValid, RunsAsPlanned, Streams, streamed}
-use Rattle.signed_stream.specs.Signing.{Selected, case_of}
-use Rattle.signed_stream.specs.Steps.{Fits, FitsTarget, StreamsInput}
-use Rattle.signed_stream.specs.Targets.{SpellsAs}
-use Rattle.signed_stream.specs.Written.{refusal_of}
-use Rattle.signed_stream.proofs.StreamLemmas.{frames_unrefused, unrefused_frames}
-use Rattle.signed_stream.proofs.TargetLemmas.{reads_one}
+use Rattle.signed_stream.specs.Carriers.{GoesForInput}
+use Rattle.signed_stream.specs.Case.{Selected, job_case, profile_giving, request_moment}
+use Rattle.signed_stream.specs.Chain.{IsChained, Refusal}
+use Rattle.signed_stream.specs.Command.{Command, Wanted, bad_word, command, stream, unbuilt_word}
+use Rattle.signed_stream.specs.Job.{JobParts, Reading, bad_line, job, unbuilt_line, whole_job}
+use Rattle.signed_stream.specs.Plan.{EndsAsPlanned, GoesAsPlanned, ReadsTarget, Supplied, TargetRead, accepted, most_input, stops, unaccepted, unless_large, unread, writes}
+use Rattle.signed_stream.specs.Running.{Completes, Gave, IsValid, RunsAsPlanned, Streams, ask, ask_plan, command_ask, ends, has_later_variable, streams}
+use Rattle.signed_stream.specs.Sign.{case_fault, fault_for, unsigned}
+use Rattle.signed_stream.specs.Status.{Ending, Fault, done, job_too_large, no_memory, not_built, output_fault, read_fault, refused, moment_out_of_range}
+use Rattle.signed_stream.specs.Stream.{GaveJob, GaveReading, IsStreamable, case_plan, input_plan, job_plan, profile_plan, selected_plan, streamed, target_plan}
+use Rattle.signed_stream.specs.Written.{refusal_of, written, written_before, written_end, written_until}
+use Rattle.signed_stream.proofs.ChainLemmas.{chained_moments, frames_unrefused, unrefused_frames}
+use Rattle.signed_stream.proofs.TargetLemmas.{reads_one, reads_one_way}
 use Rattle.signed_stream.proofs.YearLemmas.{in_years, years_in}
-use Rattle.signed_stream.specs.declared.status.Status.{Status}
-use Rattle.signed_stream.specs.declared.status.Status.TheVariants.{Done, NoMemory, NotBuilt, Refused}
-use Rattle.signed_stream.specs.declared.status.StreamFault.TheVariants.{InvalidUri, MomentOutOfRange}
 
 -- ## Done
 
 -- a plan to stop isn't done, but where its end says so
-stops_undone : (status : Status) (before now : Option (List ℕ)) → (status ≡ Done → ⊥) → Fits (stops status) Done before now → ⊥
-stops_undone status before now other fits = by_answer fits.0
+stops_undone : (end : Ending) (before now : Option (List ℕ)) → (end ≡ done → ⊥) → GoesAsPlanned (stops end) done before now → ⊥
+stops_undone end before now other goes = by_end goes.ends
   where
-    by_answer : (Done ≡ status) ⊎ (Done ≡ NoMemory) → ⊥
-    by_answer (inl is) = other (sym is)
-    by_answer (inr is) = cc
+    by_end : (done ≡ end) ⊎ (done ≡ read_fault) ⊎ (done ≡ no_memory) → ⊥
+    by_end (inl is) = other (sym is)
+    by_end (inr (inl is)) = cc
+    by_end (inr (inr is)) = cc
 
-none_refused : (refusal : Option Refusal) → option_map fault_of refusal ≡ None → refusal ≡ None
-none_refused None none = refl
-none_refused (Some refusal) none = cc
-
--- a job whose target spells none isn't done
-done_reads : (wanted : Wanted) (j : PlainJob) (before now : Option (List ℕ)) (key_id secret region : Option (List ℕ))
-    → Fits (settings_plan j wanted None j.settings key_id secret region) Done before now → ⊥
-done_reads wanted j before now (Some key_id) (Some secret) (Some region) = by_years (is_in_years wanted.at)
+-- a plan to write is done where its end says so
+writes_done : (text : List ℕ) (end : Ending) (before now : Option (List ℕ)) → GoesAsPlanned (writes text end) done before now → end ≡ done
+writes_done text end before now goes = by_end goes.ends
   where
-    by_years : (years : Bool) → Fits (if years then stops (Refused InvalidUri) else stops (Refused (MomentOutOfRange wanted.at))) Done before now → ⊥
-    by_years true fits = stops_undone _ before now (λ e. cc) fits
-    by_years false fits = stops_undone _ before now (λ e. cc) fits
-done_reads wanted j before now (Some key_id) (Some secret) None = stops_undone _ before now (λ e. cc)
-done_reads wanted j before now (Some key_id) None region = stops_undone _ before now (λ e. cc)
-done_reads wanted j before now None secret region = stops_undone _ before now (λ e. cc)
+    by_end : (done ≡ end) ⊎ (done ≡ read_fault) ⊎ (done ≡ output_fault) ⊎ (done ≡ no_memory) → end ≡ done
+    by_end (inl is) = sym is
+    by_end (inr (inl is)) = cc
+    by_end (inr (inr (inl is))) = cc
+    by_end (inr (inr (inr is))) = cc
 
--- a job whose target spells this is done
-done_job : (wanted : Wanted) (bytes : List ℕ) (j : PlainJob) (target : Target) (before now : Option (List ℕ)) (key_id secret region : Option (List ℕ))
-    → length bytes ≤ most_input → job bytes ≡ plain_job j → SpellsAs j.target (Some target)
-    → j.settings ≡ record { key_id = key_id; secret = secret; token = j.settings.token; region = region }
-    → Fits (settings_plan j wanted (Some target) j.settings key_id secret region) Done before now → StreamsInput wanted bytes before now
-done_job wanted bytes j target before now (Some key_id) (Some secret) (Some region) short spelled accepted settled fits = by_years (is_in_years wanted.at) refl fits
+-- a case that is done
+record DoneCase (text : List ℕ) (c : Case) (events : List Parts) (moments : List Instant) (before now : Option (List ℕ)) : Type 0 where
+  fit : unfit c ≡ None
+  fits : unfit_signed_target c ≡ None
+  chained : IsChained c.signer events moments (signature_of c)
+  gains : Gains before now (written text c events moments)
+
+no_fault : (error : Option SigningError) → option_map fault_for error ≡ None → error ≡ None
+no_fault None none = refl
+no_fault (Some error) none = cc
+
+none_of : (a b : Option SigningError) → option_or a b ≡ None → (a ≡ None) × (b ≡ None)
+none_of None b none = (refl, none)
+none_of (Some error) b none = cc
+
+done_case : (text : List ℕ) (c : Case) (events : List Parts) (moments : List Instant) (before now : Option (List ℕ)) (fault : Option Fault) → case_fault c ≡ fault
+    → GoesAsPlanned (case_plan text c events moments fault) done before now → DoneCase text c events moments before now
+done_case text c events moments before now (Some fault) is goes = absurd (stops_undone _ before now (λ e. cc) goes)
+done_case text c events moments before now None is goes = by_refusal (refusal_of c events moments) refl goes
   where
-    selected : Selected
-    selected = record { key_id = key_id; secret = secret; token = j.settings.token; region = region }
+    passed : (unfit c ≡ None) × (unfit_signed_target c ≡ None)
+    passed = none_of (unfit c) (unfit_signed_target c) (no_fault (unsigned c) is)
 
-    by_fit : IsInYears wanted.at → (error : Option SigningError) → unfit (case_of j wanted selected target) ≡ error
-        → Fits (case_plan j.target (case_of j wanted selected target) j.events error) Done before now → StreamsInput wanted bytes before now
-    by_fit years (Some error) is fits = absurd (stops_undone _ before now (λ e. cc) fits)
-    by_fit years None fit fits =
-        let c = case_of j wanted selected target in
-        let unrefused = none_refused (refusal_of c j.events) fits.0 in
-        let input : IsStreamable wanted bytes = record {
-          read = j;
-          selected = selected;
-          target = target;
-          short = short;
-          spelled = spelled;
-          settled = settled;
-          years = years;
-          accepted = accepted;
-          fit = fit;
-          framed = unrefused_frames c.signer 1 j.events wanted.at (signature_of c) years unrefused;
-        } in
-        (input, rw unrefused at fits.1)
+    by_count : (whole : Bool) → (length moments == length events + 1) ≡ whole → refusal_of c events moments ≡ None
+        → GoesAsPlanned (writes (written text c events moments) (if whole then done else no_memory)) done before now → DoneCase text c events moments before now
+    by_count false counted none goes = let wrong : no_memory ≡ done = writes_done _ _ before now goes in cc
+    by_count true counted none goes = record {
+      fit = passed.0;
+      fits = passed.1;
+      chained = unrefused_frames c.signer 1 events moments (signature_of c) (eqb-true _ _ counted) none;
+      gains = goes.gains;
+    }
 
-    by_years : (years : Bool) → is_in_years wanted.at ≡ years
-        → Fits (if years then target_plan j.target (case_of j wanted selected) j.events (Some target) else stops (Refused (MomentOutOfRange wanted.at))) Done before now → StreamsInput wanted bytes before now
-    by_years true within fits = by_fit (in_years wanted.at within) (unfit (case_of j wanted selected target)) refl fits
-    by_years false within fits = absurd (stops_undone _ before now (λ e. cc) fits)
-done_job wanted bytes j target before now (Some key_id) (Some secret) None short spelled accepted settled fits = absurd (stops_undone _ before now (λ e. cc) fits)
-done_job wanted bytes j target before now (Some key_id) None region short spelled accepted settled fits = absurd (stops_undone _ before now (λ e. cc) fits)
-done_job wanted bytes j target before now None secret region short spelled accepted settled fits = absurd (stops_undone _ before now (λ e. cc) fits)
+    by_refusal : (refusal : Option Refusal) → refusal_of c events moments ≡ refusal
+        → GoesAsPlanned (writes (written_until refusal text c events moments) (written_end refusal events moments)) done before now → DoneCase text c events moments before now
+    by_refusal (Some refusal) is goes = let wrong : refused refusal.fault ≡ done = writes_done _ _ before now goes in cc
+    by_refusal None none goes = by_count (length moments == length events + 1) refl none goes
 
--- an input that is done has streamed
-pub done_streams : (wanted : Wanted) (bytes : List ℕ) (reading : Reading) (before now : Option (List ℕ)) → length bytes ≤ most_input → job bytes ≡ reading
-    → FitsTarget (ReadsTargetOf reading) (λ target. job_plan wanted target reading) Done before now → StreamsInput wanted bytes before now
-done_streams wanted bytes reading before now short spelled (inr first) = absurd first.0
-done_streams wanted bytes (bad_line place) before now short spelled (inl found) = absurd (stops_undone _ before now (λ e. cc) found.2)
-done_streams wanted bytes (unbuilt_line place) before now short spelled (inl found) = absurd (stops_undone _ before now (λ e. cc) found.2)
-done_streams wanted bytes (plain_job j) before now short spelled (inl found) = by_target found.0 found.1 found.2
+-- a job that is done under what its profile gives
+record DoneJob (j : JobParts) (wanted : Wanted) (selected : Selected) (given : Supplied) (before now : Option (List ℕ)) : Type 0 where
+  first : Instant
+  others : List Instant
+  target : Target
+  moments : given.moments ≡ first ∷ others
+  targets : given.target ≡ accepted target
+  years : IsInYears (request_moment wanted first)
+  case : DoneCase j.target (job_case j wanted selected first target) j.events others before now
+
+done_target : (j : JobParts) (wanted : Wanted) (selected : Selected) (given : Supplied) (first : Instant) (others : List Instant) (before now : Option (List ℕ)) → given.moments ≡ first ∷ others → IsInYears (request_moment wanted first)
+    → (target : TargetRead) → given.target ≡ target → GoesAsPlanned (target_plan j.target (job_case j wanted selected first) j.events others target) done before now → DoneJob j wanted selected given before now
+done_target j wanted selected given first others before now moments years unread is goes = absurd (stops_undone _ before now (λ e. cc) goes)
+done_target j wanted selected given first others before now moments years unaccepted is goes = absurd (stops_undone _ before now (λ e. cc) goes)
+done_target j wanted selected given first others before now moments years (accepted target) is goes =
+    let c = job_case j wanted selected first target in record {
+      first = first;
+      others = others;
+      target = target;
+      moments = moments;
+      targets = is;
+      years = years;
+      case = done_case j.target c j.events others before now (case_fault c) refl goes;
+    }
+
+done_selected : (j : JobParts) (wanted : Wanted) (selected : Selected) (given : Supplied) (before now : Option (List ℕ)) (moments : List Instant) → given.moments ≡ moments
+    → GoesAsPlanned (selected_plan j wanted selected given.target moments) done before now → DoneJob j wanted selected given before now
+done_selected j wanted selected given before now [] is goes = absurd (stops_undone _ before now (λ e. cc) goes)
+done_selected j wanted selected given before now (first ∷ others) is goes = by_years (is_in_years (request_moment wanted first)) refl goes
   where
-    by_target : (target : Option Target) → SpellsAs j.target target → Fits (job_plan wanted target (plain_job j)) Done before now → StreamsInput wanted bytes before now
-    by_target None reads fits = absurd (done_reads wanted j before now j.settings.key_id j.settings.secret j.settings.region fits)
-    by_target (Some target) reads fits =
-        done_job wanted bytes j target before now j.settings.key_id j.settings.secret j.settings.region short spelled reads refl fits
+    by_years : (years : Bool) → is_in_years (request_moment wanted first) ≡ years
+        → GoesAsPlanned (if years then target_plan j.target (job_case j wanted selected first) j.events others given.target else stops (refused (moment_out_of_range (request_moment wanted first)))) done before now
+        → DoneJob j wanted selected given before now
+    by_years true within goes = done_target j wanted selected given first others before now is (in_years (request_moment wanted first) within) given.target refl goes
+    by_years false within goes = absurd (stops_undone _ before now (λ e. cc) goes)
 
--- the words and the variables ask to stream
-asked_stream : (words : List (List ℕ)) (env : List (List ℕ × List ℕ)) (wanted : Wanted) → streams wanted ≡ ask words env → (command words ≡ stream wanted) × (has_later_variable env ≡ false)
+-- an input that has streamed
+abbrev HasStreamed : Wanted → List ℕ → Supplied → Option (List ℕ) → Option (List ℕ) → Type 0
+HasStreamed wanted bytes given before now = (input : IsStreamable wanted bytes given) × Gains before now (streamed input)
+
+done_profile : (wanted : Wanted) (bytes : List ℕ) (j : JobParts) (given : Supplied) (before now : Option (List ℕ)) (key_id secret region : Option (List ℕ))
+    → length bytes ≤ most_input → job bytes ≡ whole_job j → GaveJob wanted j given
+    → j.profile ≡ record { key_id = key_id; secret = secret; token = j.profile.token; region = region }
+    → GoesAsPlanned (profile_plan j wanted given key_id secret region) done before now → HasStreamed wanted bytes given before now
+done_profile wanted bytes j given before now (Some key_id) (Some secret) (Some region) short spelled gave settled goes =
+    let selected : Selected = record { key_id = key_id; secret = secret; token = j.profile.token; region = region } in
+    let did = done_selected j wanted selected given before now given.moments refl goes in
+    let input : IsStreamable wanted bytes given = record {
+      read = j;
+      selected = selected;
+      first = did.first;
+      others = did.others;
+      target = did.target;
+      short = short;
+      spelled = spelled;
+      gave = gave;
+      moments = did.moments;
+      targets = did.targets;
+      settled = settled;
+      years = did.years;
+      fit = did.case.fit;
+      fits = did.case.fits;
+      chained = did.case.chained;
+    } in
+    (input, did.case.gains)
+done_profile wanted bytes j given before now (Some key_id) (Some secret) None short spelled gave settled goes = absurd (stops_undone _ before now (λ e. cc) goes)
+done_profile wanted bytes j given before now (Some key_id) None region short spelled gave settled goes = absurd (stops_undone _ before now (λ e. cc) goes)
+done_profile wanted bytes j given before now None secret region short spelled gave settled goes = absurd (stops_undone _ before now (λ e. cc) goes)
+
+done_reading : (wanted : Wanted) (bytes : List ℕ) (reading : Reading) (given : Supplied) (before now : Option (List ℕ)) → length bytes ≤ most_input → job bytes ≡ reading → GaveReading wanted reading given
+    → GoesAsPlanned (job_plan wanted given reading) done before now → HasStreamed wanted bytes given before now
+done_reading wanted bytes (bad_line place) given before now short spelled gave goes = absurd (stops_undone _ before now (λ e. cc) goes)
+done_reading wanted bytes (unbuilt_line place) given before now short spelled gave goes = absurd (stops_undone _ before now (λ e. cc) goes)
+done_reading wanted bytes (whole_job j) given before now short spelled gave goes =
+    done_profile wanted bytes j given before now j.profile.key_id j.profile.secret j.profile.region short spelled gave refl goes
+
+done_input : (wanted : Wanted) (bytes : List ℕ) (given : Supplied) (before now : Option (List ℕ)) → GaveReading wanted (job bytes) given
+    → GoesAsPlanned (input_plan wanted bytes given) done before now → HasStreamed wanted bytes given before now
+unfolding input_plan
+done_input wanted bytes given before now gave goes = by_length (nat_lt most_input (length bytes)) refl goes
+  where
+    by_length : (large : Bool) → nat_lt most_input (length bytes) ≡ large
+        → GoesAsPlanned (if large then stops job_too_large else job_plan wanted given (job bytes)) done before now → HasStreamed wanted bytes given before now
+    by_length true is goes = absurd (stops_undone _ before now (λ e. cc) goes)
+    by_length false is goes = done_reading wanted bytes (job bytes) given before now (grind (arith, nat_tests)) refl gave goes
+
+-- a run that is done has streamed what is valid
+pub done_streams : (words : List (List ℕ)) (env : List (List ℕ × List ℕ)) (bytes : List ℕ) (before now : Option (List ℕ)) → GoesForInput (ask words env) bytes done before now → Streams words env bytes before now
 unfolding ask
-asked_stream words env wanted = by_command (command words)
+done_streams words env bytes before now found = by_command (command words) refl found.1.gave found.1.goes
   where
-    by_variable : (given : Wanted) (later : Bool) → streams wanted ≡ (if later then ends (NotBuilt 0) else streams given) → (stream given ≡ stream wanted) × (later ≡ false)
-    by_variable given true is = cc
-    by_variable given false is = let same : wanted ≡ given = cc in (rw same refl, refl)
+    by_variable : (wanted : Wanted) (later : Bool) → command words ≡ stream wanted → has_later_variable env ≡ later
+        → Gave (if later then ends (not_built 0) else streams wanted) bytes found.0
+        → GoesAsPlanned (ask_plan (if later then ends (not_built 0) else streams wanted) bytes found.0) done before now → Streams words env bytes before now
+    by_variable wanted true asked is gave goes = absurd (stops_undone _ before now (λ e. cc) goes)
+    by_variable wanted false asked is gave goes =
+        let did = done_input wanted bytes found.0 before now gave goes in
+        (found.0, record { wanted = wanted; asked = asked; built = is; input = did.0 }, did.1)
 
-    by_command : (asked : Command) → streams wanted ≡ command_ask env asked → (asked ≡ stream wanted) × (has_later_variable env ≡ false)
-    by_command (bad_word place) is = cc
-    by_command (unbuilt_word place) is = cc
-    by_command (stream given) is = by_variable given (has_later_variable env) is
-
--- words that ask to stream an input that has streamed
-pub asked_streams : (words : List (List ℕ)) (env : List (List ℕ × List ℕ)) (bytes : List ℕ) (wanted : Wanted) (before now : Option (List ℕ))
-    → streams wanted ≡ ask words env → StreamsInput wanted bytes before now → Streams words env bytes before now
-asked_streams words env bytes wanted before now asks did =
-    let asked = asked_stream words env wanted asks in
-    (record { wanted = wanted; asked = asked.0; built = asked.1; input = did.0 }, did.1)
+    by_command : (asked : Command) → command words ≡ asked → Gave (command_ask env asked) bytes found.0
+        → GoesAsPlanned (ask_plan (command_ask env asked) bytes found.0) done before now → Streams words env bytes before now
+    by_command (bad_word place) is gave goes = absurd (stops_undone _ before now (λ e. cc) goes)
+    by_command (unbuilt_word place) is gave goes = absurd (stops_undone _ before now (λ e. cc) goes)
+    by_command (stream wanted) is gave goes = by_variable wanted (has_later_variable env) is refl gave goes
 
 -- ## Valid
 
--- the plan of a valid input is to write all
-valid_plan : (words : List (List ℕ)) (env : List (List ℕ × List ℕ)) (bytes : List ℕ) (valid : IsValid words env bytes)
-    → ask_plan (ask words env) bytes (Some valid.input.target) ≡ writes (streamed valid.wanted bytes valid.input) None
-unfolding ask input_plan
-valid_plan words env bytes valid =
-    let input = valid.input in
-    let c = case_of input.read valid.wanted input.selected input.target in
+-- what is valid asks to stream
+valid_asks : (words : List (List ℕ)) (env : List (List ℕ × List ℕ)) (bytes : List ℕ) (given : Supplied) (valid : IsValid words env bytes given) → ask words env ≡ streams valid.wanted
+unfolding ask
+valid_asks words env bytes given valid = rw (valid.asked, valid.built) refl
+
+-- the plan of a valid input, for these moments, is that of its target
+valid_plan : (wanted : Wanted) (bytes : List ℕ) (given other : Supplied) (input : IsStreamable wanted bytes given) → other.moments ≡ input.first ∷ input.others
+    → input_plan wanted bytes other ≡ target_plan input.read.target (job_case input.read wanted input.selected input.first) input.read.events input.others other.target
+unfolding input_plan
+valid_plan wanted bytes given other input moments =
     let large : nat_lt most_input (length bytes) ≡ false = (let short = input.short in grind (arith, nat_tests)) in
-    let years = years_in valid.wanted.at input.years in
-    let unrefused = frames_unrefused c.signer 1 input.read.events valid.wanted.at (signature_of c) input.framed in
-    rw (valid.asked, valid.built, large, input.spelled, input.settled, years, input.fit, unrefused) refl
+    rw (large, input.spelled, input.settled, moments, years_in (request_moment wanted input.first) input.years) refl
+
+-- for its target it is to write all
+valid_target : (wanted : Wanted) (bytes : List ℕ) (given : Supplied) (input : IsStreamable wanted bytes given)
+    → target_plan input.read.target (job_case input.read wanted input.selected input.first) input.read.events input.others (accepted input.target) ≡ writes (streamed input) done
+valid_target wanted bytes given input =
+    let c = job_case input.read wanted input.selected input.first input.target in
+    let none = frames_unrefused c.signer 1 input.read.events input.others (signature_of c) input.chained in
+    let counted : (length input.others == length input.read.events + 1) ≡ true = eq-eqb _ _ (chained_moments c.signer input.read.events input.others (signature_of c) input.chained) in
+    rw (input.fit, input.fits, none, counted) refl
+
+-- what stops for want of memory completes
+stopped_completes : (answer : Ending) → EndsAsPlanned (stops no_memory) answer → Completes answer
+stopped_completes answer (inl is) = inr (inr (inr is))
+stopped_completes answer (inr (inl is)) = inr (inl is)
+stopped_completes answer (inr (inr is)) = inr (inr (inr is))
+
+-- a valid input completes, also where the target wasn't read
+completes_input : (wanted : Wanted) (bytes : List ℕ) (given other : Supplied) (answer : Ending) (input : IsStreamable wanted bytes given) → GaveJob wanted input.read other
+    → EndsAsPlanned (input_plan wanted bytes other) answer → Completes answer
+completes_input wanted bytes given other answer input gave goes =
+    by_target other.target gave.target (rw (valid_plan wanted bytes given other input (gave.moments ∙ sym input.gave.moments ∙ input.moments)) at goes)
+  where
+    reads : ReadsTarget input.read.target (accepted input.target)
+    reads = rw input.targets at input.gave.target
+
+    by_target : (target : TargetRead) → ReadsTarget input.read.target target
+        → EndsAsPlanned (target_plan input.read.target (job_case input.read wanted input.selected input.first) input.read.events input.others target) answer → Completes answer
+    by_target unread found goes = stopped_completes answer goes
+    by_target unaccepted found goes = absurd (reads_one_way input.read.target input.target found reads)
+    by_target (accepted target) found goes =
+        let same = reads_one input.read.target target input.target found reads in
+        rw (same, valid_target wanted bytes given input) at goes
 
 -- what is valid completes
-pub completes : (words : List (List ℕ)) (env : List (List ℕ × List ℕ)) (bytes : List ℕ) (answer : Status) (before now : Option (List ℕ)) (valid : IsValid words env bytes)
-    → RunsAsPlanned (ask words env) bytes answer before now → Completes answer
-completes words env bytes answer before now valid (inl found) =
-    let input = valid.input in
-    let reads : SpellsAs input.read.target found.0 = rw input.spelled at found.1 in
-    let same = reads_one input.read.target found.0 (Some input.target) reads input.accepted in
-    let planned : EndsAsPlanned (ask_plan (ask words env) bytes (Some input.target)) answer = rw (← same) found.2.ends in
-    rw (valid_plan words env bytes valid) at planned
-completes words env bytes answer before now valid (inr first) = rw (valid_plan words env bytes valid) at (first.1 (Some valid.input.target)).ends
+pub completes : (words : List (List ℕ)) (env : List (List ℕ × List ℕ)) (bytes : List ℕ) (given : Supplied) (answer : Ending) (before now : Option (List ℕ)) → IsValid words env bytes given
+    → GoesForInput (ask words env) bytes answer before now → Completes answer
+completes words env bytes given answer before now valid found =
+    let asks = valid_asks words env bytes given valid in
+    let gave : GaveJob valid.wanted valid.input.read found.0 = rw (asks, valid.input.spelled) at found.1.gave in
+    completes_input valid.wanted bytes given found.0 answer valid.input gave (rw asks at found.1.goes.ends)

@@ -11,7 +11,7 @@ use Rattle.std.proofs.lemmas.Str.{utf8_valid_len-IsUtf8}
 use Rattle.signed_stream.specs.Fault.{placed}
 use Rattle.signed_stream.specs.Job.{Draft, Reading, job, line_step, lines_from, no_draft}
 use Rattle.signed_stream.specs.Lines.{lines_of, onto_first, pair_of}
-use Rattle.signed_stream.specs.Reading.{ReadsJob, Steps, texts_of_pair}
+use Rattle.signed_stream.specs.Draft.{ReadsJob, Steps, texts_of_pair}
 use Rattle.signed_stream.specs.declared.job.draft.Draft.{Draft as JobDraft}
 use Rattle.signed_stream.specs.declared.job.fault.LineFault.{LineFault}
 use Rattle.signed_stream.specs.declared.job.fault.LineFault.TheVariants.{Bad, NotBuilt, NoMemory}

@@ -77,14 +77,25 @@ unfolding number spelled
 unparsed w text n = let parts = or_parts (is_natural text) (is_negative text) n in rw (parts.0, parts.1) refl
 
 -- the number, where 32 bits hold it
-pub parsed_within : {E : Type 0} (text : List ℕ) (r : Result ℕ E) → ParsesUnsigned 32 10 text r → is_natural text ≡ true → result_ok r ≡ natural_below 4294967296 text
+pub parsed_within_32 : {E : Type 0} (text : List ℕ) (r : Result ℕ E) → ParsesUnsigned 32 10 text r → is_natural text ≡ true → result_ok r ≡ natural_below 4294967296 text
 unfolding natural_below
-parsed_within {E} text (Ok n) h natural =
+parsed_within_32 {E} text (Ok n) h natural =
     let parts = parse_digits own {E = E} 32 text (Ok n) h (natural_digits text natural) in grind (arith, nat_tests)
-parsed_within {E} text (Err e) h natural =
+parsed_within_32 {E} text (Err e) h natural =
     let parts = parse_digits own {E = E} 32 text (Err e) h (natural_digits text natural) in
     let some = natural_length text natural in
     let past = λ (lt : number_on 0 text < 2 ^ 32). parts (some, lt) in
+    grind (arith, nat_tests)
+
+-- the number, where 64 bits hold it
+pub parsed_within_64 : {E : Type 0} (text : List ℕ) (r : Result ℕ E) → ParsesUnsigned 64 10 text r → is_natural text ≡ true → result_ok r ≡ natural_below 18446744073709551616 text
+unfolding natural_below
+parsed_within_64 {E} text (Ok n) h natural =
+    let parts = parse_digits own {E = E} 64 text (Ok n) h (natural_digits text natural) in grind (arith, nat_tests)
+parsed_within_64 {E} text (Err e) h natural =
+    let parts = parse_digits own {E = E} 64 text (Err e) h (natural_digits text natural) in
+    let some = natural_length text natural in
+    let past = λ (lt : number_on 0 text < 2 ^ 64). parts (some, lt) in
     grind (arith, nat_tests)
 
 -- a text that spells no natural number
@@ -132,6 +143,6 @@ narrowed_none w text wide narrow = go (spelled text) wide
     go None none = refl
     go (Some z) none = none_narrower w z narrow none
 
-pub ruleset below = (parsed_within, none_within, below_less)
+pub ruleset below = (parsed_within_32, parsed_within_64, none_within, below_less)
 
 pub ruleset narrowed = (narrowed_some, narrowed_none)

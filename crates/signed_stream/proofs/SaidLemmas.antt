@@ -1,88 +1,89 @@
 -- A run that says how it ended: the end stays, or want of memory takes its place.
-use Rattle.std.proofs.Common.{◌≡◌, ℕ, ◌≤◌, ◌⊎◌, inl, inr, List, Option, refl, sym, ◌∙◌}
-use Rattle.smithy_core.specs.Outside.{RoseOrStands}
+use Rattle.std.proofs.Common.{◌≡◌, ℕ, ◌≤◌, ◌⊎◌, inl, inr, Bool, List, [], Option, Some, None, refl, sym, ◌∙◌}
+use Rattle.smithy_core.specs.Outside.{Rose}
 use Rattle.smithy_core.proofs.GainLemmas.{prefix_at_start, prefix_from_whole}
-use Rattle.signed_stream.specs.Plan.{Ask, ask_plan, ends, streams, Plan, stops, writes}
-use Rattle.signed_stream.specs.Run.{CountsReads, CountsWrites, EndsAsAsked, GainsAsPlanned, GoesAsPlanned, Keeps, MayComeFirst, RunsAsPlanned}
-use Rattle.signed_stream.proofs.RunLemmas.{ends_no_memory}
-use Rattle.signed_stream.specs.declared.status.Status.{Status}
-use Rattle.signed_stream.specs.declared.status.Status.TheVariants.{Done, BadWords, JobTooLarge, BadJob, ReadFault, Refused, OutputFault, NoMemory, NotBuilt}
+use Rattle.signed_stream.specs.Carriers.{GoesForInput}
+use Rattle.signed_stream.specs.Plan.{GainsAsPlanned, GoesAsPlanned, Plan, Supplied, stops, unread, writes}
+use Rattle.signed_stream.specs.Running.{Ask, CountsReads, CountsWrites, EndsAsAsked, Keeps, RunsAsPlanned, ask_plan, ends, streams}
+use Rattle.signed_stream.specs.Status.{Ending, bad_job, bad_words, done, job_too_large, no_memory, not_built, output_fault, read_fault, refused}
+use Rattle.signed_stream.proofs.RunLemmas.{goes_no_memory}
 
 -- the answer is the end, or want of memory
-abbrev pub IsSaid : Status → Status → Type 0
-IsSaid status answer = (answer ≡ status) ⊎ (answer ≡ NoMemory)
+abbrev pub IsSaid : Ending → Ending → Type 0
+IsSaid end answer = (answer ≡ end) ⊎ (answer ≡ no_memory)
 
-pub said_asked : (asked : Ask) (status answer : Status) → EndsAsAsked asked status → IsSaid status answer → EndsAsAsked asked answer
-said_asked asked status answer fits (inl is) = rw is fits
-said_asked (ends end) status answer fits (inr is) = inr is
-said_asked (streams wanted) status answer fits (inr is) = rw is tt
+pub said_asked : (asked : Ask) (end answer : Ending) → EndsAsAsked asked end → IsSaid end answer → EndsAsAsked asked answer
+said_asked asked end answer fits (inl is) = rw is fits
+said_asked (ends early) end answer fits (inr is) = inr is
+said_asked (streams wanted) end answer fits (inr is) = rw is tt
 
 -- what was written before memory ran out is a front of the text
-cut_short : (plan : Plan) (status : Status) (before now : Option (List ℕ)) → GainsAsPlanned plan status before now → GainsAsPlanned plan NoMemory before now
-cut_short (stops end) status before now gains = gains
-cut_short (writes text fault) Done before now gains = prefix_from_whole before now text gains
-cut_short (writes text fault) (Refused told) before now gains = prefix_from_whole before now text gains
-cut_short (writes text fault) OutputFault before now gains = gains
-cut_short (writes text fault) NoMemory before now gains = gains
-cut_short (writes text fault) (BadWords place) before now gains = rw gains (prefix_at_start before text)
-cut_short (writes text fault) JobTooLarge before now gains = rw gains (prefix_at_start before text)
-cut_short (writes text fault) (BadJob place) before now gains = rw gains (prefix_at_start before text)
-cut_short (writes text fault) ReadFault before now gains = rw gains (prefix_at_start before text)
-cut_short (writes text fault) (NotBuilt place) before now gains = rw gains (prefix_at_start before text)
+cut_short : (plan : Plan) (end : Ending) (before now : Option (List ℕ)) → GainsAsPlanned plan end before now → GainsAsPlanned plan no_memory before now
+cut_short (stops early) end before now gains = gains
+cut_short (writes text whole) done before now gains = prefix_from_whole before now text gains
+cut_short (writes text whole) (refused told) before now gains = prefix_from_whole before now text gains
+cut_short (writes text whole) output_fault before now gains = gains
+cut_short (writes text whole) no_memory before now gains = gains
+cut_short (writes text whole) (bad_words place) before now gains = rw gains (prefix_at_start before text)
+cut_short (writes text whole) job_too_large before now gains = rw gains (prefix_at_start before text)
+cut_short (writes text whole) (bad_job place) before now gains = rw gains (prefix_at_start before text)
+cut_short (writes text whole) read_fault before now gains = rw gains (prefix_at_start before text)
+cut_short (writes text whole) (not_built place) before now gains = rw gains (prefix_at_start before text)
 
 -- a run whose end is said goes as it did
-goes_cut_short : (plan : Plan) (status : Status) (before now : Option (List ℕ)) → GoesAsPlanned plan status before now → GoesAsPlanned plan NoMemory before now
-goes_cut_short plan status before now goes = record { ends = ends_no_memory plan; gains = cut_short plan status before now goes.gains }
+pub said_goes : (plan : Plan) (end answer : Ending) (before now : Option (List ℕ)) → GoesAsPlanned plan end before now → IsSaid end answer → GoesAsPlanned plan answer before now
+said_goes plan end answer before now goes (inl is) = rw is goes
+said_goes plan end answer before now goes (inr is) =
+    rw is (record { ends = (goes_no_memory plan before).ends; gains = cut_short plan end before now goes.gains })
 
-pub said_goes : (plan : Plan) (status answer : Status) (before now : Option (List ℕ)) → GoesAsPlanned plan status before now → IsSaid status answer → GoesAsPlanned plan answer before now
-said_goes plan status answer before now goes (inl is) = rw is goes
-said_goes plan status answer before now goes (inr is) = rw is (goes_cut_short plan status before now goes)
+pub said_runs : (asked : Ask) (bytes : List ℕ) (end answer : Ending) (before now : Option (List ℕ)) → GoesForInput asked bytes end before now → IsSaid end answer → GoesForInput asked bytes answer before now
+said_runs asked bytes end answer before now found said =
+    (found.0, record { gave = found.1.gave; goes = said_goes (ask_plan asked bytes found.0) end answer before now found.1.goes said })
 
-said_first : (status answer : Status) → MayComeFirst status → IsSaid status answer → MayComeFirst answer
-said_first status answer first (inl is) = rw is first
-said_first status answer first (inr is) = rw is tt
+-- what the outside gave, whether or not the input tells its bytes
+pub one_given : (asked : Ask) (left : Option (List ℕ)) (answer : Ending) (before now : Option (List ℕ)) → ((bytes : List ℕ) → left ≡ Some bytes → GoesForInput asked bytes answer before now)
+    → (given : Supplied) × ((bytes : List ℕ) → left ≡ Some bytes → RunsAsPlanned asked bytes given answer before now)
+one_given asked None answer before now runs = (record { texts = []; moments = []; target = unread }, λ bytes told. cc)
+one_given asked (Some all) answer before now runs =
+    let found = runs all refl in (found.0, λ bytes told. let same : all ≡ bytes = cc in rw (← same) found.1)
 
-pub said_runs : (asked : Ask) (bytes : List ℕ) (status answer : Status) (before now : Option (List ℕ)) → RunsAsPlanned asked bytes status before now → IsSaid status answer → RunsAsPlanned asked bytes answer before now
-said_runs asked bytes status answer before now (inl found) said = inl (found.0, found.1, said_goes (ask_plan asked bytes found.0) status answer before now found.2 said)
-said_runs asked bytes status answer before now (inr first) said = inr (said_first status answer first.0 said, λ target. said_goes (ask_plan asked bytes target) status answer before now (first.1 target) said)
-
-pub said_keeps : (status answer : Status) (before now : Option (List ℕ)) → Keeps status before now → IsSaid status answer → Keeps answer before now
-said_keeps status answer before now keeps (inl is) = rw is keeps
-said_keeps status answer before now keeps (inr is) = rw is tt
+pub said_keeps : (in_years : Bool) (end answer : Ending) (before now : Option (List ℕ)) → Keeps in_years end before now → IsSaid end answer → Keeps in_years answer before now
+said_keeps in_years end answer before now keeps (inl is) = rw is keeps
+said_keeps in_years end answer before now keeps (inr is) = rw is tt
 
 -- an answer other than want of memory is the end itself
-pub said_is : (status answer end : Status) → IsSaid status answer → answer ≡ end → (end ≡ NoMemory → ⊥) → status ≡ end
-said_is status answer end (inl is) reached other = sym is ∙ reached
-said_is status answer end (inr is) reached other = absurd (other (sym reached ∙ is))
+pub said_is : (end answer told : Ending) → IsSaid end answer → answer ≡ told → (told ≡ no_memory → ⊥) → end ≡ told
+said_is end answer told (inl is) reached other = sym is ∙ reached
+said_is end answer told (inr is) reached other = absurd (other (sym reached ∙ is))
 
 -- ## The counts
 
-pub said_reads : (status answer : Status) (before now : ℕ) → IsSaid status answer → before ≤ now → (status ≡ ReadFault → RoseOrStands before now) → ((status ≡ ReadFault → ⊥) → now ≡ before) → CountsReads answer before now
-said_reads status answer before now (inl is) grew rose stayed = rw is (by_status status rose stayed)
+pub said_reads : (end answer : Ending) (before now : ℕ) → IsSaid end answer → before ≤ now → (end ≡ read_fault → Rose before now) → ((end ≡ read_fault → ⊥) → now ≡ before) → CountsReads answer before now
+said_reads end answer before now (inl is) grew rose stayed = rw is (by_end end rose stayed)
   where
-    by_status : (status : Status) → (status ≡ ReadFault → RoseOrStands before now) → ((status ≡ ReadFault → ⊥) → now ≡ before) → CountsReads status before now
-    by_status ReadFault rose stayed = rose refl
-    by_status NoMemory rose stayed = grew
-    by_status Done rose stayed = stayed (λ e. cc)
-    by_status (BadWords place) rose stayed = stayed (λ e. cc)
-    by_status JobTooLarge rose stayed = stayed (λ e. cc)
-    by_status (BadJob place) rose stayed = stayed (λ e. cc)
-    by_status (Refused fault) rose stayed = stayed (λ e. cc)
-    by_status OutputFault rose stayed = stayed (λ e. cc)
-    by_status (NotBuilt place) rose stayed = stayed (λ e. cc)
-said_reads status answer before now (inr is) grew rose stayed = rw is grew
+    by_end : (end : Ending) → (end ≡ read_fault → Rose before now) → ((end ≡ read_fault → ⊥) → now ≡ before) → CountsReads end before now
+    by_end read_fault rose stayed = rose refl
+    by_end no_memory rose stayed = grew
+    by_end done rose stayed = stayed (λ e. cc)
+    by_end (bad_words place) rose stayed = stayed (λ e. cc)
+    by_end job_too_large rose stayed = stayed (λ e. cc)
+    by_end (bad_job place) rose stayed = stayed (λ e. cc)
+    by_end (refused fault) rose stayed = stayed (λ e. cc)
+    by_end output_fault rose stayed = stayed (λ e. cc)
+    by_end (not_built place) rose stayed = stayed (λ e. cc)
+said_reads end answer before now (inr is) grew rose stayed = rw is grew
 
-pub said_writes : (status answer : Status) (before now : ℕ) → IsSaid status answer → before ≤ now → (status ≡ OutputFault → RoseOrStands before now) → ((status ≡ OutputFault → ⊥) → now ≡ before) → CountsWrites answer before now
-said_writes status answer before now (inl is) grew rose stayed = rw is (by_status status rose stayed)
+pub said_writes : (end answer : Ending) (before now : ℕ) → IsSaid end answer → before ≤ now → (end ≡ output_fault → Rose before now) → ((end ≡ output_fault → ⊥) → now ≡ before) → CountsWrites answer before now
+said_writes end answer before now (inl is) grew rose stayed = rw is (by_end end rose stayed)
   where
-    by_status : (status : Status) → (status ≡ OutputFault → RoseOrStands before now) → ((status ≡ OutputFault → ⊥) → now ≡ before) → CountsWrites status before now
-    by_status OutputFault rose stayed = rose refl
-    by_status NoMemory rose stayed = grew
-    by_status Done rose stayed = stayed (λ e. cc)
-    by_status (BadWords place) rose stayed = stayed (λ e. cc)
-    by_status JobTooLarge rose stayed = stayed (λ e. cc)
-    by_status (BadJob place) rose stayed = stayed (λ e. cc)
-    by_status ReadFault rose stayed = stayed (λ e. cc)
-    by_status (Refused fault) rose stayed = stayed (λ e. cc)
-    by_status (NotBuilt place) rose stayed = stayed (λ e. cc)
-said_writes status answer before now (inr is) grew rose stayed = rw is grew
+    by_end : (end : Ending) → (end ≡ output_fault → Rose before now) → ((end ≡ output_fault → ⊥) → now ≡ before) → CountsWrites end before now
+    by_end output_fault rose stayed = rose refl
+    by_end no_memory rose stayed = grew
+    by_end done rose stayed = stayed (λ e. cc)
+    by_end (bad_words place) rose stayed = stayed (λ e. cc)
+    by_end job_too_large rose stayed = stayed (λ e. cc)
+    by_end (bad_job place) rose stayed = stayed (λ e. cc)
+    by_end read_fault rose stayed = stayed (λ e. cc)
+    by_end (refused fault) rose stayed = stayed (λ e. cc)
+    by_end (not_built place) rose stayed = stayed (λ e. cc)
+said_writes end answer before now (inr is) grew rose stayed = rw is grew

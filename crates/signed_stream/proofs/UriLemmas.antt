@@ -1,107 +1,134 @@
 -- A run that is refused for its target.
-use Rattle.std.proofs.Common.{◌≡◌, ℕ, ◌⊎◌, inl, inr, Bool, true, false, List, length, nat_lt, Option, Some, None, option_map, refl, sym}
+use Rattle.std.proofs.Common.{◌≡◌, ℕ, ◌⊎◌, inl, inr, Bool, true, false, List, [], ◌∷◌, length, nat_lt, Option, Some, None, option_map, refl, sym}
 use Rattle.std.specs.Prelude.{if◌then◌else◌}
 use Rattle.smithy_core.specs.Civil.{is_in_years}
-use Rattle.smithy_core.specs.Message.{Parts}
-use Rattle.smithy_http.specs.QueryWriter.{SpellsNoTarget}
-use Rattle.smithy_http.specs.Target.{Target}
-use Rattle.eventstream.specs.declared.error.ErrorKind.{ErrorKind}
-use Rattle.eventstream.specs.declared.error.ErrorKind.TheVariants as reasons
+use Rattle.smithy_core.specs.Instant.{Instant}
+use Rattle.smithy_core.specs.Parts.{Parts}
 use Rattle.sigv4.specs.Request.{Case}
-use Rattle.sigv4.specs.Refusal.{unfit}
+use Rattle.sigv4.specs.Parameters.{takes_no_more}
+use Rattle.sigv4.specs.Signed.{parameters, signature_of}
 use Rattle.sigv4.specs.declared.error.SigningError.{SigningError}
 use Rattle.sigv4.specs.declared.error.SigningError.TheVariants as errors
-use Rattle.signed_stream.specs.Command.{Command, Wanted, bad_word, unbuilt_word, stream, command}
-use Rattle.signed_stream.specs.Job.{Reading, plain_job, bad_line, unbuilt_line, job}
-use Rattle.signed_stream.specs.Plan.{ReadsNoTarget, ReadsTargetOf, ends, streams, stops, ask, ask_plan, case_plan, command_ask, has_later_variable, input_plan, job_plan, most_input, settings_plan, target_plan}
-use Rattle.signed_stream.specs.Refusal.{Refusal, fault_at, fault_for, fault_of}
-use Rattle.signed_stream.specs.Run.{EndsAsPlanned, RunsAsPlanned}
-use Rattle.signed_stream.specs.Signing.{Selected, case_of}
-use Rattle.signed_stream.specs.Status.{end_with}
-use Rattle.signed_stream.specs.Targets.{SpellsAs}
-use Rattle.signed_stream.specs.Written.{refusal_of}
-use Rattle.signed_stream.proofs.TestLemmas.{IsTestError, unfit_test}
-use Rattle.signed_stream.specs.declared.status.Status.{Status}
-use Rattle.signed_stream.specs.declared.status.Status.TheVariants.{JobTooLarge, ReadFault, Refused, OutputFault, NoMemory, NotBuilt}
-use Rattle.signed_stream.specs.declared.status.StreamFault.TheVariants.{InvalidUri, MomentOutOfRange}
+use Rattle.signed_stream.specs.Carriers.{GoesForInput}
+use Rattle.signed_stream.specs.Case.{Selected, job_case, request_moment}
+use Rattle.signed_stream.specs.Chain.{Refusal}
+use Rattle.signed_stream.specs.Command.{Command, Wanted, bad_word, command, stream, unbuilt_word}
+use Rattle.signed_stream.specs.Job.{JobParts, Reading, bad_line, job, unbuilt_line, whole_job}
+use Rattle.signed_stream.specs.Plan.{EndsAsPlanned, ReadsTarget, Supplied, TargetRead, accepted, most_input, stops, unaccepted, unread}
+use Rattle.signed_stream.specs.Running.{Gave, IfStreams, ask, ask_plan, command_ask, ends, has_later_variable, streams}
+use Rattle.signed_stream.specs.Sign.{case_fault, fault_for, unsigned}
+use Rattle.signed_stream.specs.Status.{Ending, Fault, done, invalid_uri, job_too_large, moment_out_of_range, no_memory, not_built, output_fault, read_fault, refused}
+use Rattle.signed_stream.specs.Stream.{GaveReading, ReadsUnfitTarget, case_plan, input_plan, job_plan, profile_plan, selected_plan, target_plan}
+use Rattle.signed_stream.specs.Written.{refusal_of, written_end}
+use Rattle.signed_stream.proofs.RunLemmas.{IsOfFrame, RefusesFrames, refuses_frames}
+use Rattle.signed_stream.proofs.TestLemmas.{IsPartError, IsTestError, unsigned_test}
 
 -- a plan to stop ends so only where it says so
-other_stop : (status : Status) → (status ≡ Refused InvalidUri → ⊥) → EndsAsPlanned (stops status) (Refused InvalidUri) → ⊥
-other_stop status other (inl is) = other (sym is)
-other_stop status other (inr (inl is)) = cc
-other_stop status other (inr (inr is)) = cc
+other_stop : (end : Ending) → (end ≡ refused invalid_uri → ⊥) → EndsAsPlanned (stops end) (refused invalid_uri) → ⊥
+other_stop end other (inl is) = other (sym is)
+other_stop end other (inr (inl is)) = cc
+other_stop end other (inr (inr is)) = cc
 
--- no test of a request tells of the target
-other_test : (error : SigningError) → IsTestError error → Refused (fault_for error) ≡ Refused InvalidUri → ⊥
-other_test (errors.InvalidHeaderName place) test is = cc
-other_test (errors.InvalidHeaderValue place) test is = cc
-other_test errors.MissingHost test is = cc
-other_test error test is = absurd test
-
--- no event does
-other_event : (place : ℕ) (reason : ErrorKind) → Refused InvalidUri ≡ Refused (fault_at place reason) → ⊥
-other_event place reasons.InvalidHeaderNameLength is = cc
-other_event place reasons.HeaderValueTooLong is = cc
-other_event place (reasons.TimestampValueTooLarge moment) is = cc
-other_event place reasons.HeadersTooLong is = cc
-other_event place reasons.PayloadTooLong is = cc
-other_event place reason is = cc
-
--- a request whose target is accepted is refused for something else
-other_case : (text : List ℕ) (c : Case) (events : List Parts) (error : Option SigningError) → unfit c ≡ error → EndsAsPlanned (case_plan text c events error) (Refused InvalidUri) → ⊥
-other_case text c events (Some error) is fits = other_stop (Refused (fault_for error)) (other_test error (unfit_test c error is)) fits
-other_case text c events None is fits = by_end (refusal_of c events) fits
+-- a test that tells of the target
+target_test : (c : Case) (error : SigningError) → IsTestError c error → fault_for error ≡ invalid_uri → takes_no_more (parameters c) c.target ≡ true
+target_test c error (inl target) is = target.1
+target_test c error (inr part) is = absurd (by_error error part is)
   where
-    by_refusal : (refusal : Option Refusal) → Refused InvalidUri ≡ end_with (option_map fault_of refusal) → ⊥
-    by_refusal None is = cc
-    by_refusal (Some refusal) is = other_event refusal.place refusal.reason is
+    by_error : (error : SigningError) → IsPartError error → fault_for error ≡ invalid_uri → ⊥
+    by_error (errors.InvalidHeaderName place) part is = cc
+    by_error (errors.InvalidHeaderValue place) part is = cc
+    by_error errors.MissingHost part is = cc
+    by_error errors.InvalidTokenName part is = cc
+    by_error errors.MissingExpires part is = cc
+    by_error error part is = absurd part
 
-    by_end : (refusal : Option Refusal) → (Refused InvalidUri ≡ end_with (option_map fault_of refusal)) ⊎ (Refused InvalidUri ≡ ReadFault) ⊎ (Refused InvalidUri ≡ OutputFault) ⊎ (Refused InvalidUri ≡ NoMemory) → ⊥
-    by_end refusal (inl is) = by_refusal refusal is
-    by_end refusal (inr (inl is)) = cc
-    by_end refusal (inr (inr (inl is))) = cc
-    by_end refusal (inr (inr (inr is))) = cc
+-- no frame does
+other_frame : (fault : Fault) → IsOfFrame fault → refused invalid_uri ≡ refused fault → ⊥
+other_frame fault of is = let same : fault ≡ invalid_uri = cc in (let wrong : IsOfFrame invalid_uri = rw same at of in wrong)
+
+-- what is written doesn't end so
+other_end : (refusal : Option Refusal) (events : List Parts) (moments : List Instant) → RefusesFrames refusal → refused invalid_uri ≡ written_end refusal events moments → ⊥
+other_end (Some refusal) events moments of is = other_frame refusal.fault of is
+other_end None events moments of is = by_count _ is
+  where
+    by_count : (whole : Bool) → refused invalid_uri ≡ (if whole then done else no_memory) → ⊥
+    by_count true is = cc
+    by_count false is = cc
+
+-- a request whose target is accepted is refused for it where it takes no parameters
+case_refused : (text : List ℕ) (c : Case) (events : List Parts) (moments : List Instant) (fault : Option Fault) → case_fault c ≡ fault → EndsAsPlanned (case_plan text c events moments fault) (refused invalid_uri)
+    → takes_no_more (parameters c) c.target ≡ true
+case_refused text c events moments (Some fault) is (inl end) = by_error (unsigned c) refl (let same : fault ≡ invalid_uri = cc in rw same at is)
+  where
+    by_error : (error : Option SigningError) → unsigned c ≡ error → option_map fault_for error ≡ Some invalid_uri → takes_no_more (parameters c) c.target ≡ true
+    by_error None found is = cc
+    by_error (Some error) found is = target_test c error (unsigned_test c error found) cc
+case_refused text c events moments (Some fault) is (inr (inl end)) = cc
+case_refused text c events moments (Some fault) is (inr (inr end)) = cc
+case_refused text c events moments None is (inl end) = absurd (other_end (refusal_of c events moments) events moments (refuses_frames c.signer 1 events moments (signature_of c)) end)
+case_refused text c events moments None is (inr (inl end)) = cc
+case_refused text c events moments None is (inr (inr (inl end))) = cc
+case_refused text c events moments None is (inr (inr (inr end))) = cc
+
+-- what a job is refused for
+abbrev TargetIsUnfit : Wanted → JobParts → Type 0
+TargetIsUnfit wanted j = ReadsUnfitTarget wanted (whole_job j)
+
+target_refused : (j : JobParts) (wanted : Wanted) (selected : Selected) (first : Instant) (moments : List Instant) (target : TargetRead) → ReadsTarget j.target target
+    → EndsAsPlanned (target_plan j.target (job_case j wanted selected first) j.events moments target) (refused invalid_uri) → TargetIsUnfit wanted j
+target_refused j wanted selected first moments unread reads goes = absurd (other_stop _ (λ e. cc) goes)
+target_refused j wanted selected first moments unaccepted reads goes = inl reads
+target_refused j wanted selected first moments (accepted target) reads goes =
+    let c = job_case j wanted selected first target in
+    inr (target, reads, selected, first, case_refused j.target c j.events moments (case_fault c) refl goes)
+
+selected_refused : (j : JobParts) (wanted : Wanted) (selected : Selected) (target : TargetRead) (moments : List Instant) → ReadsTarget j.target target
+    → EndsAsPlanned (selected_plan j wanted selected target moments) (refused invalid_uri) → TargetIsUnfit wanted j
+selected_refused j wanted selected target [] reads goes = absurd (other_stop _ (λ e. cc) goes)
+selected_refused j wanted selected target (first ∷ others) reads goes = by_years (is_in_years (request_moment wanted first)) goes
+  where
+    by_years : (years : Bool)
+        → EndsAsPlanned (if years then target_plan j.target (job_case j wanted selected first) j.events others target else stops (refused (moment_out_of_range (request_moment wanted first)))) (refused invalid_uri)
+        → TargetIsUnfit wanted j
+    by_years true goes = target_refused j wanted selected first others target reads goes
+    by_years false goes = absurd (other_stop _ (λ e. cc) goes)
+
+profile_refused : (j : JobParts) (wanted : Wanted) (given : Supplied) (key_id secret region : Option (List ℕ)) → ReadsTarget j.target given.target
+    → EndsAsPlanned (profile_plan j wanted given key_id secret region) (refused invalid_uri) → TargetIsUnfit wanted j
+profile_refused j wanted given (Some key_id) (Some secret) (Some region) reads goes =
+    selected_refused j wanted (record { key_id = key_id; secret = secret; token = j.profile.token; region = region }) given.target given.moments reads goes
+profile_refused j wanted given (Some key_id) (Some secret) None reads goes = absurd (other_stop _ (λ e. cc) goes)
+profile_refused j wanted given (Some key_id) None region reads goes = absurd (other_stop _ (λ e. cc) goes)
+profile_refused j wanted given None secret region reads goes = absurd (other_stop _ (λ e. cc) goes)
 
 -- a job that is refused for its target
-job_refused : (wanted : Wanted) (target : Option Target) (reading : Reading) → ReadsTargetOf reading target → EndsAsPlanned (job_plan wanted target reading) (Refused InvalidUri) → ReadsNoTarget reading
-job_refused wanted target (bad_line place) reads fits = absurd (other_stop _ (λ e. cc) fits)
-job_refused wanted target (unbuilt_line place) reads fits = absurd (other_stop _ (λ e. cc) fits)
-job_refused wanted target (plain_job j) reads fits = by_settings j.settings.key_id j.settings.secret j.settings.region fits
+job_refused : (wanted : Wanted) (given : Supplied) (reading : Reading) → GaveReading wanted reading given → EndsAsPlanned (job_plan wanted given reading) (refused invalid_uri) → ReadsUnfitTarget wanted reading
+job_refused wanted given (bad_line place) gave goes = absurd (other_stop _ (λ e. cc) goes)
+job_refused wanted given (unbuilt_line place) gave goes = absurd (other_stop _ (λ e. cc) goes)
+job_refused wanted given (whole_job j) gave goes = profile_refused j wanted given j.profile.key_id j.profile.secret j.profile.region gave.target goes
+
+input_refused : (wanted : Wanted) (bytes : List ℕ) (given : Supplied) → GaveReading wanted (job bytes) given → EndsAsPlanned (input_plan wanted bytes given) (refused invalid_uri) → ReadsUnfitTarget wanted (job bytes)
+unfolding input_plan
+input_refused wanted bytes given gave goes = by_length (nat_lt most_input (length bytes)) goes
   where
-    by_target : (selected : Selected) (target : Option Target) → SpellsAs j.target target
-        → EndsAsPlanned (target_plan j.target (case_of j wanted selected) j.events target) (Refused InvalidUri) → SpellsNoTarget j.target
-    by_target selected None reads fits = reads
-    by_target selected (Some accepted) reads fits =
-        let c = case_of j wanted selected accepted in absurd (other_case j.target c j.events (unfit c) refl fits)
+    by_length : (large : Bool) → EndsAsPlanned (if large then stops job_too_large else job_plan wanted given (job bytes)) (refused invalid_uri) → ReadsUnfitTarget wanted (job bytes)
+    by_length true goes = absurd (other_stop _ (λ e. cc) goes)
+    by_length false goes = job_refused wanted given (job bytes) gave goes
 
-    by_years : (selected : Selected) (years : Bool)
-        → EndsAsPlanned (if years then target_plan j.target (case_of j wanted selected) j.events target else stops (Refused (MomentOutOfRange wanted.at))) (Refused InvalidUri) → SpellsNoTarget j.target
-    by_years selected true fits = by_target selected target reads fits
-    by_years selected false fits = absurd (other_stop _ (λ e. cc) fits)
-
-    by_settings : (key_id secret region : Option (List ℕ)) → EndsAsPlanned (settings_plan j wanted target j.settings key_id secret region) (Refused InvalidUri) → SpellsNoTarget j.target
-    by_settings (Some key_id) (Some secret) (Some region) fits =
-        by_years (record { key_id = key_id; secret = secret; token = j.settings.token; region = region }) (is_in_years wanted.at) fits
-    by_settings (Some key_id) (Some secret) None fits = absurd (other_stop _ (λ e. cc) fits)
-    by_settings (Some key_id) None region fits = absurd (other_stop _ (λ e. cc) fits)
-    by_settings None secret region fits = absurd (other_stop _ (λ e. cc) fits)
-
--- a run that is refused for its target has read a job whose target isn't accepted
-pub target_refused : (words : List (List ℕ)) (env : List (List ℕ × List ℕ)) (bytes : List ℕ) (before now : Option (List ℕ))
-    → RunsAsPlanned (ask words env) bytes (Refused InvalidUri) before now → ReadsNoTarget (job bytes)
-unfolding ask input_plan
-target_refused words env bytes before now (inr first) = absurd first.0
-target_refused words env bytes before now (inl found) = by_command (command words) found.2.ends
+-- a run that is refused for its target has read a job whose target isn't accepted, or takes no parameters
+pub run_refused : (words : List (List ℕ)) (env : List (List ℕ × List ℕ)) (bytes : List ℕ) (before now : Option (List ℕ))
+    → GoesForInput (ask words env) bytes (refused invalid_uri) before now → IfStreams (ask words env) (λ wanted. ReadsUnfitTarget wanted (job bytes))
+unfolding ask
+run_refused words env bytes before now found = by_command (command words) found.1.gave found.1.goes.ends
   where
-    by_length : (wanted : Wanted) (large : Bool) → EndsAsPlanned (if large then stops JobTooLarge else job_plan wanted found.0 (job bytes)) (Refused InvalidUri) → ReadsNoTarget (job bytes)
-    by_length wanted true fits = absurd (other_stop _ (λ e. cc) fits)
-    by_length wanted false fits = job_refused wanted found.0 (job bytes) found.1 fits
+    by_variable : (wanted : Wanted) (later : Bool) → Gave (if later then ends (not_built 0) else streams wanted) bytes found.0
+        → EndsAsPlanned (ask_plan (if later then ends (not_built 0) else streams wanted) bytes found.0) (refused invalid_uri)
+        → IfStreams (if later then ends (not_built 0) else streams wanted) (λ wanted. ReadsUnfitTarget wanted (job bytes))
+    by_variable wanted true gave goes = other_stop _ (λ e. cc) goes
+    by_variable wanted false gave goes = input_refused wanted bytes found.0 gave goes
 
-    by_variable : (wanted : Wanted) (later : Bool) → EndsAsPlanned (ask_plan (if later then ends (NotBuilt 0) else streams wanted) bytes found.0) (Refused InvalidUri) → ReadsNoTarget (job bytes)
-    by_variable wanted true fits = absurd (other_stop _ (λ e. cc) fits)
-    by_variable wanted false fits = by_length wanted (nat_lt most_input (length bytes)) fits
-
-    by_command : (asked : Command) → EndsAsPlanned (ask_plan (command_ask env asked) bytes found.0) (Refused InvalidUri) → ReadsNoTarget (job bytes)
-    by_command (bad_word place) fits = absurd (other_stop _ (λ e. cc) fits)
-    by_command (unbuilt_word place) fits = absurd (other_stop _ (λ e. cc) fits)
-    by_command (stream wanted) fits = by_variable wanted (has_later_variable env) fits
+    by_command : (asked : Command) → Gave (command_ask env asked) bytes found.0 → EndsAsPlanned (ask_plan (command_ask env asked) bytes found.0) (refused invalid_uri)
+        → IfStreams (command_ask env asked) (λ wanted. ReadsUnfitTarget wanted (job bytes))
+    by_command (bad_word place) gave goes = other_stop _ (λ e. cc) goes
+    by_command (unbuilt_word place) gave goes = other_stop _ (λ e. cc) goes
+    by_command (stream wanted) gave goes = by_variable wanted (has_later_variable env) gave goes

@@ -2,31 +2,33 @@
 use Rattle.std.specs.Prelude.{ℕ, ◌+◌, Bool, true, false, not, if◌then◌else◌, List, [], ◌∷◌, codes, bytes_eq, Option, Some, None, is_some, ℤ}
 use Rattle.std.specs.List.{list_any}
 use Rattle.std.specs.Int.{w64}
-use Rattle.smithy_core.specs.Moment.{Instant}
-use Rattle.signed_stream.specs.Numbers.{number}
-use Rattle.signed_stream.specs.declared.signing_options.SigningOptions.{SigningOptions}
-use Rattle.signed_stream.specs.declared.words.options.Valued.{Valued}
-use Rattle.signed_stream.specs.declared.words.options.Valued.TheVariants.{Name, At}
+use Rattle.smithy_core.specs.Instant.{Instant}
+use Rattle.sigv4.specs.Settings.{is_query}
+use Rattle.aws_auth.specs.Inputs.{location_of}
+use Rattle.aws_auth.specs.Options.{default_options}
+use Rattle.aws_auth.specs.declared.options.HttpSignatureType.TheVariants.{HttpRequestQueryParams}
+use Rattle.aws_auth.specs.declared.options.SigningOptions.{SigningOptions}
+use Rattle.aws_auth.specs.declared.payload.PayloadSigningOverride.TheVariants.{UnsignedPayload}
+use Rattle.signed_stream.specs.Numbers.{natural_below, number}
+use Rattle.signed_stream.specs.declared.command.options.Valued.{Valued}
+use Rattle.signed_stream.specs.declared.command.options.Valued.TheVariants.{Name, At, Expires, TokenName, Skew}
 
 -- an option of `stream` that isn't built
 abbrev pub is_later_option : List ℕ → Bool
-is_later_option word = list_any (bytes_eq word)
-    (codes "--service-id" ∷ codes "--skew" ∷ codes "--raw" ∷ codes "--query" ∷ codes "--expires" ∷ codes "--token-name" ∷ codes "--omit-token"
-    ∷ codes "--config" ∷ codes "--credentials" ∷ [])
+is_later_option word = list_any (bytes_eq word) (codes "--service-id" ∷ codes "--raw" ∷ codes "--config" ∷ codes "--credentials" ∷ [])
 
 -- a command that isn't built
 abbrev pub is_later_command : List ℕ → Bool
 is_later_command word = list_any (bytes_eq word) (codes "check" ∷ codes "settings" ∷ codes "chunk" ∷ codes "gen" ∷ [])
 
--- what holds where no option says otherwise
-abbrev pub default_signing : SigningOptions
-default_signing = record { double_uri_encode = true; content_sha256_header = false; normalize_uri_path = true; unsigned_payload = false }
-
--- what `stream` is asked for: the name of the service, the moment, and how to sign
+-- what `stream` is asked for: the name of the service, the moment, how to sign, the name of the session token, and by how many milliseconds the
+-- service's clock is ahead
 pub record Wanted : Type 0 where
   pub name : List ℕ
   pub at : Instant
   pub signing : SigningOptions
+  pub token_name : Option (List ℕ)
+  pub skew_millis : Option ℤ
 
 -- what the words ask for
 pub data Command : Type 0 where
@@ -42,60 +44,86 @@ pub record Options : Type 0 where
   pub name : Option (List ℕ)
   pub at : Option Instant
   pub signing : SigningOptions
+  pub token_name : Option (List ℕ)
+  pub skew_millis : Option ℤ
   pub awaited : Option Valued
 
 -- no options
 abbrev pub no_options : Options
-no_options = record { name = None; at = None; signing = default_signing; awaited = None }
+no_options = record { name = None; at = None; signing = default_options; token_name = None; skew_millis = None; awaited = None }
 
 -- goes on with more words, or ends
-pub data OptionStep : Type 0 where
-  options : Options → OptionStep
-  ends : Command → OptionStep
+pub data WordTaken : Type 0 where
+  options : Options → WordTaken
+  ends : Command → WordTaken
 
 -- an option that stands once
-abbrev pub once : ℕ → Bool → Options → OptionStep
+abbrev pub once : ℕ → Bool → Options → WordTaken
 once place stood given = if stood then ends (bad_word place) else options given
 
--- the word at a place, where it is an option
-abbrev pub option_step : ℕ → Options → List ℕ → OptionStep
-option_step place given word =
-    if bytes_eq word (codes "--name") then once place (is_some given.name) (record given { awaited = Some Name })
-    else if bytes_eq word (codes "--at") then once place (is_some given.at) (record given { awaited = Some At })
+-- an option without a value at a place, or none of them
+abbrev pub take_flag : ℕ → Options → List ℕ → WordTaken
+take_flag place given word =
+    if bytes_eq word (codes "--query") then once place (is_query (location_of given.signing.signature_type)) (record given { signing = record given.signing { signature_type = HttpRequestQueryParams } })
+    else if bytes_eq word (codes "--omit-token") then once place given.signing.omit_session_token (record given { signing = record given.signing { omit_session_token = true } })
     else if bytes_eq word (codes "--sha256") then once place given.signing.content_sha256_header (record given { signing = record given.signing { content_sha256_header = true } })
     else if bytes_eq word (codes "--single-encode") then once place (not given.signing.double_uri_encode) (record given { signing = record given.signing { double_uri_encode = false } })
     else if bytes_eq word (codes "--no-normalize") then once place (not given.signing.normalize_uri_path) (record given { signing = record given.signing { normalize_uri_path = false } })
-    else if bytes_eq word (codes "--unsigned") then once place given.signing.unsigned_payload (record given { signing = record given.signing { unsigned_payload = true } })
+    else if bytes_eq word (codes "--unsigned") then once place (is_some given.signing.payload_override) (record given { signing = record given.signing { payload_override = Some UnsignedPayload } })
     else if is_later_option word then ends (unbuilt_word place)
     else ends (bad_word place)
 
+-- the word at a place, where it is an option
+abbrev pub take_option : ℕ → Options → List ℕ → WordTaken
+take_option place given word =
+    if bytes_eq word (codes "--name") then once place (is_some given.name) (record given { awaited = Some Name })
+    else if bytes_eq word (codes "--at") then once place (is_some given.at) (record given { awaited = Some At })
+    else if bytes_eq word (codes "--expires") then once place (is_some given.signing.expires_in) (record given { awaited = Some Expires })
+    else if bytes_eq word (codes "--token-name") then once place (is_some given.token_name) (record given { awaited = Some TokenName })
+    else if bytes_eq word (codes "--skew") then once place (is_some given.skew_millis) (record given { awaited = Some Skew })
+    else take_flag place given word
+
 -- the value of `--at` at a place: the seconds of the moment, where the word is a number of 64 bits
-abbrev pub moment_step : ℕ → Options → Option ℤ → OptionStep
-moment_step place given None = ends (bad_word place)
-moment_step place given (Some secs) = options (record given { at = Some (record { secs = secs; nanos = 0 }); awaited = None })
+abbrev pub take_moment : ℕ → Options → Option ℤ → WordTaken
+take_moment place given None = ends (bad_word place)
+take_moment place given (Some secs) = options (record given { at = Some (record { secs = secs; nanos = 0 }); awaited = None })
+
+-- the value of `--expires`: seconds, where the word is a natural number of 64 bits
+abbrev pub take_expiry : ℕ → Options → Option ℕ → WordTaken
+take_expiry place given None = ends (bad_word place)
+take_expiry place given (Some seconds) = options (record given { signing = record given.signing { expires_in = Some seconds }; awaited = None })
+
+-- the value of `--skew`: milliseconds, where the word is a number of 64 bits
+abbrev pub take_skew : ℕ → Options → Option ℤ → WordTaken
+take_skew place given None = ends (bad_word place)
+take_skew place given (Some millis) = options (record given { skew_millis = Some millis; awaited = None })
 
 -- the word at a place: the value of the option that waits for one, or else an option
-abbrev pub word_step : ℕ → Options → Option Valued → List ℕ → OptionStep
-word_step place given None word = option_step place given word
-word_step place given (Some Name) word = options (record given { name = Some word; awaited = None })
-word_step place given (Some At) word = moment_step place given (number w64 word)
+abbrev pub take_word : ℕ → Options → Option Valued → List ℕ → WordTaken
+take_word place given None word = take_option place given word
+take_word place given (Some Name) word = options (record given { name = Some word; awaited = None })
+take_word place given (Some At) word = take_moment place given (number w64 word)
+take_word place given (Some Expires) word = take_expiry place given (natural_below 18446744073709551616 word)
+take_word place given (Some TokenName) word = options (record given { token_name = Some word; awaited = None })
+take_word place given (Some Skew) word = take_skew place given (number w64 word)
 
 -- the words are over: the command, or the place after the last word
 abbrev pub command_of : ℕ → Options → Option (List ℕ) → Option Instant → Option Valued → Command
 command_of place given name at (Some option) = bad_word place
 command_of place given None at None = bad_word place
 command_of place given (Some name) None None = unbuilt_word place
-command_of place given (Some name) (Some at) None = stream (record { name = name; at = at; signing = given.signing })
+command_of place given (Some name) (Some at) None =
+    stream (record { name = name; at = at; signing = given.signing; token_name = given.token_name; skew_millis = given.skew_millis })
 
 -- goes on, where the word didn't end the matter
-abbrev pub after_word : OptionStep → (Options → Command) → Command
-after_word (options given) others = others given
-after_word (ends command) others = command
+abbrev pub after_taken : WordTaken → (Options → Command) → Command
+after_taken (options given) others = others given
+after_taken (ends command) others = command
 
 -- the words from a place on, after those that gave this
 abbrev pub options_from : ℕ → Options → List (List ℕ) → Command
 options_from place given [] = command_of place given given.name given.at given.awaited
-options_from place given (word ∷ words) = after_word (word_step place given given.awaited word) (λ more. options_from (place + 1) more words)
+options_from place given (word ∷ words) = after_taken (take_word place given given.awaited word) (λ more. options_from (place + 1) more words)
 
 -- the command that the words spell, or the place of the first word that is bad or not built
 unfoldable pub command : List (List ℕ) → Command

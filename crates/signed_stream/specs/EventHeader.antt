@@ -3,16 +3,16 @@ use Rattle.std.specs.Prelude.{ℕ, ◌==◌, true, false, if◌then◌else◌, L
 use Rattle.std.specs.Int.{w8, w16, w32, w64, w128, from_be_bytes}
 use Rattle.std.specs.Result.{result_ok}
 use Rattle.hex.specs.Hex.{decode_of, decode_sized}
-use Rattle.smithy_core.specs.Header.{Header}
+use Rattle.smithy_core.specs.declared.header.Header.{Header}
 use Rattle.smithy_core.specs.declared.header.HeaderValue.{HeaderValue}
 use Rattle.smithy_core.specs.declared.header.HeaderValue.TheVariants.{Bool as Truth, Byte, Int16, Int32, Int64, ByteArray, String as Text, Timestamp, Uuid}
-use Rattle.smithy_core.specs.Moment.{Instant}
+use Rattle.smithy_core.specs.Instant.{Instant}
 use Rattle.signed_stream.specs.Lines.{rest_of, word_of}
 use Rattle.signed_stream.specs.Numbers.{natural_below, number}
 
 -- the bytes of an even number of hexadecimal digits, in either case
-unfoldable pub bytes_of : List ℕ → Option (List ℕ)
-bytes_of digits = result_ok (decode_of digits)
+unfoldable pub hex_bytes : List ℕ → Option (List ℕ)
+hex_bytes digits = result_ok (decode_of digits)
 
 -- the number of 32 hexadecimal digits, in either case, the highest first
 unfoldable pub uuid_of : List ℕ → Option ℕ
@@ -53,7 +53,7 @@ fixed_value kind text =
 -- the value of `KIND VALUE`
 unfoldable pub header_value : List ℕ → List ℕ → Option HeaderValue
 header_value kind text =
-    if bytes_eq kind (codes "bytes") then option_map ByteArray (bytes_of text)
+    if bytes_eq kind (codes "bytes") then option_map ByteArray (hex_bytes text)
     else if bytes_eq kind (codes "text") then Some (Text text)
     else fixed_value kind text
 

@@ -3,10 +3,10 @@ use Rattle.std.specs.Prelude.{ℕ, ◌+◌, ◌==◌, Bool, ◌&&◌, ◌||◌, 
 use Rattle.std.specs.Option.{option_to_list}
 use Rattle.std.specs.List.{list_all, list_any}
 use Rattle.std.specs.Str.Lossy.{utf8_valid_len}
-use Rattle.smithy_core.specs.TextPairs.{lower}
-use Rattle.smithy_core.specs.Message.{Parts}
-use Rattle.smithy_core.specs.Header.{Header}
-use Rattle.signed_stream.specs.EventHeader.{bytes_of, event_header}
+use Rattle.smithy_core.specs.Pairs.{lower}
+use Rattle.smithy_core.specs.Parts.{Parts}
+use Rattle.smithy_core.specs.declared.header.Header.{Header}
+use Rattle.signed_stream.specs.EventHeader.{hex_bytes, event_header}
 use Rattle.signed_stream.specs.Lines.{lines_of, pair_of, rest_of, word_of}
 use Rattle.signed_stream.specs.Numbers.{is_digit}
 
@@ -16,23 +16,23 @@ is_lower b = nat_le 97 b && nat_le b 122
 -- ## Credentials
 
 -- what the properties of the profile give so far
-pub record Settings : Type 0 where
+pub record ProfileTexts : Type 0 where
   pub key_id : Option (List ℕ)
   pub secret : Option (List ℕ)
   pub token : Option (List ℕ)
   pub region : Option (List ℕ)
 
-abbrev pub no_settings : Settings
-no_settings = record { key_id = None; secret = None; token = None; region = None }
+abbrev pub no_properties : ProfileTexts
+no_properties = record { key_id = None; secret = None; token = None; region = None }
 
 -- a property more: the later value of a key wins, and other keys give nothing
-unfoldable pub with_property : Settings → List ℕ → List ℕ → Settings
-with_property settings key value =
-    if bytes_eq key (codes "aws_access_key_id") then record settings { key_id = Some value }
-    else if bytes_eq key (codes "aws_secret_access_key") then record settings { secret = Some value }
-    else if bytes_eq key (codes "aws_session_token") then record settings { token = Some value }
-    else if bytes_eq key (codes "region") then record settings { region = Some value }
-    else settings
+unfoldable pub with_property : ProfileTexts → List ℕ → List ℕ → ProfileTexts
+with_property profile key value =
+    if bytes_eq key (codes "aws_access_key_id") then record profile { key_id = Some value }
+    else if bytes_eq key (codes "aws_secret_access_key") then record profile { secret = Some value }
+    else if bytes_eq key (codes "aws_session_token") then record profile { token = Some value }
+    else if bytes_eq key (codes "region") then record profile { region = Some value }
+    else profile
 
 abbrev pub is_key_byte : ℕ → Bool
 is_key_byte b = is_lower b || is_digit b || b == 95
@@ -50,12 +50,12 @@ is_plain_property value =
     nat_lt 0 (length value) && list_all is_property_byte value
     && not (slice_index value 0 == 35) && not (slice_index value 0 == 59)
 
--- the settings after `[default]`, which comes first and once, or after `KEY = VALUE`
-unfoldable pub after_credentials : Option Settings → List ℕ → Option Settings
-after_credentials None rest = if bytes_eq rest (codes "[default]") then Some no_settings else None
-after_credentials (Some settings) rest =
+-- the profile after `[default]`, which comes first and once, or after `KEY = VALUE`
+unfoldable pub after_credentials : Option ProfileTexts → List ℕ → Option ProfileTexts
+after_credentials None rest = if bytes_eq rest (codes "[default]") then Some no_properties else None
+after_credentials (Some profile) rest =
     if is_plain_key (word_of rest) && bytes_eq (word_of (rest_of rest)) (codes "=") && is_plain_property (rest_of (rest_of rest))
-    then Some (with_property settings (word_of rest) (rest_of (rest_of rest))) else None
+    then Some (with_property profile (word_of rest) (rest_of (rest_of rest))) else None
 
 -- ## Events
 
@@ -70,18 +70,18 @@ message_of event = record { headers = event.headers; payload = unwrap_or event.p
 
 -- ## The draft
 
--- what the lines so far gave; settings from the line `credentials [default]` on, the events that are whole, and the one that is open
+-- what the lines so far gave; a profile from the line `credentials [default]` on, the events that are whole, and the one that is open
 pub record Draft : Type 0 where
   pub method : Option (List ℕ)
   pub target : Option (List ℕ)
   pub headers : List (List ℕ × List ℕ)
   pub body : Option (List ℕ)
-  pub settings : Option Settings
+  pub profile : Option ProfileTexts
   pub events : List Parts
   pub event : Option Event
 
 abbrev pub no_draft : Draft
-no_draft = record { method = None; target = None; headers = []; body = None; settings = None; events = []; event = None }
+no_draft = record { method = None; target = None; headers = []; body = None; profile = None; events = []; event = None }
 
 -- the events, with the one that is open
 abbrev pub events_of : Draft → List Parts
@@ -121,12 +121,12 @@ header_step draft rest =
 unfoldable pub body_step : Draft → List ℕ → LineStep
 body_step draft rest =
     if is_some draft.body then bad
-    else whole_or_bad (option_map (λ body. record draft { body = Some body }) (bytes_of rest))
+    else whole_or_bad (option_map (λ body. record draft { body = Some body }) (hex_bytes rest))
 
 -- `credentials TEXT`
 unfoldable pub credentials_step : Draft → List ℕ → LineStep
 credentials_step draft rest =
-    plain_or_unbuilt (option_map (λ settings. record draft { settings = Some settings }) (after_credentials draft.settings rest))
+    plain_or_unbuilt (option_map (λ profile. record draft { profile = Some profile }) (after_credentials draft.profile rest))
 
 -- `event`: its rest is empty, and the method and the target stood before
 unfoldable pub event_step : Draft → List ℕ → LineStep
@@ -143,7 +143,7 @@ event_header_step draft event rest =
 unfoldable pub payload_step : Draft → Event → List ℕ → LineStep
 payload_step draft event rest =
     if is_some event.payload then bad
-    else whole_or_bad (option_map (λ payload. record draft { event = Some (record event { payload = Some payload }) }) (bytes_of rest))
+    else whole_or_bad (option_map (λ payload. record draft { event = Some (record event { payload = Some payload }) }) (hex_bytes rest))
 
 -- a line of the event that is open
 abbrev pub in_event : Option Event → (Event → LineStep) → LineStep
@@ -172,29 +172,29 @@ line_step draft line = if length line == 0 then moves_to draft else word_step dr
 -- ## The job
 
 -- a job; without a line of its own the body is empty
-pub record PlainJob : Type 0 where
+pub record JobParts : Type 0 where
   pub method : List ℕ
   pub target : List ℕ
   pub headers : List (List ℕ × List ℕ)
   pub body : List ℕ
-  pub settings : Settings
+  pub profile : ProfileTexts
   pub events : List Parts
 
 -- what the lines spell
 pub data Reading : Type 0 where
-  plain_job : PlainJob → Reading
+  whole_job : JobParts → Reading
   -- the line at this place is bad
   bad_line : ℕ → Reading
   -- the line at this place is of a form that isn't built
   unbuilt_line : ℕ → Reading
 
 -- the lines are over: the job, or the place after the last line
-abbrev pub job_of : ℕ → Draft → Option (List ℕ) → Option (List ℕ) → Option Settings → Reading
-job_of place draft (Some method) (Some target) (Some settings) =
-    plain_job (record { method = method; target = target; headers = draft.headers; body = unwrap_or draft.body []; settings = settings; events = events_of draft })
+abbrev pub job_of : ℕ → Draft → Option (List ℕ) → Option (List ℕ) → Option ProfileTexts → Reading
+job_of place draft (Some method) (Some target) (Some profile) =
+    whole_job (record { method = method; target = target; headers = draft.headers; body = unwrap_or draft.body []; profile = profile; events = events_of draft })
 job_of place draft (Some method) (Some target) None = unbuilt_line place
-job_of place draft (Some method) None settings = bad_line place
-job_of place draft None target settings = bad_line place
+job_of place draft (Some method) None profile = bad_line place
+job_of place draft None target profile = bad_line place
 
 -- goes on, where the line at a place moved the draft
 abbrev pub after_step : ℕ → (Draft → Reading) → LineStep → Reading
@@ -204,7 +204,7 @@ after_step place others unbuilt = unbuilt_line place
 
 -- what the lines from a place on spell, after those that gave the draft
 abbrev pub lines_from : ℕ → Draft → List (List ℕ) → Reading
-lines_from place draft [] = job_of place draft draft.method draft.target draft.settings
+lines_from place draft [] = job_of place draft draft.method draft.target draft.profile
 lines_from place draft (line ∷ lines) = after_step place (λ next. lines_from (place + 1) next lines) (line_step draft line)
 
 -- the job that the bytes spell, or the first line that is bad or not built; bytes that aren't UTF-8 are bad at the line of the first bad byte

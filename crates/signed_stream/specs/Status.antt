@@ -1,53 +1,86 @@
--- How a run ends.
-use Rattle.std.specs.Prelude.{ℕ, List, [], ◌++◌, codes, Option, Some, None}
-use Rattle.std.specs.Fmt.{decimal}
-use Rattle.smithy_core.specs.Text.{line}
+-- How a run ends, as contracts see it: texts are lists of bytes.
+use Rattle.std.specs.Prelude.{ℕ}
+use Rattle.smithy_core.specs.Instant.{Instant}
+use Rattle.sigv4.specs.declared.error.ValuePlace.{ValuePlace}
 use Rattle.signed_stream.specs.declared.status.Status.{Status}
-use Rattle.signed_stream.specs.declared.status.Status.TheVariants.{Done, BadWords, JobTooLarge, BadJob, ReadFault, Refused, OutputFault, NoMemory, NotBuilt}
+use Rattle.signed_stream.specs.declared.status.Status.TheVariants as statuses
 use Rattle.signed_stream.specs.declared.status.StreamFault.{StreamFault}
-use Rattle.signed_stream.specs.declared.status.StreamFault.TheVariants.{MissingCredentials, MissingSigningRegion, MomentOutOfRange, InvalidUri, InvalidHeaderName, InvalidHeaderValue, MissingHost, InvalidHeaderNameLength, HeaderValueTooLong, TimestampValueTooLarge, HeadersTooLong, PayloadTooLong, MessageTooLong}
+use Rattle.signed_stream.specs.declared.status.StreamFault.TheVariants as faults
+
+-- why a stream is refused
+pub data Fault : Type 0 where
+  missing_credentials : Fault
+  missing_signing_region : Fault
+  -- this moment lies outside the years
+  moment_out_of_range : Instant → Fault
+  invalid_uri : Fault
+  -- of the request's header at this place
+  invalid_header_name : ℕ → Fault
+  invalid_header_value : ValuePlace → Fault
+  missing_host : Fault
+  invalid_token_name : Fault
+  missing_expires : Fault
+  -- of the event at this place
+  invalid_header_name_length : ℕ → Fault
+  header_value_too_long : ℕ → Fault
+  timestamp_value_too_large : ℕ → Fault
+  headers_too_long : ℕ → Fault
+  payload_too_long : ℕ → Fault
+  message_too_long : ℕ → Fault
+
+-- how a run ends
+pub data Ending : Type 0 where
+  done : Ending
+  -- the word at this place
+  bad_words : ℕ → Ending
+  job_too_large : Ending
+  -- the line at this place
+  bad_job : ℕ → Ending
+  read_fault : Ending
+  refused : Fault → Ending
+  output_fault : Ending
+  no_memory : Ending
+  -- the word or line at this place, or a variable at 0
+  not_built : ℕ → Ending
+
+-- what contracts see of a fault
+abbrev pub fault_of : StreamFault → Fault
+fault_of faults.MissingCredentials = missing_credentials
+fault_of faults.MissingSigningRegion = missing_signing_region
+fault_of (faults.MomentOutOfRange moment) = moment_out_of_range moment
+fault_of faults.InvalidUri = invalid_uri
+fault_of (faults.InvalidHeaderName place) = invalid_header_name place
+fault_of (faults.InvalidHeaderValue place) = invalid_header_value place
+fault_of faults.MissingHost = missing_host
+fault_of faults.InvalidTokenName = invalid_token_name
+fault_of faults.MissingExpires = missing_expires
+fault_of (faults.InvalidHeaderNameLength place) = invalid_header_name_length place
+fault_of (faults.HeaderValueTooLong place) = header_value_too_long place
+fault_of (faults.TimestampValueTooLarge place) = timestamp_value_too_large place
+fault_of (faults.HeadersTooLong place) = headers_too_long place
+fault_of (faults.PayloadTooLong place) = payload_too_long place
+fault_of (faults.MessageTooLong place) = message_too_long place
+
+-- what contracts see of a status
+abbrev pub ending_of : Status → Ending
+ending_of statuses.Done = done
+ending_of (statuses.BadWords place) = bad_words place
+ending_of statuses.JobTooLarge = job_too_large
+ending_of (statuses.BadJob place) = bad_job place
+ending_of statuses.ReadFault = read_fault
+ending_of (statuses.Refused fault) = refused (fault_of fault)
+ending_of statuses.OutputFault = output_fault
+ending_of statuses.NoMemory = no_memory
+ending_of (statuses.NotBuilt place) = not_built place
 
 -- the number that the process ends with
-abbrev pub exit_code : Status → ℕ
-exit_code Done = 0
-exit_code (BadWords place) = 2
-exit_code JobTooLarge = 3
-exit_code (BadJob place) = 4
-exit_code ReadFault = 5
-exit_code (Refused fault) = 7
-exit_code OutputFault = 9
-exit_code NoMemory = 10
-exit_code (NotBuilt place) = 11
-
--- the end of a run that has written: it is done, or refused for the fault of an event
-abbrev pub end_with : Option StreamFault → Status
-end_with None = Done
-end_with (Some fault) = Refused fault
-
--- the number and the name of a refusal
-abbrev pub refusal_text : StreamFault → List ℕ
-refusal_text MissingCredentials = codes "2 MissingCredentials"
-refusal_text MissingSigningRegion = codes "3 MissingSigningRegion"
-refusal_text (MomentOutOfRange moment) = codes "4 MomentOutOfRange"
-refusal_text InvalidUri = codes "5 InvalidUri"
-refusal_text (InvalidHeaderName place) = codes "6 InvalidHeaderName"
-refusal_text (InvalidHeaderValue place) = codes "7 InvalidHeaderValue"
-refusal_text MissingHost = codes "8 MissingHost"
-refusal_text (InvalidHeaderNameLength place) = codes "11 InvalidHeaderNameLength"
-refusal_text (HeaderValueTooLong place) = codes "12 HeaderValueTooLong"
-refusal_text (TimestampValueTooLarge place) = codes "13 TimestampValueTooLarge"
-refusal_text (HeadersTooLong place) = codes "14 HeadersTooLong"
-refusal_text (PayloadTooLong place) = codes "15 PayloadTooLong"
-refusal_text (MessageTooLong place) = codes "16 MessageTooLong"
-
--- the line that a run says on `err`, and nothing for `Done`
-abbrev pub status_line : Status → List ℕ
-status_line Done = []
-status_line (BadWords place) = line (codes "bad word " ++ decimal place)
-status_line JobTooLarge = line (codes "input over 67108864 bytes")
-status_line (BadJob place) = line (codes "bad line " ++ decimal place)
-status_line ReadFault = line (codes "read fault")
-status_line (Refused fault) = line (codes "refused " ++ refusal_text fault)
-status_line OutputFault = line (codes "output fault")
-status_line NoMemory = line (codes "no memory")
-status_line (NotBuilt place) = line (codes "not built " ++ decimal place)
+abbrev pub exit_code : Ending → ℕ
+exit_code done = 0
+exit_code (bad_words place) = 2
+exit_code job_too_large = 3
+exit_code (bad_job place) = 4
+exit_code read_fault = 5
+exit_code (refused fault) = 7
+exit_code output_fault = 9
+exit_code no_memory = 10
+exit_code (not_built place) = 11

@@ -1,12 +1,13 @@
 -- The output as lines: the head of the signed request, and its frames in hexadecimal.
-use Rattle.std.specs.Prelude.{ℕ, List, [], ◌++◌, codes, Option, Some, None}
+use Rattle.std.specs.Prelude.{ℕ, ◌+◌, ◌==◌, if◌then◌else◌, List, [], ◌++◌, codes, length, Option, Some, None}
 use Rattle.std.specs.List.{flat_map}
-use Rattle.smithy_core.specs.Message.{Parts}
+use Rattle.smithy_core.specs.Instant.{Instant}
+use Rattle.smithy_core.specs.Parts.{Parts}
 use Rattle.smithy_core.specs.Text.{line}
 use Rattle.sigv4.specs.Request.{Case}
-use Rattle.sigv4.specs.Signed.{signature_of, signed_headers}
-use Rattle.signed_stream.specs.Refusal.{Refusal, first_refusal}
-use Rattle.signed_stream.specs.Stream.{HasFrames, chain_lines, lines_before}
+use Rattle.sigv4.specs.Signed.{signature_of, signed_headers, signed_target}
+use Rattle.signed_stream.specs.Chain.{Refusal, chain_lines, first_refusal, lines_before}
+use Rattle.signed_stream.specs.Status.{Ending, done, no_memory, refused}
 
 -- `name: value`, as a line
 abbrev pub header_line : List ℕ × List ℕ → List ℕ
@@ -16,27 +17,29 @@ header_line header = line (header.0 ++ codes ": " ++ header.1)
 unfoldable pub head : List ℕ → List ℕ → List (List ℕ × List ℕ) → List ℕ
 head method target headers = line (method ++ codes " " ++ target) ++ flat_map header_line headers ++ line []
 
--- the head of the signed request, whose target is this text
+-- the head of the signed request, whose own target was given by this text
 abbrev pub signed_head : List ℕ → Case → List ℕ
-signed_head target c = head c.method target (signed_headers c)
+signed_head text c = head c.method (signed_target c text) (signed_headers c)
 
--- the head of the signed request, and then the chain of the events, all at the moment of the request
-unfoldable pub written : List ℕ → Case → List Parts → List ℕ
-written target c events = signed_head target c ++ chain_lines c.signer events c.at (signature_of c)
+-- the head of the signed request, and then the chain of the events at their moments
+unfoldable pub written : List ℕ → Case → List Parts → List Instant → List ℕ
+written text c events moments = signed_head text c ++ chain_lines c.signer events moments (signature_of c)
 
--- each frame of the chain of the events is defined
-abbrev pub IsChained : Case → List Parts → Type 0
-IsChained c events = HasFrames c.signer events c.at (signature_of c)
+-- the head of the signed request, and then the frames before the one at a place
+unfoldable pub written_before : ℕ → List ℕ → Case → List Parts → List Instant → List ℕ
+written_before place text c events moments = signed_head text c ++ lines_before c.signer place events moments (signature_of c)
 
--- the head of the signed request, and then the frames of the events before the one at a place
-unfoldable pub written_before : ℕ → List ℕ → Case → List Parts → List ℕ
-written_before place target c events = signed_head target c ++ lines_before c.signer place events c.at (signature_of c)
+-- the first event that is refused, or the closing frame; places count from 1
+abbrev pub refusal_of : Case → List Parts → List Instant → Option Refusal
+refusal_of c events moments = first_refusal c.signer 1 events moments (signature_of c)
 
--- the first event that is refused; places count from 1
-abbrev pub refusal_of : Case → List Parts → Option Refusal
-refusal_of c events = first_refusal c.signer 1 events c.at (signature_of c)
+-- what is written: all, and where a frame is refused what stands before it
+abbrev pub written_until : Option Refusal → List ℕ → Case → List Parts → List Instant → List ℕ
+written_until None text c events moments = written text c events moments
+written_until (Some refusal) text c events moments = written_before refusal.place text c events moments
 
--- what is written: all, and where an event is refused what stands before it
-abbrev pub written_until : Option Refusal → List ℕ → Case → List Parts → List ℕ
-written_until None target c events = written target c events
-written_until (Some refusal) target c events = written_before refusal.place target c events
+-- how it ends: refused where a frame is; done where each event and the closing frame had its moment, and else for want of memory, which ran out before
+-- the next moment
+abbrev pub written_end : Option Refusal → List Parts → List Instant → Ending
+written_end (Some refusal) events moments = refused refusal.fault
+written_end None events moments = if length moments == length events + 1 then done else no_memory

@@ -1,13 +1,14 @@
 ghost use Rattle.std.specs.Prelude.{◌≡◌};
-ghost use Rattle.signed_stream.specs.Sending.{ended};
+ghost use Rattle.signed_stream.specs.Halt.{ended};
+ghost use Rattle.signed_stream.specs.Status.{ending_of};
 
 use crate::status::{Status, StreamFault};
 use std::alloc::AllocError;
 
 /// Why an output isn't whole.
-#[derive(Clone, Copy, Debug, PartialEq, Eq)]
+#[derive(Debug, Drop)]
 pub enum Halt {
-    /// The request or an event is refused.
+    /// The request, an event or the closing frame is refused.
     Refused(StreamFault),
     /// The output failed.
     OutputFault,
@@ -17,7 +18,7 @@ pub enum Halt {
 
 /// How a run ends with this outcome.
 pub fn status_of(outcome: Result<(), Halt>) -> Status
-    ensures { result ≡ ended outcome }
+    ensures { ending_of result ≡ ended outcome }
 {
     match outcome {
         Ok(()) => Status::Done,

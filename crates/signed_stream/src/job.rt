@@ -1,7 +1,7 @@
 ghost use Rattle.std.specs.Prelude.{◌≡◌, ◌==◌, ◌+◌, [], count_by};
 ghost use Rattle.signed_stream.specs.Job.{job, lines_from, no_draft};
 ghost use Rattle.signed_stream.specs.Lines.{lines_of};
-ghost use Rattle.signed_stream.specs.Reading.{ReadsJob, draft_of};
+ghost use Rattle.signed_stream.specs.Draft.{ReadsJob, draft_of};
 
 mod credentials;
 mod draft;
@@ -10,7 +10,7 @@ mod event_header;
 mod fault;
 mod lines;
 
-pub use crate::job::credentials::PlainSettings;
+pub use crate::job::credentials::ProfileKeys;
 use crate::job::draft::Draft;
 pub use crate::job::fault::JobFault;
 use crate::job::lines::cut_line;
@@ -24,7 +24,7 @@ pub struct Job {
     /// The request; without a line of its own its body is empty.
     pub request: HttpRequest,
     /// What the profile gives.
-    pub settings: PlainSettings,
+    pub profile: ProfileKeys,
     /// The events in order.
     pub events: Vec<Message>,
 }
@@ -69,20 +69,20 @@ fn read_lines(alloc: Global, text: &str) -> Result<Job, JobFault>
 }
 
 // The job, where the lines are over at the place.
-#[tactic(auto, unfolding(crate::specs::Reading::draft_of))]
+#[tactic(auto, unfolding(crate::specs::Draft::draft_of))]
 fn into_job(mut draft: Draft, place: usize) -> Result<Job, JobFault>
     ensures { ReadsJob (lines_from place (draft_of draft) []) result }
 {
     draft.close_event()?;
-    match (draft.method, draft.target, draft.settings) {
-        (Some(method), Some(target), Some(settings)) => Ok(Job {
+    match (draft.method, draft.target, draft.profile) {
+        (Some(method), Some(target), Some(profile)) => Ok(Job {
             request: HttpRequest {
                 method,
                 target,
                 headers: draft.headers,
                 body: draft.body.unwrap_or(Bytes::new()),
             },
-            settings,
+            profile,
             events: draft.events,
         }),
         (Some(_), Some(_), None) => Err(JobFault::NotBuilt(place)),

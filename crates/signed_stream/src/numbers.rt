@@ -51,6 +51,18 @@ pub fn parse_nanos(text: &str) -> Option<u32>
     (nanos < 1_000_000_000).then_some(nanos)
 }
 
+/// The natural number that a text spells, where a `u64` holds it.
+#[tactic(auto, using(crate::proofs::NumberLemmas::below))]
+pub fn parse_u64(text: &str) -> Option<u64>
+    ensures { result ≡ natural_below 18446744073709551616 text.now }
+{
+    if is_natural(text.as_bytes()) {
+        text.parse::<u64>().ok()
+    } else {
+        None
+    }
+}
+
 // The natural number that a text spells, where a `u32` holds it.
 #[tactic(auto, using(crate::proofs::NumberLemmas::below))]
 fn parse_u32(text: &str) -> Option<u32>

@@ -1,31 +1,33 @@
 ghost use Rattle.std.specs.Prelude.{◌≡◌, ◌≤◌, ℕ, List, Some, map, IfErr};
 ghost use Rattle.std.specs.String.{string_bytes};
-ghost use Rattle.smithy_core.specs.Outside.{IsAtEnd, IsRestOf, RoseOrStands};
+ghost use Rattle.smithy_core.specs.Outside.{IsAtEnd, IsRestOf, Rose};
+ghost use Rattle.signed_stream.specs.Carriers.{GoesForInput, IsEarly, ask_told};
 ghost use Rattle.signed_stream.specs.Job.{job};
-ghost use Rattle.signed_stream.specs.Plan.{ReadsNoTarget, ask, has_later_variable};
-ghost use Rattle.signed_stream.specs.Run.{Completes, CountsReads, CountsWrites, EndsAsAsked, IfEnds, IsValid, Keeps, RunsAsPlanned, Says, Streams};
-ghost use Rattle.signed_stream.specs.Steps.{IsEarly, ask_told};
-ghost use Rattle.signed_stream.specs.declared.status.StreamFault.TheVariants.{InvalidUri};
+ghost use Rattle.signed_stream.specs.Plan.{Supplied};
+ghost use Rattle.signed_stream.specs.Running.{Completes, EndsAsAsked, IfEnds, IfStreams, IsValid, Keeps, Ran, Streams, ask, asks_in_years, has_later_variable};
+ghost use Rattle.signed_stream.specs.Status.{done, ending_of, invalid_uri, output_fault, read_fault, refused};
+ghost use Rattle.signed_stream.specs.Stream.{ReadsUnfitTarget};
 
-use crate::job_stream::stream_input;
+use crate::command::{Command, WordsFault, read_words};
 use crate::saying::say;
 use crate::status::Status;
-use crate::words::{StreamWords, WordsFault, read_words};
+use crate::stream::stream_input;
 use smithy_core::{ByteSink, ByteSource, Clock, Disk, Env};
 use std::alloc::Global;
 
 /// Does what the words ask for, on the objects of the outside, and says on `err` how it ended.
 ///
 /// The words are those after the program's name. `stream --name NAME --at N` reads a job from `input`, signs its
-/// request by AWS Signature Version 4 in header form, and writes to `out` the head of the signed request and then a
-/// chain of event stream frames: one for each event in order and an empty one last, each signed over the signature
-/// before it, the first over that of the request. All of them have the moment N. `--sha256`, `--single-encode`,
-/// `--no-normalize` and `--unsigned` say how the request is signed.
+/// request by AWS Signature Version 4, and writes to `out` the head of the signed request and then a chain of event
+/// stream frames: one for each event in order and an empty one last, each signed over the signature before it, the
+/// first over that of the request. All of them have the moment N, but the request where `--skew` shifts it. Options
+/// say how the request is signed: `--query` with `--expires N` makes a presigned one.
 ///
 /// The first test that fails ends the run, in this order: the words, the variables, the length of the input, the
-/// job, what its profile gives, the moment, the target, each header of the request, the host, the token and the
-/// authorization. Until then nothing is written. Then each event is tested before its frame is written, so a refused
-/// event leaves the head and the frames of the events before it.
+/// job, what its profile gives, the moment, the target, each header of the request, the host, the token's name, the
+/// signature's own texts or the expiry, and the length of the signed target. Until then nothing is written. Then each
+/// event is tested before its frame is written, and last the closing frame's moment, so a refused event leaves the head
+/// and the frames of the events before it.
 pub fn run<S: ByteSource, D: Disk, C: Clock, K: ByteSink, E: ByteSink>(
     alloc: Global,
     words: &[String],
@@ -38,34 +40,31 @@ pub fn run<S: ByteSource, D: Disk, C: Clock, K: ByteSink, E: ByteSink>(
 ) -> Status
     // Where the run is done, the output gained exactly the head of the signed request and then the chain of the
     // events read.
-    ensures headline { result ≡ Status.Done → (bytes : List ℕ) → S.left input.old ≡ Some bytes
+    ensures headline { ending_of result ≡ done → (bytes : List ℕ) → S.left input.old ≡ Some bytes
         → Streams (map string_bytes words.now) env.now bytes (K.held out.old) (K.held out.new) }
 
     // Where what is asked is valid, it is done; a fault of the outside and want of memory may come in between.
-    ensures complete { (bytes : List ℕ) → S.left input.old ≡ Some bytes → IsValid (map string_bytes words.now) env.now bytes → Completes result }
+    ensures complete { (bytes : List ℕ) → S.left input.old ≡ Some bytes → (given : Supplied)
+        → IsValid (map string_bytes words.now) env.now bytes given → Completes (ending_of result) }
 
-    // It ends as words and variables ask. Where the input tells its bytes, it ends and the output gains as planned for
-    // what the target in them spells. A fault of the outside and want of memory may come in between.
-    ensures asked { EndsAsAsked (ask (map string_bytes words.now) env.now) result }
-    ensures planned { (bytes : List ℕ) → S.left input.old ≡ Some bytes
-        → RunsAsPlanned (ask (map string_bytes words.now) env.now) bytes result (K.held out.old) (K.held out.new) }
-    ensures kept { Keeps result (K.held out.old) (K.held out.new) }
+    // There is what the outside gave, for which the run ended, gained and said what words, variables and input ask for,
+    // and for which the counts rose.
+    ensures ran { (given : Supplied) × Ran (ask (map string_bytes words.now) env.now) (S.left input.old) given (ending_of result)
+        (S.faults input.old) (S.faults input.new)
+        (record { held_before = K.held out.old; held_now = K.held out.new; faults_before = K.faults out.old; faults_now = K.faults out.new })
+        (record { held_before = E.held err.old; held_now = E.held err.new; faults_before = E.faults err.old; faults_now = E.faults err.new }) }
 
-    // It is refused for the target only where the job's target isn't accepted.
-    ensures target { result ≡ Status.Refused InvalidUri → (bytes : List ℕ) → S.left input.old ≡ Some bytes → ReadsNoTarget (job bytes) }
+    // It is refused for the target only where the job's target isn't accepted, or takes no parameters of its signature.
+    ensures target { ending_of result ≡ refused invalid_uri → (bytes : List ℕ) → S.left input.old ≡ Some bytes
+        → IfStreams (ask (map string_bytes words.now) env.now) (λ wanted. ReadsUnfitTarget wanted (job bytes)) }
 
-    // A fault of the outside ends it: where it ends otherwise, no call failed before, unless memory ran out while the
-    // fault was said. Where words or variables end it, input and output are as they were.
-    ensures faults { CountsReads result (S.faults input.old) (S.faults input.new) × CountsWrites result (K.faults out.old) (K.faults out.new) }
+    // Where words or variables end it, input and output are as they were.
     ensures untouched { IfEnds (ask (map string_bytes words.now) env.now)
         ((S.left input.new ≡ S.left input.old) × (S.faults input.new ≡ S.faults input.old)
         × (K.held out.new ≡ K.held out.old) × (K.faults out.new ≡ K.faults out.old)) }
 
-    // What `err` gained, whatever the end.
-    ensures said { Says result (E.held err.old) (E.held err.new) (E.faults err.old) (E.faults err.new) }
-
     // The input was read to its end, a rest of it is left, no count fell, and disk and clock weren't asked.
-    ensures outside { (result ≡ Status.Done → IsAtEnd (S.left input.new)) × IsRestOf (S.left input.old) (S.left input.new)
+    ensures outside { (ending_of result ≡ done → IsAtEnd (S.left input.new)) × IsRestOf (S.left input.old) (S.left input.new)
         × (S.faults input.old ≤ S.faults input.new) × (K.faults out.old ≤ K.faults out.new) × (E.faults err.old ≤ E.faults err.new)
         × (D.files disk.new ≡ D.files disk.old) × (D.faults disk.new ≡ D.faults disk.old) × (C.given clock.new ≡ C.given clock.old) }
 {
@@ -82,39 +81,37 @@ fn answer<S: ByteSource, K: ByteSink>(
     input: &mut S,
     out: &mut K,
 ) -> Status
-    ensures streamed { result ≡ Status.Done → (bytes : List ℕ) → S.left input.old ≡ Some bytes
-        → Streams (map string_bytes words.now) env.now bytes (K.held out.old) (K.held out.new) }
-    ensures asked { EndsAsAsked (ask (map string_bytes words.now) env.now) result }
+    ensures asked { EndsAsAsked (ask (map string_bytes words.now) env.now) (ending_of result) }
     ensures planned { (bytes : List ℕ) → S.left input.old ≡ Some bytes
-        → RunsAsPlanned (ask (map string_bytes words.now) env.now) bytes result (K.held out.old) (K.held out.new) }
-    ensures kept { Keeps result (K.held out.old) (K.held out.new) }
-    ensures read_fault { result ≡ Status.ReadFault → RoseOrStands (S.faults input.old) (S.faults input.new) }
-    ensures read_steady { (result ≡ Status.ReadFault → ⊥) → S.faults input.new ≡ S.faults input.old }
-    ensures output_fault { result ≡ Status.OutputFault → RoseOrStands (K.faults out.old) (K.faults out.new) }
-    ensures output_steady { (result ≡ Status.OutputFault → ⊥) → K.faults out.new ≡ K.faults out.old }
+        → GoesForInput (ask (map string_bytes words.now) env.now) bytes (ending_of result) (K.held out.old) (K.held out.new) }
+    ensures kept { Keeps (asks_in_years (ask (map string_bytes words.now) env.now)) (ending_of result) (K.held out.old) (K.held out.new) }
+    ensures read_failed { ending_of result ≡ read_fault → Rose (S.faults input.old) (S.faults input.new) }
+    ensures read_steady { (ending_of result ≡ read_fault → ⊥) → S.faults input.new ≡ S.faults input.old }
+    ensures output_failed { ending_of result ≡ output_fault → Rose (K.faults out.old) (K.faults out.new) }
+    ensures output_steady { (ending_of result ≡ output_fault → ⊥) → K.faults out.new ≡ K.faults out.old }
     ensures untouched { IfEnds (ask (map string_bytes words.now) env.now)
         ((S.left input.new ≡ S.left input.old) × (S.faults input.new ≡ S.faults input.old)
         × (K.held out.new ≡ K.held out.old) × (K.faults out.new ≡ K.faults out.old)) }
-    ensures outside { (result ≡ Status.Done → IsAtEnd (S.left input.new)) × IsRestOf (S.left input.old) (S.left input.new)
+    ensures outside { (ending_of result ≡ done → IsAtEnd (S.left input.new)) × IsRestOf (S.left input.old) (S.left input.new)
         × (S.faults input.old ≤ S.faults input.new) × (K.faults out.old ≤ K.faults out.new) }
 {
     match read_ask(words, env) {
-        Ok(words) => stream_input(alloc, &words, input, out),
+        Ok(Command::Stream(words)) => stream_input(alloc, words, input, out),
         Err(status) => status,
     }
 }
 
 // What the words and the variables ask for, or how they end the run.
-#[tactic(auto, unfolding(crate::specs::Plan::ask))]
-fn read_ask<'a>(words: &'a [String], env: &Env) -> Result<StreamWords<'a>, Status>
+#[tactic(auto, unfolding(crate::specs::Running::ask))]
+fn read_ask<'a>(words: &'a [String], env: &Env) -> Result<Command<'a>, Status>
     ensures told { ask_told result ≡ ask (map string_bytes words.now) env.now }
-    ensures early { IfErr result IsEarly }
+    ensures early { IfErr result (λ status. IsEarly (ending_of status)) }
 {
     match read_words(words) {
         Err(WordsFault::BadWord(place)) => Err(Status::BadWords(place)),
         Err(WordsFault::NotBuilt(place)) => Err(Status::NotBuilt(place)),
         Ok(_) if has_later_variable(env) => Err(Status::NotBuilt(0)),
-        Ok(words) => Ok(words),
+        Ok(command) => Ok(command),
     }
 }
 

@@ -1,7 +1,7 @@
 ghost use Rattle.std.specs.Prelude.{◌≡◌, ◌≤◌, ◌⊎◌, IfOk};
 ghost use Rattle.std.specs.String.{string_bytes};
-ghost use Rattle.signed_stream.specs.Run.{Says};
-ghost use Rattle.signed_stream.specs.Status.{status_line};
+ghost use Rattle.signed_stream.specs.Saying.{Says, ending_line};
+ghost use Rattle.signed_stream.specs.Status.{done, ending_of, fault_of, no_memory, refused};
 
 use crate::status::{Status, StreamFault};
 use smithy_core::{ByteSink, Mem, SinkError, write_all};
@@ -9,24 +9,24 @@ use std::alloc::Global;
 
 /// Says the line of a status on `err`, and answers how the run ended: as the status says, or for want of memory.
 pub fn say<E: ByteSink>(alloc: Global, status: Status, err: &mut E) -> Status
-    ensures answer { (result ≡ status) ⊎ (result ≡ Status.NoMemory) }
-    ensures said { Says result (E.held err.old) (E.held err.new) (E.faults err.old) (E.faults err.new) }
+    ensures answer { (ending_of result ≡ ending_of status) ⊎ (ending_of result ≡ no_memory) }
+    ensures said { Says (ending_of result) (E.held err.old) (E.held err.new) (E.faults err.old) (E.faults err.new) }
     ensures count { E.faults err.old ≤ E.faults err.new }
 {
-    if status == Status::Done {
+    if let Status::Done = &status {
         return status;
     }
-    match line_of(alloc, status) {
+    match line_of(alloc, &status) {
         Ok(line) => say_line(status, line.as_str(), err),
         Err(_) => say_line(Status::NoMemory, "no memory\n", err),
     }
 }
 
 fn say_line<E: ByteSink>(status: Status, line: &str, err: &mut E) -> Status
-    requires told { status ≡ Status.Done → ⊥ }
-    requires line { line.now ≡ status_line status }
-    ensures answer { (result ≡ status) ⊎ (result ≡ Status.NoMemory) }
-    ensures said { Says result (E.held err.old) (E.held err.new) (E.faults err.old) (E.faults err.new) }
+    requires told { ending_of status ≡ done → ⊥ }
+    requires line { line.now ≡ ending_line (ending_of status) }
+    ensures answer { (ending_of result ≡ ending_of status) ⊎ (ending_of result ≡ no_memory) }
+    ensures said { Says (ending_of result) (E.held err.old) (E.held err.new) (E.faults err.old) (E.faults err.new) }
     ensures count { E.faults err.old ≤ E.faults err.new }
 {
     match write_all(err, line.as_bytes()) {
@@ -35,9 +35,9 @@ fn say_line<E: ByteSink>(status: Status, line: &str, err: &mut E) -> Status
     }
 }
 
-fn line_of(alloc: Global, status: Status) -> Mem<String>
-    requires { status ≡ Status.Done → ⊥ }
-    ensures { IfOk result (λ line. string_bytes line ≡ status_line status) }
+fn line_of(alloc: Global, status: &Status) -> Mem<String>
+    requires { ending_of status.now ≡ done → ⊥ }
+    ensures { IfOk result (λ line. string_bytes line ≡ ending_line (ending_of status.now)) }
 {
     match status {
         Status::Done => unreachable!(),
@@ -52,38 +52,25 @@ fn line_of(alloc: Global, status: Status) -> Mem<String>
     }
 }
 
-fn refusal_line(alloc: Global, fault: StreamFault) -> Mem<String>
-    ensures { IfOk result (λ line. string_bytes line ≡ status_line (Status.Refused fault)) }
+fn refusal_line(alloc: Global, fault: &StreamFault) -> Mem<String>
+    ensures { IfOk result (λ line. string_bytes line ≡ ending_line (refused (fault_of fault.now))) }
 {
-    match fault {
-        StreamFault::MissingCredentials => {
-            String::from_str(alloc, "refused 2 MissingCredentials\n")
-        }
-        StreamFault::MissingSigningRegion => {
-            String::from_str(alloc, "refused 3 MissingSigningRegion\n")
-        }
-        StreamFault::MomentOutOfRange(_) => {
-            String::from_str(alloc, "refused 4 MomentOutOfRange\n")
-        }
-        StreamFault::InvalidUri => String::from_str(alloc, "refused 5 InvalidUri\n"),
-        StreamFault::InvalidHeaderName(_) => {
-            String::from_str(alloc, "refused 6 InvalidHeaderName\n")
-        }
-        StreamFault::InvalidHeaderValue(_) => {
-            String::from_str(alloc, "refused 7 InvalidHeaderValue\n")
-        }
-        StreamFault::MissingHost => String::from_str(alloc, "refused 8 MissingHost\n"),
-        StreamFault::InvalidHeaderNameLength(_) => {
-            String::from_str(alloc, "refused 11 InvalidHeaderNameLength\n")
-        }
-        StreamFault::HeaderValueTooLong(_) => {
-            String::from_str(alloc, "refused 12 HeaderValueTooLong\n")
-        }
-        StreamFault::TimestampValueTooLarge(_) => {
-            String::from_str(alloc, "refused 13 TimestampValueTooLarge\n")
-        }
-        StreamFault::HeadersTooLong(_) => String::from_str(alloc, "refused 14 HeadersTooLong\n"),
-        StreamFault::PayloadTooLong(_) => String::from_str(alloc, "refused 15 PayloadTooLong\n"),
-        StreamFault::MessageTooLong(_) => String::from_str(alloc, "refused 16 MessageTooLong\n"),
-    }
+    let line = match fault {
+        StreamFault::MissingCredentials => "refused 2 MissingCredentials\n",
+        StreamFault::MissingSigningRegion => "refused 3 MissingSigningRegion\n",
+        StreamFault::MomentOutOfRange(_) => "refused 4 MomentOutOfRange\n",
+        StreamFault::InvalidUri => "refused 5 InvalidUri\n",
+        StreamFault::InvalidHeaderName(_) => "refused 6 InvalidHeaderName\n",
+        StreamFault::InvalidHeaderValue(_) => "refused 7 InvalidHeaderValue\n",
+        StreamFault::MissingHost => "refused 8 MissingHost\n",
+        StreamFault::InvalidTokenName => "refused 9 InvalidTokenName\n",
+        StreamFault::MissingExpires => "refused 10 MissingExpires\n",
+        StreamFault::InvalidHeaderNameLength(_) => "refused 11 InvalidHeaderNameLength\n",
+        StreamFault::HeaderValueTooLong(_) => "refused 12 HeaderValueTooLong\n",
+        StreamFault::TimestampValueTooLarge(_) => "refused 13 TimestampValueTooLarge\n",
+        StreamFault::HeadersTooLong(_) => "refused 14 HeadersTooLong\n",
+        StreamFault::PayloadTooLong(_) => "refused 15 PayloadTooLong\n",
+        StreamFault::MessageTooLong(_) => "refused 16 MessageTooLong\n",
+    };
+    String::from_str(alloc, line)
 }

@@ -1,144 +1,117 @@
-ghost use Rattle.std.specs.Prelude.{◌≡◌, None, IfOk};
+ghost use Rattle.std.specs.Prelude.{◌≡◌, IfOk, option_copied, option_map};
 ghost use Rattle.std.specs.String.{string_bytes};
-ghost use Rattle.sigv4.specs.Request.{payload_text};
-ghost use Rattle.sigv4.specs.Settings.{settings_of};
-ghost use Rattle.sigv4.specs.EventStream.{unsignable};
-ghost use Rattle.sigv4.specs.declared.signing_params.SigningParams.TheVariants.{V4};
-ghost use Rattle.signed_stream.specs.Signing.{case_under, payload_with, settings_with};
-ghost use Rattle.signed_stream.specs.Signs.{IsRequestError, SignsRequest, SignsText, halt_for};
+ghost use Rattle.signed_stream.specs.Case.{request_moment};
+ghost use Rattle.signed_stream.specs.Chain.{IsCredentials};
+ghost use Rattle.signed_stream.specs.Options.{wanted_of};
+ghost use Rattle.signed_stream.specs.Status.{fault_of};
+ghost use Rattle.signed_stream.specs.Sign.{GivesName, IsRequestError, SignsJob, TellsError, fault_for, identity_case};
 
+use crate::command::StreamWords;
 use crate::halt::Halt;
-use crate::signing_options::SigningOptions;
 use crate::status::StreamFault;
-use crate::words::StreamWords;
-use sigv4::{
-    PayloadChecksumKind, PercentEncodingMode, SignableBody, SignableRequest, SigningError,
-    SigningInstructions, SigningOutput, SigningParams, SigningSettings, UriPathNormalizationMode,
-    sign, v4,
+use aws_auth::{
+    OverrideError, SigV4OperationSigningConfig, SigV4SessionTokenNameOverride, SigV4Signer,
+    SigV4SigningError, SigningInputs,
 };
-use smithy_core::{HttpRequest, Identity, Mem};
+use sigv4::{SigningError, SigningSettings};
+use smithy_core::{HttpRequest, Identity, Mem, Region, SigningName};
 use std::alloc::Global;
 
-/// Signs a request: its headers are then those of the signed request in header form, and the answer is the signature.
+/// Signs a request: it is the signed one then, and the answer is the signature.
 ///
 /// # Errors
 ///
-/// [`Halt::Refused`] with the first test of the target, the headers, the host and the signing texts that fails, and
-/// [`Halt::NoMemory`] for want of memory.
+/// [`Halt::Refused`] with the first test of the moment, the target, the headers, the host, the token's name and the
+/// signature's own texts that fails, and [`Halt::NoMemory`] for want of memory.
 pub fn sign_request(
     alloc: Global,
     request: &mut HttpRequest,
     identity: &Identity,
     region: &str,
-    words: &StreamWords<'_>,
+    words: StreamWords<'_>,
 ) -> Result<String, Halt>
-    requires { unsignable identity.now words.now.at ≡ None }
+    requires { IsCredentials identity.now }
     ensures method { request.new.method ≡ request.old.method }
-    ensures target { string_bytes request.new.target ≡ string_bytes request.old.target }
-    ensures signs { SignsRequest (string_bytes request.old.target) (case_under request.old identity.now region.now words.now) request.new.headers result }
+    ensures signs { let wanted = wanted_of words.entry in
+        SignsJob (string_bytes request.old.target) (request_moment wanted wanted.at) (identity_case request.old identity.now region.now wanted)
+        request.new result }
 {
-    let signed = match sign_text(alloc, request, identity, region, words) {
-        Ok(signed) => signed,
-        Err(error) => return Err(halt_of(error)),
+    let StreamWords {
+        name,
+        at,
+        signing,
+        token_name,
+        skew_millis,
+    } = words;
+    let config = SigV4OperationSigningConfig {
+        region: Some(Region::new(String::from_str(alloc, region)?)),
+        name: Some(SigningName::new(String::from_str(alloc, name)?)),
+        signing_options: signing,
     };
-    let (instructions, signature) = signed.into_parts();
-    match instructions.apply_to_request(request) {
-        Ok(()) => Ok(signature),
-        Err(error) => Err(halt_of(error)),
+    let inputs = SigningInputs {
+        config: Some(&config),
+        endpoint: None,
+        name: None,
+        region: None,
+        payload: None,
+        skew_millis,
+    };
+    let asked = copied(alloc, token_name)?;
+    let name_override = SigV4SessionTokenNameOverride::new(
+        move |_: &SigningSettings, _: &SigV4OperationSigningConfig| name_asked(&asked),
+    );
+    let signer = SigV4Signer::new();
+    match signer.sign_http_request(request, identity, &inputs, at, Some(&name_override)) {
+        Ok(signed) => Ok(signed.signature),
+        Err(error) => Err(halt_of(&error)),
+    }
+}
+
+// A copy of the text, where there is one.
+fn copied(alloc: Global, text: Option<&str>) -> Mem<Option<String>>
+    ensures { IfOk result (λ copy. option_map string_bytes copy ≡ option_copied text.entry) }
+{
+    match text {
+        Some(text) => Ok(Some(String::from_str(alloc, text)?)),
+        None => Ok(None),
+    }
+}
+
+// The name that is asked for the session token.
+fn name_asked(name: &Option<String>) -> Result<Option<String>, OverrideError>
+    ensures { GivesName (option_map string_bytes name.now) result }
+{
+    match name {
+        Some(name) => Ok(Some(name.clone()?)),
+        None => Ok(None),
     }
 }
 
 // How an error of signing a request halts the stream.
-fn halt_of(error: SigningError) -> Halt
-    requires { IsRequestError error }
-    ensures { result ≡ halt_for error }
+fn halt_of(error: &SigV4SigningError) -> Halt
+    requires { IsRequestError error.now }
+    ensures { TellsError error.now result }
 {
     match error {
-        SigningError::InvalidUri => Halt::Refused(StreamFault::InvalidUri),
-        SigningError::InvalidHeaderName(place) => {
-            Halt::Refused(StreamFault::InvalidHeaderName(place))
-        }
-        SigningError::InvalidHeaderValue(place) => {
-            Halt::Refused(StreamFault::InvalidHeaderValue(place))
-        }
-        SigningError::MissingHost => Halt::Refused(StreamFault::MissingHost),
-        SigningError::NoMemory => Halt::NoMemory,
+        SigV4SigningError::Signing(error) => Halt::Refused(fault_of(error)),
+        SigV4SigningError::NoMemory => Halt::NoMemory,
         _ => unreachable!(),
     }
 }
 
-// What the signature adds to the request, and the signature.
-fn sign_text(
-    alloc: Global,
-    request: &HttpRequest,
-    identity: &Identity,
-    region: &str,
-    words: &StreamWords<'_>,
-) -> Result<SigningOutput<SigningInstructions>, SigningError>
-    requires { unsignable identity.now words.now.at ≡ None }
-    ensures { SignsText (string_bytes request.now.target) (case_under request.now identity.now region.now words.now) result }
+// The fault that tells why a request isn't signed.
+fn fault_of(error: &SigningError) -> StreamFault
+    requires { IsRequestError (SigV4SigningError.Signing error.now) }
+    ensures { fault_of result ≡ fault_for error.now }
 {
-    let settings = settings_under(alloc, words.signing)?;
-    let params = params_of(identity, region, words, settings);
-    let signable = SignableRequest::new(
-        alloc,
-        request.method.as_str(),
-        request.target.as_str(),
-        &request.headers,
-        body_of(request, words.signing),
-    )?;
-    sign(alloc, signable, &params)
-}
-
-// What the signature is made with.
-fn params_of<'a>(
-    identity: &'a Identity,
-    region: &'a str,
-    words: &StreamWords<'a>,
-    settings: SigningSettings,
-) -> SigningParams<'a>
-    ensures { result ≡ V4 (record { identity = identity.entry; region = region.entry; name = words.now.name; time = words.now.at; settings = settings }) }
-{
-    let made = v4::SigningParams::builder()
-        .identity(identity)
-        .region(region)
-        .name(words.name)
-        .time(words.at)
-        .settings(settings)
-        .build();
-    match made {
-        Ok(params) => SigningParams::V4(params),
-        Err(_) => unreachable!(),
-    }
-}
-
-// The settings that the options ask for.
-fn settings_under(alloc: Global, options: SigningOptions) -> Mem<SigningSettings>
-    ensures { IfOk result (λ settings. settings_of settings ≡ settings_with options) }
-{
-    Ok(SigningSettings {
-        percent_encoding_mode: if options.double_uri_encode {
-            PercentEncodingMode::Double
-        } else {
-            PercentEncodingMode::Single
-        },
-        payload_checksum_kind: if options.content_sha256_header {
-            PayloadChecksumKind::XAmzSha256
-        } else {
-            PayloadChecksumKind::NoHeader
-        },
-        uri_path_normalization_mode: options.normalize_uri_path.into(),
-        ..SigningSettings::new(alloc)?
-    })
-}
-
-// The body as it is signed.
-fn body_of<'a>(request: &'a HttpRequest, options: SigningOptions) -> SignableBody<'a>
-    ensures { payload_text result ≡ payload_with options request.now.body }
-{
-    if options.unsigned_payload {
-        SignableBody::UnsignedPayload
-    } else {
-        SignableBody::Bytes(request.body.as_slice())
+    match error {
+        SigningError::InvalidUri => StreamFault::InvalidUri,
+        SigningError::InvalidHeaderName(place) => StreamFault::InvalidHeaderName(*place),
+        SigningError::InvalidHeaderValue(place) => StreamFault::InvalidHeaderValue(*place),
+        SigningError::MissingHost => StreamFault::MissingHost,
+        SigningError::InvalidTokenName => StreamFault::InvalidTokenName,
+        SigningError::MissingExpires => StreamFault::MissingExpires,
+        SigningError::MomentOutOfRange(moment) => StreamFault::MomentOutOfRange(*moment),
+        _ => unreachable!(),
     }
 }

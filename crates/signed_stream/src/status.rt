@@ -1,19 +1,19 @@
-ghost use Rattle.std.specs.Prelude.{◌≡◌, IfOk};
-ghost use Rattle.std.specs.String.{string_bytes};
+ghost use Rattle.std.specs.Prelude.{◌≡◌};
 
 use sigv4::ValuePlace;
 use smithy_core::Moment;
 
 /// Why a stream was refused.
-#[derive(Clone, Copy, Debug, PartialEq, Eq)]
+#[derive(Debug, PartialEq, Eq, Drop)]
 pub enum StreamFault {
     /// The selected profile lacks `aws_access_key_id` or `aws_secret_access_key`.
     MissingCredentials,
     /// No place gives a region.
     MissingSigningRegion,
-    /// The moment of the request lies outside the years 0 to 9999.
+    /// The moment of the request, of an event or of the closing frame lies outside the years 0 to 9999.
     MomentOutOfRange(Moment),
-    /// The target isn't accepted, or has an authority without a scheme.
+    /// The target isn't accepted, or has an authority without a scheme; or it is `*`, or passes 65,534 bytes, and the
+    /// signature goes into its query.
     InvalidUri,
     /// The name of the request's header at this place is outside the grammar of header names; places count from 1.
     InvalidHeaderName(usize),
@@ -21,6 +21,11 @@ pub enum StreamFault {
     InvalidHeaderValue(ValuePlace),
     /// Neither the target nor a header has a host.
     MissingHost,
+    /// The name that is asked for the session token is reserved, or is no header name in lower case where it is a
+    /// header's.
+    InvalidTokenName,
+    /// The signature goes into the query, and no expiry is given.
+    MissingExpires,
     /// The event at this place has a header name over 255 bytes; places count from 1.
     InvalidHeaderNameLength(usize),
     /// The event at this place has a byte array or a text over 32,767 bytes.
@@ -36,7 +41,7 @@ pub enum StreamFault {
 }
 
 /// How a run ended.
-#[derive(Clone, Copy, Debug, PartialEq, Eq)]
+#[derive(Debug, PartialEq, Eq, Drop)]
 pub enum Status {
     /// All was written.
     Done,
@@ -60,11 +65,11 @@ pub enum Status {
 }
 
 impl Status {
-    ghost use Rattle.signed_stream.specs.Status.{exit_code};
+    ghost use Rattle.signed_stream.specs.Status.{ending_of, exit_code};
 
     /// The number that the process ends with.
-    pub fn code(self) -> u8
-        ensures { result ≡ exit_code self }
+    pub fn code(&self) -> u8
+        ensures { result ≡ exit_code (ending_of self.now) }
     {
         match self {
             Status::Done => 0,

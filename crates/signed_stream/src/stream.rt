@@ -1,186 +1,175 @@
-ghost use Rattle.std.specs.Prelude.{◌≡◌, ◌≤◌, [], None, IfOk, IsErrOf, option_map};
+ghost use Rattle.std.specs.Prelude.{◌≡◌, ◌≤◌, ◌+◌, ◌++◌, ℕ, List, Some, None, IsErrOf, length, replicate};
 ghost use Rattle.std.specs.String.{string_bytes};
-ghost use Rattle.hex.specs.Hex.{encode_lower};
-ghost use Rattle.smithy_core.specs.Civil.{IsInYears};
-ghost use Rattle.smithy_core.specs.Outside.{RoseOrStands};
-ghost use Rattle.smithy_core.specs.Text.{line};
-ghost use Rattle.eventstream.specs.Frame.{frame, unframed};
-ghost use Rattle.eventstream.specs.Link.{link_message, link_signature};
-ghost use Rattle.eventstream.specs.Write.{IsFrameFault};
+ghost use Rattle.smithy_core.specs.Outside.{IsAtEnd, IsRestOf, Rose};
 ghost use Rattle.sigv4.specs.Params.{signer_of};
-ghost use Rattle.sigv4.specs.EventStream.{unsignable};
-ghost use Rattle.signed_stream.specs.Refusal.{fault_at, fault_of, first_refusal, unlinked};
-ghost use Rattle.signed_stream.specs.Sending.{Sends, unless_refused};
-ghost use Rattle.signed_stream.specs.Stream.{link_line, streamed_lines};
+ghost use Rattle.signed_stream.specs.Carriers.{GoesForInput, GoesForJob, GoesForTarget};
+ghost use Rattle.signed_stream.specs.Case.{request_moment};
+ghost use Rattle.signed_stream.specs.Chain.{IsCredentials, first_refusal, refusal_fault, streamed_lines};
+ghost use Rattle.signed_stream.specs.Draft.{job_parts};
+ghost use Rattle.signed_stream.specs.Halt.{Sends, ended};
+ghost use Rattle.signed_stream.specs.Job.{job, whole_job};
+ghost use Rattle.signed_stream.specs.Options.{wanted_of};
+ghost use Rattle.signed_stream.specs.Plan.{most_input};
+ghost use Rattle.signed_stream.specs.Running.{Keeps, asks_in_years, streams};
+ghost use Rattle.signed_stream.specs.Sign.{identity_case};
+ghost use Rattle.signed_stream.specs.Status.{bad_words, done, ending_of, output_fault, read_fault};
+ghost use Rattle.signed_stream.specs.Written.{head};
 
-use crate::halt::Halt;
-use crate::status::StreamFault;
-use eventstream::{ErrorKind, frame_of, write_message_to};
-use sigv4::event_stream::{SigningParams, sign_empty_message, sign_message};
-use sigv4::{SigningError, SigningOutput};
-use smithy_core::{ByteSink, Message, SinkError, write_all};
+use crate::chain::{stream_events, write_text};
+use crate::command::StreamWords;
+use crate::halt::{Halt, status_of};
+use crate::job::{Job, JobFault, ProfileKeys, read_job};
+use crate::sign::sign_request;
+use crate::status::{Status, StreamFault};
+use crate::written::head_of;
+use sigv4::event_stream::SigningParams;
+use smithy_core::{
+    ByteSink, ByteSource, Credentials, HttpRequest, Identity, Message, ReadFault, read_all,
+};
 use std::alloc::Global;
 
-/// Streams the events: a signed frame for each and an empty one last, a line in hexadecimal each.
-///
-/// # Errors
-///
-/// [`Halt::Refused`] with the fault of the first event that has no frame, or whose signed message has none: the
-/// sink has gained the lines of the events before it. [`Halt::OutputFault`] where the sink's count of faults rose
-/// and [`Halt::NoMemory`] for want of memory: it has gained a front of these lines.
-pub fn stream_events<K: ByteSink>(
+/// The most bytes of an input.
+const MOST_INPUT: usize = 67_108_864;
+
+/// Streams the job that the input has, as the words ask.
+pub fn stream_input<S: ByteSource, K: ByteSink>(
     alloc: Global,
-    params: &SigningParams<'_>,
-    seed: String,
+    words: StreamWords<'_>,
+    input: &mut S,
+    out: &mut K,
+) -> Status
+    ensures never_bad_words { (place : ℕ) → ending_of result ≡ bad_words place → ⊥ }
+    ensures planned { (bytes : List ℕ) → S.left input.old ≡ Some bytes
+        → GoesForInput (streams (wanted_of words.entry)) bytes (ending_of result) (K.held out.old) (K.held out.new) }
+    ensures kept { Keeps (asks_in_years (streams (wanted_of words.entry))) (ending_of result) (K.held out.old) (K.held out.new) }
+    ensures read_failed { ending_of result ≡ read_fault → Rose (S.faults input.old) (S.faults input.new) }
+    ensures read_steady { (ending_of result ≡ read_fault → ⊥) → S.faults input.new ≡ S.faults input.old }
+    ensures output_failed { ending_of result ≡ output_fault → Rose (K.faults out.old) (K.faults out.new) }
+    ensures output_steady { (ending_of result ≡ output_fault → ⊥) → K.faults out.new ≡ K.faults out.old }
+    ensures outside { (ending_of result ≡ done → IsAtEnd (S.left input.new)) × IsRestOf (S.left input.old) (S.left input.new)
+        × (S.faults input.old ≤ S.faults input.new) × (K.faults out.old ≤ K.faults out.new) }
+{
+    match read_all(alloc, input, MOST_INPUT) {
+        Ok(bytes) => stream_bytes(alloc, bytes.as_slice(), words, out),
+        Err(ReadFault::Failed) => Status::ReadFault,
+        Err(ReadFault::TooLarge) => Status::JobTooLarge,
+        Err(ReadFault::NoMemory) => Status::NoMemory,
+    }
+}
+
+// Streams the job that the bytes spell.
+fn stream_bytes<K: ByteSink>(
+    alloc: Global,
+    bytes: &[u8],
+    words: StreamWords<'_>,
+    out: &mut K,
+) -> Status
+    ensures never_bad_words { (place : ℕ) → ending_of result ≡ bad_words place → ⊥ }
+    ensures never_read_fault { ending_of result ≡ read_fault → ⊥ }
+    ensures planned { GoesForJob (wanted_of words.entry) (job bytes.now) (ending_of result) (K.held out.old) (K.held out.new) }
+    ensures output_failed { ending_of result ≡ output_fault → Rose (K.faults out.old) (K.faults out.new) }
+    ensures output_steady { (ending_of result ≡ output_fault → ⊥) → K.faults out.new ≡ K.faults out.old }
+    ensures count { K.faults out.old ≤ K.faults out.new }
+{
+    match read_job(alloc, bytes) {
+        Ok(job) => stream_job(alloc, job, words, out),
+        Err(JobFault::BadLine(place)) => Status::BadJob(place),
+        Err(JobFault::NotBuilt(place)) => Status::NotBuilt(place),
+        Err(JobFault::NoMemory) => Status::NoMemory,
+    }
+}
+
+// Streams a job, under the credentials and the region that its profile gives.
+fn stream_job<K: ByteSink>(alloc: Global, job: Job, words: StreamWords<'_>, out: &mut K) -> Status
+    ensures never_bad_words { (place : ℕ) → ending_of result ≡ bad_words place → ⊥ }
+    ensures never_read_fault { ending_of result ≡ read_fault → ⊥ }
+    ensures planned { GoesForJob (wanted_of words.entry) (whole_job (job_parts job)) (ending_of result) (K.held out.old) (K.held out.new) }
+    ensures output_failed { ending_of result ≡ output_fault → Rose (K.faults out.old) (K.faults out.new) }
+    ensures output_steady { (ending_of result ≡ output_fault → ⊥) → K.faults out.new ≡ K.faults out.old }
+    ensures count { K.faults out.old ≤ K.faults out.new }
+{
+    let Job {
+        request,
+        profile,
+        events,
+    } = job;
+    let ProfileKeys {
+        key_id,
+        secret,
+        token,
+        region,
+    } = profile;
+    let Some(key_id) = key_id else {
+        return Status::Refused(StreamFault::MissingCredentials);
+    };
+    let Some(secret) = secret else {
+        return Status::Refused(StreamFault::MissingCredentials);
+    };
+    let Some(region) = region else {
+        return Status::Refused(StreamFault::MissingSigningRegion);
+    };
+    let credentials = Credentials::new(key_id, secret, token, None);
+    let identity = Identity::Credentials(credentials);
+    let streamed = stream_request(
+        alloc,
+        request,
+        events.as_slice(),
+        &identity,
+        region.as_str(),
+        words,
+        out,
+    );
+    status_of(streamed)
+}
+
+// Signs the request, and streams its head and the events.
+fn stream_request<K: ByteSink>(
+    alloc: Global,
+    mut request: HttpRequest,
     events: &[Message],
-    sink: &mut K,
+    identity: &Identity,
+    region: &str,
+    words: StreamWords<'_>,
+    out: &mut K,
 ) -> Result<(), Halt>
-    requires signs { unsignable params.now.identity.now params.now.time ≡ None }
-    requires years { IsInYears params.now.time }
-    ensures count { K.faults sink.old ≤ K.faults sink.new }
-    ensures sends { let refusal = first_refusal (signer_of params.now) 1 events.now params.now.time (string_bytes seed) in
-        Sends (option_map fault_of refusal) (streamed_lines (signer_of params.now) events.now params.now.time (string_bytes seed) refusal)
-        (K.held sink.old) (K.held sink.new) result }
-    ensures failed { IsErrOf result Halt.OutputFault → RoseOrStands (K.faults sink.old) (K.faults sink.new) }
-    ensures steady { (IsErrOf result Halt.OutputFault → ⊥) → K.faults sink.new ≡ K.faults sink.old }
+    requires { IsCredentials identity.now }
+    ensures count { K.faults out.old ≤ K.faults out.new }
+    ensures planned { let wanted = wanted_of words.entry in
+        GoesForTarget (string_bytes request.target) (request_moment wanted wanted.at) (identity_case request identity.now region.now wanted) events.now
+        (replicate (length events.now + 1) wanted.at) (ended result) (K.held out.old) (K.held out.new) }
+    ensures failed { IsErrOf result Halt.OutputFault → Rose (K.faults out.old) (K.faults out.new) }
+    ensures steady { (IsErrOf result Halt.OutputFault → ⊥) → K.faults out.new ≡ K.faults out.old }
 {
-    let mut signature = seed;
-    let mut place = 1;
-    'events: for event in events {
-        signature = send_event(alloc, params, signature.as_str(), event, place, sink)?;
-        place += 1;
-    }
-    send_closing(alloc, params, signature.as_str(), sink)
+    let name = words.name;
+    let at = words.at;
+    let signature = sign_request(alloc, &mut request, identity, region, words)?;
+    let params = SigningParams::new(identity, region, name, at, ());
+    stream_signed(alloc, &request, signature, events, &params, out)
 }
 
-// Signs the event at a place over the signature before it, and writes the frame. The answer is the new signature.
-#[tactic(auto, using(crate::proofs::StreamLemmas::sending), unfolding(crate::specs::Stream::link_line, crate::specs::Refusal::unlinked))]
-fn send_event<K: ByteSink>(
+// Streams the head of a signed request, and the events.
+#[tactic(auto, using(crate::proofs::SendLemmas::sent_after, smithy_core::proofs::GainLemmas::prefix_at_start))]
+fn stream_signed<K: ByteSink>(
     alloc: Global,
+    request: &HttpRequest,
+    signature: String,
+    events: &[Message],
     params: &SigningParams<'_>,
-    signature: &str,
-    event: &Message,
-    place: usize,
-    sink: &mut K,
-) -> Result<String, Halt>
-    requires signs { unsignable params.now.identity.now params.now.time ≡ None }
-    ensures count { K.faults sink.old ≤ K.faults sink.new }
-    ensures next { IfOk result (λ next. string_bytes next ≡ link_signature (signer_of params.now) signature.now (frame event.now) params.now.time) }
-    ensures sends { let reason = unlinked (signer_of params.now) signature.now event.now params.now.time in
-        Sends (option_map (fault_at place) reason) (unless_refused reason (link_line (signer_of params.now) signature.now (frame event.now) params.now.time))
-        (K.held sink.old) (K.held sink.new) result }
-    ensures failed { IsErrOf result Halt.OutputFault → RoseOrStands (K.faults sink.old) (K.faults sink.new) }
-    ensures steady { (IsErrOf result Halt.OutputFault → ⊥) → K.faults sink.new ≡ K.faults sink.old }
-{
-    match sign_message(alloc, event, signature, params) {
-        Ok(signed) => {
-            let (message, next) = signed.into_parts();
-            write_frame(alloc, &message, place, sink)?;
-            Ok(next)
-        }
-        Err(SigningError::FailedToEncodeMessage(error)) => {
-            Err(Halt::Refused(fault_at(place, error.kind())))
-        }
-        Err(SigningError::NoMemory) => Err(Halt::NoMemory),
-        Err(_) => unreachable!(),
-    }
-}
-
-// Signs no bytes over the signature before them, and writes the frame.
-#[tactic(auto, using(crate::proofs::StreamLemmas::sending, crate::proofs::StreamLemmas::closing_framed), unfolding(crate::specs::Stream::link_line))]
-fn send_closing<K: ByteSink>(
-    alloc: Global,
-    params: &SigningParams<'_>,
-    signature: &str,
-    sink: &mut K,
+    out: &mut K,
 ) -> Result<(), Halt>
-    requires signs { unsignable params.now.identity.now params.now.time ≡ None }
-    requires years { IsInYears params.now.time }
-    ensures count { K.faults sink.old ≤ K.faults sink.new }
-    ensures sends { Sends None (link_line (signer_of params.now) signature.now [] params.now.time) (K.held sink.old) (K.held sink.new) result }
-    ensures failed { IsErrOf result Halt.OutputFault → RoseOrStands (K.faults sink.old) (K.faults sink.new) }
-    ensures steady { (IsErrOf result Halt.OutputFault → ⊥) → K.faults sink.new ≡ K.faults sink.old }
+    requires { IsCredentials params.now.identity.now }
+    ensures count { K.faults out.old ≤ K.faults out.new }
+    ensures sends { let signer = signer_of params.now in
+        let moments = replicate (length events.now + 1) params.now.time in
+        let refusal = first_refusal signer 1 events.now moments (string_bytes signature) in
+        Sends (refusal_fault refusal)
+        (head (string_bytes request.now.method) (string_bytes request.now.target) request.now.headers
+        ++ streamed_lines signer events.now moments (string_bytes signature) refusal)
+        (K.held out.old) (K.held out.new) result }
+    ensures failed { IsErrOf result Halt.OutputFault → Rose (K.faults out.old) (K.faults out.new) }
+    ensures steady { (IsErrOf result Halt.OutputFault → ⊥) → K.faults out.new ≡ K.faults out.old }
 {
-    match sign_empty_message(alloc, signature, params) {
-        Ok(signed) => {
-            let (message, _) = signed.into_parts();
-            let frame = frame_of(alloc, &message)?;
-            write_line(alloc, frame.as_slice(), sink)
-        }
-        Err(SigningError::NoMemory) => Err(Halt::NoMemory),
-        Err(_) => unreachable!(),
-    }
-}
-
-// Writes the frame of the message at a place as one line in hexadecimal.
-#[tactic(auto, using(crate::proofs::StreamLemmas::sending))]
-fn write_frame<K: ByteSink>(
-    alloc: Global,
-    message: &Message,
-    place: usize,
-    sink: &mut K,
-) -> Result<(), Halt>
-    ensures count { K.faults sink.old ≤ K.faults sink.new }
-    ensures sends { Sends (option_map (fault_at place) (unframed message.now)) (unless_refused (unframed message.now) (line (encode_lower (frame message.now))))
-        (K.held sink.old) (K.held sink.new) result }
-    ensures failed { IsErrOf result Halt.OutputFault → RoseOrStands (K.faults sink.old) (K.faults sink.new) }
-    ensures steady { (IsErrOf result Halt.OutputFault → ⊥) → K.faults sink.new ≡ K.faults sink.old }
-{
-    let mut frame = Vec::new(alloc);
-    match write_message_to(alloc, message, &mut frame) {
-        Ok(()) => write_line(alloc, frame.as_slice(), sink),
-        Err(error) => match error.kind() {
-            ErrorKind::NoMemory => Err(Halt::NoMemory),
-            reason => Err(Halt::Refused(fault_at(place, reason))),
-        },
-    }
-}
-
-// The fault that tells of the message at a place why it has no frame.
-fn fault_at(place: usize, reason: &ErrorKind) -> StreamFault
-    requires { IsFrameFault reason.now }
-    ensures { result ≡ fault_at place reason.now }
-{
-    match reason {
-        ErrorKind::InvalidHeaderNameLength => StreamFault::InvalidHeaderNameLength(place),
-        ErrorKind::HeaderValueTooLong => StreamFault::HeaderValueTooLong(place),
-        ErrorKind::TimestampValueTooLarge(_) => StreamFault::TimestampValueTooLarge(place),
-        ErrorKind::HeadersTooLong => StreamFault::HeadersTooLong(place),
-        ErrorKind::PayloadTooLong => StreamFault::PayloadTooLong(place),
-        ErrorKind::MessageTooLong => StreamFault::MessageTooLong(place),
-        _ => unreachable!(),
-    }
-}
-
-// Writes bytes as one line in hexadecimal.
-#[tactic(auto, using(smithy_core::proofs::GainLemmas::prefix_at_start))]
-fn write_line<K: ByteSink>(alloc: Global, bytes: &[u8], sink: &mut K) -> Result<(), Halt>
-    ensures count { K.faults sink.old ≤ K.faults sink.new }
-    ensures sends { Sends None (line (encode_lower bytes.now)) (K.held sink.old) (K.held sink.new) result }
-    ensures failed { IsErrOf result Halt.OutputFault → RoseOrStands (K.faults sink.old) (K.faults sink.new) }
-    ensures steady { (IsErrOf result Halt.OutputFault → ⊥) → K.faults sink.new ≡ K.faults sink.old }
-{
-    let mut text = hex::encode(alloc, bytes)?;
-    text.push('\n')?;
-    write_text(sink, text.as_bytes())
-}
-
-/// Writes a text in one piece.
-///
-/// # Errors
-///
-/// [`Halt::OutputFault`] where the sink's count of faults rose, [`Halt::NoMemory`] for want of memory.
-/// After both the sink has gained a front of the text.
-#[tactic(auto, using(smithy_core::proofs::GainLemmas::prefix_from_proper))]
-pub fn write_text<K: ByteSink>(sink: &mut K, text: &[u8]) -> Result<(), Halt>
-    ensures count { K.faults sink.old ≤ K.faults sink.new }
-    ensures sends { Sends None text.now (K.held sink.old) (K.held sink.new) result }
-    ensures failed { IsErrOf result Halt.OutputFault → RoseOrStands (K.faults sink.old) (K.faults sink.new) }
-    ensures steady { (IsErrOf result Halt.OutputFault → ⊥) → K.faults sink.new ≡ K.faults sink.old }
-{
-    match write_all(sink, text) {
-        Ok(()) => Ok(()),
-        Err(SinkError::Failed) => Err(Halt::OutputFault),
-        Err(SinkError::NoMemory) => Err(Halt::NoMemory),
-    }
+    let head = head_of(alloc, request)?;
+    write_text(out, head.as_slice())?;
+    stream_events(alloc, params, signature, events, out)
 }

@@ -1,7 +1,7 @@
 ghost use Rattle.std.specs.Prelude.{◌≡◌, None, OnOk, Some};
 ghost use Rattle.std.specs.List.{list_all};
-ghost use Rattle.signed_stream.specs.Job.{after_credentials, is_key_byte, is_plain_key, is_plain_property, is_property_byte, no_settings, with_property};
-ghost use Rattle.signed_stream.specs.Reading.{GivesSettings, settings_of};
+ghost use Rattle.signed_stream.specs.Job.{after_credentials, is_key_byte, is_plain_key, is_plain_property, is_property_byte, no_properties, with_property};
+ghost use Rattle.signed_stream.specs.Draft.{GivesProfile, profile_texts};
 
 use crate::job::fault::LineFault;
 use crate::job::lines::cut_word;
@@ -10,7 +10,7 @@ use std::alloc::Global;
 
 /// What the properties of the profile give. [`Debug`](std::fmt::Debug) isn't there, so that no secret is printed.
 #[derive(Drop)]
-pub struct PlainSettings {
+pub struct ProfileKeys {
     /// `aws_access_key_id`.
     pub key_id: Option<String>,
     /// `aws_secret_access_key`.
@@ -21,12 +21,12 @@ pub struct PlainSettings {
     pub region: Option<String>,
 }
 
-impl PlainSettings {
+impl ProfileKeys {
     /// No properties yet.
-    pub fn new() -> PlainSettings
-        ensures { settings_of result ≡ no_settings }
+    pub fn new() -> ProfileKeys
+        ensures { profile_texts result ≡ no_properties }
     {
-        PlainSettings {
+        ProfileKeys {
             key_id: None,
             secret: None,
             token: None,
@@ -37,7 +37,7 @@ impl PlainSettings {
     /// `KEY = VALUE`.
     #[tactic(auto, unfolding(crate::specs::Job::after_credentials))]
     pub fn take_property(&mut self, alloc: Global, rest: &str) -> Result<(), LineFault>
-        ensures { GivesSettings (after_credentials (Some (settings_of self.old)) rest.now) self.new result }
+        ensures { GivesProfile (after_credentials (Some (profile_texts self.old)) rest.now) self.new result }
     {
         let (key, rest) = cut_word(rest);
         let (sign, value) = cut_word(rest);
@@ -51,7 +51,7 @@ impl PlainSettings {
     // The later value of a key wins, and other keys give nothing.
     #[tactic(auto, unfolding(crate::specs::Job::with_property))]
     fn set(&mut self, alloc: Global, key: &str, value: &str) -> Mem<()>
-        ensures { OnOk result (settings_of self.new ≡ with_property (settings_of self.old) key.now value.now) }
+        ensures { OnOk result (profile_texts self.new ≡ with_property (profile_texts self.old) key.now value.now) }
     {
         match key {
             "aws_access_key_id" => self.key_id = Some(String::from_str(alloc, value)?),

@@ -1,13 +1,13 @@
-use crate::job::credentials::PlainSettings;
+use crate::job::credentials::ProfileKeys;
 use crate::job::event::OpenEvent;
-use crate::job::event_header::{bytes_of, header_of};
+use crate::job::event_header::{header_of, hex_bytes};
 use crate::job::fault::LineFault;
 use crate::job::lines::{cut_pair, cut_word};
 use bytes::Bytes;
 use smithy_core::{Headers, Mem, Message};
 use std::alloc::Global;
 
-/// What the lines so far gave: settings from the line `credentials [default]` on, the events that are whole, and
+/// What the lines so far gave: a profile from the line `credentials [default]` on, the events that are whole, and
 /// the one that is open.
 #[derive(Drop)]
 pub struct Draft {
@@ -15,7 +15,7 @@ pub struct Draft {
     pub target: Option<String>,
     pub headers: Headers,
     pub body: Option<Bytes>,
-    pub settings: Option<PlainSettings>,
+    pub profile: Option<ProfileKeys>,
     pub events: Vec<Message>,
     pub event: Option<OpenEvent>,
 }
@@ -23,10 +23,10 @@ pub struct Draft {
 impl Draft {
     ghost use Rattle.std.specs.Prelude.{◌≡◌, None, OnOk};
     ghost use Rattle.signed_stream.specs.Job.{body_step, credentials_step, event_header_step, event_step, events_of, header_step, in_event, line_step, method_step, no_draft, payload_step, target_step, word_step};
-    ghost use Rattle.signed_stream.specs.Reading.{Steps, draft_of};
+    ghost use Rattle.signed_stream.specs.Draft.{Steps, draft_of};
 
     /// Nothing yet.
-    #[tactic(auto, unfolding(crate::specs::Reading::draft_of))]
+    #[tactic(auto, unfolding(crate::specs::Draft::draft_of))]
     pub fn new(alloc: Global) -> Draft
         ensures { draft_of result ≡ no_draft }
     {
@@ -35,7 +35,7 @@ impl Draft {
             target: None,
             headers: Headers::new(alloc),
             body: None,
-            settings: None,
+            profile: None,
             events: Vec::new(alloc),
             event: None,
         }
@@ -54,7 +54,7 @@ impl Draft {
     }
 
     // A line of this word and this rest.
-    #[tactic(auto, unfolding(crate::specs::Reading::draft_of, crate::specs::Job::word_step))]
+    #[tactic(auto, unfolding(crate::specs::Draft::draft_of, crate::specs::Job::word_step))]
     fn take_word(&mut self, alloc: Global, word: &str, rest: &str) -> Result<(), LineFault>
         ensures { Steps (word_step (draft_of self.old) word.now rest.now) self.new result }
     {
@@ -74,7 +74,7 @@ impl Draft {
     }
 
     // `method M`.
-    #[tactic(auto, unfolding(crate::specs::Reading::draft_of, crate::specs::Job::method_step))]
+    #[tactic(auto, unfolding(crate::specs::Draft::draft_of, crate::specs::Job::method_step))]
     fn take_method(&mut self, alloc: Global, rest: &str) -> Result<(), LineFault>
         ensures { Steps (method_step (draft_of self.old) rest.now) self.new result }
     {
@@ -86,7 +86,7 @@ impl Draft {
     }
 
     // `target T`.
-    #[tactic(auto, unfolding(crate::specs::Reading::draft_of, crate::specs::Job::target_step))]
+    #[tactic(auto, unfolding(crate::specs::Draft::draft_of, crate::specs::Job::target_step))]
     fn take_target(&mut self, alloc: Global, rest: &str) -> Result<(), LineFault>
         ensures { Steps (target_step (draft_of self.old) rest.now) self.new result }
     {
@@ -98,7 +98,7 @@ impl Draft {
     }
 
     // `header NAME: VALUE`.
-    #[tactic(auto, unfolding(crate::specs::Reading::draft_of, crate::specs::Job::header_step))]
+    #[tactic(auto, unfolding(crate::specs::Draft::draft_of, crate::specs::Job::header_step))]
     fn take_header(&mut self, rest: &str) -> Result<(), LineFault>
         ensures { Steps (header_step (draft_of self.old) rest.now) self.new result }
     {
@@ -108,26 +108,26 @@ impl Draft {
     }
 
     // `body HEX`.
-    #[tactic(auto, unfolding(crate::specs::Reading::draft_of, crate::specs::Job::body_step))]
+    #[tactic(auto, unfolding(crate::specs::Draft::draft_of, crate::specs::Job::body_step))]
     fn take_body(&mut self, alloc: Global, rest: &str) -> Result<(), LineFault>
         ensures { Steps (body_step (draft_of self.old) rest.now) self.new result }
     {
         if self.body.is_some() {
             return Err(LineFault::Bad);
         }
-        self.body = Some(bytes_of(alloc, rest)?);
+        self.body = Some(hex_bytes(alloc, rest)?);
         Ok(())
     }
 
     // `credentials TEXT`.
-    #[tactic(auto, unfolding(crate::specs::Reading::draft_of, crate::specs::Job::credentials_step, crate::specs::Job::after_credentials))]
+    #[tactic(auto, unfolding(crate::specs::Draft::draft_of, crate::specs::Job::credentials_step, crate::specs::Job::after_credentials))]
     fn take_credentials(&mut self, alloc: Global, rest: &str) -> Result<(), LineFault>
         ensures { Steps (credentials_step (draft_of self.old) rest.now) self.new result }
     {
-        match &mut self.settings {
-            Some(settings) => settings.take_property(alloc, rest),
+        match &mut self.profile {
+            Some(profile) => profile.take_property(alloc, rest),
             None if rest == "[default]" => {
-                self.settings = Some(PlainSettings::new());
+                self.profile = Some(ProfileKeys::new());
                 Ok(())
             }
             None => Err(LineFault::NotBuilt),
@@ -135,7 +135,7 @@ impl Draft {
     }
 
     // `event`.
-    #[tactic(auto, unfolding(crate::specs::Reading::draft_of, crate::specs::Job::event_step))]
+    #[tactic(auto, unfolding(crate::specs::Draft::draft_of, crate::specs::Job::event_step))]
     fn begin_event(&mut self, alloc: Global, rest: &str) -> Result<(), LineFault>
         ensures { Steps (event_step (draft_of self.old) rest.now) self.new result }
     {
@@ -151,7 +151,7 @@ impl Draft {
     }
 
     /// Puts the open event to the whole ones.
-    #[tactic(auto, unfolding(crate::specs::Reading::draft_of))]
+    #[tactic(auto, unfolding(crate::specs::Draft::draft_of))]
     pub fn close_event(&mut self) -> Mem<()>
         ensures { OnOk result (draft_of self.new ≡ record (draft_of self.old) { events = events_of (draft_of self.old); event = None }) }
     {
@@ -162,7 +162,7 @@ impl Draft {
     }
 
     // `h NAME KIND VALUE`.
-    #[tactic(auto, unfolding(crate::specs::Reading::draft_of, crate::specs::Job::event_header_step))]
+    #[tactic(auto, unfolding(crate::specs::Draft::draft_of, crate::specs::Job::event_header_step))]
     fn take_event_header(&mut self, alloc: Global, rest: &str) -> Result<(), LineFault>
         ensures { Steps (in_event (draft_of self.old).event (λ event. event_header_step (draft_of self.old) event rest.now)) self.new result }
     {
@@ -177,13 +177,13 @@ impl Draft {
     }
 
     // `payload HEX`.
-    #[tactic(auto, unfolding(crate::specs::Reading::draft_of, crate::specs::Job::payload_step))]
+    #[tactic(auto, unfolding(crate::specs::Draft::draft_of, crate::specs::Job::payload_step))]
     fn take_payload(&mut self, alloc: Global, rest: &str) -> Result<(), LineFault>
         ensures { Steps (in_event (draft_of self.old).event (λ event. payload_step (draft_of self.old) event rest.now)) self.new result }
     {
         match &mut self.event {
             Some(event) if event.payload.is_none() => {
-                event.payload = Some(bytes_of(alloc, rest)?);
+                event.payload = Some(hex_bytes(alloc, rest)?);
                 Ok(())
             }
             _ => Err(LineFault::Bad),

@@ -1,6 +1,6 @@
 ghost use Rattle.std.specs.Prelude.{◌≡◌};
 ghost use Rattle.signed_stream.specs.Job.{message_of};
-ghost use Rattle.signed_stream.specs.Reading.{event_of};
+ghost use Rattle.signed_stream.specs.Draft.{event_of};
 
 use bytes::Bytes;
 use smithy_core::{Header, Message};

@@ -1,6 +1,6 @@
 ghost use Rattle.std.specs.Prelude.{◌≡◌};
-ghost use Rattle.signed_stream.specs.EventHeader.{bytes_of, event_header, fixed_value, header_value, number_value, time_of, uuid_of};
-ghost use Rattle.signed_stream.specs.Reading.{Gives};
+ghost use Rattle.signed_stream.specs.EventHeader.{hex_bytes, event_header, fixed_value, header_value, number_value, time_of, uuid_of};
+ghost use Rattle.signed_stream.specs.Draft.{Gives};
 
 use crate::job::fault::LineFault;
 use crate::job::lines::cut_word;
@@ -35,7 +35,7 @@ fn value_of(alloc: Global, kind: &str, text: &str) -> Result<HeaderValue, LineFa
     ensures { Gives (header_value kind.now text.now) result }
 {
     match kind {
-        "bytes" => Ok(HeaderValue::ByteArray(bytes_of(alloc, text)?)),
+        "bytes" => Ok(HeaderValue::ByteArray(hex_bytes(alloc, text)?)),
         "text" => Ok(HeaderValue::String(StrBytes::copy_from_str(alloc, text)?)),
         _ => fixed_value(kind, text).ok_or(LineFault::Bad),
     }
@@ -74,9 +74,9 @@ fn number_value(kind: &str, text: &str) -> Option<HeaderValue>
 /// # Errors
 ///
 /// [`LineFault::Bad`] where the text isn't of this form.
-#[tactic(auto, unfolding(crate::specs::EventHeader::bytes_of))]
-pub fn bytes_of(alloc: Global, digits: &str) -> Result<Bytes, LineFault>
-    ensures { Gives (bytes_of digits.now) result }
+#[tactic(auto, unfolding(crate::specs::EventHeader::hex_bytes))]
+pub fn hex_bytes(alloc: Global, digits: &str) -> Result<Bytes, LineFault>
+    ensures { Gives (hex_bytes digits.now) result }
 {
     match hex::decode(alloc, digits.as_bytes()) {
         Ok(bytes) => Ok(Bytes::from_vec(bytes)?),

@@ -1,6 +1,6 @@
 ghost use Rattle.std.specs.Prelude.{◌≡◌, ◌<◌, ◌∷◌, length};
 ghost use Rattle.signed_stream.specs.Lines.{lines_of, pair_of, rest_of, word_of};
-ghost use Rattle.signed_stream.specs.Reading.{texts_of_pair};
+ghost use Rattle.signed_stream.specs.Draft.{texts_of_pair};
 
 /// The first line, and what stands after it.
 #[tactic(auto, using(crate::proofs::LineLemmas::lines))]

@@ -1,6 +1,6 @@
 use Rattle.std.proofs.Common.{◌≡◌, ◌∙◌, sym, length}
 use Rattle.std.proofs.lemmas.Bool.{eqb-true}
-use Rattle.signed_stream.specs.Reading.{draft_of}
+use Rattle.signed_stream.specs.Draft.{draft_of}
 use Rattle.signed_stream.proofs.LineLemmas.{faulty_line, lines_over}
 use Rattle.signed_stream.proofs.job.read_lines.Goals as goal
 

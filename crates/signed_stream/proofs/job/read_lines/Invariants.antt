@@ -3,7 +3,7 @@ use denote.Text.{Utf8}
 use Rattle.std.proofs.Common.{◌≡◌, ◌+◌, ◌≤◌, length}
 use Rattle.signed_stream.specs.Job.{lines_from, no_draft}
 use Rattle.signed_stream.specs.Lines.{lines_of}
-use Rattle.signed_stream.specs.Reading.{draft_of}
+use Rattle.signed_stream.specs.Draft.{draft_of}
 use Rattle.signed_stream.proofs.job.read_lines.Given as goal
 
 -- the lines to come, after the draft, are read as all lines

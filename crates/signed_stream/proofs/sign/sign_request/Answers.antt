@@ -1,24 +1,51 @@
-use Rattle.std.proofs.Common.{◌≡◌, [], refl}
+use Rattle.std.proofs.Common.{◌≡◌, option_map, refl, rules}
 use Rattle.std.specs.Prelude.{string_bytes}
-use Rattle.sigv4.specs.Signed.{instructions}
-use Rattle.signed_stream.specs.Signing.{case_under}
-use Rattle.signed_stream.proofs.SignLemmas.{headers_signed, target_stays, unsigned_error}
+use Rattle.aws_auth.specs.Inputs.{chosen}
+use Rattle.signed_stream.specs.Options.{wanted_of}
+use Rattle.signed_stream.specs.Sign.{GivesName}
+use Rattle.signed_stream.proofs.SignLemmas.{refused_job, right_identity, signed_job}
 use Rattle.signed_stream.proofs.sign.sign_request.Goals as goal
 
+pub returns-in-Ok-clause-signs : goal.returns-in-Ok-clause-signs
+unfolding chosen
+returns-in-Ok-clause-signs c =
+    signed_job _ _ _ _ (wanted_of c.args.words) c.args.region.now _
+    (record {
+      chosen_is = rw (c.new.ensures, c.in_ok-from_str.ensures.ok, c.new-2.ensures, c.in_ok-from_str-2.ensures.ok) refl;
+      before = rw (right_identity c.args.identity.now c.requires) refl;
+    })
+    (λ config answer may.
+    let met = may.says.met in
+    let given : GivesName (option_map string_bytes c.in_ok-asked.asked) answer = search rules in
+    rw c.in_ok-asked.ensures at given)
+    _ _ c.in-Ok.ensures.signs
+
 pub halt_of-requires : goal.halt_of-requires
+unfolding chosen
 halt_of-requires c =
-    let request = c.args.request.now in
-    unsigned_error (string_bytes request.target) (case_under request c.args.identity.now c.args.region.now c.args.words.now) c.in-Err.error c.in-Err.ensures
+    let told = refused_job _ _ _ _ (wanted_of c.args.words) c.args.region.now _
+    (record {
+      chosen_is = rw (c.new.ensures, c.in_ok-from_str.ensures.ok, c.new-2.ensures, c.in_ok-from_str-2.ensures.ok) refl;
+      before = rw (right_identity c.args.identity.now c.requires) refl;
+    })
+    (λ config answer may.
+    let met = may.says.met in
+    let given : GivesName (option_map string_bytes c.in_ok-asked.asked) answer = search rules in
+    rw c.in_ok-asked.ensures at given)
+    c.sign_http_request.new.request _ c.in-Err.ensures.signs in
+    told.0
 
-pub returns-in-Ok-apply_to_request-clause-signs : goal.returns-in-Ok-apply_to_request-clause-signs
-returns-in-Ok-apply_to_request-clause-signs c =
-    let told = c.in-Ok.ensures in
-    let case = case_under c.args.request.now c.args.identity.now c.args.region.now c.args.words.now told.0 in
-    let parts = c.into_parts-instructions.ensures in
-    let made : c.into_parts-instructions.result.0.headers ≡ instructions case = rw parts told.3.headers in
-    (told.0, told.1, told.2, headers_signed case _ _ _ refl made c.in-Ok-apply_to_request.ensures.headers, rw parts told.3.signature)
-
-pub returns-in-Ok-apply_to_request-clause-target : goal.returns-in-Ok-apply_to_request-clause-target
-returns-in-Ok-apply_to_request-clause-target c =
-    let none : c.into_parts-instructions.result.0.params ≡ [] = rw c.into_parts-instructions.ensures c.in-Ok.ensures.3.params in
-    target_stays _ _ _ none c.in-Ok-apply_to_request.ensures.target
+pub returns-clause-signs : goal.returns-clause-signs
+unfolding chosen
+returns-clause-signs c =
+    let told = refused_job _ _ _ _ (wanted_of c.args.words) c.args.region.now _
+    (record {
+      chosen_is = rw (c.new.ensures, c.in_ok-from_str.ensures.ok, c.new-2.ensures, c.in_ok-from_str-2.ensures.ok) refl;
+      before = rw (right_identity c.args.identity.now c.requires) refl;
+    })
+    (λ config answer may.
+    let met = may.says.met in
+    let given : GivesName (option_map string_bytes c.in_ok-asked.asked) answer = search rules in
+    rw c.in_ok-asked.ensures at given)
+    c.sign_http_request.new.request _ c.in-Err.ensures.signs in
+    told.1 c.halt_of.result c.halt_of.ensures

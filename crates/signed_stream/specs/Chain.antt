@@ -1,0 +1,101 @@
+-- The chain of events as lines, and the first event that is refused.
+use Rattle.std.specs.Prelude.{◌≡◌, ℕ, ◌+◌, ◌-◌, if◌then◌else◌, List, [], ◌∷◌, take, Option, Some, None, option_map}
+use Rattle.std.specs.List.{flat_map}
+use Rattle.std.specs.Option.{option_or}
+use Rattle.hex.specs.Hex.{encode_lower}
+use Rattle.smithy_core.specs.Civil.{IsInYears, is_in_years}
+use Rattle.smithy_core.specs.Instant.{Instant}
+use Rattle.smithy_core.specs.Parts.{Parts}
+use Rattle.smithy_core.specs.Text.{line}
+use Rattle.smithy_core.specs.declared.identity.Identity.{Identity}
+use Rattle.smithy_core.specs.declared.identity.Identity.TheVariants.{Credentials, Token}
+use Rattle.eventstream.specs.Frame.{frame, unframed}
+use Rattle.eventstream.specs.Key.{Signer}
+use Rattle.eventstream.specs.Link.{begun, chain, link_message, link_signature}
+use Rattle.eventstream.specs.declared.error.ErrorKind.{ErrorKind}
+use Rattle.eventstream.specs.declared.error.ErrorKind.TheVariants as reasons
+use Rattle.signed_stream.specs.Status.{Fault, moment_out_of_range, invalid_header_name_length, header_value_too_long, timestamp_value_too_large, headers_too_long, payload_too_long, message_too_long}
+
+-- the identity can sign: it is credentials
+abbrev pub IsCredentials : Identity → Type 0
+IsCredentials (Credentials credentials) = Unit {0}
+IsCredentials (Token token) = ⊥
+
+-- ## Lines
+
+-- frames, one a line, in hexadecimal
+abbrev pub frame_lines : List (List ℕ) → List ℕ
+frame_lines frames = flat_map (λ frame. line (encode_lower frame)) frames
+
+-- the line of signed bytes
+unfoldable pub link_line : Signer → List ℕ → List ℕ → Instant → List ℕ
+link_line signer signature bytes at = line (encode_lower (frame (link_message signer signature bytes at)))
+
+-- the lines of the chain of the events at their moments
+unfoldable pub chain_lines : Signer → List Parts → List Instant → List ℕ → List ℕ
+chain_lines signer events moments signature = frame_lines (chain signer events moments signature)
+
+-- each frame of the chain is defined, those of the events, of their signed messages and of the closing one; each moment lies in the years, and there
+-- is one more than events
+abbrev pub IsChained : Signer → List Parts → List Instant → List ℕ → Type 0
+IsChained signer events [] signature = ⊥
+IsChained signer [] (at ∷ []) signature = IsInYears at × (unframed (link_message signer signature [] at) ≡ None)
+IsChained signer [] (at ∷ moments) signature = ⊥
+IsChained signer (event ∷ events) (at ∷ moments) signature =
+    (unframed event ≡ None) × IsInYears at × (unframed (link_message signer signature (frame event) at) ≡ None)
+    × IsChained signer events moments (link_signature signer signature (frame event) at)
+
+-- ## Refusals
+
+-- the fault that tells of a message at a place why it has no frame; the last reason is that the frame is too long
+abbrev pub fault_at : ℕ → ErrorKind → Fault
+fault_at place reasons.InvalidHeaderNameLength = invalid_header_name_length place
+fault_at place reasons.HeaderValueTooLong = header_value_too_long place
+fault_at place (reasons.TimestampValueTooLarge moment) = timestamp_value_too_large place
+fault_at place reasons.HeadersTooLong = headers_too_long place
+fault_at place reasons.PayloadTooLong = payload_too_long place
+fault_at place reason = message_too_long place
+
+-- the message at a place has no frame
+abbrev pub unframed_at : ℕ → Parts → Option Fault
+unframed_at place message = option_map (fault_at place) (unframed message)
+
+-- the moment lies outside the years
+abbrev pub outside_years : Instant → Option Fault
+outside_years at = if is_in_years at then None else Some (moment_out_of_range at)
+
+-- why an event isn't sent at its moment over the signature before it: it has no frame, or the moment lies outside the years, or its signed message has
+-- no frame
+unfoldable pub unlinked : Signer → ℕ → List ℕ → Parts → Instant → Option Fault
+unlinked signer place signature event at =
+    option_or (unframed_at place event)
+    (option_or (outside_years at) (unframed_at place (link_message signer signature (frame event) at)))
+
+-- an event that is refused, or the closing frame, whose place is the next; and why
+pub record Refusal : Type 0 where
+  pub place : ℕ
+  pub fault : Fault
+
+abbrev pub refusal_at : ℕ → Fault → Refusal
+refusal_at place fault = record { place = place; fault = fault }
+
+-- the first event that is refused at its moment, or else the closing frame, which is for its moment alone; places count from this one on
+abbrev pub first_refusal : Signer → ℕ → List Parts → List Instant → List ℕ → Option Refusal
+first_refusal signer place events [] signature = None
+first_refusal signer place [] (at ∷ moments) signature = option_map (refusal_at place) (outside_years at)
+first_refusal signer place (event ∷ events) (at ∷ moments) signature =
+    option_or (option_map (refusal_at place) (unlinked signer place signature event at))
+    (first_refusal signer (place + 1) events moments (link_signature signer signature (frame event) at))
+
+-- the fault of a refusal
+abbrev pub refusal_fault : Option Refusal → Option Fault
+refusal_fault refusal = option_map (λ r. r.fault) refusal
+
+-- the lines of the frames before the one at a place
+unfoldable pub lines_before : Signer → ℕ → List Parts → List Instant → List ℕ → List ℕ
+lines_before signer place events moments signature = frame_lines (begun signer events (take (place - 1) moments) signature)
+
+-- the lines that are streamed: those of the chain, and where a frame is refused those of the frames before it
+abbrev pub streamed_lines : Signer → List Parts → List Instant → List ℕ → Option Refusal → List ℕ
+streamed_lines signer events moments signature None = chain_lines signer events moments signature
+streamed_lines signer events moments signature (Some refusal) = lines_before signer refusal.place events moments signature

@@ -1,0 +1,44 @@
+-- What a run says of its end.
+use Rattle.std.specs.Prelude.{◌≡◌, ℕ, ◌⊎◌, List, [], ◌++◌, codes, Option}
+use Rattle.std.specs.Fmt.{decimal}
+use Rattle.smithy_core.specs.Outside.{Gains, GainsPrefix, GainsProperPrefix, Rose}
+use Rattle.smithy_core.specs.Text.{line}
+use Rattle.signed_stream.specs.Status.{Ending, done, bad_words, job_too_large, bad_job, read_fault, refused, output_fault, no_memory, not_built, Fault, missing_credentials, missing_signing_region, moment_out_of_range, invalid_uri, invalid_header_name, invalid_header_value, missing_host, invalid_token_name, missing_expires, invalid_header_name_length, header_value_too_long, timestamp_value_too_large, headers_too_long, payload_too_long, message_too_long}
+
+-- the number and the name of a fault
+abbrev pub fault_text : Fault → List ℕ
+fault_text missing_credentials = codes "2 MissingCredentials"
+fault_text missing_signing_region = codes "3 MissingSigningRegion"
+fault_text (moment_out_of_range moment) = codes "4 MomentOutOfRange"
+fault_text invalid_uri = codes "5 InvalidUri"
+fault_text (invalid_header_name place) = codes "6 InvalidHeaderName"
+fault_text (invalid_header_value place) = codes "7 InvalidHeaderValue"
+fault_text missing_host = codes "8 MissingHost"
+fault_text invalid_token_name = codes "9 InvalidTokenName"
+fault_text missing_expires = codes "10 MissingExpires"
+fault_text (invalid_header_name_length place) = codes "11 InvalidHeaderNameLength"
+fault_text (header_value_too_long place) = codes "12 HeaderValueTooLong"
+fault_text (timestamp_value_too_large place) = codes "13 TimestampValueTooLarge"
+fault_text (headers_too_long place) = codes "14 HeadersTooLong"
+fault_text (payload_too_long place) = codes "15 PayloadTooLong"
+fault_text (message_too_long place) = codes "16 MessageTooLong"
+
+-- the line of an end, and nothing where the run is done
+abbrev pub ending_line : Ending → List ℕ
+ending_line done = []
+ending_line (bad_words place) = line (codes "bad word " ++ decimal place)
+ending_line job_too_large = line (codes "input over 67108864 bytes")
+ending_line (bad_job place) = line (codes "bad line " ++ decimal place)
+ending_line read_fault = line (codes "read fault")
+ending_line (refused fault) = line (codes "refused " ++ fault_text fault)
+ending_line output_fault = line (codes "output fault")
+ending_line no_memory = line (codes "no memory")
+ending_line (not_built place) = line (codes "not built " ++ decimal place)
+
+-- what `err` gained: nothing where the run is done, a front of the line of some end for want of memory, and else the line of the
+-- end, or, where the faults of `err` rose, a front of it
+abbrev pub Says : Ending → Option (List ℕ) → Option (List ℕ) → ℕ → ℕ → Type 0
+Says done before now faults_before faults_now = now ≡ before
+Says no_memory before now faults_before faults_now = (end : Ending) × GainsPrefix before now (ending_line end)
+Says end before now faults_before faults_now =
+    Gains before now (ending_line end) ⊎ (GainsProperPrefix before now (ending_line end) × Rose faults_before faults_now)

@@ -1,0 +1,108 @@
+-- What signing a job's request promises.
+use Rattle.std.specs.Prelude.{◌≡◌, ℕ, List, Result, Ok, Err, Option, Some, None, option_map, String, string_bytes}
+use Rattle.std.specs.Option.{option_or}
+use Rattle.std.specs.declared.alloc.Global.{Global}
+use Rattle.smithy_core.specs.Instant.{Instant}
+use Rattle.smithy_core.specs.declared.identity.Identity.{Identity}
+use Rattle.smithy_core.specs.declared.request.HttpRequest.{HttpRequest}
+use Rattle.smithy_http.specs.Target.{Target}
+use Rattle.sigv4.specs.Params.{secret_of}
+use Rattle.sigv4.specs.Refusal.{unfit, unfit_signed_target}
+use Rattle.sigv4.specs.Request.{Case, key_id_of, token_of}
+use Rattle.sigv4.specs.Signed.{signature_of, signed_headers, signed_target}
+use Rattle.sigv4.specs.declared.error.SigningError.{SigningError}
+use Rattle.sigv4.specs.declared.error.SigningError.TheVariants as errors
+use Rattle.aws_auth.specs.Inputs.{chosen_text}
+use Rattle.aws_auth.specs.declared.error.SigV4SigningError.{SigV4SigningError}
+use Rattle.aws_auth.specs.declared.error.SigV4SigningError.TheVariants as auth
+use Rattle.aws_auth.specs.declared.name_override.OverrideError.{OverrideError}
+use Rattle.aws_auth.specs.declared.name_override.OverrideError.TheVariants as overrides
+use Rattle.signed_stream.specs.Case.{request_moment, settings_with}
+use Rattle.signed_stream.specs.Chain.{outside_years}
+use Rattle.signed_stream.specs.Command.{Wanted}
+use Rattle.signed_stream.specs.Plan.{ReadsTarget, TargetRead, accepted, unaccepted, unread}
+use Rattle.signed_stream.specs.Status.{Fault, fault_of, invalid_header_name, invalid_header_value, invalid_token_name, invalid_uri, missing_expires, missing_host, moment_out_of_range}
+use Rattle.signed_stream.specs.declared.halt.Halt.{Halt}
+use Rattle.signed_stream.specs.declared.halt.Halt.TheVariants.{Refused, OutputFault, NoMemory}
+
+-- ## Why a request is refused
+
+-- the fault that tells why a request isn't signed; the last reason is its target
+abbrev pub fault_for : SigningError → Fault
+fault_for (errors.InvalidHeaderName place) = invalid_header_name place
+fault_for (errors.InvalidHeaderValue place) = invalid_header_value place
+fault_for errors.MissingHost = missing_host
+fault_for errors.InvalidTokenName = invalid_token_name
+fault_for errors.MissingExpires = missing_expires
+fault_for (errors.MomentOutOfRange moment) = moment_out_of_range moment
+fault_for error = invalid_uri
+
+-- the first test of a case that fails: those of the request, and then that of its signed target
+abbrev pub unsigned : Case → Option SigningError
+unsigned c = option_or (unfit c) (unfit_signed_target c)
+
+abbrev pub case_fault : Case → Option Fault
+case_fault c = option_map fault_for (unsigned c)
+
+-- the fault of a request whose case is this for what its target spells
+abbrev pub target_fault : (Target → Case) → TargetRead → Option Fault
+target_fault case unread = None
+target_fault case unaccepted = Some invalid_uri
+target_fault case (accepted target) = case_fault (case target)
+
+-- the same after the test of the request's moment
+abbrev pub request_fault : Instant → (Target → Case) → TargetRead → Option Fault
+request_fault at case target = option_or (outside_years at) (target_fault case target)
+
+-- ## What is signed
+
+-- the case of a request that an identity signs for a region, as it is wanted, for what its target spells
+abbrev pub identity_case : HttpRequest → Identity → List ℕ → Wanted → Target → Case
+identity_case request identity region wanted target = record {
+  method = string_bytes request.method;
+  target = target;
+  headers = request.headers;
+  payload = chosen_text wanted.signing.payload_override request.body;
+  settings = settings_with wanted.signing wanted.token_name;
+  key_id = key_id_of identity;
+  token = token_of identity;
+  signer = record { secret = secret_of identity; region = region; name = wanted.name };
+  at = request_moment wanted wanted.at;
+}
+
+-- where no test fails target and headers are those of the signed request, and the answer is the signature; else it is the fault of the first test that
+-- fails, or want of memory
+abbrev pub SignsJob : List ℕ → Instant → (Target → Case) → HttpRequest → Result (String Global) Halt → Type 0
+SignsJob text at case new (Ok signature) =
+    (target : Target) × ReadsTarget text (accepted target) × (request_fault at case (accepted target) ≡ None)
+    × (new.headers ≡ signed_headers (case target)) × (string_bytes new.target ≡ signed_target (case target) text)
+    × (string_bytes signature ≡ signature_of (case target))
+SignsJob text at case new (Err (Refused fault)) =
+    (target : TargetRead) × ReadsTarget text target × (request_fault at case target ≡ Some (fault_of fault))
+SignsJob text at case new (Err OutputFault) = ⊥
+SignsJob text at case new (Err NoMemory) = Unit {0}
+
+-- ## Between the functions that sign
+
+-- the errors of signing a request under credentials, a config, a region and a name, by an override that doesn't refuse
+abbrev pub IsRequestError : SigV4SigningError → Type 0
+IsRequestError (auth.Signing errors.InvalidUri) = Unit {0}
+IsRequestError (auth.Signing (errors.InvalidHeaderName place)) = Unit {0}
+IsRequestError (auth.Signing (errors.InvalidHeaderValue place)) = Unit {0}
+IsRequestError (auth.Signing errors.MissingHost) = Unit {0}
+IsRequestError (auth.Signing errors.InvalidTokenName) = Unit {0}
+IsRequestError (auth.Signing errors.MissingExpires) = Unit {0}
+IsRequestError (auth.Signing (errors.MomentOutOfRange moment)) = Unit {0}
+IsRequestError auth.NoMemory = Unit {0}
+IsRequestError error = ⊥
+
+-- the halt tells the error of signing a request
+abbrev pub TellsError : SigV4SigningError → Halt → Type 0
+TellsError (auth.Signing error) (Refused fault) = fault_of fault ≡ fault_for error
+TellsError (auth.Signing error) halt = ⊥
+TellsError error halt = halt ≡ NoMemory
+
+-- the answer is the name that is asked for, or want of memory
+abbrev pub GivesName : Option (List ℕ) → Result (Option (String Global)) OverrideError → Type 0
+GivesName asked (Ok name) = option_map string_bytes name ≡ asked
+GivesName asked (Err error) = error ≡ overrides.NoMemory

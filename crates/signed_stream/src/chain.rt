@@ -1,0 +1,195 @@
+ghost use Rattle.std.specs.Prelude.{◌≡◌, ◌+◌, ◌≤◌, [], None, IfOk, IsErrOf, length, replicate};
+ghost use Rattle.std.specs.String.{string_bytes};
+ghost use Rattle.hex.specs.Hex.{encode_lower};
+ghost use Rattle.smithy_core.specs.Outside.{Rose};
+ghost use Rattle.smithy_core.specs.Text.{line};
+ghost use Rattle.eventstream.specs.Frame.{frame};
+ghost use Rattle.eventstream.specs.Link.{link_signature};
+ghost use Rattle.eventstream.specs.Writing.{IsFrameFault};
+ghost use Rattle.sigv4.specs.Params.{signer_of};
+ghost use Rattle.signed_stream.specs.Chain.{IsCredentials, fault_at, first_refusal, link_line, outside_years, refusal_fault, streamed_lines, unframed_at, unlinked};
+ghost use Rattle.signed_stream.specs.Halt.{Sends, unless_refused};
+ghost use Rattle.signed_stream.specs.Status.{fault_of};
+
+use crate::halt::Halt;
+use crate::status::StreamFault;
+use eventstream::{ErrorKind, frame_of, write_message_to};
+use sigv4::event_stream::{SigningParams, sign_empty_message, sign_message};
+use sigv4::{SigningError, SigningOutput};
+use smithy_core::{ByteSink, Message, Moment, SinkError, write_all};
+use std::alloc::Global;
+
+/// Streams the events: a signed frame for each and an empty one last, a line in hexadecimal each, all at the moment
+/// of the parameters.
+///
+/// # Errors
+///
+/// [`Halt::Refused`] with the fault of the first event that has no frame, whose moment lies outside the years or whose
+/// signed message has no frame, or with that of the closing frame's moment: the sink has gained the lines before it.
+/// [`Halt::OutputFault`] where the sink's count of faults rose and [`Halt::NoMemory`] for want of memory: it has
+/// gained a front of these lines.
+pub fn stream_events<K: ByteSink>(
+    alloc: Global,
+    params: &SigningParams<'_>,
+    seed: String,
+    events: &[Message],
+    sink: &mut K,
+) -> Result<(), Halt>
+    requires { IsCredentials params.now.identity.now }
+    ensures count { K.faults sink.old ≤ K.faults sink.new }
+    ensures sends { let moments = replicate (length events.now + 1) params.now.time in
+        let refusal = first_refusal (signer_of params.now) 1 events.now moments (string_bytes seed) in
+        Sends (refusal_fault refusal) (streamed_lines (signer_of params.now) events.now moments (string_bytes seed) refusal)
+        (K.held sink.old) (K.held sink.new) result }
+    ensures failed { IsErrOf result Halt.OutputFault → Rose (K.faults sink.old) (K.faults sink.new) }
+    ensures steady { (IsErrOf result Halt.OutputFault → ⊥) → K.faults sink.new ≡ K.faults sink.old }
+{
+    let mut signature = seed;
+    let mut place = 1;
+    'events: for event in events {
+        signature = send_event(alloc, params, signature.as_str(), event, place, sink)?;
+        place += 1;
+    }
+    send_closing(alloc, params, signature.as_str(), sink)
+}
+
+// Signs the event at a place over the signature before it, and writes the frame. The answer is the new signature.
+#[tactic(auto, using(crate::proofs::ChainLemmas::sending), unfolding(crate::specs::Chain::link_line, crate::specs::Chain::unlinked))]
+fn send_event<K: ByteSink>(
+    alloc: Global,
+    params: &SigningParams<'_>,
+    signature: &str,
+    event: &Message,
+    place: usize,
+    sink: &mut K,
+) -> Result<String, Halt>
+    requires { IsCredentials params.now.identity.now }
+    ensures count { K.faults sink.old ≤ K.faults sink.new }
+    ensures next { IfOk result (λ next. string_bytes next ≡ link_signature (signer_of params.now) signature.now (frame event.now) params.now.time) }
+    ensures sends { let fault = unlinked (signer_of params.now) place signature.now event.now params.now.time in
+        Sends fault (unless_refused fault (link_line (signer_of params.now) signature.now (frame event.now) params.now.time))
+        (K.held sink.old) (K.held sink.new) result }
+    ensures failed { IsErrOf result Halt.OutputFault → Rose (K.faults sink.old) (K.faults sink.new) }
+    ensures steady { (IsErrOf result Halt.OutputFault → ⊥) → K.faults sink.new ≡ K.faults sink.old }
+{
+    match sign_message(alloc, event, signature, params) {
+        Ok(signed) => {
+            let (message, next) = signed.into_parts();
+            write_frame(alloc, &message, place, sink)?;
+            Ok(next)
+        }
+        Err(SigningError::FailedToEncodeMessage(error)) => {
+            Err(Halt::Refused(fault_at(place, error.kind())))
+        }
+        Err(SigningError::MomentOutOfRange(_)) => Err(outside_years(params.time())),
+        Err(SigningError::NoMemory) => Err(Halt::NoMemory),
+        Err(_) => unreachable!(),
+    }
+}
+
+// Signs no bytes over the signature before them, and writes the frame.
+#[tactic(auto, using(crate::proofs::ChainLemmas::sending, crate::proofs::ChainLemmas::closing_framed), unfolding(crate::specs::Chain::link_line))]
+fn send_closing<K: ByteSink>(
+    alloc: Global,
+    params: &SigningParams<'_>,
+    signature: &str,
+    sink: &mut K,
+) -> Result<(), Halt>
+    requires { IsCredentials params.now.identity.now }
+    ensures count { K.faults sink.old ≤ K.faults sink.new }
+    ensures sends { let fault = outside_years params.now.time in
+        Sends fault (unless_refused fault (link_line (signer_of params.now) signature.now [] params.now.time)) (K.held sink.old) (K.held sink.new) result }
+    ensures failed { IsErrOf result Halt.OutputFault → Rose (K.faults sink.old) (K.faults sink.new) }
+    ensures steady { (IsErrOf result Halt.OutputFault → ⊥) → K.faults sink.new ≡ K.faults sink.old }
+{
+    match sign_empty_message(alloc, signature, params) {
+        Ok(signed) => {
+            let (message, _) = signed.into_parts();
+            let frame = frame_of(alloc, &message)?;
+            write_line(alloc, frame.as_slice(), sink)
+        }
+        Err(SigningError::MomentOutOfRange(_)) => Err(outside_years(params.time())),
+        Err(SigningError::NoMemory) => Err(Halt::NoMemory),
+        Err(_) => unreachable!(),
+    }
+}
+
+// The moment is refused.
+fn outside_years(moment: Moment) -> Halt
+    ensures { result ≡ Halt.Refused (StreamFault.MomentOutOfRange moment) }
+{
+    Halt::Refused(StreamFault::MomentOutOfRange(moment))
+}
+
+// Writes the frame of the message at a place as one line in hexadecimal.
+#[tactic(auto, using(crate::proofs::ChainLemmas::sending))]
+fn write_frame<K: ByteSink>(
+    alloc: Global,
+    message: &Message,
+    place: usize,
+    sink: &mut K,
+) -> Result<(), Halt>
+    ensures count { K.faults sink.old ≤ K.faults sink.new }
+    ensures sends { let fault = unframed_at place message.now in
+        Sends fault (unless_refused fault (line (encode_lower (frame message.now)))) (K.held sink.old) (K.held sink.new) result }
+    ensures failed { IsErrOf result Halt.OutputFault → Rose (K.faults sink.old) (K.faults sink.new) }
+    ensures steady { (IsErrOf result Halt.OutputFault → ⊥) → K.faults sink.new ≡ K.faults sink.old }
+{
+    let mut frame = Vec::new(alloc);
+    match write_message_to(alloc, message, &mut frame) {
+        Ok(()) => write_line(alloc, frame.as_slice(), sink),
+        Err(error) => match error.kind() {
+            ErrorKind::NoMemory => Err(Halt::NoMemory),
+            reason => Err(Halt::Refused(fault_at(place, reason))),
+        },
+    }
+}
+
+// The fault that tells of the message at a place why it has no frame.
+fn fault_at(place: usize, reason: &ErrorKind) -> StreamFault
+    requires { IsFrameFault reason.now }
+    ensures { fault_of result ≡ fault_at place reason.now }
+{
+    match reason {
+        ErrorKind::InvalidHeaderNameLength => StreamFault::InvalidHeaderNameLength(place),
+        ErrorKind::HeaderValueTooLong => StreamFault::HeaderValueTooLong(place),
+        ErrorKind::TimestampValueTooLarge(_) => StreamFault::TimestampValueTooLarge(place),
+        ErrorKind::HeadersTooLong => StreamFault::HeadersTooLong(place),
+        ErrorKind::PayloadTooLong => StreamFault::PayloadTooLong(place),
+        ErrorKind::MessageTooLong => StreamFault::MessageTooLong(place),
+        _ => unreachable!(),
+    }
+}
+
+// Writes bytes as one line in hexadecimal.
+#[tactic(auto, using(smithy_core::proofs::GainLemmas::prefix_at_start))]
+fn write_line<K: ByteSink>(alloc: Global, bytes: &[u8], sink: &mut K) -> Result<(), Halt>
+    ensures count { K.faults sink.old ≤ K.faults sink.new }
+    ensures sends { Sends None (line (encode_lower bytes.now)) (K.held sink.old) (K.held sink.new) result }
+    ensures failed { IsErrOf result Halt.OutputFault → Rose (K.faults sink.old) (K.faults sink.new) }
+    ensures steady { (IsErrOf result Halt.OutputFault → ⊥) → K.faults sink.new ≡ K.faults sink.old }
+{
+    let mut text = hex::encode(alloc, bytes)?;
+    text.push('\n')?;
+    write_text(sink, text.as_bytes())
+}
+
+/// Writes a text in one piece.
+///
+/// # Errors
+///
+/// [`Halt::OutputFault`] where the sink's count of faults rose, [`Halt::NoMemory`] for want of memory.
+/// After both the sink has gained a front of the text.
+#[tactic(auto, using(smithy_core::proofs::GainLemmas::prefix_from_proper))]
+pub fn write_text<K: ByteSink>(sink: &mut K, text: &[u8]) -> Result<(), Halt>
+    ensures count { K.faults sink.old ≤ K.faults sink.new }
+    ensures sends { Sends None text.now (K.held sink.old) (K.held sink.new) result }
+    ensures failed { IsErrOf result Halt.OutputFault → Rose (K.faults sink.old) (K.faults sink.new) }
+    ensures steady { (IsErrOf result Halt.OutputFault → ⊥) → K.faults sink.new ≡ K.faults sink.old }
+{
+    match write_all(sink, text) {
+        Ok(()) => Ok(()),
+        Err(SinkError::Failed) => Err(Halt::OutputFault),
+        Err(SinkError::NoMemory) => Err(Halt::NoMemory),
+    }
+}

@@ -1,0 +1,193 @@
+ghost use Rattle.std.specs.Prelude.{◌≡◌};
+ghost use Rattle.signed_stream.specs.Command.{is_later_option};
+
+use crate::command::WordsFault;
+use crate::numbers::{parse_i64, parse_u64};
+use aws_auth::{HttpSignatureType, PayloadSigningOverride, SigningOptions};
+use smithy_core::Moment;
+
+/// What `stream` is asked for.
+#[derive(Debug, Drop)]
+pub struct StreamWords<'a> {
+    /// The name of the service.
+    pub name: &'a str,
+    /// The moment of the request, of every event and of the closing frame.
+    pub at: Moment,
+    /// How the request is signed.
+    pub signing: SigningOptions,
+    /// The name of the session token's header or parameter, where that isn't the usual one.
+    pub token_name: Option<&'a str>,
+    /// By how many milliseconds the service's clock is ahead.
+    pub skew_millis: Option<i64>,
+}
+
+/// An option whose value is the next word.
+#[derive(Clone, Copy)]
+pub enum Valued {
+    Name,
+    At,
+    Expires,
+    TokenName,
+    Skew,
+}
+
+/// What the words so far gave, and the option that waits for its value.
+#[derive(Drop)]
+pub struct GivenOptions<'a> {
+    name: Option<&'a str>,
+    at: Option<Moment>,
+    signing: SigningOptions,
+    token_name: Option<&'a str>,
+    skew_millis: Option<i64>,
+    awaited: Option<Valued>,
+}
+
+impl<'a> GivenOptions<'a> {
+    ghost use Rattle.std.specs.Prelude.{◌≡◌, None};
+    ghost use Rattle.std.specs.Int.{w64};
+    ghost use Rattle.signed_stream.specs.Command.{command_of, no_options, take_expiry, take_flag, take_moment, take_option, take_skew, take_word};
+    ghost use Rattle.signed_stream.specs.Numbers.{natural_below, number};
+    ghost use Rattle.signed_stream.specs.Options.{options_of, stream_told, taken_told};
+
+    /// No options.
+    pub fn new() -> Self
+        ensures { options_of result ≡ no_options }
+    {
+        GivenOptions {
+            name: None,
+            at: None,
+            signing: SigningOptions::default(),
+            token_name: None,
+            skew_millis: None,
+            awaited: None,
+        }
+    }
+
+    /// Takes the word at a place.
+    pub fn take(&mut self, place: usize, word: &'a str) -> Result<(), WordsFault>
+        ensures { let given = options_of self.old in taken_told result (options_of self.new) ≡ take_word place given given.awaited word.now }
+    {
+        match self.awaited.take() {
+            Some(Valued::Name) => {
+                self.name = Some(word);
+                Ok(())
+            }
+            Some(Valued::TokenName) => {
+                self.token_name = Some(word);
+                Ok(())
+            }
+            Some(Valued::At) => self.take_moment(place, word),
+            Some(Valued::Expires) => self.take_expiry(place, word),
+            Some(Valued::Skew) => self.take_skew(place, word),
+            None => self.take_option(place, word),
+        }
+    }
+
+    // Takes the option at a place.
+    fn take_option(&mut self, place: usize, word: &str) -> Result<(), WordsFault>
+        ensures { taken_told result (options_of self.new) ≡ take_option place (options_of self.old) word.now }
+    {
+        let (stood, option) = match word {
+            "--name" => (self.name.is_some(), Valued::Name),
+            "--at" => (self.at.is_some(), Valued::At),
+            "--expires" => (self.signing.expires_in.is_some(), Valued::Expires),
+            "--token-name" => (self.token_name.is_some(), Valued::TokenName),
+            "--skew" => (self.skew_millis.is_some(), Valued::Skew),
+            _ => return self.take_flag(place, word),
+        };
+        if stood {
+            return Err(WordsFault::BadWord(place));
+        }
+        self.awaited = Some(option);
+        Ok(())
+    }
+
+    // Takes the option without a value at a place.
+    fn take_flag(&mut self, place: usize, word: &str) -> Result<(), WordsFault>
+        ensures { taken_told result (options_of self.new) ≡ take_flag place (options_of self.old) word.now }
+    {
+        let signing = &mut self.signing;
+        match word {
+            "--query"
+                if matches!(
+                    signing.signature_type,
+                    HttpSignatureType::HttpRequestHeaders
+                ) => {
+                signing.signature_type = HttpSignatureType::HttpRequestQueryParams;
+            }
+            "--omit-token" if !signing.omit_session_token => signing.omit_session_token = true,
+            "--sha256" if !signing.content_sha256_header => signing.content_sha256_header = true,
+            "--single-encode" if signing.double_uri_encode => signing.double_uri_encode = false,
+            "--no-normalize" if signing.normalize_uri_path => signing.normalize_uri_path = false,
+            "--unsigned" if signing.payload_override.is_none() => {
+                signing.payload_override = Some(PayloadSigningOverride::UnsignedPayload);
+            }
+            _ if is_later_option(word) => return Err(WordsFault::NotBuilt(place)),
+            _ => return Err(WordsFault::BadWord(place)),
+        }
+        Ok(())
+    }
+
+    // Takes the value of `--at` at a place.
+    fn take_moment(&mut self, place: usize, word: &str) -> Result<(), WordsFault>
+        ensures { taken_told result (options_of self.new) ≡ take_moment place (options_of self.old) (number w64 word.now) }
+    {
+        self.awaited = None;
+        let Some(secs) = parse_i64(word) else {
+            return Err(WordsFault::BadWord(place));
+        };
+        self.at = Some(Moment::new(secs, 0));
+        Ok(())
+    }
+
+    // Takes the value of `--expires` at a place.
+    fn take_expiry(&mut self, place: usize, word: &str) -> Result<(), WordsFault>
+        ensures { taken_told result (options_of self.new) ≡ take_expiry place (options_of self.old) (natural_below 18446744073709551616 word.now) }
+    {
+        self.awaited = None;
+        let Some(seconds) = parse_u64(word) else {
+            return Err(WordsFault::BadWord(place));
+        };
+        self.signing.expires_in = Some(seconds);
+        Ok(())
+    }
+
+    // Takes the value of `--skew` at a place.
+    fn take_skew(&mut self, place: usize, word: &str) -> Result<(), WordsFault>
+        ensures { taken_told result (options_of self.new) ≡ take_skew place (options_of self.old) (number w64 word.now) }
+    {
+        self.awaited = None;
+        let Some(millis) = parse_i64(word) else {
+            return Err(WordsFault::BadWord(place));
+        };
+        self.skew_millis = Some(millis);
+        Ok(())
+    }
+
+    /// The command, where the place after the last word is reached.
+    pub fn finish(self, place: usize) -> Result<StreamWords<'a>, WordsFault>
+        ensures { let given = options_of self.entry in stream_told result ≡ command_of place given given.name given.at given.awaited }
+    {
+        match (self.awaited, self.name, self.at) {
+            (None, Some(name), Some(at)) => Ok(StreamWords {
+                name,
+                at,
+                signing: self.signing,
+                token_name: self.token_name,
+                skew_millis: self.skew_millis,
+            }),
+            (None, Some(_), None) => Err(WordsFault::NotBuilt(place)),
+            _ => Err(WordsFault::BadWord(place)),
+        }
+    }
+}
+
+// An option of `stream` that isn't built.
+fn is_later_option(word: &str) -> bool
+    ensures { result ≡ is_later_option word.now }
+{
+    matches!(
+        word,
+        "--service-id" | "--raw" | "--config" | "--credentials"
+    )
+}
