@@ -1,12 +1,11 @@
 -- A request that is signed by what was wanted.
-use Rattle.std.proofs.Common.{◌≡◌, ℕ, ◌⊎◌, inl, inr, Bool, true, false, List, Option, Some, None, option_map, refl, sym, ap}
-use Rattle.std.specs.Prelude.{Result, Ok, Err, String, string_bytes, if◌then◌else◌}
+use Rattle.std.proofs.Common.{◌≡◌, ℕ, inl, inr, Bool, true, false, List, Option, Some, None, option_map, refl}
+use Rattle.std.specs.Prelude.{Ok, Err, string_bytes, if◌then◌else◌}
 use Rattle.std.specs.Borrow.{Bor}
 use Rattle.std.specs.Fn.{Shared}
 use Rattle.std.specs.Option.{option_or}
-use Rattle.std.specs.declared.alloc.Global.{Global}
 use Rattle.smithy_core.specs.Civil.{is_in_years}
-use Rattle.smithy_core.specs.Instant.{Instant}
+use Rattle.smithy_core.specs.Moment.{Instant}
 use Rattle.smithy_core.specs.declared.identity.Identity.{Identity}
 use Rattle.smithy_core.specs.declared.identity.Identity.TheVariants.{Credentials, Token}
 use Rattle.smithy_core.specs.declared.request.HttpRequest.{HttpRequest}
@@ -18,11 +17,10 @@ use Rattle.sigv4.specs.declared.settings.SigningSettings.{SigningSettings}
 use Rattle.aws_auth.specs.Error.{override_error}
 use Rattle.aws_auth.specs.Inputs.{Chosen, chosen, chosen_case, given_config}
 use Rattle.aws_auth.specs.NameOverride.{MayAnswer, NameAnswer}
-use Rattle.aws_auth.specs.Signer.{IsSignedCase, RefusesRequest, SignsByInputs, SignsRequest, SpellsAs, name_in, out_of_years, refusal_before_override, refusal_before_target, signing_refusal, unsigned_target, wrong_identity}
+use Rattle.aws_auth.specs.Signer.{IsSignedCase, SignsByInputs, SpellsAs, name_in, out_of_years, refusal_before_override, refusal_before_target, unsigned_target, wrong_identity}
 use Rattle.aws_auth.specs.declared.error.SigV4SigningError.{SigV4SigningError}
 use Rattle.aws_auth.specs.declared.error.SigV4SigningError.TheVariants as auth
 use Rattle.aws_auth.specs.declared.inputs.SigningInputs.{SigningInputs}
-use Rattle.aws_auth.specs.declared.name_override.OverrideError.{OverrideError}
 use Rattle.aws_auth.specs.declared.name_override.OverrideError.TheVariants as overrides
 use Rattle.aws_auth.specs.declared.options.SigV4OperationSigningConfig.{SigV4OperationSigningConfig}
 use Rattle.aws_auth.specs.declared.signer.Signed.{Signed}
@@ -30,8 +28,8 @@ use Rattle.signed_stream.specs.Case.{request_moment, settings_with}
 use Rattle.signed_stream.specs.Chain.{IsCredentials}
 use Rattle.signed_stream.specs.Command.{Wanted}
 use Rattle.signed_stream.specs.Plan.{ReadsTarget, TargetRead, accepted, unaccepted, unread}
-use Rattle.signed_stream.specs.Sign.{GivesName, IsRequestError, SignsJob, TellsError, case_fault, fault_for, identity_case, request_fault, unsigned}
-use Rattle.signed_stream.specs.Status.{Fault, fault_of, invalid_uri, moment_out_of_range}
+use Rattle.signed_stream.specs.Sign.{GivesName, IsRequestError, SignsJob, TellsError, fault_for, identity_case, request_fault, unsigned}
+use Rattle.signed_stream.specs.Status.{moment_out_of_range}
 use Rattle.signed_stream.proofs.TestLemmas.{IsPartError, IsTestError, unsigned_test}
 use Rattle.signed_stream.specs.declared.halt.Halt.{Halt}
 use Rattle.signed_stream.specs.declared.halt.Halt.TheVariants as halts
@@ -102,7 +100,7 @@ outside_told text at case new error years is =
 
 -- the target isn't read, or a test of the request fails
 target_told : (text : List ℕ) (at : Instant) (case : Target → Case) (new : HttpRequest) (error : SigV4SigningError) (target : Option Target) → is_in_years at ≡ true → SpellsAs text target
-    → unsigned_target case target ≡ Some error → TellsFault text at case new error
+    → option_map auth.Signing (unsigned_target case target) ≡ Some error → TellsFault text at case new error
 target_told text at case new error None years reads is =
     let same : error ≡ auth.Signing errors.InvalidUri = cc in
     rw same (tt, told_fault text at case new errors.InvalidUri unaccepted reads (rw years refl))
@@ -153,14 +151,14 @@ module _ {F : Type 0} (calls : Shared F (Bor SigningSettings × (Bor SigV4Operat
     where
       by_years : (years : Bool) → is_in_years (request_moment wanted wanted.at) ≡ years
           → (out_of_years (request_moment wanted wanted.at) ≡ None → SpellsAs (string_bytes old.target) refused.target)
-          → option_or (if years then None else Some (auth.Signing (errors.MomentOutOfRange (request_moment wanted wanted.at)))) (unsigned_target (identity_case old identity region wanted) refused.target) ≡ Some error
+          → option_or (if years then None else Some (auth.Signing (errors.MomentOutOfRange (request_moment wanted wanted.at)))) (option_map auth.Signing (unsigned_target (identity_case old identity region wanted) refused.target)) ≡ Some error
           → TellsFault (string_bytes old.target) (request_moment wanted wanted.at) (identity_case old identity region wanted) new error
       by_years false outside reads is = outside_told _ (request_moment wanted wanted.at) _ new error outside (let same : error ≡ auth.Signing (errors.MomentOutOfRange (request_moment wanted wanted.at)) = cc in same)
       by_years true within reads is = target_told _ (request_moment wanted wanted.at) _ new error refused.target within (reads (rw within refl)) is
 
       by_answer : (answer : NameAnswer) → GivesName wanted.token_name answer
           → (refusal_before_target (chosen inputs wanted.at) answer ≡ None → SpellsAs (string_bytes old.target) refused.target)
-          → option_or (refusal_before_target (chosen inputs wanted.at) answer) (unsigned_target (chosen_case old identity (chosen inputs wanted.at) (name_in answer)) refused.target) ≡ Some error
+          → option_or (refusal_before_target (chosen inputs wanted.at) answer) (option_map auth.Signing (unsigned_target (chosen_case old identity (chosen inputs wanted.at) (name_in answer)) refused.target)) ≡ Some error
           → TellsFault (string_bytes old.target) (request_moment wanted wanted.at) (identity_case old identity region wanted) new error
       by_answer (Err e) is reads fails =
           let told : Some (override_error e) ≡ Some error = fails in
