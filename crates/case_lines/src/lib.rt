@@ -2,12 +2,14 @@
 //! between them. A line without a tab says something to the reader, and is no case.
 //!
 //! A program over it answers a case from its words ([`Answers`]), and [`run_cases`] compares: each other answer is said
-//! on standard error, and the program then ends with status 1. In a word, `%XX` stands for a byte. The layer above is
-//! promised nothing more: what a case shows is what the compared answers are.
+//! on standard error, and the program then ends with status 1. In a word, `%XX` stands for a byte.
+//!
+//! It promises what a line's case, words and wanted answer are ([`case_of`], [`words_of`]), and what words write. What a
+//! case shows is what the compared answers are.
 #![tactic(auto)]
 
 mod run;
 mod words;
 
 pub use crate::run::{Answers, run_cases};
-pub use crate::words::{bytes_of_hex, number, shown};
+pub use crate::words::{bytes_of_hex, case_of, number, shown, words_of};

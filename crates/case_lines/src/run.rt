@@ -1,4 +1,4 @@
-use crate::words::words_of;
+use crate::words::{case_of, words_of};
 use std::alloc::{AllocError, Global};
 use std::io;
 use std::process::ExitCode;
@@ -16,7 +16,7 @@ pub fn run_cases<A: Answers>(rt: HostRuntime, answers: &A) -> io::Result<ExitCod
     let mut status = ExitCode::SUCCESS;
     for line in rt.lines(rt.alloc()) {
         let line = line?;
-        if let Some((case, want)) = line.as_str().rsplit_once('\t') {
+        if let Some((case, want)) = case_of(line.as_str()) {
             let found = answered(rt.alloc(), answers, case)?;
             count = count.saturating_add(1);
             if found.as_str() != want {

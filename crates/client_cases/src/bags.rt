@@ -2,78 +2,93 @@ use crate::agents::agent_of;
 use crate::metadata::api_of;
 use crate::metrics::{aws_named, credentials_named, smithy_named};
 use crate::parts::{app_of, framework_of};
-use crate::texts::text;
-use aws_intercept::{
-    ApiMetadata, AwsCredentialFeature, AwsSdkFeature, AwsUserAgent, ConfigBag,
-    DisableClockSkewCorrection, FrameworkMetadata, InvocationId, SmithySdkFeature,
-};
+use crate::texts::{split, text};
+use aws_intercept::{ApiMetadata, ConfigBag, DisableClockSkewCorrection, InvocationId};
 use case_lines::number;
-use smithy_core::{AppName, DateTime, Mem, Moment, RetryConfig, TimeoutConfig};
+use smithy_core::{DateTime, Mem, Moment, RetryConfig, TimeoutConfig};
 use std::alloc::Global;
 
-// What is put into a bag.
-#[derive(Drop)]
-pub enum Entry {
-    Retry(RetryConfig),
-    Timeout(TimeoutConfig),
-    Attempts(u32),
-    Skew(i64),
-    Sent(Moment),
-    Disable(DisableClockSkewCorrection),
-    Api(ApiMetadata),
-    Agent(AwsUserAgent),
-    App(AppName),
-    Id(InvocationId),
-    Connector(String),
-    Framework(FrameworkMetadata),
-    Smithy(SmithySdkFeature),
-    Aws(AwsSdkFeature),
-    Credentials(AwsCredentialFeature),
-}
-
-// The entries `KIND VALUE`.
-pub fn entries_of(alloc: Global, words: &[&str]) -> Mem<Vec<Entry>> {
-    let mut entries = Vec::new(alloc);
-    for word in words {
-        if let Some(entry) = entry_of(alloc, word) {
-            entries.push(entry)?;
-        }
+// Puts the entries `KIND VALUE` into the bag, those of a list in their order.
+pub fn fill(alloc: Global, bag: &mut ConfigBag, entries: &[&str]) -> Mem<()> {
+    for entry in entries {
+        put(alloc, bag, entry)?;
     }
-    Ok(entries)
+    Ok(())
 }
 
-fn entry_of(alloc: Global, word: &str) -> Option<Entry> {
-    let (kind, value) = word.split_once(' ')?;
+pub fn put(alloc: Global, bag: &mut ConfigBag, entry: &str) -> Mem<()> {
+    let (kind, value) = split(entry);
     match kind {
-        "retry" => Some(Entry::Retry(retry_of(value))),
-        "timeout" => Some(Entry::Timeout(timeout_of(value))),
-        "attempts" => Some(Entry::Attempts(value.parse().ok()?)),
-        "skew" => Some(Entry::Skew(number(value))),
-        "sent" => Some(Entry::Sent(moment_of(value))),
-        "disable" => Some(Entry::Disable(DisableClockSkewCorrection::from(value == "true"))),
-        _ => told_entry(alloc, kind, value),
+        "retry" => bag.retry = Some(retry_of(value)),
+        "timeout" => bag.timeout = Some(timeout_of(value)),
+        "attempts" => bag.attempts = value.parse().ok(),
+        "skew" => bag.attempt_skew = Some(number(value)),
+        "sent" => bag.time_sent = Some(moment_of(value)),
+        "disable" => bag.disable_skew = Some(DisableClockSkewCorrection::from(value == "true")),
+        _ => return put_told(alloc, bag, kind, value),
+    }
+    Ok(())
+}
+
+// Puts an entry of which the user agent or an id is made.
+fn put_told(alloc: Global, bag: &mut ConfigBag, kind: &str, value: &str) -> Mem<()> {
+    match kind {
+        "api" => bag.api_metadata = api_named(alloc, value),
+        "agent" => bag.user_agent = agent_of(alloc, value).ok(),
+        "app" => bag.app_name = app_of(alloc, value).ok(),
+        "id" => bag.invocation_id = id_of(alloc, value),
+        "connector" => bag.connector = text(alloc, value).ok(),
+        _ => return add(alloc, bag, kind, value),
+    }
+    Ok(())
+}
+
+// Adds an entry to its list.
+fn add(alloc: Global, bag: &mut ConfigBag, kind: &str, value: &str) -> Mem<()> {
+    match kind {
+        "framework" => add_framework(alloc, bag, value),
+        "smithy" => add_smithy(alloc, bag, value),
+        "aws" => add_aws(alloc, bag, value),
+        "credentials" => add_credentials(alloc, bag, value),
+        _ => Ok(()),
     }
 }
 
-// An entry of which the user agent or an id is made.
-fn told_entry(alloc: Global, kind: &str, value: &str) -> Option<Entry> {
-    match kind {
-        "api" => Some(Entry::Api(api_named(alloc, value)?)),
-        "agent" => Some(Entry::Agent(agent_of(alloc, value).ok()?)),
-        "app" => Some(Entry::App(app_of(alloc, value).ok()?)),
-        "id" => Some(Entry::Id(InvocationId::new(text(alloc, value).ok()?).ok()?)),
-        "connector" => Some(Entry::Connector(text(alloc, value).ok()?)),
-        "framework" => Some(Entry::Framework(framework_of(alloc, value).ok()?)),
-        "smithy" => Some(Entry::Smithy(smithy_named(alloc, value).ok()??)),
-        "aws" => Some(Entry::Aws(aws_named(alloc, value).ok()??)),
-        "credentials" => Some(Entry::Credentials(credentials_named(alloc, value).ok()??)),
-        _ => None,
+fn add_framework(alloc: Global, bag: &mut ConfigBag, word: &str) -> Mem<()> {
+    match framework_of(alloc, word) {
+        Ok(framework) => Ok(bag.frameworks.push(framework)?),
+        Err(_) => Ok(()),
+    }
+}
+
+fn add_smithy(alloc: Global, bag: &mut ConfigBag, name: &str) -> Mem<()> {
+    match smithy_named(alloc, name)? {
+        Some(feature) => Ok(bag.smithy_features.push(feature)?),
+        None => Ok(()),
+    }
+}
+
+fn add_aws(alloc: Global, bag: &mut ConfigBag, name: &str) -> Mem<()> {
+    match aws_named(alloc, name)? {
+        Some(feature) => Ok(bag.aws_features.push(feature)?),
+        None => Ok(()),
+    }
+}
+
+fn add_credentials(alloc: Global, bag: &mut ConfigBag, name: &str) -> Mem<()> {
+    match credentials_named(alloc, name)? {
+        Some(feature) => Ok(bag.credential_features.push(feature)?),
+        None => Ok(()),
     }
 }
 
 fn api_named(alloc: Global, value: &str) -> Option<ApiMetadata> {
     let (service, version) = value.split_once(' ')?;
     api_of(alloc, service, version).ok()
+}
+
+fn id_of(alloc: Global, value: &str) -> Option<InvocationId> {
+    InvocationId::new(text(alloc, value).ok()?).ok()
 }
 
 // `standard`, or the number of attempts.
@@ -96,33 +111,4 @@ pub fn moment_of(word: &str) -> Moment {
     let (secs, nanos) = word.split_once(' ').unwrap_or((word, "0"));
     let nanos: u32 = nanos.parse().unwrap_or(0);
     DateTime::new(number(secs), nanos % 1_000_000_000)
-}
-
-// Puts the entries into the bag, those of a list in their order.
-pub fn fill(bag: &mut ConfigBag, entries: Vec<Entry>) -> Mem<()> {
-    for entry in entries {
-        put(bag, entry)?;
-    }
-    Ok(())
-}
-
-fn put(bag: &mut ConfigBag, entry: Entry) -> Mem<()> {
-    match entry {
-        Entry::Retry(retry) => bag.retry = Some(retry),
-        Entry::Timeout(timeout) => bag.timeout = Some(timeout),
-        Entry::Attempts(attempts) => bag.attempts = Some(attempts),
-        Entry::Skew(skew) => bag.attempt_skew = Some(skew),
-        Entry::Sent(moment) => bag.time_sent = Some(moment),
-        Entry::Disable(correction) => bag.disable_skew = Some(correction),
-        Entry::Api(api) => bag.api_metadata = Some(api),
-        Entry::Agent(agent) => bag.user_agent = Some(agent),
-        Entry::App(name) => bag.app_name = Some(name),
-        Entry::Id(id) => bag.invocation_id = Some(id),
-        Entry::Connector(connector) => bag.connector = Some(connector),
-        Entry::Framework(framework) => bag.frameworks.push(framework)?,
-        Entry::Smithy(feature) => bag.smithy_features.push(feature)?,
-        Entry::Aws(feature) => bag.aws_features.push(feature)?,
-        Entry::Credentials(feature) => bag.credential_features.push(feature)?,
-    }
-    Ok(())
 }

@@ -1,66 +1,85 @@
-use crate::headers::{headers_of, response_of};
+use crate::headers::response_of;
 use crate::texts::{given_text, text, unknown};
 use aws_intercept::{
     AwsErrorCodeClassifier, RetryAction, RetryKind, ServiceClockSkewClassifier, THROTTLING_ERRORS,
     TRANSIENT_ERRORS,
 };
-use smithy_core::{ErrorMetadata, HttpResponse, Mem};
+use smithy_core::{ErrorMetadata, Headers, HttpResponse, Mem};
 use std::alloc::Global;
 
 // What a classifier says of an error with a code, `-` for one without, and of the response's delay.
-pub fn answer(alloc: Global, words: &[&str]) -> Mem<String> {
-    match words {
-        ["error", code, headers @ ..] => {
-            classified(alloc, &AwsErrorCodeClassifier::new(), code, headers)
-        }
-        ["own", codes, code, headers @ ..] => {
-            classified(alloc, &own(alloc, codes)?, code, headers)
-        }
-        ["after", previous, code, headers @ ..] => again(alloc, previous, code, headers),
-        ["skew", skew, code] => skew_class(alloc, skew, code),
-        ["throttling"] => joined(alloc, &THROTTLING_ERRORS),
-        ["transient"] => joined(alloc, &TRANSIENT_ERRORS),
+pub fn answer(alloc: Global, call: &str, words: &[&str]) -> Mem<String> {
+    match call {
+        "error" => classified(alloc, &AwsErrorCodeClassifier::new(), words),
+        "own" => own(alloc, words),
+        "after" => again(alloc, words),
+        "skew" => skew_class(alloc, words),
+        "throttling" => joined(alloc, &THROTTLING_ERRORS),
+        "transient" => joined(alloc, &TRANSIENT_ERRORS),
         _ => unknown(alloc),
     }
 }
 
-fn classified(
-    alloc: Global,
-    classifier: &AwsErrorCodeClassifier,
-    code: &str,
-    headers: &[&str],
-) -> Mem<String> {
-    let (error, response) = (error_of(alloc, code)?, answered(alloc, headers)?);
+// By a classifier, of an error's code and then the response's headers.
+fn classified(alloc: Global, classifier: &AwsErrorCodeClassifier, words: &[&str]) -> Mem<String> {
+    let [code, headers @ ..] = words else {
+        return unknown(alloc);
+    };
+    let error = error_of(alloc, code)?;
+    let response = answered(alloc, headers)?;
     told(
         alloc,
         classifier.classify_retry(response.as_ref(), error.as_ref()),
     )
 }
 
-// A copy of the classifier that a copy of the builder makes of these codes, with commas between.
-fn own(alloc: Global, codes: &str) -> Mem<AwsErrorCodeClassifier> {
-    let mut owned = Vec::new(alloc);
-    for code in codes.split(',') {
-        owned.push(text(alloc, code)?)?;
-    }
-    let builder = AwsErrorCodeClassifier::builder().transient_errors(owned);
+// By a copy of the classifier that a copy of the builder makes of these codes, with commas between.
+fn own(alloc: Global, words: &[&str]) -> Mem<String> {
+    let [codes, words @ ..] = words else {
+        return unknown(alloc);
+    };
+    let classifier = classifier_of(alloc, codes)?;
+    classified(alloc, &classifier, words)
+}
+
+fn classifier_of(alloc: Global, codes: &str) -> Mem<AwsErrorCodeClassifier> {
+    let builder = AwsErrorCodeClassifier::builder().transient_errors(texts_of(alloc, codes)?);
     builder.try_clone()?.build().try_clone()
 }
 
-fn again(alloc: Global, previous: &str, code: &str, headers: &[&str]) -> Mem<String> {
-    let (error, response) = (error_of(alloc, code)?, answered(alloc, headers)?);
-    let previous = action_of(previous);
-    let classifier = AwsErrorCodeClassifier::new();
+fn texts_of(alloc: Global, words: &str) -> Mem<Vec<String>> {
+    let mut texts = Vec::new(alloc);
+    for word in words.split(',') {
+        texts.push(text(alloc, word)?)?;
+    }
+    Ok(texts)
+}
+
+// After what another classifier said.
+fn again(alloc: Global, words: &[&str]) -> Mem<String> {
+    let [previous, code, headers @ ..] = words else {
+        return unknown(alloc);
+    };
+    let error = error_of(alloc, code)?;
+    let response = answered(alloc, headers)?;
+    let (classifier, previous) = (AwsErrorCodeClassifier::new(), action_of(previous));
     told(
         alloc,
         classifier.classify_retry_v2(response.as_ref(), error.as_ref(), &previous),
     )
 }
 
-fn skew_class(alloc: Global, skew: &str, code: &str) -> Mem<String> {
-    let mut response = response_of(alloc, &[])?;
-    response.skew = skew.parse().ok();
+// By the skew of a response, which has no headers.
+fn skew_class(alloc: Global, words: &[&str]) -> Mem<String> {
+    let [skew, code] = words else {
+        return unknown(alloc);
+    };
     let error = error_of(alloc, code)?;
+    let response = HttpResponse {
+        status: 200,
+        headers: Headers::new(alloc),
+        skew: skew.parse().ok(),
+    };
     let classifier = ServiceClockSkewClassifier::new();
     told(
         alloc,
@@ -123,10 +142,14 @@ fn told(alloc: Global, action: RetryAction) -> Mem<String> {
 fn joined(alloc: Global, codes: &[&str]) -> Mem<String> {
     let mut told = String::new(alloc);
     for code in codes {
-        if !told.is_empty() {
-            told.push(',')?;
-        }
-        told.push_str(code)?;
+        push_code(&mut told, code)?;
     }
     Ok(told)
+}
+
+fn push_code(told: &mut String, code: &str) -> Mem<()> {
+    if !told.is_empty() {
+        told.push(',')?;
+    }
+    told.push_str(code)
 }

@@ -7,19 +7,30 @@ use env_config::{EnvConfigFiles, EnvConfigSections, Property};
 use smithy_core::Mem;
 use std::alloc::Global;
 
-pub fn answer(alloc: Global, words: &[&str]) -> Mem<String> {
+pub fn answer(alloc: Global, call: &str, words: &[&str]) -> Mem<String> {
     match words {
-        ["property", key, value] => property(alloc, key, value),
-        ["file", word] => file(alloc, word),
-        ["others", words @ ..] => others(alloc, words),
-        ["builder", steps] => builder(alloc, steps),
-        ["files", steps] => files(alloc, steps),
+        [word] => answer_of(alloc, call, word),
+        [key, value] => property(alloc, call, key, value),
         _ => unknown(alloc),
     }
 }
 
-fn property(alloc: Global, key: &str, value: &str) -> Mem<String> {
-    let property = Property::new(text(alloc, key)?, text(alloc, value)?);
+fn answer_of(alloc: Global, call: &str, word: &str) -> Mem<String> {
+    match call {
+        "file" => file(alloc, word),
+        "others" => others(alloc, word),
+        "builder" => builder(alloc, word),
+        "files" => files(alloc, word),
+        _ => unknown(alloc),
+    }
+}
+
+fn property(alloc: Global, call: &str, key: &str, value: &str) -> Mem<String> {
+    if call != "property" {
+        return unknown(alloc);
+    }
+    let key = text(alloc, key)?;
+    let property = Property::new(key, text(alloc, value)?);
     format!(in alloc; "{property:?}")
 }
 
@@ -29,8 +40,8 @@ fn file(alloc: Global, word: &str) -> Mem<String> {
 }
 
 // The values of the other sections.
-fn others(alloc: Global, files: &[&str]) -> Mem<String> {
-    match &sections_of(alloc, "default", files) {
+fn others(alloc: Global, file: &str) -> Mem<String> {
+    match &sections_of(alloc, "default", &[file]) {
         Ok(sections) => others_of(alloc, sections),
         Err(fault) => fault_told(alloc, fault),
     }

@@ -9,33 +9,46 @@ use smithy_core::Mem;
 use std::alloc::Global;
 
 // What the faults print. A fault of files or values that can be copied is copied before.
-pub fn answer(alloc: Global, words: &[&str]) -> Mem<String> {
+pub fn answer(alloc: Global, call: &str, words: &[&str]) -> Mem<String> {
     match words {
-        ["parse", files @ ..] => parse(alloc, files),
-        ["line", path, number, message] => line(alloc, path, number, message),
-        ["load", "-"] => load(alloc, EnvConfigFileLoadError::NoMemory),
-        ["load", "line", path, number, message] => {
-            load(
-                alloc,
-                EnvConfigFileLoadError::from(error_of(alloc, path, number, message)?),
-            )
-        }
-        ["load", "file", path] => load(alloc, unread(alloc, path)?),
-        ["file", path] => unread_file(alloc, path),
-        ["build", name] => build_fault(alloc, name),
-        ["id", name] => id_fault(alloc, name),
-        ["invocation"] => invalid_id(alloc),
-        ["agent", name] => user_agent_fault(alloc, name),
-        ["metadata"] => invalid_metadata(alloc),
-        ["memory", "parse"] => text_of_parse_fault(alloc, &ParseFault::NoMemory),
-        ["memory", "value"] => no_memory_for_value(alloc),
+        [] => answer_of_none(alloc, call),
+        [name] => answer_of(alloc, call, name),
+        _ => answer_of_line(alloc, call, words),
+    }
+}
+
+fn answer_of_none(alloc: Global, call: &str) -> Mem<String> {
+    match call {
+        "invocation" => invalid_id(alloc),
+        "metadata" => invalid_metadata(alloc),
         _ => unknown(alloc),
     }
 }
 
-// The fault of the files.
-fn parse(alloc: Global, files: &[&str]) -> Mem<String> {
-    match &sections_of(alloc, "default", files) {
+fn answer_of(alloc: Global, call: &str, name: &str) -> Mem<String> {
+    match call {
+        "parse" => parse(alloc, name),
+        "load" => load(alloc, EnvConfigFileLoadError::NoMemory),
+        "file" => unread_file(alloc, name),
+        "build" => build_fault(alloc, name),
+        "id" => id_fault(alloc, name),
+        "agent" => user_agent_fault(alloc, name),
+        "memory" => no_memory(alloc, name),
+        _ => unknown(alloc),
+    }
+}
+
+fn answer_of_line(alloc: Global, call: &str, words: &[&str]) -> Mem<String> {
+    match call {
+        "line" => line(alloc, words),
+        "load" => load_of(alloc, words),
+        _ => unknown(alloc),
+    }
+}
+
+// The fault of the file.
+fn parse(alloc: Global, file: &str) -> Mem<String> {
+    match &sections_of(alloc, "default", &[file]) {
         Ok(_) => text(alloc, "-"),
         Err(fault) => text_of_parse_fault(alloc, fault),
     }
@@ -43,16 +56,28 @@ fn parse(alloc: Global, files: &[&str]) -> Mem<String> {
 
 fn text_of_parse_fault(alloc: Global, fault: &ParseFault) -> Mem<String> {
     let copy = fault.try_clone()?;
-    visible(alloc, format!(in alloc; "{copy}")?.as_str())
+    let text = format!(in alloc; "{copy}")?;
+    visible(alloc, text.as_str())
 }
 
 // The fault of a line.
-fn line(alloc: Global, path: &str, number: &str, message: &str) -> Mem<String> {
-    let copy = error_of(alloc, path, number, message)?.try_clone()?;
-    visible(alloc, format!(in alloc; "{copy}")?.as_str())
+fn line(alloc: Global, words: &[&str]) -> Mem<String> {
+    let error = error_of(alloc, words)?;
+    line_printed(alloc, &error)
 }
 
-fn error_of(alloc: Global, path: &str, line: &str, message: &str) -> Mem<EnvConfigParseError> {
+fn line_printed(alloc: Global, error: &EnvConfigParseError) -> Mem<String> {
+    let copy = error.try_clone()?;
+    let text = format!(in alloc; "{copy}")?;
+    visible(alloc, text.as_str())
+}
+
+// The error of PATH, LINE and MESSAGE.
+fn error_of(alloc: Global, words: &[&str]) -> Mem<EnvConfigParseError> {
+    let (path, line, message) = match words {
+        [path, line, message] => (*path, *line, *message),
+        _ => ("", "", ""),
+    };
     Ok(EnvConfigParseError {
         path: text(alloc, path)?,
         line_number: line.parse().unwrap_or(0),
@@ -60,28 +85,51 @@ fn error_of(alloc: Global, path: &str, line: &str, message: &str) -> Mem<EnvConf
     })
 }
 
-fn unread(alloc: Global, path: &str) -> Mem<EnvConfigFileLoadError> {
-    Ok(EnvConfigFileLoadError::CouldNotReadFile(unread_of(alloc, path)?.try_clone()?))
-}
-
-fn unread_of(alloc: Global, path: &str) -> Mem<CouldNotReadConfigFile> {
-    Ok(CouldNotReadConfigFile {
-        path: text(alloc, path)?,
-    })
-}
-
-fn unread_file(alloc: Global, path: &str) -> Mem<String> {
-    let copy = unread_of(alloc, path)?.try_clone()?;
-    format!(in alloc; "{copy}")
+// The fault `line` of a line, or `file` of a file.
+fn load_of(alloc: Global, words: &[&str]) -> Mem<String> {
+    match words {
+        ["file", path] => load(alloc, unread(alloc, path)?),
+        ["line", words @ ..] => load(alloc, EnvConfigFileLoadError::from(error_of(alloc, words)?)),
+        _ => unknown(alloc),
+    }
 }
 
 fn load(alloc: Global, fault: EnvConfigFileLoadError) -> Mem<String> {
     let copy = fault.try_clone()?;
-    visible(alloc, format!(in alloc; "{copy}")?.as_str())
+    load_printed(alloc, &copy)
 }
 
-fn no_memory_for_value(alloc: Global) -> Mem<String> {
-    let fault: ValidateFault<&str> = ValidateFault::NoMemory;
+fn load_printed(alloc: Global, fault: &EnvConfigFileLoadError) -> Mem<String> {
+    let text = format!(in alloc; "{fault}")?;
+    visible(alloc, text.as_str())
+}
+
+fn unread(alloc: Global, path: &str) -> Mem<EnvConfigFileLoadError> {
+    Ok(EnvConfigFileLoadError::CouldNotReadFile(unread_of(alloc, path)?))
+}
+
+// A copy of the fault.
+fn unread_of(alloc: Global, path: &str) -> Mem<CouldNotReadConfigFile> {
+    let fault = CouldNotReadConfigFile {
+        path: text(alloc, path)?,
+    };
+    fault.try_clone()
+}
+
+fn unread_file(alloc: Global, path: &str) -> Mem<String> {
+    let copy = unread_of(alloc, path)?;
+    format!(in alloc; "{copy}")
+}
+
+fn no_memory(alloc: Global, name: &str) -> Mem<String> {
+    match name {
+        "parse" => text_of_parse_fault(alloc, &ParseFault::NoMemory),
+        "value" => no_memory_for_value(alloc, &ValidateFault::NoMemory),
+        _ => unknown(alloc),
+    }
+}
+
+fn no_memory_for_value(alloc: Global, fault: &ValidateFault<&'static str>) -> Mem<String> {
     let copy = fault.try_clone()?;
     format!(in alloc; "{copy}")
 }

@@ -1,4 +1,4 @@
-use crate::texts::{push_visible, text};
+use crate::texts::{given_text, push_visible, text};
 use env_config::{EnvConfigFileKind, EnvConfigSections, File, ParseFault, Source};
 use smithy_core::Mem;
 use std::alloc::Global;
@@ -32,10 +32,8 @@ fn files_of(alloc: Global, words: &[&str]) -> Mem<Vec<File>> {
 // The file `KIND: TEXT` or `KIND PATH: TEXT`.
 pub fn file_of(alloc: Global, word: &str) -> Mem<File> {
     let (place, contents) = word.split_once(": ").unwrap_or((word, ""));
-    let (kind, path) = match place.split_once(' ') {
-        Some((kind, path)) => (kind, Some(text(alloc, path)?)),
-        None => (place, None),
-    };
+    let (kind, path) = place.split_once(' ').unwrap_or((place, "-"));
+    let path = given_text(alloc, path)?;
     Ok(File {
         kind: kind_of(kind),
         path,
@@ -53,14 +51,18 @@ pub fn kind_of(word: &str) -> EnvConfigFileKind {
 
 // Appends the file as a word gives it.
 pub fn push_file(told: &mut String, file: &File) -> Mem<()> {
-    told.push_str(match file.kind {
-        EnvConfigFileKind::Config => "config",
-        EnvConfigFileKind::Credentials => "credentials",
-    })?;
-    if let Some(path) = &file.path {
-        told.push(' ')?;
-        told.push_str(path.as_str())?;
-    }
+    push_place(told, file)?;
     told.push_str(": ")?;
     push_visible(told, file.contents.as_str())
+}
+
+fn push_place(told: &mut String, file: &File) -> Mem<()> {
+    let kind = match file.kind {
+        EnvConfigFileKind::Config => "config",
+        EnvConfigFileKind::Credentials => "credentials",
+    };
+    match &file.path {
+        Some(path) => write!(told, "{kind} {path}"),
+        None => told.push_str(kind),
+    }
 }

@@ -1,10 +1,9 @@
 use crate::texts::text;
-use bytes::Bytes;
 use smithy_core::{Headers, HttpRequest, HttpResponse, Mem};
 use std::alloc::Global;
 
 // The headers `NAME: VALUE`; other words are none.
-pub fn headers_of(alloc: Global, words: &[&str]) -> Mem<Headers> {
+fn headers_of(alloc: Global, words: &[&str]) -> Mem<Headers> {
     let mut headers = Headers::new(alloc);
     for word in words {
         if let Some((name, value)) = word.split_once(": ") {
@@ -16,12 +15,10 @@ pub fn headers_of(alloc: Global, words: &[&str]) -> Mem<Headers> {
 
 // A request with these headers.
 pub fn request_of(alloc: Global, headers: &[&str]) -> Mem<HttpRequest> {
-    Ok(HttpRequest {
-        method: text(alloc, "GET")?,
-        target: text(alloc, "/")?,
-        headers: headers_of(alloc, headers)?,
-        body: Bytes::from_static(b""),
-    })
+    let headers = headers_of(alloc, headers)?;
+    let mut request = HttpRequest::new(alloc, "GET", "/")?;
+    request.headers = headers;
+    Ok(request)
 }
 
 // A response with these headers.
@@ -35,17 +32,17 @@ pub fn response_of(alloc: Global, headers: &[&str]) -> Mem<HttpResponse> {
 
 // All headers, `NAME: VALUE`, with bars between.
 pub fn headers_told(alloc: Global, headers: &Headers) -> Mem<String> {
+    if headers.is_empty() {
+        return text(alloc, "-");
+    }
     let mut told = String::new(alloc);
     for (name, value) in headers.iter() {
-        if !told.is_empty() {
-            told.push_str(" | ")?;
-        }
-        told.push_str(name)?;
-        told.push_str(": ")?;
-        told.push_str(value)?;
-    }
-    if told.is_empty() {
-        told.push('-')?;
+        push_header(&mut told, name, value)?;
     }
     Ok(told)
+}
+
+fn push_header(told: &mut String, name: &str, value: &str) -> Mem<()> {
+    let gap = if told.is_empty() { "" } else { " | " };
+    write!(told, "{gap}{name}: {value}")
 }

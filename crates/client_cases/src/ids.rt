@@ -10,29 +10,51 @@ use rand_pcg::Pcg32;
 use smithy_core::Mem;
 use std::alloc::Global;
 
-pub fn answer(alloc: Global, words: &[&str]) -> Mem<String> {
+pub fn answer(alloc: Global, call: &str, words: &[&str]) -> Mem<String> {
     match words {
-        ["random", seed, stream, count] => {
-            let rng = Pcg32::new(whole(seed), whole(stream));
-            let mut generator = DefaultInvocationIdGenerator::new(alloc, rng);
-            invoked(alloc, &mut generator, whole(count))
-        }
-        ["given", ids, count] => {
-            let ids = ids_of(alloc, ids)?;
-            let mut generator = PredefinedInvocationIdGenerator::new(ids);
-            invoked(alloc, &mut generator, whole(count))
-        }
-        ["copy", ids, count] => {
-            let ids = ids_of(alloc, ids)?;
-            let mut generator = PredefinedInvocationIdGenerator::new(ids).try_clone()?;
-            invoked(alloc, &mut generator, whole(count))
-        }
-        ["copied", seed, stream] => copied_generator(alloc, whole(seed), whole(stream)),
-        ["none", count] => invoked(alloc, &mut NoInvocationIdGenerator::new(), whole(count)),
-        ["text", id] => copied(alloc, InvocationId::new(text(alloc, id)?)),
-        ["equal", id, other] => equal(alloc, id, other),
+        [word] => answer_of(alloc, call, word),
+        [first, second] => answer_of_two(alloc, call, first, second),
+        [seed, stream, count] => random(alloc, call, [whole(seed), whole(stream), whole(count)]),
         _ => unknown(alloc),
     }
+}
+
+fn answer_of(alloc: Global, call: &str, word: &str) -> Mem<String> {
+    match call {
+        "none" => invoked(alloc, &mut NoInvocationIdGenerator::new(), whole(word)),
+        "text" => copied(alloc, InvocationId::new(text(alloc, word)?)),
+        _ => unknown(alloc),
+    }
+}
+
+fn answer_of_two(alloc: Global, call: &str, first: &str, second: &str) -> Mem<String> {
+    match call {
+        "given" => given(alloc, first, whole(second)),
+        "copy" => given_to_copy(alloc, first, whole(second)),
+        "copied" => copied_generator(alloc, whole(first), whole(second)),
+        "equal" => equal(alloc, first, second),
+        _ => unknown(alloc),
+    }
+}
+
+fn random(alloc: Global, call: &str, numbers: [u64; 3]) -> Mem<String> {
+    let [seed, stream, count] = numbers;
+    let mut generator = DefaultInvocationIdGenerator::new(alloc, Pcg32::new(seed, stream));
+    match call {
+        "random" => invoked(alloc, &mut generator, count),
+        _ => unknown(alloc),
+    }
+}
+
+fn given(alloc: Global, ids: &str, count: u64) -> Mem<String> {
+    let mut generator = PredefinedInvocationIdGenerator::new(ids_of(alloc, ids)?);
+    invoked(alloc, &mut generator, count)
+}
+
+fn given_to_copy(alloc: Global, ids: &str, count: u64) -> Mem<String> {
+    let generator = PredefinedInvocationIdGenerator::new(ids_of(alloc, ids)?);
+    let mut copy = generator.try_clone()?;
+    invoked(alloc, &mut copy, count)
 }
 
 fn whole(word: &str) -> u64 {
@@ -57,8 +79,7 @@ fn invoked<G: InvocationIdGenerator>(alloc: Global, generator: &mut G, count: u6
         if at > 0 {
             told.push_str(" | ")?;
         }
-        let sent = shown(alloc, sent_with(alloc, generator))?;
-        told.push_str(sent.as_str())?;
+        told.push_str(shown(alloc, sent_with(alloc, generator))?.as_str())?;
     }
     Ok(told)
 }
@@ -102,10 +123,22 @@ fn equal_copy(alloc: Global, id: &InvocationId) -> Mem<String> {
 fn copied_generator(alloc: Global, seed: u64, stream: u64) -> Mem<String> {
     let mut generator = DefaultInvocationIdGenerator::new(alloc, Pcg32::new(seed, stream));
     let first = invoked(alloc, &mut generator, 1)?;
-    let mut copy = generator.try_clone()?;
-    let copy_next = invoked(alloc, &mut copy, 1)?;
-    let next = invoked(alloc, &mut generator, 1)?;
+    with_next(alloc, first.as_str(), &mut generator)
+}
+
+fn with_next(
+    alloc: Global,
+    first: &str,
+    generator: &mut DefaultInvocationIdGenerator<Pcg32>,
+) -> Mem<String> {
+    let copy_next = next_of_copy(alloc, generator)?;
+    let next = invoked(alloc, generator, 1)?;
     format!(in alloc; "{first} | {copy_next} | {next}")
+}
+
+fn next_of_copy(alloc: Global, generator: &DefaultInvocationIdGenerator<Pcg32>) -> Mem<String> {
+    let mut copy = generator.try_clone()?;
+    invoked(alloc, &mut copy, 1)
 }
 
 // Whether the ids of two texts are equal.

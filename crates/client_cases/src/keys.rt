@@ -3,17 +3,20 @@ use env_config::{PropertiesKey, PropertiesKeyBuilder, PropertiesKeyFault};
 use smithy_core::Mem;
 use std::alloc::{AllocError, Global};
 
-pub fn answer(alloc: Global, words: &[&str]) -> Mem<String> {
+// What the key `SECTION NAME PROPERTY SUB-PROPERTY` prints, or the fault and what that prints, and the same of a copy.
+pub fn answer(alloc: Global, call: &str, words: &[&str]) -> Mem<String> {
     match words {
-        ["print", key] => print(alloc, key),
-        ["copy", key] => copy(alloc, key),
+        [key] => answer_of(alloc, call, key),
         _ => unknown(alloc),
     }
 }
 
-// What the key `SECTION NAME PROPERTY SUB-PROPERTY` prints, or the fault and what that prints.
-fn print(alloc: Global, word: &str) -> Mem<String> {
-    told(alloc, key_of(alloc, word))
+fn answer_of(alloc: Global, call: &str, key: &str) -> Mem<String> {
+    match call {
+        "print" => told(alloc, key_of(alloc, key)),
+        "copy" => told(alloc, copied(alloc, key)),
+        _ => unknown(alloc),
+    }
 }
 
 fn told(alloc: Global, key: Result<PropertiesKey, KeyFault>) -> Mem<String> {
@@ -24,13 +27,10 @@ fn told(alloc: Global, key: Result<PropertiesKey, KeyFault>) -> Mem<String> {
     }
 }
 
-// The same of a copy that a copy of the builder makes.
-fn copy(alloc: Global, word: &str) -> Mem<String> {
-    told(alloc, copied(alloc, word))
-}
-
+// A copy of the key that a copy of the builder makes.
 fn copied(alloc: Global, word: &str) -> Result<PropertiesKey, KeyFault> {
-    let key = builder_of(alloc, word)?.try_clone()?.build()?;
+    let builder = builder_of(alloc, word)?;
+    let key = builder.try_clone()?.build()?;
     Ok(key.try_clone()?)
 }
 

@@ -6,19 +6,30 @@ use env_config::{BuildFault, Builder, EnvConfigFileLoadError, EnvConfigFiles, lo
 use smithy_core::{CalmDisk, Disk, FaultyDisk, Mem};
 use std::alloc::Global;
 
-pub fn answer(alloc: Global, words: &[&str]) -> Mem<String> {
-    match words {
-        ["load", files, variables, disk] => {
-            let mut disk = CalmDisk::new(disk_of(alloc, disk)?);
-            loaded(alloc, files, variables, &mut disk)
-        }
-        ["fail", reads, files, variables, disk] => {
-            let fails = reads_of(alloc, reads)?;
-            let mut disk = FaultyDisk::new(disk_of(alloc, disk)?, fails);
-            loaded(alloc, files, variables, &mut disk)
-        }
+pub fn answer(alloc: Global, call: &str, words: &[&str]) -> Mem<String> {
+    match call {
+        "load" => load_calm(alloc, words),
+        "fail" => load_faulty(alloc, words),
         _ => unknown(alloc),
     }
+}
+
+fn load_calm(alloc: Global, words: &[&str]) -> Mem<String> {
+    let [files, variables, disk] = words else {
+        return unknown(alloc);
+    };
+    let mut disk = CalmDisk::new(disk_of(alloc, disk)?);
+    loaded(alloc, files, variables, &mut disk)
+}
+
+// The same where these reads fail.
+fn load_faulty(alloc: Global, words: &[&str]) -> Mem<String> {
+    let [reads, files, variables, disk] = words else {
+        return unknown(alloc);
+    };
+    let fails = reads_of(alloc, reads)?;
+    let mut disk = FaultyDisk::new(disk_of(alloc, disk)?, fails);
+    loaded(alloc, files, variables, &mut disk)
 }
 
 // The files `PATH=TEXT` or `PATH=0xDIGITS`, with blanks between.
@@ -26,10 +37,15 @@ fn disk_of(alloc: Global, files: &str) -> Mem<Vec<(String, Vec<u8>)>> {
     let mut listed = Vec::new(alloc);
     for file in files.split(' ') {
         if let Some((path, contents)) = file.split_once('=') {
-            listed.push((text(alloc, path)?, bytes_of(alloc, contents)?))?;
+            listed.push(file_of(alloc, path, contents)?)?;
         }
     }
     Ok(listed)
+}
+
+fn file_of(alloc: Global, path: &str, contents: &str) -> Mem<(String, Vec<u8>)> {
+    let bytes = bytes_of(alloc, contents)?;
+    Ok((text(alloc, path)?, bytes))
 }
 
 fn bytes_of(alloc: Global, contents: &str) -> Mem<Vec<u8>> {
@@ -53,8 +69,8 @@ fn reads_of(alloc: Global, reads: &str) -> Mem<Vec<u64>> {
 // The profile and the files that are loaded, or the fault.
 fn loaded<D: Disk>(alloc: Global, files: &str, variables: &str, disk: &mut D) -> Mem<String> {
     let env = env_of(alloc, variables)?;
-    match chosen(alloc, files) {
-        Ok(files) => told(alloc, load(alloc, &env, disk, &files)),
+    match &chosen(alloc, files) {
+        Ok(files) => told(alloc, load(alloc, &env, disk, files)),
         Err(fault) => format!(in alloc; "{fault:?}"),
     }
 }

@@ -40,21 +40,40 @@ struct Clients;
 impl Answers for Clients {
     fn answer(&self, alloc: Global, words: &[&str]) -> Result<String, AllocError> {
         match words {
-            ["profiles", words @ ..] => profiles::answer(alloc, words),
-            ["keys", words @ ..] => keys::answer(alloc, words),
-            ["values", words @ ..] => values::answer(alloc, words),
-            ["files", words @ ..] => loading::answer(alloc, words),
-            ["faults", words @ ..] => faults::answer(alloc, words),
-            ["debugs", words @ ..] => debugs::answer(alloc, words),
-            ["metadata", words @ ..] => metadata::answer(alloc, words),
-            ["metrics", words @ ..] => metrics::answer(alloc, words),
-            ["agents", words @ ..] => agents::answer(alloc, words),
-            ["bags", words @ ..] => sending::answer(alloc, words),
-            ["ids", words @ ..] => ids::answer(alloc, words),
-            ["traces", words @ ..] => traces::answer(alloc, words),
-            ["skews", words @ ..] => skews::answer(alloc, words),
-            ["classes", words @ ..] => classes::answer(alloc, words),
+            [subject, call, words @ ..] => answer(alloc, subject, call, words),
             _ => texts::unknown(alloc),
         }
+    }
+}
+
+// Settings, and else what a client runs.
+fn answer(alloc: Global, subject: &str, call: &str, words: &[&str]) -> Result<String, AllocError> {
+    match subject {
+        "profiles" => profiles::answer(alloc, call, words),
+        "keys" => keys::answer(alloc, call, words),
+        "values" => values::answer(alloc, call, words),
+        "files" => loading::answer(alloc, call, words),
+        "faults" => faults::answer(alloc, call, words),
+        "debugs" => debugs::answer(alloc, call, words),
+        _ => client_answer(alloc, subject, call, words),
+    }
+}
+
+fn client_answer(
+    alloc: Global,
+    subject: &str,
+    call: &str,
+    words: &[&str],
+) -> Result<String, AllocError> {
+    match subject {
+        "metadata" => metadata::answer(alloc, call, words),
+        "metrics" => metrics::answer(alloc, call, words),
+        "agents" => agents::answer(alloc, call, words),
+        "bags" => sending::answer(alloc, call, words),
+        "ids" => ids::answer(alloc, call, words),
+        "traces" => traces::answer(alloc, call, words),
+        "skews" => skews::answer(alloc, call, words),
+        "classes" => classes::answer(alloc, call, words),
+        _ => texts::unknown(alloc),
     }
 }

@@ -1,72 +1,114 @@
 use crate::parts::{PartFault, additional_of, app_of, config_of, feature_of, framework_of};
-use crate::texts::{text, unknown, word_of};
-use aws_intercept::{ApiMetadata, BuildMetadata, FeatureMetadata, OsFamily};
+use crate::texts::{text, unknown};
+use aws_intercept::{
+    AdditionalMetadata, ApiMetadata, BuildMetadata, ConfigMetadata, FeatureMetadata,
+    FrameworkMetadata, OsFamily,
+};
 use case_lines::shown;
 use smithy_core::Mem;
 use std::alloc::Global;
 
 // What a copy of the metadata prints, or the refusal.
-pub fn answer(alloc: Global, words: &[&str]) -> Mem<String> {
+pub fn answer(alloc: Global, call: &str, words: &[&str]) -> Mem<String> {
     match words {
-        ["value", value] => shown(alloc, value_printed(alloc, value)),
-        ["framework", word] => shown(alloc, framework_printed(alloc, word)),
-        ["config", word] => shown(alloc, config_printed(alloc, word)),
-        ["feature", word, additional @ ..] => shown(
-            alloc,
-            feature_printed(alloc, word, additional),
-        ),
-        ["app", name] => shown(alloc, app_told(alloc, name)),
-        ["api", service, version] => api_printed(alloc, service, version),
-        ["family", family] => family_of(family).to_string(alloc),
-        ["build", family] => build_told(alloc, family),
+        [word] => answer_of(alloc, call, word),
+        [word, more @ ..] => answer_of_more(alloc, call, word, more),
+        [] => unknown(alloc),
+    }
+}
+
+fn answer_of(alloc: Global, call: &str, word: &str) -> Mem<String> {
+    match call {
+        "value" => shown(alloc, value_printed(alloc, word)),
+        "framework" => shown(alloc, framework_printed(alloc, word)),
+        "config" => shown(alloc, config_printed(alloc, word)),
+        "app" => shown(alloc, app_told(alloc, word)),
+        "family" => family_of(word).to_string(alloc),
+        "build" => build_told(alloc, word),
+        _ => answer_of_more(alloc, call, word, &[]),
+    }
+}
+
+fn answer_of_more(alloc: Global, call: &str, word: &str, more: &[&str]) -> Mem<String> {
+    match call {
+        "feature" => shown(alloc, feature_printed(alloc, word, more)),
+        "api" => api_printed(alloc, word, more),
         _ => unknown(alloc),
     }
 }
 
 fn value_printed(alloc: Global, value: &str) -> Result<String, PartFault> {
-    Ok(additional_of(alloc, value)?.try_clone()?.to_string(alloc)?)
+    let value = additional_of(alloc, value)?;
+    Ok(value.try_clone()?.to_string(alloc)?)
 }
 
-// What is printed, and the name and the version.
 fn framework_printed(alloc: Global, word: &str) -> Result<String, PartFault> {
-    let framework = framework_of(alloc, word)?.try_clone()?;
-    let (name, version) = (framework.name(), framework.version().unwrap_or("-"));
-    Ok(format!(in alloc; "{framework} {name} {version}")?)
+    let framework = framework_of(alloc, word)?;
+    Ok(framework_copy(alloc, &framework)?)
+}
+
+// What a copy prints, and its name and its version.
+fn framework_copy(alloc: Global, framework: &FrameworkMetadata) -> Mem<String> {
+    let copy = framework.try_clone()?;
+    let (name, version) = (copy.name(), copy.version().unwrap_or("-"));
+    format!(in alloc; "{copy} {name} {version}")
 }
 
 fn config_printed(alloc: Global, word: &str) -> Result<String, PartFault> {
-    Ok(config_of(alloc, word)?.try_clone()?.to_string(alloc)?)
+    let config = config_of(alloc, word)?;
+    Ok(config_copy(alloc, &config)?)
+}
+
+fn config_copy(alloc: Global, config: &ConfigMetadata) -> Mem<String> {
+    config.try_clone()?.to_string(alloc)
 }
 
 fn feature_printed(alloc: Global, word: &str, additional: &[&str]) -> Result<String, PartFault> {
-    let mut feature = feature_of(alloc, word)?;
+    let feature = feature_with(alloc, feature_of(alloc, word)?, additional)?;
+    Ok(feature_copy(alloc, &feature)?)
+}
+
+fn feature_copy(alloc: Global, feature: &FeatureMetadata) -> Mem<String> {
+    feature.try_clone()?.to_string(alloc)
+}
+
+fn feature_with(
+    alloc: Global,
+    feature: FeatureMetadata,
+    additional: &[&str],
+) -> Result<FeatureMetadata, PartFault> {
+    let mut feature = feature;
     for value in additional {
-        feature = with_value(alloc, feature, value)?;
+        feature = with_value(feature, additional_of(alloc, value))?;
     }
-    Ok(feature.try_clone()?.to_string(alloc)?)
+    Ok(feature)
 }
 
 fn with_value(
-    alloc: Global,
     feature: FeatureMetadata,
-    value: &str,
+    value: Result<AdditionalMetadata, PartFault>,
 ) -> Result<FeatureMetadata, PartFault> {
-    let value = additional_of(alloc, value)?;
-    Ok(feature.with_additional(value)?)
+    match value {
+        Ok(value) => Ok(feature.with_additional(value)?),
+        Err(fault) => Err(fault),
+    }
 }
 
 fn app_told(alloc: Global, name: &str) -> Result<String, PartFault> {
-    Ok(text(alloc, app_of(alloc, name)?.as_str())?)
+    let name = app_of(alloc, name)?;
+    Ok(text(alloc, name.as_str())?)
 }
 
 pub fn api_of(alloc: Global, service: &str, version: &str) -> Mem<ApiMetadata> {
     Ok(ApiMetadata::new(text(alloc, service)?, text(alloc, version)?))
 }
 
-fn api_printed(alloc: Global, service: &str, version: &str) -> Mem<String> {
-    api_of(alloc, service, version)?
-        .try_clone()?
-        .to_string(alloc)
+fn api_printed(alloc: Global, service: &str, version: &[&str]) -> Mem<String> {
+    let [version] = version else {
+        return unknown(alloc);
+    };
+    let api = api_of(alloc, service, version)?;
+    api.try_clone()?.to_string(alloc)
 }
 
 fn family_of(word: &str) -> OsFamily {

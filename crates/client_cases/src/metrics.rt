@@ -1,26 +1,45 @@
-use crate::texts::{text, unknown};
+use crate::texts::{split, text, unknown};
 use aws_intercept::{
     AwsCredentialFeature, AwsSdkFeature, AwsUserAgent, BusinessMetric, SmithySdkFeature,
 };
 use smithy_core::Mem;
 use std::alloc::Global;
+use std::fmt::Debug;
 
-pub fn answer(alloc: Global, words: &[&str]) -> Mem<String> {
+pub fn answer(alloc: Global, call: &str, words: &[&str]) -> Mem<String> {
     match words {
-        ["ids", counts @ ..] => ids(alloc, counts),
-        ["smithy", name] => match smithy_named(alloc, name)? {
-            Some(feature) => metric_told(alloc, feature.business_metric()),
-            None => unknown(alloc),
-        },
-        ["aws", name] => match aws_named(alloc, name)? {
-            Some(feature) => metric_told(alloc, feature.business_metric()),
-            None => unknown(alloc),
-        },
-        ["credentials", name] => match credentials_named(alloc, name)? {
-            Some(feature) => metric_told(alloc, feature.business_metric()),
-            None => unknown(alloc),
-        },
-        _ => unknown(alloc),
+        [name] => answer_of(alloc, call, name),
+        _ => ids(alloc, call, words),
+    }
+}
+
+fn answer_of(alloc: Global, call: &str, name: &str) -> Mem<String> {
+    match call {
+        "smithy" => metric_of_smithy(alloc, name),
+        "aws" => metric_of_aws(alloc, name),
+        "credentials" => metric_of_credentials(alloc, name),
+        _ => ids(alloc, call, &[name]),
+    }
+}
+
+fn metric_of_smithy(alloc: Global, name: &str) -> Mem<String> {
+    match smithy_named(alloc, name)? {
+        Some(feature) => metric_told(alloc, feature.business_metric()),
+        None => unknown(alloc),
+    }
+}
+
+fn metric_of_aws(alloc: Global, name: &str) -> Mem<String> {
+    match aws_named(alloc, name)? {
+        Some(feature) => metric_told(alloc, feature.business_metric()),
+        None => unknown(alloc),
+    }
+}
+
+fn metric_of_credentials(alloc: Global, name: &str) -> Mem<String> {
+    match credentials_named(alloc, name)? {
+        Some(feature) => metric_told(alloc, feature.business_metric()),
+        None => unknown(alloc),
     }
 }
 
@@ -29,16 +48,22 @@ fn metric_told(alloc: Global, metric: BusinessMetric) -> Mem<String> {
 }
 
 // The ids that an agent tells of the metrics `COUNT NAME`.
-fn ids(alloc: Global, counts: &[&str]) -> Mem<String> {
-    let agent = counted(alloc, AwsUserAgent::for_tests(alloc)?, counts)?;
-    let told = agent.ua_header()?;
+fn ids(alloc: Global, call: &str, counts: &[&str]) -> Mem<String> {
+    if call != "ids" {
+        return unknown(alloc);
+    }
+    let told = header_with(alloc, counts)?;
     match told.as_str().split_once(" m/") {
         Some((_, ids)) => text(alloc, ids),
         None => text(alloc, "-"),
     }
 }
 
-fn counted(alloc: Global, agent: AwsUserAgent, counts: &[&str]) -> Mem<AwsUserAgent> {
+fn header_with(alloc: Global, counts: &[&str]) -> Mem<String> {
+    with_counts(alloc, AwsUserAgent::for_tests(alloc)?, counts)?.ua_header()
+}
+
+fn with_counts(alloc: Global, agent: AwsUserAgent, counts: &[&str]) -> Mem<AwsUserAgent> {
     let mut agent = agent;
     for count in counts {
         agent = with_count(alloc, agent, count)?;
@@ -48,10 +73,10 @@ fn counted(alloc: Global, agent: AwsUserAgent, counts: &[&str]) -> Mem<AwsUserAg
 
 // The agent with so many of the metric.
 fn with_count(alloc: Global, agent: AwsUserAgent, count: &str) -> Mem<AwsUserAgent> {
-    let (count, name) = count.split_once(' ').unwrap_or(("0", count));
-    match metric_named(alloc, name)? {
-        Some(metric) => repeated(agent, metric, count.parse().unwrap_or(0)),
-        None => Ok(agent),
+    let (count, name) = split(count);
+    match metric_named(alloc, name) {
+        Ok(Some(metric)) => repeated(agent, metric, count.parse().unwrap_or(0)),
+        _ => Ok(agent),
     }
 }
 
@@ -64,39 +89,34 @@ fn repeated(agent: AwsUserAgent, metric: BusinessMetric, count: u32) -> Mem<AwsU
 }
 
 pub fn metric_named(alloc: Global, name: &str) -> Mem<Option<BusinessMetric>> {
-    for metric in METRICS {
-        if format!(in alloc; "{metric:?}")?.as_str() == name {
-            return Ok(Some(metric));
-        }
-    }
-    Ok(None)
+    named(alloc, &METRICS, name)
 }
 
 pub fn smithy_named(alloc: Global, name: &str) -> Mem<Option<SmithySdkFeature>> {
-    for feature in SMITHY_FEATURES {
-        if format!(in alloc; "{feature:?}")?.as_str() == name {
-            return Ok(Some(feature));
-        }
-    }
-    Ok(None)
+    named(alloc, &SMITHY_FEATURES, name)
 }
 
 pub fn aws_named(alloc: Global, name: &str) -> Mem<Option<AwsSdkFeature>> {
-    for feature in AWS_FEATURES {
-        if format!(in alloc; "{feature:?}")?.as_str() == name {
-            return Ok(Some(feature));
+    named(alloc, &AWS_FEATURES, name)
+}
+
+pub fn credentials_named(alloc: Global, name: &str) -> Mem<Option<AwsCredentialFeature>> {
+    named(alloc, &CREDENTIAL_FEATURES, name)
+}
+
+// The one that shows itself by this name.
+fn named<T: Debug + Copy>(alloc: Global, all: &[T], name: &str) -> Mem<Option<T>> {
+    for one in all {
+        if shows(alloc, one, name)? {
+            return Ok(Some(*one));
         }
     }
     Ok(None)
 }
 
-pub fn credentials_named(alloc: Global, name: &str) -> Mem<Option<AwsCredentialFeature>> {
-    for feature in CREDENTIAL_FEATURES {
-        if format!(in alloc; "{feature:?}")?.as_str() == name {
-            return Ok(Some(feature));
-        }
-    }
-    Ok(None)
+fn shows<T: Debug>(alloc: Global, one: &T, name: &str) -> Mem<bool> {
+    let shown = format!(in alloc; "{one:?}")?;
+    Ok(shown.as_str() == name)
 }
 
 const METRICS: [BusinessMetric; 98] = [

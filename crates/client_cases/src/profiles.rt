@@ -1,73 +1,108 @@
 use crate::files::{file_of, push_file, sections_of, source_of};
 use crate::keys::key_of;
-use crate::sections::{push_profile, push_sections};
+use crate::sections::{insert_property, property_of, push_profile, push_rest, push_sections};
 use crate::texts::{text, unknown, word_of};
 use env_config::{
-    EnvConfigSections, ParseFault, Profile, Properties, PropertiesKey, Property, Source, SsoSession,
+    EnvConfigParseError, EnvConfigSections, ParseFault, Profile, Properties, PropertiesKey,
+    Property, Source, SsoSession,
 };
 use smithy_core::Mem;
 use std::alloc::Global;
 use std::collections::BTreeMap;
 
-pub fn answer(alloc: Global, words: &[&str]) -> Mem<String> {
+pub fn answer(alloc: Global, call: &str, words: &[&str]) -> Mem<String> {
+    match call {
+        "parse" => parse(alloc, words),
+        "copy" => copy(alloc, words),
+        "select" => select(alloc, words),
+        "others" => others(alloc, words),
+        "session" => session(alloc, words),
+        "source" => copied_source(alloc, words),
+        _ => answer_of_values(alloc, call, words),
+    }
+}
+
+fn answer_of_values(alloc: Global, call: &str, words: &[&str]) -> Mem<String> {
     match words {
-        ["parse", keys, files @ ..] => parse(alloc, keys, files),
-        ["copy", keys, files @ ..] => copy(alloc, keys, files),
-        ["select", name, key, files @ ..] => select(alloc, name, key, files),
-        ["none", key] => none(alloc, key),
-        ["others", keys, files @ ..] => others(alloc, keys, files),
-        ["equal", name, file, other_name, other_file] => {
-            equal(alloc, name, file, other_name, other_file)
+        [word] => answer_of(alloc, call, word),
+        [key, value] => property(alloc, call, key, value),
+        [first, second, third, fourth] => {
+            answer_of_four(alloc, call, [*first, *second, *third, *fourth])
         }
-        ["profile", name, key, value, asked] => profile(alloc, name, key, value, asked),
-        ["session", name, key, files @ ..] => session(alloc, name, key, files),
-        ["property", key, value] => property(alloc, key, value),
-        ["source", selected, files @ ..] => copied_source(alloc, selected, files),
-        ["file", file] => copied_file(alloc, file),
+        _ => unknown(alloc),
+    }
+}
+
+fn answer_of(alloc: Global, call: &str, word: &str) -> Mem<String> {
+    match call {
+        "none" => none(alloc, word),
+        "file" => copied_file(alloc, word),
+        _ => unknown(alloc),
+    }
+}
+
+fn answer_of_four(alloc: Global, call: &str, words: [&str; 4]) -> Mem<String> {
+    match call {
+        "equal" => equal(alloc, words),
+        "profile" => profile(alloc, words),
         _ => unknown(alloc),
     }
 }
 
 // The sections of the files, with the keys that are asked for.
-fn parse(alloc: Global, keys: &str, files: &[&str]) -> Mem<String> {
+fn parse(alloc: Global, words: &[&str]) -> Mem<String> {
+    let [keys, files @ ..] = words else {
+        return unknown(alloc);
+    };
     told(alloc, &sections_of(alloc, "default", files), keys)
 }
 
 // The same of equal sections.
-fn copy(alloc: Global, keys: &str, files: &[&str]) -> Mem<String> {
+fn copy(alloc: Global, words: &[&str]) -> Mem<String> {
+    let [keys, files @ ..] = words else {
+        return unknown(alloc);
+    };
     told(alloc, &copied(alloc, files), keys)
 }
 
 fn copied(alloc: Global, files: &[&str]) -> Result<EnvConfigSections, ParseFault> {
-    Ok(sections_of(alloc, "default", files)?.try_clone()?)
+    let sections = sections_of(alloc, "default", files)?;
+    Ok(sections.try_clone()?)
 }
 
 fn told(alloc: Global, parsed: &Result<EnvConfigSections, ParseFault>, keys: &str) -> Mem<String> {
     match parsed {
-        Ok(sections) => {
-            let mut told = String::new(alloc);
-            push_sections(alloc, &mut told, sections, keys)?;
-            Ok(told)
-        }
+        Ok(sections) => sections_told(alloc, sections, keys),
         Err(fault) => fault_told(alloc, fault),
     }
 }
 
+fn sections_told(alloc: Global, sections: &EnvConfigSections, keys: &str) -> Mem<String> {
+    let mut told = String::new(alloc);
+    push_sections(alloc, &mut told, sections, keys)?;
+    Ok(told)
+}
+
 // `PATH line NUMBER: MESSAGE`.
 pub fn fault_told(alloc: Global, fault: &ParseFault) -> Mem<String> {
-    let ParseFault::Parse(error) = fault else {
-        return format!(in alloc; "{fault}");
-    };
+    match fault {
+        ParseFault::Parse(error) => line_told(alloc, error),
+        _ => format!(in alloc; "{fault}"),
+    }
+}
+
+fn line_told(alloc: Global, error: &EnvConfigParseError) -> Mem<String> {
     let (path, number) = (error.path.as_str(), error.line_number);
-    let (gap, message) = (
-        if path.is_empty() { "" } else { " " },
-        error.message.as_str(),
-    );
+    let gap = if path.is_empty() { "" } else { " " };
+    let message = error.message.as_str();
     format!(in alloc; "{path}{gap}line {number}: {message}")
 }
 
 // The selected profile and the value of its key.
-fn select(alloc: Global, name: &str, key: &str, files: &[&str]) -> Mem<String> {
+fn select(alloc: Global, words: &[&str]) -> Mem<String> {
+    let [name, key, files @ ..] = words else {
+        return unknown(alloc);
+    };
     match &sections_of(alloc, name, files) {
         Ok(sections) => selected(alloc, sections, key),
         Err(fault) => fault_told(alloc, fault),
@@ -76,7 +111,8 @@ fn select(alloc: Global, name: &str, key: &str, files: &[&str]) -> Mem<String> {
 
 // The same where nothing was parsed.
 fn none(alloc: Global, key: &str) -> Mem<String> {
-    selected(alloc, &EnvConfigSections::new(alloc)?, key)
+    let sections = EnvConfigSections::new(alloc)?;
+    selected(alloc, &sections, key)
 }
 
 fn selected(alloc: Global, sections: &EnvConfigSections, key: &str) -> Mem<String> {
@@ -89,25 +125,31 @@ fn selected(alloc: Global, sections: &EnvConfigSections, key: &str) -> Mem<Strin
 }
 
 // The sub-properties of the keys, in a copy of all of them.
-fn others(alloc: Global, keys: &str, files: &[&str]) -> Mem<String> {
+fn others(alloc: Global, words: &[&str]) -> Mem<String> {
+    let [keys, files @ ..] = words else {
+        return unknown(alloc);
+    };
     match &sections_of(alloc, "default", files) {
-        Ok(sections) => others_told(alloc, &sections.other_sections().try_clone()?, keys),
+        Ok(sections) => copied_others(alloc, sections.other_sections(), keys),
         Err(fault) => fault_told(alloc, fault),
     }
 }
 
-fn others_told(alloc: Global, others: &Properties, keys: &str) -> Mem<String> {
+fn copied_others(alloc: Global, others: &Properties, keys: &str) -> Mem<String> {
+    let copy = others.try_clone()?;
     let mut told = String::new(alloc);
+    push_all_others(alloc, &mut told, &copy, keys)?;
+    Ok(told)
+}
+
+fn push_all_others(alloc: Global, told: &mut String, others: &Properties, keys: &str) -> Mem<()> {
     let mut found = Properties::new(alloc);
     for word in keys.split(',') {
         if let Ok(key) = key_of(alloc, word) {
-            push_other(&mut told, &mut found, key, others)?;
+            push_other(told, &mut found, key, others)?;
         }
     }
-    if found != *others {
-        told.push_str(" and others")?;
-    }
-    Ok(told)
+    push_rest(told, found == *others)
 }
 
 // Appends the key and its value, where it has one, and notes it as found.
@@ -117,37 +159,60 @@ fn push_other(
     key: PropertiesKey,
     others: &Properties,
 ) -> Mem<()> {
-    let Some(value) = others.get(&key) else {
-        return Ok(());
-    };
-    if !told.is_empty() {
-        told.push(' ')?;
+    match others.get(&key) {
+        Some(value) => push_found(told, found, key, value),
+        None => Ok(()),
     }
-    write!(told, "{key}={value}")?;
-    found.insert(key, String::from_str(*told.allocator(), value)?)
+}
+
+fn push_found(
+    told: &mut String,
+    found: &mut Properties,
+    key: PropertiesKey,
+    value: &str,
+) -> Mem<()> {
+    let gap = if told.is_empty() { "" } else { " " };
+    write!(told, "{gap}{key}={value}")?;
+    let value = String::from_str(*told.allocator(), value)?;
+    found.insert(key, value)
 }
 
 // Whether two files with a selected profile each give equal sections.
-fn equal(alloc: Global, name: &str, file: &str, other_name: &str, other_file: &str) -> Mem<String> {
-    let sections = sections_of(alloc, name, &[file]);
-    let others = sections_of(alloc, other_name, &[other_file]);
-    match (&sections, &others) {
-        (Ok(sections), Ok(others)) => text(alloc, if sections == others { "yes" } else { "no" }),
-        (Err(fault), _) | (_, Err(fault)) => fault_told(alloc, fault),
+fn equal(alloc: Global, words: [&str; 4]) -> Mem<String> {
+    let [name, file, other_name, other_file] = words;
+    match &sections_of(alloc, name, &[file]) {
+        Ok(sections) => equal_to(alloc, sections, other_name, other_file),
+        Err(fault) => fault_told(alloc, fault),
+    }
+}
+
+fn equal_to(alloc: Global, sections: &EnvConfigSections, name: &str, file: &str) -> Mem<String> {
+    match &sections_of(alloc, name, &[file]) {
+        Ok(others) => text(alloc, if sections == others { "yes" } else { "no" }),
+        Err(fault) => fault_told(alloc, fault),
     }
 }
 
 // A copy of a profile with one property, and the value of the key that is asked for.
-fn profile(alloc: Global, name: &str, key: &str, value: &str, asked: &str) -> Mem<String> {
+fn profile(alloc: Global, words: [&str; 4]) -> Mem<String> {
+    let [name, key, value, asked] = words;
     let properties = one_property(alloc, key, value)?;
-    let copy = Profile::new(text(alloc, name)?, properties).try_clone()?;
+    let profile = Profile::new(text(alloc, name)?, properties);
+    copied_profile(alloc, &profile, asked)
+}
+
+fn copied_profile(alloc: Global, profile: &Profile, asked: &str) -> Mem<String> {
+    let copy = profile.try_clone()?;
     let mut told = String::new(alloc);
-    push_profile(alloc, &mut told, Some(&copy), asked)?;
+    push_profile(alloc, &mut told, &copy, asked)?;
     Ok(told)
 }
 
 // The value of a key in a copy of the session.
-fn session(alloc: Global, name: &str, key: &str, files: &[&str]) -> Mem<String> {
+fn session(alloc: Global, words: &[&str]) -> Mem<String> {
+    let [name, key, files @ ..] = words else {
+        return unknown(alloc);
+    };
     match &sections_of(alloc, "default", files) {
         Ok(sections) => copied_session(alloc, sections.sso_session(name), key),
         Err(fault) => fault_told(alloc, fault),
@@ -163,21 +228,31 @@ fn copied_session(alloc: Global, session: Option<&SsoSession>, key: &str) -> Mem
 
 fn one_property(alloc: Global, key: &str, value: &str) -> Mem<BTreeMap<String, Property>> {
     let mut properties = BTreeMap::new(alloc);
-    let property = Property::new(text(alloc, key)?, text(alloc, value)?);
-    properties.insert(text(alloc, key)?, property)?;
+    insert_property(alloc, &mut properties, key, value)?;
     Ok(properties)
 }
 
 // A copy of a property.
-fn property(alloc: Global, key: &str, value: &str) -> Mem<String> {
-    let property = Property::new(text(alloc, key)?, text(alloc, value)?).try_clone()?;
-    let (key, value) = (property.key(), property.value());
+fn property(alloc: Global, call: &str, key: &str, value: &str) -> Mem<String> {
+    match call {
+        "property" => copied_property(alloc, &property_of(alloc, key, value)?),
+        _ => unknown(alloc),
+    }
+}
+
+fn copied_property(alloc: Global, property: &Property) -> Mem<String> {
+    let copy = property.try_clone()?;
+    let (key, value) = (copy.key(), copy.value());
     format!(in alloc; "{key}={value}")
 }
 
 // A copy of these files, with the profile that is selected.
-fn copied_source(alloc: Global, selected: &str, files: &[&str]) -> Mem<String> {
-    source_told(alloc, &source_of(alloc, selected, files)?.try_clone()?)
+fn copied_source(alloc: Global, words: &[&str]) -> Mem<String> {
+    let [selected, files @ ..] = words else {
+        return unknown(alloc);
+    };
+    let source = source_of(alloc, selected, files)?;
+    source_told(alloc, &source.try_clone()?)
 }
 
 // The profile and the files of a source, as words give them.
@@ -193,7 +268,8 @@ pub fn source_told(alloc: Global, source: &Source) -> Mem<String> {
 
 // A copy of the file.
 fn copied_file(alloc: Global, word: &str) -> Mem<String> {
+    let copy = file_of(alloc, word)?.try_clone()?;
     let mut told = String::new(alloc);
-    push_file(&mut told, &file_of(alloc, word)?.try_clone()?)?;
+    push_file(&mut told, &copy)?;
     Ok(told)
 }

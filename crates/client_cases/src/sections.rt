@@ -12,108 +12,145 @@ pub fn push_sections(
     sections: &EnvConfigSections,
     keys: &str,
 ) -> Mem<()> {
+    push_profiles(alloc, told, sections, keys)?;
+    push_sessions(alloc, told, sections, keys)?;
+    if *sections.other_sections() == Properties::new(alloc) {
+        return Ok(());
+    }
+    told.push_str(" others")
+}
+
+fn push_profiles(
+    alloc: Global,
+    told: &mut String,
+    sections: &EnvConfigSections,
+    keys: &str,
+) -> Mem<()> {
     if sections.is_empty() {
-        told.push_str("no profiles")?;
+        return told.push_str("no profiles");
     }
     for name in sections.profiles() {
-        push_profile(alloc, told, sections.get_profile(name.as_str()), keys)?;
+        match sections.get_profile(name.as_str()) {
+            Some(profile) => push_profile(alloc, told, profile, keys)?,
+            None => told.push_str("no profile")?,
+        }
     }
+    Ok(())
+}
+
+fn push_sessions(
+    alloc: Global,
+    told: &mut String,
+    sections: &EnvConfigSections,
+    keys: &str,
+) -> Mem<()> {
     for name in sections.sso_sessions() {
-        push_session(alloc, told, sections, name.as_str(), keys)?;
-    }
-    if *sections.other_sections() != Properties::new(alloc) {
-        told.push_str(" others")?;
+        match sections.sso_session(name.as_str()) {
+            Some(session) => push_session(alloc, told, session, name.as_str(), keys)?,
+            None => told.push_str("no session")?,
+        }
     }
     Ok(())
 }
 
 // Appends `[NAME] KEY=VALUE ..`.
-pub fn push_profile(
+pub fn push_profile(alloc: Global, told: &mut String, profile: &Profile, keys: &str) -> Mem<()> {
+    push_front(told, "[", profile.name())?;
+    let name = text(alloc, profile.name())?;
+    let found = Profile::new(name, push_values(alloc, told, profile, keys)?);
+    push_rest(told, found == *profile)
+}
+
+// Appends the keys that have values, and gives them.
+fn push_values(
     alloc: Global,
     told: &mut String,
-    profile: Option<&Profile>,
+    profile: &Profile,
     keys: &str,
-) -> Mem<()> {
-    let Some(profile) = profile else {
-        return told.push_str("no profile");
-    };
+) -> Mem<BTreeMap<String, Property>> {
     let mut found = BTreeMap::new(alloc);
-    push_front(told, "[", profile.name())?;
     for key in keys.split(' ') {
-        push_value(alloc, told, &mut found, key, profile.get(key))?;
+        if let Some(value) = profile.get(key) {
+            push_pair(told, key, value)?;
+            insert_property(alloc, &mut found, key, value)?;
+        }
     }
-    let name = text(alloc, profile.name())?;
-    push_others(told, Profile::new(name, found) == *profile)
+    Ok(found)
 }
 
 // Appends `[sso-session NAME] KEY=VALUE ..`.
 fn push_session(
     alloc: Global,
     told: &mut String,
-    sections: &EnvConfigSections,
+    session: &SsoSession,
     name: &str,
     keys: &str,
 ) -> Mem<()> {
-    let Some(session) = sections.sso_session(name) else {
-        return told.push_str("no session");
-    };
     push_front(told, "[sso-session ", name)?;
     let mut written = format!(in alloc; "config: [sso-session {name}]\n")?;
+    push_session_values(told, &mut written, session, keys)?;
+    push_rest(told, gives_session(alloc, written.as_str(), name, session))
+}
+
+// Appends the keys that have values, and writes them as the lines of a file.
+fn push_session_values(
+    told: &mut String,
+    written: &mut String,
+    session: &SsoSession,
+    keys: &str,
+) -> Mem<()> {
     for key in keys.split(' ') {
         if let Some(value) = session.get(key) {
             push_pair(told, key, value)?;
             write!(written, "{key} = {value}\n")?;
         }
     }
-    push_others(told, gives_session(alloc, written.as_str(), name, session))
+    Ok(())
 }
 
 // Whether a file gives an equal session of this name.
 fn gives_session(alloc: Global, file: &str, name: &str, session: &SsoSession) -> bool {
     match &sections_of(alloc, "default", &[file]) {
-        Ok(sections) => match sections.sso_session(name) {
-            Some(found) => found == session,
-            None => false,
-        },
+        Ok(sections) => has_session(sections, name, session),
         Err(_) => false,
     }
 }
 
-fn push_front(told: &mut String, front: &str, name: &str) -> Mem<()> {
-    if !told.is_empty() {
-        told.push(' ')?;
+fn has_session(sections: &EnvConfigSections, name: &str, session: &SsoSession) -> bool {
+    match sections.sso_session(name) {
+        Some(found) => found == session,
+        None => false,
     }
-    told.push_str(front)?;
-    told.push_str(name)?;
-    told.push(']')
 }
 
-// Appends the key and its value, where it has one, and notes it as found.
-fn push_value(
-    alloc: Global,
-    told: &mut String,
-    found: &mut BTreeMap<String, Property>,
-    key: &str,
-    value: Option<&str>,
-) -> Mem<()> {
-    let Some(value) = value else {
-        return Ok(());
-    };
-    push_pair(told, key, value)?;
-    let property = Property::new(text(alloc, key)?, text(alloc, value)?);
-    found.insert(text(alloc, key)?, property)?;
-    Ok(())
+fn push_front(told: &mut String, front: &str, name: &str) -> Mem<()> {
+    let gap = if told.is_empty() { "" } else { " " };
+    write!(told, "{gap}{front}{name}]")
 }
 
 fn push_pair(told: &mut String, key: &str, value: &str) -> Mem<()> {
-    told.push(' ')?;
-    told.push_str(key)?;
-    told.push('=')?;
+    write!(told, " {key}=")?;
     push_visible(told, value)
 }
 
+pub fn insert_property(
+    alloc: Global,
+    properties: &mut BTreeMap<String, Property>,
+    key: &str,
+    value: &str,
+) -> Mem<()> {
+    let property = property_of(alloc, key, value)?;
+    properties.insert(text(alloc, key)?, property)?;
+    Ok(())
+}
+
+pub fn property_of(alloc: Global, key: &str, value: &str) -> Mem<Property> {
+    let key = text(alloc, key)?;
+    Ok(Property::new(key, text(alloc, value)?))
+}
+
 // Tells of keys beside those that were asked for.
-fn push_others(told: &mut String, is_whole: bool) -> Mem<()> {
+pub fn push_rest(told: &mut String, is_whole: bool) -> Mem<()> {
     if is_whole {
         Ok(())
     } else {

@@ -1,61 +1,41 @@
-use crate::bags::{Entry, entries_of, fill, moment_of};
+use crate::bags::{fill, moment_of};
 use crate::headers::{headers_told, request_of};
 use crate::metadata::build_of;
-use crate::texts::{env_of, text, unknown};
+use crate::texts::{text, unknown};
 use aws_intercept::{
     ConfigBag, InvocationIdInterceptor, RequestInfoInterceptor, UserAgentFault,
     UserAgentInterceptor,
 };
 use case_lines::shown;
-use smithy_core::Mem;
+use smithy_core::{Env, Mem};
 use std::alloc::Global;
 
 // The headers of a request that had none, once an interceptor saw it with a bag of these entries.
-pub fn answer(alloc: Global, words: &[&str]) -> Mem<String> {
-    match words {
-        ["agent", words @ ..] => agent(alloc, entries_of(alloc, words)?),
-        ["agent_alone", words @ ..] => agent_alone(alloc, entries_of(alloc, words)?),
-        ["attempt", moment, words @ ..] => attempt(alloc, moment, entries_of(alloc, words)?),
-        ["id", words @ ..] => id(alloc, entries_of(alloc, words)?),
-        ["copy", words @ ..] => copy(alloc, entries_of(alloc, words)?),
+pub fn answer(alloc: Global, call: &str, words: &[&str]) -> Mem<String> {
+    let mut bag = ConfigBag::new(alloc);
+    answer_with(alloc, &mut bag, call, words)
+}
+
+fn answer_with(alloc: Global, bag: &mut ConfigBag, call: &str, words: &[&str]) -> Mem<String> {
+    match call {
+        "agent" => shown(alloc, agent_sent(alloc, bag, words)),
+        "agent_alone" => shown(alloc, agent_signed(alloc, bag, words)),
+        "attempt" => attempt(alloc, bag, words),
+        "id" => id_sent(alloc, bag, words),
+        "copy" => copied(alloc, bag, words),
         _ => unknown(alloc),
     }
-}
-
-fn agent(alloc: Global, entries: Vec<Entry>) -> Mem<String> {
-    let mut bag = ConfigBag::new(alloc);
-    shown(alloc, agent_sent(alloc, &mut bag, entries))
-}
-
-fn agent_alone(alloc: Global, entries: Vec<Entry>) -> Mem<String> {
-    let mut bag = ConfigBag::new(alloc);
-    shown(alloc, agent_signed(alloc, &mut bag, entries))
-}
-
-fn attempt(alloc: Global, moment: &str, entries: Vec<Entry>) -> Mem<String> {
-    let mut bag = ConfigBag::new(alloc);
-    attempt_told(alloc, moment, &mut bag, entries)
-}
-
-fn id(alloc: Global, entries: Vec<Entry>) -> Mem<String> {
-    let mut bag = ConfigBag::new(alloc);
-    id_sent(alloc, &mut bag, entries)
-}
-
-fn copy(alloc: Global, entries: Vec<Entry>) -> Mem<String> {
-    let mut bag = ConfigBag::new(alloc);
-    copied(alloc, &mut bag, entries)
 }
 
 // Makes the bag's agent where it has none, and sends it.
 fn agent_sent(
     alloc: Global,
     bag: &mut ConfigBag,
-    entries: Vec<Entry>,
+    entries: &[&str],
 ) -> Result<String, UserAgentFault> {
-    fill(bag, entries)?;
-    let (env, build) = (env_of(alloc, "-")?, build_of(alloc)?);
-    UserAgentInterceptor::new().read_after_serialization(&env, &build, bag)?;
+    fill(alloc, bag, entries)?;
+    let build = build_of(alloc)?;
+    UserAgentInterceptor::new().read_after_serialization(&Env::new(alloc), &build, bag)?;
     signed(alloc, bag)
 }
 
@@ -63,9 +43,9 @@ fn agent_sent(
 fn agent_signed(
     alloc: Global,
     bag: &mut ConfigBag,
-    entries: Vec<Entry>,
+    entries: &[&str],
 ) -> Result<String, UserAgentFault> {
-    fill(bag, entries)?;
+    fill(alloc, bag, entries)?;
     signed(alloc, bag)
 }
 
@@ -75,22 +55,20 @@ fn signed(alloc: Global, bag: &mut ConfigBag) -> Result<String, UserAgentFault> 
     Ok(headers_told(alloc, &request.headers)?)
 }
 
-// Sends what is told of the attempt at this moment.
-fn attempt_told(
-    alloc: Global,
-    moment: &str,
-    bag: &mut ConfigBag,
-    entries: Vec<Entry>,
-) -> Mem<String> {
-    fill(bag, entries)?;
+// Sends what is told of the attempt at a moment.
+fn attempt(alloc: Global, bag: &mut ConfigBag, words: &[&str]) -> Mem<String> {
+    let [moment, entries @ ..] = words else {
+        return unknown(alloc);
+    };
+    fill(alloc, bag, entries)?;
     let mut request = request_of(alloc, &[])?;
     RequestInfoInterceptor::new().modify_before_transmit(&mut request, moment_of(moment), bag)?;
     headers_told(alloc, &request.headers)
 }
 
 // Sends the bag's id.
-fn id_sent(alloc: Global, bag: &mut ConfigBag, entries: Vec<Entry>) -> Mem<String> {
-    fill(bag, entries)?;
+fn id_sent(alloc: Global, bag: &mut ConfigBag, entries: &[&str]) -> Mem<String> {
+    fill(alloc, bag, entries)?;
     id_told(alloc, bag)
 }
 
@@ -101,13 +79,18 @@ pub fn id_told(alloc: Global, bag: &mut ConfigBag) -> Mem<String> {
 }
 
 // Whether a copy of the bag is the same to the eye, or else the copy.
-fn copied(alloc: Global, bag: &mut ConfigBag, entries: Vec<Entry>) -> Mem<String> {
-    fill(bag, entries)?;
-    let copy = bag_seen(alloc, &bag.try_clone()?)?;
+fn copied(alloc: Global, bag: &mut ConfigBag, entries: &[&str]) -> Mem<String> {
+    fill(alloc, bag, entries)?;
+    let copy = copy_seen(alloc, bag)?;
     if copy == bag_seen(alloc, bag)? {
         return text(alloc, "the same");
     }
     Ok(copy)
+}
+
+fn copy_seen(alloc: Global, bag: &ConfigBag) -> Mem<String> {
+    let copy = bag.try_clone()?;
+    bag_seen(alloc, &copy)
 }
 
 fn bag_seen(alloc: Global, bag: &ConfigBag) -> Mem<String> {

@@ -1,51 +1,57 @@
-use crate::bags::{Entry, entries_of, fill, moment_of};
+use crate::bags::{moment_of, put};
 use crate::headers::response_of;
-use crate::texts::{given, text, unknown};
+use crate::texts::{given, unknown};
 use aws_intercept::{ConfigBag, ServiceClockSkewInterceptor};
 use smithy_core::{HttpResponse, Mem};
 use std::alloc::Global;
+use std::fmt;
 
-pub fn answer(alloc: Global, words: &[&str]) -> Mem<String> {
-    match words {
-        ["measure", entries, sent, received, headers @ ..] => {
-            let entries = listed(alloc, entries)?;
-            let mut response = response_of(alloc, headers)?;
-            let mut bag = ConfigBag::new(alloc);
-            measured(alloc, &mut bag, entries, sent, received, &mut response)
-        }
-        ["begin", entries, sent] => {
-            let entries = listed(alloc, entries)?;
-            let mut bag = ConfigBag::new(alloc);
-            begun(alloc, &mut bag, entries, sent)
-        }
+// The skews, once an interceptor saw an attempt with a bag of these entries.
+pub fn answer(alloc: Global, call: &str, words: &[&str]) -> Mem<String> {
+    let mut bag = ConfigBag::new(alloc);
+    answer_with(alloc, &mut bag, call, words)
+}
+
+fn answer_with(alloc: Global, bag: &mut ConfigBag, call: &str, words: &[&str]) -> Mem<String> {
+    match call {
+        "measure" => measure(alloc, bag, words),
+        "begin" => begin(alloc, bag, words),
         _ => unknown(alloc),
     }
 }
 
-// The entries, with commas between.
-fn listed(alloc: Global, words: &str) -> Mem<Vec<Entry>> {
-    let words: Vec<&str> = words.split(',').collect(alloc)?;
-    entries_of(alloc, words.as_slice())
+// Puts the entries with commas between.
+fn fill(alloc: Global, bag: &mut ConfigBag, entries: &str) -> Mem<()> {
+    for entry in entries.split(',') {
+        put(alloc, bag, entry)?;
+    }
+    Ok(())
 }
 
 // The skews of the response and of the bag, and the one that the next operation begins with, once an attempt was sent,
 // where a moment is given, and its answer received.
+fn measure(alloc: Global, bag: &mut ConfigBag, words: &[&str]) -> Mem<String> {
+    let [entries, sent, received, headers @ ..] = words else {
+        return unknown(alloc);
+    };
+    fill(alloc, bag, entries)?;
+    let mut response = response_of(alloc, headers)?;
+    let next = Skew(measured(alloc, bag, sent, received, &mut response));
+    let (in_response, in_bag) = (Skew(response.skew), Skew(bag.attempt_skew));
+    format!(in alloc; "response {in_response}, bag {in_bag}, next {next}")
+}
+
 fn measured(
     alloc: Global,
     bag: &mut ConfigBag,
-    entries: Vec<Entry>,
     sent: &str,
     received: &str,
     response: &mut HttpResponse,
-) -> Mem<String> {
-    fill(bag, entries)?;
+) -> Option<i64> {
     let mut interceptor = ServiceClockSkewInterceptor::new();
     send(&mut interceptor, bag, sent);
     interceptor.modify_before_deserialization(response, moment_of(received), bag);
-    let in_response = told(alloc, response.skew)?;
-    let in_bag = told(alloc, bag.attempt_skew)?;
-    let next = told(alloc, next_skew(alloc, interceptor))?;
-    format!(in alloc; "response {in_response}, bag {in_bag}, next {next}")
+    next_skew(alloc, interceptor)
 }
 
 fn send(interceptor: &mut ServiceClockSkewInterceptor, bag: &mut ConfigBag, sent: &str) {
@@ -61,15 +67,15 @@ fn next_skew(alloc: Global, mut interceptor: ServiceClockSkewInterceptor) -> Opt
 }
 
 // The skew of the bag and the second of sending, once an operation began and an attempt was sent.
-fn begun(alloc: Global, bag: &mut ConfigBag, entries: Vec<Entry>, sent: &str) -> Mem<String> {
-    fill(bag, entries)?;
+fn begin(alloc: Global, bag: &mut ConfigBag, words: &[&str]) -> Mem<String> {
+    let [entries, sent] = words else {
+        return unknown(alloc);
+    };
+    fill(alloc, bag, entries)?;
     let mut interceptor = ServiceClockSkewInterceptor::new();
     interceptor.modify_before_retry_loop(bag);
     send(&mut interceptor, bag, sent);
-    let (skew, sent) = (
-        told(alloc, bag.attempt_skew)?,
-        told(alloc, second_sent(bag))?,
-    );
+    let (skew, sent) = (Skew(bag.attempt_skew), Skew(second_sent(bag)));
     format!(in alloc; "bag {skew}, sent {sent}")
 }
 
@@ -80,9 +86,15 @@ fn second_sent(bag: &ConfigBag) -> Option<i64> {
     }
 }
 
-fn told(alloc: Global, number: Option<i64>) -> Mem<String> {
-    match number {
-        Some(number) => number.to_string(alloc),
-        None => text(alloc, "-"),
+// A number, told as `-` where there is none.
+#[derive(Clone, Copy)]
+struct Skew(Option<i64>);
+
+impl fmt::Display for Skew {
+    fn fmt<W: fmt::Write>(&self, f: &mut fmt::Formatter<W>) -> fmt::Result {
+        match self.0 {
+            Some(number) => write!(f, "{number}"),
+            None => write!(f, "-"),
+        }
     }
 }

@@ -11,6 +11,11 @@ pub fn text(alloc: Global, text: &str) -> Mem<String> {
     String::from_str(alloc, text)
 }
 
+// The parts before and after the first blank.
+pub fn split(word: &str) -> (&str, &str) {
+    word.split_once(' ').unwrap_or((word, ""))
+}
+
 // What a word gives, `-` for nothing.
 pub fn given<'a>(word: &'a str) -> Option<&'a str> {
     if word == "-" { None } else { Some(word) }

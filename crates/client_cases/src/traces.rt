@@ -1,26 +1,39 @@
 use crate::headers::{headers_told, request_of};
 use crate::texts::{given, unknown};
 use aws_intercept::{ConfigBag, RecursionDetectionInterceptor};
-use smithy_core::{Env, Mem};
+use smithy_core::{Env, HttpRequest, Mem};
 use std::alloc::Global;
 
 // The headers of a request, once the interceptor saw it with these values of the two variables.
-pub fn answer(alloc: Global, words: &[&str]) -> Mem<String> {
-    match words {
-        ["send", function, trace, headers @ ..] => {
-            let env = env_of(alloc, function, trace)?;
-            sent(alloc, RecursionDetectionInterceptor::new(env), headers)
-        }
-        ["copy", function, trace, headers @ ..] => {
-            let env = env_of(alloc, function, trace)?;
-            sent(
-                alloc,
-                RecursionDetectionInterceptor::new(env).try_clone()?,
-                headers,
-            )
-        }
+pub fn answer(alloc: Global, call: &str, words: &[&str]) -> Mem<String> {
+    let [function, trace, headers @ ..] = words else {
+        return unknown(alloc);
+    };
+    let env = env_of(alloc, function, trace)?;
+    let mut interceptor = RecursionDetectionInterceptor::new(env);
+    answer_by(alloc, &mut interceptor, call, headers)
+}
+
+fn answer_by(
+    alloc: Global,
+    interceptor: &mut RecursionDetectionInterceptor,
+    call: &str,
+    headers: &[&str],
+) -> Mem<String> {
+    match call {
+        "send" => sent(alloc, interceptor, headers),
+        "copy" => sent_by_copy(alloc, interceptor, headers),
         _ => unknown(alloc),
     }
+}
+
+fn sent_by_copy(
+    alloc: Global,
+    interceptor: &RecursionDetectionInterceptor,
+    headers: &[&str],
+) -> Mem<String> {
+    let mut copy = interceptor.try_clone()?;
+    sent(alloc, &mut copy, headers)
 }
 
 // The function's name and the trace, where they are given.
@@ -37,11 +50,19 @@ fn env_of(alloc: Global, function: &str, trace: &str) -> Mem<Env> {
 
 fn sent(
     alloc: Global,
-    mut interceptor: RecursionDetectionInterceptor,
+    interceptor: &mut RecursionDetectionInterceptor,
     headers: &[&str],
 ) -> Mem<String> {
     let mut request = request_of(alloc, headers)?;
-    let mut bag = ConfigBag::new(alloc);
-    interceptor.modify_before_signing(&mut request, &mut bag)?;
+    modify(alloc, interceptor, &mut request)?;
     headers_told(alloc, &request.headers)
+}
+
+fn modify(
+    alloc: Global,
+    interceptor: &mut RecursionDetectionInterceptor,
+    request: &mut HttpRequest,
+) -> Mem<()> {
+    let mut bag = ConfigBag::new(alloc);
+    interceptor.modify_before_signing(request, &mut bag)
 }

@@ -2,54 +2,61 @@ use crate::files::sections_of;
 use crate::profiles::fault_told;
 use crate::texts::{env_of, given, text, unknown};
 use env_config::{
-    EnvConfigSections, EnvConfigSource, EnvConfigValue, Origin, Os, ServiceConfigKey,
-    ValidateFault, get_service_env_config, home_dir,
+    EnvConfigError, EnvConfigSections, EnvConfigSource, EnvConfigValue, Origin, Os,
+    ServiceConfigKey, ValidateFault, get_service_env_config, home_dir,
 };
 use smithy_core::{Env, Mem};
 use std::alloc::Global;
 
-pub fn answer(alloc: Global, words: &[&str]) -> Mem<String> {
+pub fn answer(alloc: Global, call: &str, words: &[&str]) -> Mem<String> {
     match words {
-        ["home", "Windows", variables] => home(alloc, Os::Windows, variables),
-        ["home", "Unix", variables] => home(alloc, Os::Unix, variables),
-        ["home", "here", variables] => home(alloc, Os::real(), variables),
-        [call, asked, variables, "-"] => {
-            value(alloc, call, asked, &env_of(alloc, variables)?, None)
-        }
-        [call, asked, variables, file] => {
-            match &sections_of(alloc, "default", &[*file]) {
-                Ok(sections) => {
-                    value(
-                        alloc,
-                        call,
-                        asked,
-                        &env_of(alloc, variables)?,
-                        Some(sections),
-                    )
-                }
-                Err(fault) => fault_told(alloc, fault),
-            }
-        }
+        [system, variables] => home(alloc, call, system, variables),
+        [asked, variables, file] => value(alloc, call, asked, &env_of(alloc, variables)?, file),
         _ => unknown(alloc),
     }
 }
 
-fn home(alloc: Global, os: Os, variables: &str) -> Mem<String> {
-    match home_dir(alloc, &env_of(alloc, variables)?, os)? {
+fn home(alloc: Global, call: &str, system: &str, variables: &str) -> Mem<String> {
+    let env = env_of(alloc, variables)?;
+    match call {
+        "home" => home_of(alloc, os_of(system), &env),
+        _ => unknown(alloc),
+    }
+}
+
+fn os_of(system: &str) -> Os {
+    match system {
+        "Windows" => Os::Windows,
+        "Unix" => Os::Unix,
+        _ => Os::real(),
+    }
+}
+
+fn home_of(alloc: Global, os: Os, env: &Env) -> Mem<String> {
+    match home_dir(alloc, env, os)? {
         Some(dir) => Ok(dir),
         None => text(alloc, "-"),
     }
 }
 
-// What a call answers for the value `VARIABLE,KEY,SERVICE`.
-fn value(
+// What a call answers for the value `VARIABLE,KEY,SERVICE` with this file, or `-` for none.
+fn value(alloc: Global, call: &str, asked: &str, env: &Env, file: &str) -> Mem<String> {
+    if file == "-" {
+        return value_in(alloc, call, value_of(asked), env, None);
+    }
+    match &sections_of(alloc, "default", &[file]) {
+        Ok(sections) => value_in(alloc, call, value_of(asked), env, Some(sections)),
+        Err(fault) => fault_told(alloc, fault),
+    }
+}
+
+fn value_in(
     alloc: Global,
     call: &str,
-    asked: &str,
+    value: EnvConfigValue<'_>,
     env: &Env,
     sections: Option<&EnvConfigSections>,
 ) -> Mem<String> {
-    let value = value_of(asked);
     match call {
         "load" => load(alloc, value, env, sections),
         "accept" => checked(alloc, value.validate(alloc, env, sections, accepts)),
@@ -127,11 +134,13 @@ fn checked(
     match answer {
         Ok(Some(length)) => format!(in alloc; "{length}"),
         Ok(None) => text(alloc, "-"),
-        Err(fault) => {
-            let copy = fault.try_clone()?;
-            format!(in alloc; "{copy}")
-        }
+        Err(fault) => copy_printed(alloc, &fault),
     }
+}
+
+fn copy_printed(alloc: Global, fault: &ValidateFault<&'static str>) -> Mem<String> {
+    let copy = fault.try_clone()?;
+    format!(in alloc; "{copy}")
 }
 
 // Why the value was refused, and what a copy of the error prints.
@@ -140,12 +149,14 @@ fn reason(
     answer: Result<Option<usize>, ValidateFault<&'static str>>,
 ) -> Mem<String> {
     match answer {
-        Err(ValidateFault::Invalid(error)) => {
-            let (copy, err) = (error.try_clone()?, error.err());
-            format!(in alloc; "{err} | {copy}")
-        }
+        Err(ValidateFault::Invalid(error)) => reason_told(alloc, &error),
         _ => text(alloc, "-"),
     }
+}
+
+fn reason_told(alloc: Global, error: &EnvConfigError<&'static str>) -> Mem<String> {
+    let (copy, err) = (error.try_clone()?, error.err());
+    format!(in alloc; "{err} | {copy}")
 }
 
 // The accepted number and the kind of its place.

@@ -1,17 +1,31 @@
-use crate::shown::{digits, push_answer};
+use crate::shown::{digits, push_given, unknown};
 use crate::words::bytes_of;
 use mac_core::{Crc, HmacSha256, crc32, hmac_sha256, sha256_hex};
 use std::alloc::{AllocError, Global};
 
 pub fn answer(alloc: Global, call: &[&str]) -> Result<String, AllocError> {
     match call {
-        ["crc32", bytes] => crc32_of(alloc, bytes),
-        ["crc32_appended", bytes] => crc32_appended(alloc, bytes),
-        ["crc32_pieces", pieces @ ..] => crc32_of_pieces(alloc, pieces),
-        ["hmac", key, text] => hmac(alloc, key, text),
-        ["hmac_pieces", front, back, pieces @ ..] => hmac_of_pieces(alloc, front, back, pieces),
-        ["sha256", bytes] => sha256_hex(alloc, bytes_of(alloc, bytes)?.as_slice()),
-        _ => String::from_str(alloc, "no such call"),
+        [call, bytes] => of_bytes(alloc, call, bytes),
+        [call, words @ ..] => of_pieces(alloc, call, words),
+        [] => unknown(alloc),
+    }
+}
+
+fn of_bytes(alloc: Global, call: &str, bytes: &str) -> Result<String, AllocError> {
+    match call {
+        "crc32" => crc32_of(alloc, bytes),
+        "crc32_appended" => crc32_appended(alloc, bytes),
+        "sha256" => sha256_hex(alloc, bytes_of(alloc, bytes)?.as_slice()),
+        _ => of_pieces(alloc, call, &[bytes]),
+    }
+}
+
+fn of_pieces(alloc: Global, call: &str, words: &[&str]) -> Result<String, AllocError> {
+    match call {
+        "crc32_pieces" => crc32_of_pieces(alloc, words),
+        "hmac" => hmac(alloc, words),
+        "hmac_pieces" => hmac_of_pieces(alloc, words),
+        _ => unknown(alloc),
     }
 }
 
@@ -33,14 +47,21 @@ fn crc32_of_pieces(alloc: Global, pieces: &[&str]) -> Result<String, AllocError>
     let mut crc = Crc::new();
     let mut answers = String::new(alloc);
     for piece in pieces {
-        crc.update(bytes_of(alloc, piece)?.as_slice());
-        let checksum = crc.value();
-        push_answer(&mut answers, format!(in alloc; "{checksum:08x}")?.as_str())?;
+        push_given(&mut answers, crc32_after(alloc, &mut crc, piece))?;
     }
     Ok(answers)
 }
 
-fn hmac(alloc: Global, key: &str, text: &str) -> Result<String, AllocError> {
+fn crc32_after(alloc: Global, crc: &mut Crc, piece: &str) -> Result<String, AllocError> {
+    crc.update(bytes_of(alloc, piece)?.as_slice());
+    let checksum = crc.value();
+    format!(in alloc; "{checksum:08x}")
+}
+
+fn hmac(alloc: Global, words: &[&str]) -> Result<String, AllocError> {
+    let [key, text] = words else {
+        return unknown(alloc);
+    };
     let key = bytes_of(alloc, key)?;
     let text = bytes_of(alloc, text)?;
     digits(
@@ -50,17 +71,19 @@ fn hmac(alloc: Global, key: &str, text: &str) -> Result<String, AllocError> {
 }
 
 // The code under a key in two parts.
-fn hmac_of_pieces(
-    alloc: Global,
-    front: &str,
-    back: &str,
-    pieces: &[&str],
-) -> Result<String, AllocError> {
-    let front = bytes_of(alloc, front)?;
-    let back = bytes_of(alloc, back)?;
-    let mut hasher = HmacSha256::new_from_parts(front.as_slice(), back.as_slice());
+fn hmac_of_pieces(alloc: Global, words: &[&str]) -> Result<String, AllocError> {
+    let [front, back, pieces @ ..] = words else {
+        return unknown(alloc);
+    };
+    let mut hasher = hasher_of(alloc, front, back)?;
     for piece in pieces {
         hasher.update(bytes_of(alloc, piece)?.as_slice());
     }
     digits(alloc, hasher.finalize().as_slice())
+}
+
+fn hasher_of(alloc: Global, front: &str, back: &str) -> Result<HmacSha256, AllocError> {
+    let front = bytes_of(alloc, front)?;
+    let back = bytes_of(alloc, back)?;
+    Ok(HmacSha256::new_from_parts(front.as_slice(), back.as_slice()))
 }

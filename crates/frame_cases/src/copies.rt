@@ -1,95 +1,119 @@
 use crate::outside::{
-    files_of, given, moments_of, push_left, read_by, read_path, read_paths, reads, write_by, writes,
+    Outside, answers_of, faulty_disk_of, faulty_source_of, files_of, given, moments_of,
 };
-use crate::shown::{push_answer, quoted};
+use crate::shown::{push_answer, unknown};
 use crate::words::{bytes_of, numbers_of, size_of};
-use smithy_core::{
-    CalmDisk, CalmSink, CalmSource, FaultyDisk, FaultySink, FaultySource, ListClock, Mem,
-};
+use smithy_core::{CalmDisk, CalmSink, CalmSource, FaultySink, ListClock, Mem};
 use std::alloc::Global;
 
 // What an object of the outside answers to a first step, and then what its copy answers to the others.
 pub fn answer(alloc: Global, call: &[&str]) -> Mem<String> {
     match call {
-        ["faulty_source", content, fails, first, steps @ ..] => {
-            faulty_source(alloc, [content, fails, first], steps)
-        }
-        ["calm_source", content, first, steps @ ..] => calm_source(alloc, content, first, steps),
-        ["faulty_sink", fails, first, steps @ ..] => faulty_sink(alloc, fails, first, steps),
-        ["calm_sink", first, steps @ ..] => calm_sink(alloc, first, steps),
-        ["faulty_disk", files, fails, first, paths @ ..] => {
-            faulty_disk(alloc, [files, fails, first], paths)
-        }
-        ["calm_disk", files, first, paths @ ..] => calm_disk(alloc, files, first, paths),
-        ["list_clock", moments @ .., count] => list_clock(alloc, moments, size_of(count)),
-        _ => String::from_str(alloc, "no such call"),
+        [call, words @ ..] => answer_of(alloc, call, words),
+        [] => unknown(alloc),
     }
 }
 
-fn faulty_source(alloc: Global, front: [&str; 3], steps: &[&str]) -> Mem<String> {
-    let [content, fails, first] = front;
-    let fails = numbers_of(alloc, fails)?;
-    let mut source = FaultySource::new(bytes_of(alloc, content)?, fails);
-    let mut answers = read_by(alloc, &mut source, first)?;
-    let mut copy = source.try_clone()?;
-    push_answer(&mut answers, reads(alloc, &mut copy, steps)?.as_str())?;
-    push_left(&mut answers, alloc, copy.left())?;
+fn answer_of(alloc: Global, call: &str, words: &[&str]) -> Mem<String> {
+    match call {
+        "calm_sink" => of_copy(alloc, &mut CalmSink::new(alloc), words),
+        "calm_source" => calm_source(alloc, words),
+        "calm_disk" => calm_disk(alloc, words),
+        "faulty_sink" => faulty_sink(alloc, words),
+        "faulty_source" => faulty_source(alloc, words),
+        "faulty_disk" => faulty_disk(alloc, words),
+        "list_clock" => list_clock(alloc, words),
+        _ => unknown(alloc),
+    }
+}
+
+fn of_copy<O: Outside + Drop>(alloc: Global, object: &mut O, words: &[&str]) -> Mem<String> {
+    let [first, steps @ ..] = words else {
+        return unknown(alloc);
+    };
+    let first = object.answer(alloc, first)?;
+    with_copy(alloc, first, object, steps)
+}
+
+fn with_copy<O: Outside + Drop>(
+    alloc: Global,
+    first: String,
+    object: &O,
+    steps: &[&str],
+) -> Mem<String> {
+    let others = answers_of_copy(alloc, object, steps)?;
+    joined(first, others.as_str())
+}
+
+fn answers_of_copy<O: Outside + Drop>(alloc: Global, object: &O, steps: &[&str]) -> Mem<String> {
+    let mut copy = object.copied()?;
+    answers_of(alloc, &mut copy, steps)
+}
+
+fn joined(first: String, others: &str) -> Mem<String> {
+    let mut answers = first;
+    push_answer(&mut answers, others)?;
     Ok(answers)
 }
 
-fn calm_source(alloc: Global, content: &str, first: &str, steps: &[&str]) -> Mem<String> {
+fn calm_source(alloc: Global, words: &[&str]) -> Mem<String> {
+    let [content, steps @ ..] = words else {
+        return unknown(alloc);
+    };
     let mut source = CalmSource::new(bytes_of(alloc, content)?);
-    let mut answers = read_by(alloc, &mut source, first)?;
-    let mut copy = source.try_clone()?;
-    push_answer(&mut answers, reads(alloc, &mut copy, steps)?.as_str())?;
-    push_left(&mut answers, alloc, copy.left())?;
-    Ok(answers)
+    of_copy(alloc, &mut source, steps)
 }
 
-fn faulty_sink(alloc: Global, fails: &str, first: &str, steps: &[&str]) -> Mem<String> {
-    let mut sink = FaultySink::new(alloc, numbers_of(alloc, fails)?);
-    let mut answers = write_by(alloc, &mut sink, first)?;
-    let mut copy = sink.try_clone()?;
-    push_answer(&mut answers, writes(alloc, &mut copy, steps)?.as_str())?;
-    push_answer(&mut answers, quoted(alloc, copy.held())?.as_str())?;
-    Ok(answers)
-}
-
-fn calm_sink(alloc: Global, first: &str, steps: &[&str]) -> Mem<String> {
-    let mut sink = CalmSink::new(alloc);
-    let mut answers = write_by(alloc, &mut sink, first)?;
-    let mut copy = sink.try_clone()?;
-    push_answer(&mut answers, writes(alloc, &mut copy, steps)?.as_str())?;
-    push_answer(&mut answers, quoted(alloc, copy.held())?.as_str())?;
-    Ok(answers)
-}
-
-fn faulty_disk(alloc: Global, front: [&str; 3], paths: &[&str]) -> Mem<String> {
-    let [files, fails, first] = front;
-    let fails = numbers_of(alloc, fails)?;
-    let mut disk = FaultyDisk::new(files_of(alloc, files)?, fails);
-    let mut answers = read_path(alloc, &mut disk, first)?;
-    let mut copy = disk.try_clone()?;
-    push_answer(&mut answers, read_paths(alloc, &mut copy, paths)?.as_str())?;
-    Ok(answers)
-}
-
-fn calm_disk(alloc: Global, files: &str, first: &str, paths: &[&str]) -> Mem<String> {
+fn calm_disk(alloc: Global, words: &[&str]) -> Mem<String> {
+    let [files, paths @ ..] = words else {
+        return unknown(alloc);
+    };
     let mut disk = CalmDisk::new(files_of(alloc, files)?);
-    let mut answers = read_path(alloc, &mut disk, first)?;
-    let mut copy = disk.try_clone()?;
-    push_answer(&mut answers, read_paths(alloc, &mut copy, paths)?.as_str())?;
-    Ok(answers)
+    of_copy(alloc, &mut disk, paths)
 }
 
-fn list_clock(alloc: Global, words: &[&str], count: usize) -> Mem<String> {
+fn faulty_sink(alloc: Global, words: &[&str]) -> Mem<String> {
+    let [fails, steps @ ..] = words else {
+        return unknown(alloc);
+    };
+    let mut sink = FaultySink::new(alloc, numbers_of(alloc, fails)?);
+    of_copy(alloc, &mut sink, steps)
+}
+
+fn faulty_source(alloc: Global, words: &[&str]) -> Mem<String> {
+    let [content, fails, steps @ ..] = words else {
+        return unknown(alloc);
+    };
+    let mut source = faulty_source_of(alloc, content, fails)?;
+    of_copy(alloc, &mut source, steps)
+}
+
+fn faulty_disk(alloc: Global, words: &[&str]) -> Mem<String> {
+    let [files, fails, paths @ ..] = words else {
+        return unknown(alloc);
+    };
+    let mut disk = faulty_disk_of(alloc, files, fails)?;
+    of_copy(alloc, &mut disk, paths)
+}
+
+fn list_clock(alloc: Global, words: &[&str]) -> Mem<String> {
+    let [words @ .., count] = words else {
+        return unknown(alloc);
+    };
     let moments = moments_of(alloc, words)?;
     if moments.is_empty() {
         return String::from_str(alloc, "no moments");
     }
-    let mut clock = ListClock::new(moments);
-    let mut answers = given(alloc, &mut clock, 1)?;
+    of_copied_clock(alloc, &mut ListClock::new(moments), size_of(count))
+}
+
+fn of_copied_clock(alloc: Global, clock: &mut ListClock, count: usize) -> Mem<String> {
+    let first = given(alloc, clock, 1)?;
+    let others = given_by_copy(alloc, clock, count)?;
+    joined(first, others.as_str())
+}
+
+fn given_by_copy(alloc: Global, clock: &ListClock, count: usize) -> Mem<String> {
     let mut copy = clock.try_clone()?;
-    push_answer(&mut answers, given(alloc, &mut copy, count)?.as_str())?;
-    Ok(answers)
+    given(alloc, &mut copy, count)
 }

@@ -1,10 +1,12 @@
+ghost use Rattle.std.specs.Prelude.{◌<◌};
+
 use crate::segments::{left, push};
-use crate::shown::{digits, message, push_answer};
+use crate::shown::{digits, message, push_given};
 use crate::words::{bytes_of, parts, shared};
 use bytes::Bytes;
-use eventstream::{DecodedFrame, MessageFrameDecoder};
+use eventstream::{DecodedFrame, Error, MessageFrameDecoder};
 use seg_buf::SegBuf;
-use smithy_core::Mem;
+use smithy_core::{Mem, Message};
 use std::alloc::Global;
 
 // A decoder and the bytes that came to it.
@@ -16,13 +18,17 @@ struct Stream {
 
 // The answers of these steps of one decoder on one buffer.
 pub fn answer(alloc: Global, steps: &[&str]) -> Mem<String> {
-    if let ["in_pieces", bytes] = steps {
-        return in_pieces(alloc, bytes_of(alloc, bytes)?.as_slice());
+    match steps {
+        ["in_pieces", bytes] => in_pieces(alloc, bytes_of(alloc, bytes)?.as_slice()),
+        _ => answers_of(alloc, steps),
     }
+}
+
+fn answers_of(alloc: Global, steps: &[&str]) -> Mem<String> {
     let mut stream = new_stream(alloc);
     let mut answers = String::new(alloc);
     for step in steps {
-        push_answer(&mut answers, after(alloc, &mut stream, step)?.as_str())?;
+        push_given(&mut answers, after(alloc, &mut stream, step))?;
     }
     Ok(answers)
 }
@@ -38,20 +44,32 @@ fn after(alloc: Global, stream: &mut Stream, step: &str) -> Mem<String> {
     match parts(step) {
         ("push", bytes) => push(alloc, &mut stream.buffer, shared(alloc, bytes)?),
         ("push_each", bytes) => push_each(alloc, stream, bytes_of(alloc, bytes)?.as_slice()),
-        ("decode", _) => decode(alloc, stream),
-        ("decode_all", _) => decode_all(alloc, stream),
-        ("end", _) => end(alloc, stream),
-        ("left", _) => left(alloc, &stream.buffer),
-        ("prelude", _) => prelude(alloc, stream),
+        (step, _) => after_bare(alloc, stream, step),
+    }
+}
+
+// A step of a name alone.
+fn after_bare(alloc: Global, stream: &mut Stream, step: &str) -> Mem<String> {
+    match step {
+        "decode" => decode(alloc, stream),
+        "decode_all" => decode_all(alloc, stream),
+        "end" => end(alloc, stream),
+        "left" => left(alloc, &stream.buffer),
+        "prelude" => prelude(alloc, stream),
         _ => String::from_str(alloc, "no such step"),
     }
 }
 
 fn decode(alloc: Global, stream: &mut Stream) -> Mem<String> {
     match stream.decoder.decode_frame(alloc, &mut stream.buffer) {
-        Ok(decoded) => answered(alloc, &decoded.try_clone()?),
+        Ok(decoded) => answered_copy(alloc, &decoded),
         Err(error) => error.to_string(alloc),
     }
+}
+
+fn answered_copy(alloc: Global, decoded: &DecodedFrame) -> Mem<String> {
+    let copy = decoded.try_clone()?;
+    answered(alloc, &copy)
 }
 
 // What the decoder takes in one call: the messages, and the fault that comes then.
@@ -60,14 +78,28 @@ fn decode_all(alloc: Global, stream: &mut Stream) -> Mem<String> {
     let decoded = stream
         .decoder
         .decode_all(alloc, &mut stream.buffer, &mut messages);
+    taken(alloc, messages.as_slice(), decoded)
+}
+
+fn taken(alloc: Global, messages: &[Message], decoded: Result<(), Error>) -> Mem<String> {
     let mut answers = format!(in alloc; "{} taken", messages.len())?;
-    for taken in &messages {
-        push_answer(&mut answers, message(alloc, taken)?.as_str())?;
-    }
-    if let Err(error) = decoded {
-        push_answer(&mut answers, error.to_string(alloc)?.as_str())?;
-    }
+    push_messages(alloc, &mut answers, messages)?;
+    push_fault(&mut answers, decoded)?;
     Ok(answers)
+}
+
+fn push_messages(alloc: Global, answers: &mut String, messages: &[Message]) -> Mem<()> {
+    for taken in messages {
+        push_given(answers, message(alloc, taken))?;
+    }
+    Ok(())
+}
+
+fn push_fault(answers: &mut String, decoded: Result<(), Error>) -> Mem<()> {
+    match decoded {
+        Ok(()) => Ok(()),
+        Err(error) => write!(answers, " | {error}"),
+    }
 }
 
 fn end(alloc: Global, stream: &Stream) -> Mem<String> {
@@ -105,29 +137,41 @@ fn in_pieces(alloc: Global, bytes: &[u8]) -> Mem<String> {
 fn in_pieces_of(alloc: Global, bytes: &[u8], size: usize) -> Mem<String> {
     let mut stream = new_stream(alloc);
     let mut answers = String::new(alloc);
-    if size == 0 {
-        return Ok(answers);
+    if size > 0 {
+        push_pieces(alloc, &mut answers, &mut stream, bytes, size)?;
     }
-    for piece in bytes.chunks(size) {
-        let piece = Bytes::copy_from_slice(alloc, piece)?;
-        push_answer(
-            &mut answers,
-            push(alloc, &mut stream.buffer, piece)?.as_str(),
-        )?;
-        decode_each(alloc, &mut stream, &mut answers)?;
-    }
-    push_answer(&mut answers, left(alloc, &stream.buffer)?.as_str())?;
-    push_answer(&mut answers, prelude(alloc, &stream)?.as_str())?;
     Ok(answers)
 }
 
+fn push_pieces(
+    alloc: Global,
+    answers: &mut String,
+    stream: &mut Stream,
+    bytes: &[u8],
+    size: usize,
+) -> Mem<()>
+    requires { 0 < size }
+{
+    for piece in bytes.chunks(size) {
+        push_piece(alloc, answers, stream, piece)?;
+        decode_each(alloc, answers, stream)?;
+    }
+    push_given(answers, left(alloc, &stream.buffer))?;
+    push_given(answers, prelude(alloc, stream))
+}
+
+fn push_piece(alloc: Global, answers: &mut String, stream: &mut Stream, piece: &[u8]) -> Mem<()> {
+    let piece = Bytes::copy_from_slice(alloc, piece)?;
+    push_given(answers, push(alloc, &mut stream.buffer, piece))
+}
+
 // The messages that are there whole, or those before a fault and the fault, one call for each.
-fn decode_each(alloc: Global, stream: &mut Stream, answers: &mut String) -> Mem<()> {
+fn decode_each(alloc: Global, answers: &mut String, stream: &mut Stream) -> Mem<()> {
     for _ in 0..stream.buffer.remaining() {
         match stream.decoder.decode_frame(alloc, &mut stream.buffer) {
             Ok(DecodedFrame::Incomplete) => return Ok(()),
-            Ok(decoded) => push_answer(answers, answered(alloc, &decoded)?.as_str())?,
-            Err(error) => return push_answer(answers, error.to_string(alloc)?.as_str()),
+            Ok(decoded) => push_given(answers, answered(alloc, &decoded))?,
+            Err(error) => return push_given(answers, error.to_string(alloc)),
         }
     }
     Ok(())
@@ -138,22 +182,21 @@ fn push_each(alloc: Global, stream: &mut Stream, bytes: &[u8]) -> Mem<String> {
     let mut answers = String::new(alloc);
     let mut waits = 0u32;
     for byte in bytes {
-        let piece = Bytes::copy_from_slice(alloc, [*byte].as_slice())?;
-        push_answer(
-            &mut answers,
-            push(alloc, &mut stream.buffer, piece)?.as_str(),
-        )?;
-        let answer = decode(alloc, stream)?;
-        if answer.as_str() == "Incomplete" {
-            waits = waits.saturating_add(1);
-        } else {
-            push_answer(
-                &mut answers,
-                format!(in alloc; "{waits} Incomplete")?.as_str(),
-            )?;
-            push_answer(&mut answers, answer.as_str())?;
-            waits = 0;
-        }
+        push_piece(alloc, &mut answers, stream, [*byte].as_slice())?;
+        waits = push_decoded(&mut answers, waits, decode(alloc, stream))?;
     }
     Ok(answers)
+}
+
+// Counts one answer `Incomplete` more, or tells how many there were and the other answer.
+fn push_decoded(answers: &mut String, waits: u32, answer: Mem<String>) -> Mem<u32> {
+    let answer = answer?;
+    if answer.as_str() == "Incomplete" {
+        return Ok(waits.saturating_add(1));
+    }
+    if !answers.is_empty() {
+        answers.push_str(" | ")?;
+    }
+    write!(answers, "{waits} Incomplete | {answer}")?;
+    Ok(0)
 }

@@ -1,14 +1,21 @@
-use crate::shown::push_answer;
+use crate::shown::{push_given, unknown};
 use crate::words::parts;
 use smithy_core::{Document, Mem};
 use std::alloc::Global;
 
 pub fn answer(alloc: Global, call: &[&str]) -> Mem<String> {
     match call {
-        ["get", members @ .., keys] => values(alloc, &object_of(alloc, members)?, keys),
-        ["get_of_array", items @ .., keys] => values(alloc, &array_of(alloc, items)?, keys),
         ["copied", name, items @ ..] => copied(alloc, name, items),
-        _ => String::from_str(alloc, "no such call"),
+        [call, words @ .., keys] => values_of(alloc, call, words, keys),
+        _ => unknown(alloc),
+    }
+}
+
+fn values_of(alloc: Global, call: &str, words: &[&str], keys: &str) -> Mem<String> {
+    match call {
+        "get" => values(alloc, &object_of(alloc, words)?, keys),
+        "get_of_array" => values(alloc, &array_of(alloc, words)?, keys),
+        _ => unknown(alloc),
     }
 }
 
@@ -16,7 +23,7 @@ pub fn answer(alloc: Global, call: &[&str]) -> Mem<String> {
 fn values(alloc: Global, document: &Document, keys: &str) -> Mem<String> {
     let mut answers = String::new(alloc);
     for key in keys.split(' ') {
-        push_answer(&mut answers, value(alloc, document, key)?.as_str())?;
+        push_given(&mut answers, value(alloc, document, key))?;
     }
     Ok(answers)
 }
@@ -28,9 +35,18 @@ fn value(alloc: Global, document: &Document, key: &str) -> Mem<String> {
 // A copy of an object whose one member is an array.
 fn copied(alloc: Global, name: &str, items: &[&str]) -> Mem<String> {
     let mut members = Vec::new(alloc);
-    members.push((String::from_str(alloc, name)?, array_of(alloc, items)?))?;
-    let copy = Document::Object(members).try_clone()?;
+    members.push(member(alloc, name, array_of(alloc, items))?)?;
+    document_copy(alloc, &Document::Object(members))
+}
+
+fn document_copy(alloc: Global, document: &Document) -> Mem<String> {
+    let copy = document.try_clone()?;
     format!(in alloc; "{copy:?}")
+}
+
+fn member(alloc: Global, name: &str, value: Mem<Document>) -> Mem<(String, Document)> {
+    let value = value?;
+    Ok((String::from_str(alloc, name)?, value))
 }
 
 // Each word is a name and its value.
@@ -38,7 +54,7 @@ fn object_of(alloc: Global, words: &[&str]) -> Mem<Document> {
     let mut members = Vec::new(alloc);
     for word in words {
         let (name, value) = parts(word);
-        members.push((String::from_str(alloc, name)?, document_of(alloc, value)?))?;
+        members.push(member(alloc, name, document_of(alloc, value))?)?;
     }
     Ok(Document::Object(members))
 }

@@ -1,22 +1,34 @@
+use crate::shown::unknown;
 use crate::words::{moment_of, parts};
 use eventstream::{Error, ErrorKind};
 use smithy_core::Mem;
 use std::alloc::{AllocError, Global};
 
 // The kind of a copy of the error of a copy of this kind, its text, and whether the message itself is at fault.
-pub fn answer(alloc: Global, word: &str) -> Mem<String> {
-    let error = error_of(alloc, word)?.try_clone()?;
-    let invalid = error.is_invalid_message();
-    format!(in alloc; "{:?} | {error} | {invalid}", error.kind())
+pub fn answer(alloc: Global, words: &[&str]) -> Mem<String> {
+    match words {
+        [word] => copied(alloc, &error_of(alloc, word)?),
+        _ => unknown(alloc),
+    }
+}
+
+fn copied(alloc: Global, error: &Error) -> Mem<String> {
+    let copy = error.try_clone()?;
+    let invalid = copy.is_invalid_message();
+    format!(in alloc; "{:?} | {copy} | {invalid}", copy.kind())
 }
 
 fn error_of(alloc: Global, word: &str) -> Mem<Error> {
-    Ok(match parts(word) {
-        ("marshalling", text) => Error::marshalling(String::from_str(alloc, text)?),
-        ("unmarshalling", text) => Error::unmarshalling(String::from_str(alloc, text)?),
-        ("AllocError", _) => Error::from(AllocError),
-        (name, word) => Error::from(kind_of(alloc, name, word)?.try_clone()?),
-    })
+    match parts(word) {
+        ("marshalling", text) => Ok(Error::marshalling(String::from_str(alloc, text)?)),
+        ("unmarshalling", text) => Ok(Error::unmarshalling(String::from_str(alloc, text)?)),
+        ("AllocError", _) => Ok(Error::from(AllocError)),
+        (name, word) => error_of_kind(&kind_of(alloc, name, word)?),
+    }
+}
+
+fn error_of_kind(kind: &ErrorKind) -> Mem<Error> {
+    Ok(Error::from(kind.try_clone()?))
 }
 
 fn kind_of(alloc: Global, name: &str, word: &str) -> Mem<ErrorKind> {

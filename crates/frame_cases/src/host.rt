@@ -1,7 +1,7 @@
 ghost use Rattle.std.specs.Prelude.{◌≤◌, length, IfOk};
 
 use crate::outside::read_paths;
-use crate::shown::quoted;
+use crate::shown::{quoted, truth, unknown};
 use crate::words::{bytes_of, size_of};
 use case_lines::number;
 use smithy_core::{Clock, Disk, Env, HostDisk, Mem, SystemClock};
@@ -12,30 +12,41 @@ use std::io::Write;
 use std::rt::{Files, Runtime};
 use std::{env, fs, io};
 
-pub fn answer<R: Runtime>(runtime: &R, process: u32, alloc: Global, call: &[&str]) -> Mem<String> {
+pub fn answer<R: Runtime>(
+    runtime: &R,
+    process: u32,
+    alloc: Global,
+    call: &str,
+    words: &[&str],
+) -> Mem<String> {
     match call {
-        ["disk", paths @ ..] => { read_paths(alloc, &mut HostDisk::new(alloc, runtime), paths) }
-        ["new_file", content, len] => {
-            let path = format!(in alloc; "/tmp/frame_cases-{process}")?;
-            new_file(runtime, alloc, path.as_str(), content, size_of(len))
-        }
-        ["variable", name] => variable(runtime, alloc, name),
-        ["listed_variable", entries @ .., name] => listed_variable(alloc, entries, name),
-        ["clock", secs] => clock(runtime, alloc, number(secs)),
-        _ => String::from_str(alloc, "no such call"),
+        "disk" => read_paths(alloc, &mut HostDisk::new(alloc, runtime), words),
+        "listed_variable" => listed_variable(alloc, words),
+        "new_file" => new_file(runtime, process, alloc, words),
+        _ => of_word(runtime, alloc, call, words),
     }
 }
 
-fn new_file<R: Runtime>(
-    runtime: &R,
-    alloc: Global,
-    path: &str,
-    content: &str,
-    len: usize,
-) -> Mem<String> {
+fn of_word<R: Runtime>(runtime: &R, alloc: Global, call: &str, words: &[&str]) -> Mem<String> {
+    let [word] = words else {
+        return unknown(alloc);
+    };
+    match call {
+        "variable" => variable(runtime, alloc, word),
+        "clock" => clock(runtime, alloc, number(word)),
+        _ => unknown(alloc),
+    }
+}
+
+// What is read of a new file of this process.
+fn new_file<R: Runtime>(runtime: &R, process: u32, alloc: Global, words: &[&str]) -> Mem<String> {
+    let [content, len] = words else {
+        return unknown(alloc);
+    };
     let content = bytes_of(alloc, content)?;
-    match make(runtime, path, content.as_slice(), len) {
-        Ok(()) => read_new(runtime, alloc, path),
+    let path = format!(in alloc; "/tmp/frame_cases-{process}")?;
+    match make(runtime, path.as_str(), content.as_slice(), size_of(len)) {
+        Ok(()) => read_new(runtime, alloc, path.as_str()),
         Err(_) => String::from_str(alloc, "no new file"),
     }
 }
@@ -54,20 +65,29 @@ fn read_new<R: Runtime>(runtime: &R, alloc: Global, path: &str) -> Mem<String> {
         return String::from_str(alloc, "the file stays");
     }
     match read {
-        Ok(bytes) if bytes.len() > 400 => format!(in alloc; "{} bytes", bytes.len()),
-        Ok(bytes) => quoted(alloc, bytes.as_slice()),
+        Ok(bytes) => shown(alloc, bytes.as_slice()),
         Err(fault) => format!(in alloc; "{fault:?}"),
     }
 }
 
-// The value that the system's own call gives.
+fn shown(alloc: Global, bytes: &[u8]) -> Mem<String> {
+    if bytes.len() > 400 {
+        return format!(in alloc; "{} bytes", bytes.len());
+    }
+    quoted(alloc, bytes)
+}
+
+// Whether a variable has the value that the system's own call gives.
 fn variable<R: Runtime>(runtime: &R, alloc: Global, name: &str) -> Mem<String> {
     let found = Env::real(alloc, runtime)?;
-    let same = match env::var(runtime, name) {
-        Ok(value) => found.get(name) == Some(value.as_str()),
-        Err(_) => found.get(name).is_none(),
-    };
-    format!(in alloc; "{same}")
+    truth(alloc, is_same(runtime, found.get(name), name))
+}
+
+fn is_same<R: Runtime>(runtime: &R, found: Option<&str>, name: &str) -> bool {
+    match env::var(runtime, name) {
+        Ok(value) => found == Some(value.as_str()),
+        Err(_) => found.is_none(),
+    }
 }
 
 // Variables as a system may give them.
@@ -103,20 +123,27 @@ fn copy_entry(entry: &[u8], buf: &mut [u8]) -> Result<usize, FillError>
     Ok(entry.len())
 }
 
-fn listed_variable(alloc: Global, words: &[&str], name: &str) -> Mem<String> {
-    let mut entries = Vec::new(alloc);
-    for word in words {
-        entries.push(bytes_of(alloc, word)?)?;
-    }
-    let env = Env::real(alloc, &Listed { entries })?;
+fn listed_variable(alloc: Global, words: &[&str]) -> Mem<String> {
+    let [entries @ .., name] = words else {
+        return unknown(alloc);
+    };
+    let listed = listed_of(alloc, entries)?;
+    let env = Env::real(alloc, &listed)?;
     match env.get(name) {
         Some(value) => quoted(alloc, value.as_bytes()),
         None => String::from_str(alloc, "none"),
     }
 }
 
+fn listed_of(alloc: Global, words: &[&str]) -> Mem<Listed> {
+    let mut entries = Vec::new(alloc);
+    for word in words {
+        entries.push(bytes_of(alloc, word)?)?;
+    }
+    Ok(Listed { entries })
+}
+
 // Whether the system's clock is past a second.
 fn clock<R: Runtime>(runtime: &R, alloc: Global, secs: i64) -> Mem<String> {
-    let later = SystemClock::new(runtime).now().secs() > secs;
-    format!(in alloc; "{later}")
+    truth(alloc, SystemClock::new(runtime).now().secs() > secs)
 }

@@ -32,6 +32,7 @@ mod texts;
 mod values;
 mod words;
 
+use crate::shown::unknown;
 use case_lines::{Answers, run_cases};
 use std::alloc::{AllocError, Global};
 use std::process::ExitCode;
@@ -48,24 +49,40 @@ struct Cases<R> {
 impl<R: Runtime> Answers for Cases<R> {
     fn answer(&self, alloc: Global, words: &[&str]) -> Result<String, AllocError> {
         match words {
-            ["checksum", call @ ..] => checksums::answer(alloc, call),
-            ["segments", steps @ ..] => segments::answer(alloc, steps),
-            ["moment", call @ ..] => moments::answer(alloc, call),
-            ["text", call @ ..] => texts::answer(alloc, call),
-            ["value", call @ ..] => values::answer(alloc, call),
-            ["document", call @ ..] => documents::answer(alloc, call),
-            ["print", call @ ..] => prints::answer(alloc, call),
-            ["request", call @ ..] => requests::answer(alloc, call),
-            ["outside", call @ ..] => outside::answer(alloc, call),
-            ["copy", call @ ..] => copies::answer(alloc, call),
-            ["source", call @ ..] => sources::answer(alloc, call),
-            ["host", call @ ..] => host::answer(&self.runtime, self.process, alloc, call),
-            ["frame", call @ ..] => frames::answer(alloc, call),
-            ["decoder", steps @ ..] => decoding::answer(alloc, steps),
-            ["response", call @ ..] => responses::answer(alloc, call),
-            ["fault", kind] => faults::answer(alloc, kind),
-            _ => String::from_str(alloc, "no such subject"),
+            ["host", call, words @ ..] => {
+                host::answer(&self.runtime, self.process, alloc, call, words)
+            }
+            [subject, words @ ..] => answer(alloc, subject, words),
+            [] => unknown(alloc),
         }
+    }
+}
+
+// The base of the stack, and else what stands above it.
+fn answer(alloc: Global, subject: &str, words: &[&str]) -> Result<String, AllocError> {
+    match subject {
+        "checksum" => checksums::answer(alloc, words),
+        "segments" => segments::answer(alloc, words),
+        "moment" => moments::answer(alloc, words),
+        "text" => texts::answer(alloc, words),
+        "value" => values::answer(alloc, words),
+        "document" => documents::answer(alloc, words),
+        "print" => prints::answer(alloc, words),
+        "request" => requests::answer(alloc, words),
+        _ => upper_answer(alloc, subject, words),
+    }
+}
+
+fn upper_answer(alloc: Global, subject: &str, words: &[&str]) -> Result<String, AllocError> {
+    match subject {
+        "outside" => outside::answer(alloc, words),
+        "copy" => copies::answer(alloc, words),
+        "source" => sources::answer(alloc, words),
+        "frame" => frames::answer(alloc, words),
+        "decoder" => decoding::answer(alloc, words),
+        "response" => responses::answer(alloc, words),
+        "fault" => faults::answer(alloc, words),
+        _ => unknown(alloc),
     }
 }
 

@@ -6,15 +6,22 @@ use std::alloc::{AllocError, Global};
 
 pub fn answer(alloc: Global, call: &[&str]) -> Result<String, AllocError> {
     match call {
-        ["date", moment] => date(alloc, moment_of(moment)),
-        ["stamp", moment] => stamp(alloc, moment_of(moment)),
-        ["stamp_text", moment] => stamp_text(alloc, moment_of(moment)),
-        ["to_millis", moment] => to_millis(alloc, moment_of(moment)),
         ["from_millis", millis] => shown::moment(alloc, DateTime::from_millis(number(millis))),
-        ["date_time", moment] => text(alloc, moment_of(moment), Format::DateTime),
-        ["http_date", moment] => text(alloc, moment_of(moment), Format::HttpDate),
-        ["epoch_seconds", moment] => text(alloc, moment_of(moment), Format::EpochSeconds),
-        _ => String::from_str(alloc, "no such call"),
+        [call, moment] => of_moment(alloc, call, moment_of(moment)),
+        _ => shown::unknown(alloc),
+    }
+}
+
+fn of_moment(alloc: Global, call: &str, moment: DateTime) -> Result<String, AllocError> {
+    match call {
+        "date" => date(alloc, moment),
+        "stamp" => stamp(alloc, moment),
+        "stamp_text" => stamp_text(alloc, moment),
+        "to_millis" => to_millis(alloc, moment),
+        "date_time" => text(alloc, moment, Format::DateTime),
+        "http_date" => text(alloc, moment, Format::HttpDate),
+        "epoch_seconds" => text(alloc, moment, Format::EpochSeconds),
+        _ => shown::unknown(alloc),
     }
 }
 

@@ -1,4 +1,4 @@
-use crate::shown::{moment, push_answer, quoted};
+use crate::shown::{moment, nothing, push_given, quoted, told, unknown};
 use crate::words::{bytes_of, moment_of, numbers_of, parts, size_of};
 use smithy_core::{
     ByteSink, ByteSource, CalmDisk, CalmSink, CalmSource, Clock, DateTime, Disk, FaultyDisk,
@@ -6,61 +6,210 @@ use smithy_core::{
 };
 use std::alloc::Global;
 
-pub fn answer(alloc: Global, call: &[&str]) -> Mem<String> {
-    match call {
-        ["faulty_source", content, fails, steps @ ..] => {
-            faulty_source(alloc, content, fails, steps)
-        }
-        ["calm_source", content, steps @ ..] => calm_source(alloc, content, steps),
-        ["std_source", content, steps @ ..] => std_source(alloc, content, steps),
-        ["faulty_sink", fails, steps @ ..] => faulty_sink(alloc, fails, steps),
-        ["calm_sink", steps @ ..] => calm_sink(alloc, steps),
-        ["std_sink", steps @ ..] => std_sink(alloc, steps),
-        ["full_sink", room, steps @ ..] => full_sink(alloc, size_of(room), steps),
-        ["faulty_disk", files, fails, paths @ ..] => faulty_disk(alloc, files, fails, paths),
-        ["calm_disk", files, paths @ ..] => calm_disk(alloc, files, paths),
-        ["list_clock", moments @ .., count] => list_clock(alloc, moments, size_of(count)),
-        ["fixed_clock", moment, count] => fixed_clock(alloc, moment, size_of(count)),
-        _ => String::from_str(alloc, "no such call"),
+// An object of the outside: a source, a sink or a disk.
+pub trait Outside: Sized {
+    // What it answers to a step.
+    fn answer(&mut self, alloc: Global, step: &str) -> Mem<String>;
+
+    // What it tells after the steps.
+    fn rest(&self, alloc: Global) -> Mem<String>;
+
+    // A copy, which goes on from here.
+    fn copied(&self) -> Mem<Self>;
+}
+
+impl Outside for FaultySource {
+    fn answer(&mut self, alloc: Global, step: &str) -> Mem<String> {
+        read_by(alloc, self, step)
+    }
+
+    fn rest(&self, alloc: Global) -> Mem<String> {
+        told(alloc, "left", quoted(alloc, self.left()))
+    }
+
+    fn copied(&self) -> Mem<FaultySource> {
+        self.try_clone()
     }
 }
 
-// What each step reads, and what is left.
-fn faulty_source(alloc: Global, content: &str, fails: &str, steps: &[&str]) -> Mem<String> {
-    let fails = numbers_of(alloc, fails)?;
-    let mut source = FaultySource::new(bytes_of(alloc, content)?, fails);
-    let mut answers = reads(alloc, &mut source, steps)?;
-    push_left(&mut answers, alloc, source.left())?;
+impl Outside for CalmSource {
+    fn answer(&mut self, alloc: Global, step: &str) -> Mem<String> {
+        read_by(alloc, self, step)
+    }
+
+    fn rest(&self, alloc: Global) -> Mem<String> {
+        told(alloc, "left", quoted(alloc, self.left()))
+    }
+
+    fn copied(&self) -> Mem<CalmSource> {
+        self.try_clone()
+    }
+}
+
+impl Outside for FaultySink {
+    fn answer(&mut self, alloc: Global, step: &str) -> Mem<String> {
+        write_by(alloc, self, step)
+    }
+
+    fn rest(&self, alloc: Global) -> Mem<String> {
+        quoted(alloc, self.held())
+    }
+
+    fn copied(&self) -> Mem<FaultySink> {
+        self.try_clone()
+    }
+}
+
+impl Outside for CalmSink {
+    fn answer(&mut self, alloc: Global, step: &str) -> Mem<String> {
+        write_by(alloc, self, step)
+    }
+
+    fn rest(&self, alloc: Global) -> Mem<String> {
+        quoted(alloc, self.held())
+    }
+
+    fn copied(&self) -> Mem<CalmSink> {
+        self.try_clone()
+    }
+}
+
+impl Outside for FaultyDisk {
+    fn answer(&mut self, alloc: Global, step: &str) -> Mem<String> {
+        read_path(alloc, self, step)
+    }
+
+    fn rest(&self, alloc: Global) -> Mem<String> {
+        nothing(alloc)
+    }
+
+    fn copied(&self) -> Mem<FaultyDisk> {
+        self.try_clone()
+    }
+}
+
+impl Outside for CalmDisk {
+    fn answer(&mut self, alloc: Global, step: &str) -> Mem<String> {
+        read_path(alloc, self, step)
+    }
+
+    fn rest(&self, alloc: Global) -> Mem<String> {
+        nothing(alloc)
+    }
+
+    fn copied(&self) -> Mem<CalmDisk> {
+        self.try_clone()
+    }
+}
+
+// What an object answers to the steps, and what it then tells.
+pub fn answers_of<O: Outside>(alloc: Global, object: &mut O, steps: &[&str]) -> Mem<String> {
+    let mut answers = String::new(alloc);
+    for step in steps {
+        push_given(&mut answers, object.answer(alloc, step))?;
+    }
+    push_given(&mut answers, object.rest(alloc))?;
     Ok(answers)
 }
 
-fn calm_source(alloc: Global, content: &str, steps: &[&str]) -> Mem<String> {
+pub fn answer(alloc: Global, call: &[&str]) -> Mem<String> {
+    match call {
+        [call, words @ ..] => of_calm(alloc, call, words),
+        [] => unknown(alloc),
+    }
+}
+
+fn of_calm(alloc: Global, call: &str, words: &[&str]) -> Mem<String> {
+    match call {
+        "calm_source" => calm_source(alloc, words),
+        "calm_sink" => answers_of(alloc, &mut CalmSink::new(alloc), words),
+        "calm_disk" => calm_disk(alloc, words),
+        "list_clock" => list_clock(alloc, words),
+        "fixed_clock" => fixed_clock(alloc, words),
+        _ => of_faulty(alloc, call, words),
+    }
+}
+
+fn of_faulty(alloc: Global, call: &str, words: &[&str]) -> Mem<String> {
+    match call {
+        "faulty_source" => faulty_source(alloc, words),
+        "faulty_sink" => faulty_sink(alloc, words),
+        "faulty_disk" => faulty_disk(alloc, words),
+        "std_source" => std_source(alloc, words),
+        "std_sink" => std_sink(alloc, words),
+        "full_sink" => full_sink(alloc, words),
+        _ => unknown(alloc),
+    }
+}
+
+fn calm_source(alloc: Global, words: &[&str]) -> Mem<String> {
+    let [content, steps @ ..] = words else {
+        return unknown(alloc);
+    };
     let mut source = CalmSource::new(bytes_of(alloc, content)?);
-    let mut answers = reads(alloc, &mut source, steps)?;
-    push_left(&mut answers, alloc, source.left())?;
-    Ok(answers)
+    answers_of(alloc, &mut source, steps)
 }
 
-fn std_source(alloc: Global, content: &str, steps: &[&str]) -> Mem<String> {
+fn faulty_source(alloc: Global, words: &[&str]) -> Mem<String> {
+    let [content, fails, steps @ ..] = words else {
+        return unknown(alloc);
+    };
+    let mut source = faulty_source_of(alloc, content, fails)?;
+    answers_of(alloc, &mut source, steps)
+}
+
+pub fn faulty_source_of(alloc: Global, content: &str, fails: &str) -> Mem<FaultySource> {
+    let fails = numbers_of(alloc, fails)?;
+    Ok(FaultySource::new(bytes_of(alloc, content)?, fails))
+}
+
+fn faulty_sink(alloc: Global, words: &[&str]) -> Mem<String> {
+    let [fails, steps @ ..] = words else {
+        return unknown(alloc);
+    };
+    let mut sink = FaultySink::new(alloc, numbers_of(alloc, fails)?);
+    answers_of(alloc, &mut sink, steps)
+}
+
+fn calm_disk(alloc: Global, words: &[&str]) -> Mem<String> {
+    let [files, paths @ ..] = words else {
+        return unknown(alloc);
+    };
+    let mut disk = CalmDisk::new(files_of(alloc, files)?);
+    answers_of(alloc, &mut disk, paths)
+}
+
+fn faulty_disk(alloc: Global, words: &[&str]) -> Mem<String> {
+    let [files, fails, paths @ ..] = words else {
+        return unknown(alloc);
+    };
+    let mut disk = faulty_disk_of(alloc, files, fails)?;
+    answers_of(alloc, &mut disk, paths)
+}
+
+pub fn faulty_disk_of(alloc: Global, files: &str, fails: &str) -> Mem<FaultyDisk> {
+    let fails = numbers_of(alloc, fails)?;
+    Ok(FaultyDisk::new(files_of(alloc, files)?, fails))
+}
+
+fn std_source(alloc: Global, words: &[&str]) -> Mem<String> {
+    let [content, steps @ ..] = words else {
+        return unknown(alloc);
+    };
     let content = bytes_of(alloc, content)?;
     reads(alloc, &mut StdSource::new(content.as_slice()), steps)
 }
 
-pub fn push_left(answers: &mut String, alloc: Global, left: &[u8]) -> Mem<()> {
-    let left = quoted(alloc, left)?;
-    push_answer(answers, format!(in alloc; "left {left}")?.as_str())
-}
-
 // Each step reads once into so much room or into a buffer, or all up to a limit.
-pub fn reads<S: ByteSource>(alloc: Global, source: &mut S, steps: &[&str]) -> Mem<String> {
+fn reads<S: ByteSource>(alloc: Global, source: &mut S, steps: &[&str]) -> Mem<String> {
     let mut answers = String::new(alloc);
     for step in steps {
-        push_answer(&mut answers, read_by(alloc, source, step)?.as_str())?;
+        push_given(&mut answers, read_by(alloc, source, step))?;
     }
     Ok(answers)
 }
 
-pub fn read_by<S: ByteSource>(alloc: Global, source: &mut S, step: &str) -> Mem<String> {
+fn read_by<S: ByteSource>(alloc: Global, source: &mut S, step: &str) -> Mem<String> {
     match parts(step) {
         ("all", limit) => read_whole(alloc, source, size_of(limit)),
         ("into", content) => read_into(alloc, source, content),
@@ -91,96 +240,95 @@ fn read_whole<S: ByteSource>(alloc: Global, source: &mut S, limit: usize) -> Mem
     }
 }
 
-// What each step answers, and what is held.
-fn faulty_sink(alloc: Global, fails: &str, steps: &[&str]) -> Mem<String> {
-    let mut sink = FaultySink::new(alloc, numbers_of(alloc, fails)?);
-    let mut answers = writes(alloc, &mut sink, steps)?;
-    push_answer(&mut answers, quoted(alloc, sink.held())?.as_str())?;
-    Ok(answers)
-}
-
-fn calm_sink(alloc: Global, steps: &[&str]) -> Mem<String> {
-    let mut sink = CalmSink::new(alloc);
-    let mut answers = writes(alloc, &mut sink, steps)?;
-    push_answer(&mut answers, quoted(alloc, sink.held())?.as_str())?;
-    Ok(answers)
-}
-
 fn std_sink(alloc: Global, steps: &[&str]) -> Mem<String> {
     let mut written = Vec::new(alloc);
-    let mut answers = writes(alloc, &mut StdSink::new(&mut written), steps)?;
-    push_answer(&mut answers, quoted(alloc, written.as_slice())?.as_str())?;
-    Ok(answers)
+    let answers = writes(alloc, &mut StdSink::new(&mut written), steps)?;
+    with_written(alloc, answers, written.as_slice())
 }
 
 // A sink over a slice, which can be full.
-fn full_sink(alloc: Global, room: usize, steps: &[&str]) -> Mem<String> {
-    let mut slice = vec![in alloc; b'.'; room]?;
-    let mut answers = writes(alloc, &mut StdSink::new(slice.as_mut_slice()), steps)?;
-    push_answer(&mut answers, quoted(alloc, slice.as_slice())?.as_str())?;
+fn full_sink(alloc: Global, words: &[&str]) -> Mem<String> {
+    let [room, steps @ ..] = words else {
+        return unknown(alloc);
+    };
+    let mut slice = vec![in alloc; b'.'; size_of(room)]?;
+    let answers = writes(alloc, &mut StdSink::new(slice.as_mut_slice()), steps)?;
+    with_written(alloc, answers, slice.as_slice())
+}
+
+fn with_written(alloc: Global, answers: String, written: &[u8]) -> Mem<String> {
+    let mut answers = answers;
+    push_given(&mut answers, quoted(alloc, written))?;
     Ok(answers)
 }
 
 // Each step writes a piece once, or the whole of it.
-pub fn writes<K: ByteSink>(alloc: Global, sink: &mut K, steps: &[&str]) -> Mem<String> {
+fn writes<K: ByteSink>(alloc: Global, sink: &mut K, steps: &[&str]) -> Mem<String> {
     let mut answers = String::new(alloc);
     for step in steps {
-        push_answer(&mut answers, write_by(alloc, sink, step)?.as_str())?;
+        push_given(&mut answers, write_by(alloc, sink, step))?;
     }
     Ok(answers)
 }
 
-pub fn write_by<K: ByteSink>(alloc: Global, sink: &mut K, step: &str) -> Mem<String> {
-    let (step, piece) = parts(step);
-    let piece = bytes_of(alloc, piece)?;
-    match step {
-        "all" => format!(in alloc; "{:?}", write_all(sink, piece.as_slice())),
-        _ => format!(in alloc; "{:?}", sink.write(piece.as_slice())),
+fn write_by<K: ByteSink>(alloc: Global, sink: &mut K, step: &str) -> Mem<String> {
+    match parts(step) {
+        ("all", piece) => write_whole(alloc, sink, piece),
+        (_, piece) => write_once(alloc, sink, piece),
     }
 }
 
-fn faulty_disk(alloc: Global, files: &str, fails: &str, paths: &[&str]) -> Mem<String> {
-    let fails = numbers_of(alloc, fails)?;
-    let mut disk = FaultyDisk::new(files_of(alloc, files)?, fails);
-    read_paths(alloc, &mut disk, paths)
+fn write_whole<K: ByteSink>(alloc: Global, sink: &mut K, piece: &str) -> Mem<String> {
+    let piece = bytes_of(alloc, piece)?;
+    let answer = write_all(sink, piece.as_slice());
+    format!(in alloc; "{answer:?}")
 }
 
-fn calm_disk(alloc: Global, files: &str, paths: &[&str]) -> Mem<String> {
-    let mut disk = CalmDisk::new(files_of(alloc, files)?);
-    read_paths(alloc, &mut disk, paths)
+fn write_once<K: ByteSink>(alloc: Global, sink: &mut K, piece: &str) -> Mem<String> {
+    let piece = bytes_of(alloc, piece)?;
+    let answer = sink.write(piece.as_slice());
+    format!(in alloc; "{answer:?}")
 }
 
 // The files between `;`, each a path and its bytes.
 pub fn files_of(alloc: Global, word: &str) -> Mem<Vec<(String, Vec<u8>)>> {
     let mut files = Vec::new(alloc);
     for file in word.split(';') {
-        let (path, bytes) = parts(file);
-        files.push((String::from_str(alloc, path)?, bytes_of(alloc, bytes)?))?;
+        files.push(file_of(alloc, file)?)?;
     }
     Ok(files)
+}
+
+fn file_of(alloc: Global, word: &str) -> Mem<(String, Vec<u8>)> {
+    let (path, bytes) = parts(word);
+    let bytes = bytes_of(alloc, bytes)?;
+    Ok((String::from_str(alloc, path)?, bytes))
 }
 
 pub fn read_paths<D: Disk>(alloc: Global, disk: &mut D, paths: &[&str]) -> Mem<String> {
     let mut answers = String::new(alloc);
     for path in paths {
-        push_answer(&mut answers, read_path(alloc, disk, path)?.as_str())?;
+        push_given(&mut answers, read_path(alloc, disk, path))?;
     }
     Ok(answers)
 }
 
-pub fn read_path<D: Disk>(alloc: Global, disk: &mut D, path: &str) -> Mem<String> {
+fn read_path<D: Disk>(alloc: Global, disk: &mut D, path: &str) -> Mem<String> {
     match disk.read(path) {
         Ok(bytes) => quoted(alloc, bytes.as_slice()),
         Err(fault) => format!(in alloc; "{fault:?}"),
     }
 }
 
-fn list_clock(alloc: Global, words: &[&str], count: usize) -> Mem<String> {
+fn list_clock(alloc: Global, words: &[&str]) -> Mem<String> {
+    let [words @ .., count] = words else {
+        return unknown(alloc);
+    };
     let moments = moments_of(alloc, words)?;
     if moments.is_empty() {
         return String::from_str(alloc, "no moments");
     }
-    given(alloc, &mut ListClock::new(moments), count)
+    given(alloc, &mut ListClock::new(moments), size_of(count))
 }
 
 pub fn moments_of(alloc: Global, words: &[&str]) -> Mem<Vec<DateTime>> {
@@ -191,16 +339,19 @@ pub fn moments_of(alloc: Global, words: &[&str]) -> Mem<Vec<DateTime>> {
     Ok(moments)
 }
 
-fn fixed_clock(alloc: Global, moment: &str, count: usize) -> Mem<String> {
+fn fixed_clock(alloc: Global, words: &[&str]) -> Mem<String> {
+    let [moment, count] = words else {
+        return unknown(alloc);
+    };
     let mut clock = FixedClock::new(moment_of(moment));
-    given(alloc, &mut clock, count)
+    given(alloc, &mut clock, size_of(count))
 }
 
 // What so many calls of a clock give.
 pub fn given<C: Clock>(alloc: Global, clock: &mut C, count: usize) -> Mem<String> {
     let mut answers = String::new(alloc);
     for _ in 0..count {
-        push_answer(&mut answers, moment(alloc, clock.now())?.as_str())?;
+        push_given(&mut answers, moment(alloc, clock.now()))?;
     }
     Ok(answers)
 }

@@ -1,3 +1,4 @@
+use crate::shown::unknown;
 use smithy_core::{
     DiskError, Failed, FormatFault, InvalidAppName, Mem, ReadFault, SdkError, SinkError,
     TimeOutOfRange,
@@ -7,16 +8,31 @@ use std::alloc::Global;
 // The text of a fault, or how a copy of it shows itself.
 pub fn answer(alloc: Global, call: &[&str]) -> Mem<String> {
     match call {
-        ["FormatFault", name] => format_fault(name).to_string(alloc),
-        ["DiskError", name] => disk_error(name).to_string(alloc),
-        ["ReadFault", name] => read_fault(name).to_string(alloc),
-        ["SinkError", name] => sink_error(name).to_string(alloc),
-        ["SdkError", name] => sdk_error(name).to_string(alloc),
-        ["copied", name] => copied(alloc, name),
-        ["InvalidAppName"] => InvalidAppName.to_string(alloc),
-        ["TimeOutOfRange"] => TimeOutOfRange.to_string(alloc),
-        ["Failed"] => Failed.to_string(alloc),
-        _ => String::from_str(alloc, "no such call"),
+        [kind, name] => of_kind(alloc, kind, name),
+        [kind] => of_one(alloc, kind),
+        _ => unknown(alloc),
+    }
+}
+
+fn of_kind(alloc: Global, kind: &str, name: &str) -> Mem<String> {
+    match kind {
+        "FormatFault" => format_fault(name).to_string(alloc),
+        "DiskError" => disk_error(name).to_string(alloc),
+        "ReadFault" => read_fault(name).to_string(alloc),
+        "SinkError" => sink_error(name).to_string(alloc),
+        "SdkError" => sdk_error(name).to_string(alloc),
+        "copied" => copied(alloc, name),
+        _ => unknown(alloc),
+    }
+}
+
+// The faults of which there is one alone.
+fn of_one(alloc: Global, kind: &str) -> Mem<String> {
+    match kind {
+        "InvalidAppName" => InvalidAppName.to_string(alloc),
+        "TimeOutOfRange" => TimeOutOfRange.to_string(alloc),
+        "Failed" => Failed.to_string(alloc),
+        _ => unknown(alloc),
     }
 }
 

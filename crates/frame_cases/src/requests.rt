@@ -1,4 +1,4 @@
-use crate::shown::{push_answer, quoted, truth};
+use crate::shown::{nothing, push_answer, push_given, quoted, truth, unknown};
 use crate::texts::unless_empty;
 use crate::words::{moment_of, parts, shared};
 use smithy_core::{
@@ -8,29 +8,31 @@ use std::alloc::Global;
 
 pub fn answer(alloc: Global, call: &[&str]) -> Mem<String> {
     match call {
-        ["headers", steps @ ..] => headers(alloc, steps),
-        ["collected", words @ ..] => collected(alloc, words),
-        ["new", method, target] => new_request(alloc, method, target),
-        ["copied_request", method, target, body, steps @ ..] => {
-            copied_request(alloc, [method, target, body], steps)
-        }
-        ["copied_response", status, skew, steps @ ..] => {
-            copied_response(alloc, status, skew, steps)
-        }
-        ["copied_credentials", key_id, secret, token, expiry] => {
-            copied_credentials(alloc, [key_id, secret, token, expiry])
-        }
-        ["copied_identity", token] => {
-            copied_identity(alloc, Identity::Token(String::from_str(alloc, token)?))
-        }
-        ["copied_identity", key_id, secret, token, expiry] => {
-            copied_signer(alloc, [key_id, secret, token, expiry])
-        }
-        ["identity_from", key_id, secret, token, expiry] => {
-            identity_from(alloc, [key_id, secret, token, expiry])
-        }
-        ["max_attempts"] => max_attempts(alloc),
-        _ => String::from_str(alloc, "no such call"),
+        [call, word] => of_word(alloc, call, word),
+        [call, words @ ..] => of_words(alloc, call, words),
+        [] => unknown(alloc),
+    }
+}
+
+fn of_word(alloc: Global, call: &str, word: &str) -> Mem<String> {
+    match call {
+        "copied_identity" => copied_token(alloc, word),
+        _ => of_words(alloc, call, &[word]),
+    }
+}
+
+fn of_words(alloc: Global, call: &str, words: &[&str]) -> Mem<String> {
+    match call {
+        "headers" => headers(alloc, words),
+        "collected" => collected(alloc, words),
+        "new" => new_request(alloc, words),
+        "copied_request" => copied_request(alloc, words),
+        "copied_response" => copied_response(alloc, words),
+        "copied_credentials" => copied_credentials(alloc, words),
+        "copied_identity" => copied_signer(alloc, words),
+        "identity_from" => identity_from(alloc, words),
+        "max_attempts" => max_attempts(alloc),
+        _ => unknown(alloc),
     }
 }
 
@@ -39,7 +41,7 @@ fn headers(alloc: Global, steps: &[&str]) -> Mem<String> {
     let mut headers = Headers::new(alloc);
     let mut answers = String::new(alloc);
     for step in steps {
-        push_answer(&mut answers, after(alloc, &mut headers, step)?.as_str())?;
+        push_given(&mut answers, after(alloc, &mut headers, step))?;
     }
     Ok(answers)
 }
@@ -47,19 +49,29 @@ fn headers(alloc: Global, steps: &[&str]) -> Mem<String> {
 fn after(alloc: Global, headers: &mut Headers, step: &str) -> Mem<String> {
     let (step, word) = parts(step);
     match step {
-        "get" => format!(in alloc; "{:?}", headers.get(word)),
-        "get_all" => values(alloc, headers, word),
+        "insert" | "append" => put_in(alloc, headers, step, word),
         "len" => format!(in alloc; "{}", headers.len()),
         "is_empty" => truth(alloc, headers.is_empty()),
-        "contains_key" => truth(alloc, headers.contains_key(word)),
         "iter" => pairs(alloc, headers),
         "for" => looped(alloc, headers),
         "copy" => pairs(alloc, &headers.try_clone()?),
-        _ => {
-            put(headers, step, word)?;
-            Ok(String::new(alloc))
-        }
+        _ => of_name(alloc, headers, step, word),
     }
+}
+
+fn of_name(alloc: Global, headers: &Headers, step: &str, name: &str) -> Mem<String> {
+    match step {
+        "get" => format!(in alloc; "{:?}", headers.get(name)),
+        "get_all" => values(alloc, headers, name),
+        "contains_key" => truth(alloc, headers.contains_key(name)),
+        _ => String::from_str(alloc, "no such step"),
+    }
+}
+
+// Adds a pair, which has no answer.
+fn put_in(alloc: Global, headers: &mut Headers, step: &str, pair: &str) -> Mem<String> {
+    put(headers, step, pair)?;
+    nothing(alloc)
 }
 
 // Adds a pair, in the place of its name or at the end.
@@ -82,7 +94,7 @@ fn values(alloc: Global, headers: &Headers, name: &str) -> Mem<String> {
 pub fn pairs(alloc: Global, headers: &Headers) -> Mem<String> {
     let mut answers = String::new(alloc);
     for (name, value) in headers.iter() {
-        push_answer(&mut answers, format!(in alloc; "{name}={value}")?.as_str())?;
+        push_pair(&mut answers, name, value)?;
     }
     Ok(answers)
 }
@@ -91,9 +103,14 @@ pub fn pairs(alloc: Global, headers: &Headers) -> Mem<String> {
 fn looped(alloc: Global, headers: &Headers) -> Mem<String> {
     let mut answers = String::new(alloc);
     for (name, value) in headers {
-        push_answer(&mut answers, format!(in alloc; "{name}={value}")?.as_str())?;
+        push_pair(&mut answers, name, value)?;
     }
     Ok(answers)
+}
+
+fn push_pair(answers: &mut String, name: &str, value: &str) -> Mem<()> {
+    let gap = if answers.is_empty() { "" } else { " | " };
+    write!(answers, "{gap}{name}={value}")
 }
 
 // The headers that are collected from pairs.
@@ -106,57 +123,74 @@ fn collected(alloc: Global, words: &[&str]) -> Mem<String> {
     pairs(alloc, &headers)
 }
 
-fn put_all(alloc: Global, steps: &[&str]) -> Mem<Headers> {
-    let mut headers = Headers::new(alloc);
+fn put_all(headers: &mut Headers, steps: &[&str]) -> Mem<()> {
     for step in steps {
         let (step, pair) = parts(step);
-        put(&mut headers, step, pair)?;
+        put(headers, step, pair)?;
     }
-    Ok(headers)
+    Ok(())
 }
 
-fn copied_request(alloc: Global, front: [&str; 3], steps: &[&str]) -> Mem<String> {
-    let [method, target, body] = front;
-    let request = HttpRequest {
-        method: String::from_str(alloc, method)?,
-        target: String::from_str(alloc, target)?,
-        headers: put_all(alloc, steps)?,
-        body: shared(alloc, body)?,
+fn copied_request(alloc: Global, words: &[&str]) -> Mem<String> {
+    let [method, target, body, steps @ ..] = words else {
+        return unknown(alloc);
     };
-    whole(alloc, &request.try_clone()?)
+    let mut request = HttpRequest::new(alloc, method, target)?;
+    put_all(&mut request.headers, steps)?;
+    request.body = shared(alloc, body)?;
+    whole_copy(alloc, &request)
 }
 
-fn new_request(alloc: Global, method: &str, target: &str) -> Mem<String> {
-    whole(alloc, &HttpRequest::new(alloc, method, target)?)
+fn whole_copy(alloc: Global, request: &HttpRequest) -> Mem<String> {
+    let copy = request.try_clone()?;
+    whole(alloc, &copy)
+}
+
+fn new_request(alloc: Global, words: &[&str]) -> Mem<String> {
+    let [method, target] = words else {
+        return unknown(alloc);
+    };
+    let request = HttpRequest::new(alloc, method, target)?;
+    whole(alloc, &request)
 }
 
 fn whole(alloc: Global, request: &HttpRequest) -> Mem<String> {
     let body = quoted(alloc, request.body.as_slice())?;
     let mut answers = format!(in alloc; "{} {} {body}", request.method, request.target)?;
-    push_answer(&mut answers, pairs(alloc, &request.headers)?.as_str())?;
+    push_given(&mut answers, pairs(alloc, &request.headers))?;
     Ok(answers)
 }
 
-fn copied_response(alloc: Global, status: &str, skew: &str, steps: &[&str]) -> Mem<String> {
-    let response = HttpResponse {
+fn copied_response(alloc: Global, words: &[&str]) -> Mem<String> {
+    let [status, skew, steps @ ..] = words else {
+        return unknown(alloc);
+    };
+    let mut response = HttpResponse {
         status: status.parse().unwrap_or(0),
-        headers: put_all(alloc, steps)?,
+        headers: Headers::new(alloc),
         skew: skew.parse().ok(),
     };
+    put_all(&mut response.headers, steps)?;
+    response_copy(alloc, &response)
+}
+
+fn response_copy(alloc: Global, response: &HttpResponse) -> Mem<String> {
     let copy = response.try_clone()?;
     let mut answers = format!(in alloc; "{} {:?}", copy.status, copy.skew)?;
-    push_answer(&mut answers, pairs(alloc, &copy.headers)?.as_str())?;
+    push_given(&mut answers, pairs(alloc, &copy.headers))?;
     Ok(answers)
 }
 
-fn credentials(alloc: Global, words: [&str; 4]) -> Mem<Credentials> {
-    let [key_id, secret, token, expiry] = words;
-    Ok(Credentials::new(
-        String::from_str(alloc, key_id)?,
-        String::from_str(alloc, secret)?,
-        unless_empty(alloc, token)?,
-        expiry_of(expiry),
-    ))
+// The credentials of a key's id, a secret, a token and an expiry, the last two empty for none.
+fn credentials(alloc: Global, words: &[&str]) -> Mem<Credentials> {
+    let (key_id, secret, token, expiry) = match words {
+        [key_id, secret, token, expiry] => (*key_id, *secret, *token, *expiry),
+        _ => ("", "", "", ""),
+    };
+    let key_id = String::from_str(alloc, key_id)?;
+    let secret = String::from_str(alloc, secret)?;
+    let token = unless_empty(alloc, token)?;
+    Ok(Credentials::new(key_id, secret, token, expiry_of(expiry)))
 }
 
 fn expiry_of(word: &str) -> Option<Moment> {
@@ -176,13 +210,17 @@ fn parts_of(alloc: Global, signer: &Credentials) -> Mem<String> {
     )
 }
 
-fn copied_credentials(alloc: Global, words: [&str; 4]) -> Mem<String> {
+fn copied_credentials(alloc: Global, words: &[&str]) -> Mem<String> {
     let copy = credentials(alloc, words)?.try_clone()?;
     parts_of(alloc, &copy)
 }
 
-fn copied_signer(alloc: Global, words: [&str; 4]) -> Mem<String> {
-    copied_identity(alloc, Identity::Credentials(credentials(alloc, words)?))
+fn copied_token(alloc: Global, token: &str) -> Mem<String> {
+    copied_identity(alloc, &Identity::Token(String::from_str(alloc, token)?))
+}
+
+fn copied_signer(alloc: Global, words: &[&str]) -> Mem<String> {
+    copied_identity(alloc, &Identity::Credentials(credentials(alloc, words)?))
 }
 
 fn max_attempts(alloc: Global) -> Mem<String> {
@@ -190,11 +228,12 @@ fn max_attempts(alloc: Global) -> Mem<String> {
     format!(in alloc; "{attempts}")
 }
 
-fn copied_identity(alloc: Global, identity: Identity) -> Mem<String> {
-    signer(alloc, &identity.try_clone()?)
+fn copied_identity(alloc: Global, identity: &Identity) -> Mem<String> {
+    let copy = identity.try_clone()?;
+    signer(alloc, &copy)
 }
 
-fn identity_from(alloc: Global, words: [&str; 4]) -> Mem<String> {
+fn identity_from(alloc: Global, words: &[&str]) -> Mem<String> {
     signer(alloc, &Identity::from(credentials(alloc, words)?))
 }
 

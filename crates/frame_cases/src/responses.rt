@@ -1,4 +1,4 @@
-use crate::shown::{digits, moment};
+use crate::shown::{digits, moment, unknown};
 use crate::words::{header_of, message_of};
 use eventstream::{
     Error, ResponseHeaders, expect_bool, expect_byte, expect_byte_array, expect_int16,
@@ -10,15 +10,17 @@ use std::fmt::Display;
 
 pub fn answer(alloc: Global, call: &[&str]) -> Mem<String> {
     match call {
-        ["headers", headers @ .., payload] => {
-            let message = message_of(alloc, headers, payload)?;
-            match parse_response_headers(alloc, &message) {
-                Ok(headers) => parsed(alloc, &headers),
-                Err(error) => error.to_string(alloc),
-            }
-        }
+        ["headers", headers @ .., payload] => headers_of(alloc, headers, payload),
         [kind, header] => expected(alloc, kind, &header_of(alloc, header)?),
-        _ => String::from_str(alloc, "no such call"),
+        _ => unknown(alloc),
+    }
+}
+
+fn headers_of(alloc: Global, headers: &[&str], payload: &str) -> Mem<String> {
+    let message = message_of(alloc, headers, payload)?;
+    match parse_response_headers(alloc, &message) {
+        Ok(headers) => parsed(alloc, &headers),
+        Err(error) => error.to_string(alloc),
     }
 }
 
@@ -40,16 +42,30 @@ fn expected(alloc: Global, kind: &str, header: &Header) -> Mem<String> {
         "expect_int16" => plain(alloc, expect_int16(alloc, header)),
         "expect_int32" => plain(alloc, expect_int32(alloc, header)),
         "expect_int64" => plain(alloc, expect_int64(alloc, header)),
+        _ => expected_long(alloc, kind, header),
+    }
+}
+
+fn expected_long(alloc: Global, kind: &str, header: &Header) -> Mem<String> {
+    match kind {
         "expect_string" => plain(alloc, expect_string(alloc, header)),
-        "expect_byte_array" => match expect_byte_array(alloc, header) {
-            Ok(bytes) => digits(alloc, bytes.as_ref()),
-            Err(error) => error.to_string(alloc),
-        },
-        "expect_timestamp" => match expect_timestamp(alloc, header) {
-            Ok(time) => moment(alloc, time),
-            Err(error) => error.to_string(alloc),
-        },
-        _ => String::from_str(alloc, "no such call"),
+        "expect_byte_array" => expected_bytes(alloc, header),
+        "expect_timestamp" => expected_moment(alloc, header),
+        _ => unknown(alloc),
+    }
+}
+
+fn expected_bytes(alloc: Global, header: &Header) -> Mem<String> {
+    match expect_byte_array(alloc, header) {
+        Ok(bytes) => digits(alloc, bytes.as_ref()),
+        Err(error) => error.to_string(alloc),
+    }
+}
+
+fn expected_moment(alloc: Global, header: &Header) -> Mem<String> {
+    match expect_timestamp(alloc, header) {
+        Ok(time) => moment(alloc, time),
+        Err(error) => error.to_string(alloc),
     }
 }
 

@@ -1,4 +1,4 @@
-use crate::shown::{digits, nothing, push_answer};
+use crate::shown::{digits, nothing, push_given};
 use crate::words::{parts, shared, size_of};
 use bytes::Bytes;
 use seg_buf::SegBuf;
@@ -9,7 +9,7 @@ pub fn answer(alloc: Global, steps: &[&str]) -> Result<String, AllocError> {
     let mut buffer = SegBuf::new(alloc);
     let mut answers = String::new(alloc);
     for step in steps {
-        push_answer(&mut answers, after(alloc, &mut buffer, step)?.as_str())?;
+        push_given(&mut answers, after(alloc, &mut buffer, step))?;
     }
     Ok(answers)
 }
@@ -18,13 +18,20 @@ fn after(alloc: Global, buffer: &mut SegBuf, step: &str) -> Result<String, Alloc
     let (step, word) = parts(step);
     match step {
         "push" => push(alloc, buffer, shared(alloc, word)?),
-        "left" => left(alloc, buffer),
         "push_slice" => push_slice(alloc, buffer, shared(alloc, word)?.as_slice()),
-        "first" => first(alloc, buffer),
         "peek" => peek(alloc, buffer, size_of(word)),
         "advance" => advance(alloc, buffer, size_of(word)),
         "front" => front(alloc, buffer, size_of(word)),
         "take" => take(alloc, buffer, size_of(word)),
+        _ => after_bare(alloc, buffer, step),
+    }
+}
+
+// A step of a name alone.
+fn after_bare(alloc: Global, buffer: &mut SegBuf, step: &str) -> Result<String, AllocError> {
+    match step {
+        "left" => left(alloc, buffer),
+        "first" => first(alloc, buffer),
         "prelude" => prelude(alloc, buffer),
         "copy" => copy(alloc, buffer),
         _ => String::from_str(alloc, "no such step"),

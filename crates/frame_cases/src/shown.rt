@@ -43,25 +43,33 @@ pub fn moment(alloc: Global, moment: DateTime) -> Result<String, AllocError> {
 
 pub fn value(alloc: Global, value: &HeaderValue) -> Result<String, AllocError> {
     match value {
+        HeaderValue::ByteArray(bytes) => told(alloc, "bytes", digits(alloc, bytes.as_slice())),
+        HeaderValue::String(value) => told(alloc, "text", text(alloc, value.as_str())),
+        HeaderValue::Timestamp(time) => told(alloc, "time", moment(alloc, *time)),
+        HeaderValue::Uuid(value) => format!(in alloc; "uuid {value:032x}"),
+        _ => plain_value(alloc, value),
+    }
+}
+
+fn plain_value(alloc: Global, value: &HeaderValue) -> Result<String, AllocError> {
+    match value {
         HeaderValue::Bool(value) => format!(in alloc; "bool {value}"),
         HeaderValue::Byte(value) => format!(in alloc; "i8 {value}"),
         HeaderValue::Int16(value) => format!(in alloc; "i16 {value}"),
         HeaderValue::Int32(value) => format!(in alloc; "i32 {value}"),
         HeaderValue::Int64(value) => format!(in alloc; "i64 {value}"),
-        HeaderValue::ByteArray(bytes) => {
-            let bytes = digits(alloc, bytes.as_slice())?;
-            format!(in alloc; "bytes {bytes}")
-        }
-        HeaderValue::String(value) => {
-            let value = text(alloc, value.as_str())?;
-            format!(in alloc; "text {value}")
-        }
-        HeaderValue::Timestamp(time) => {
-            let time = moment(alloc, *time)?;
-            format!(in alloc; "time {time}")
-        }
-        HeaderValue::Uuid(value) => format!(in alloc; "uuid {value:032x}"),
+        _ => nothing(alloc),
     }
+}
+
+// What it is, before what it shows.
+pub fn told(
+    alloc: Global,
+    what: &str,
+    shown: Result<String, AllocError>,
+) -> Result<String, AllocError> {
+    let shown = shown?;
+    format!(in alloc; "{what} {shown}")
 }
 
 pub fn header(alloc: Global, header: &Header) -> Result<String, AllocError> {
@@ -74,11 +82,15 @@ pub fn header(alloc: Global, header: &Header) -> Result<String, AllocError> {
 pub fn message(alloc: Global, message: &Message) -> Result<String, AllocError> {
     let mut text = String::new(alloc);
     for each in message.headers() {
-        text.push_str(header(alloc, each)?.as_str())?;
-        text.push_str("; ")?;
+        push_header(alloc, &mut text, each)?;
     }
     text.push_str(quoted(alloc, message.payload().as_slice())?.as_str())?;
     Ok(text)
+}
+
+fn push_header(alloc: Global, text: &mut String, each: &Header) -> Result<(), AllocError> {
+    text.push_str(header(alloc, each)?.as_str())?;
+    text.push_str("; ")
 }
 
 // Adds the answer of one step more, where it has one.
@@ -90,6 +102,19 @@ pub fn push_answer(answers: &mut String, answer: &str) -> Result<(), AllocError>
         answers.push_str(" | ")?;
     }
     answers.push_str(answer)
+}
+
+// Adds the answer that a step gave.
+pub fn push_given(
+    answers: &mut String,
+    answer: Result<String, AllocError>,
+) -> Result<(), AllocError> {
+    push_answer(answers, answer?.as_str())
+}
+
+// The answer to words that are no call.
+pub fn unknown(alloc: Global) -> Result<String, AllocError> {
+    String::from_str(alloc, "no such call")
 }
 
 pub fn truth(alloc: Global, holds: bool) -> Result<String, AllocError> {

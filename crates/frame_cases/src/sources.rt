@@ -1,6 +1,10 @@
+ghost use Rattle.std.specs.Prelude.{◌≤◌, length, IfOk};
+ghost use Rattle.smithy_core.specs.FrameSource.{AreShort};
+
 use crate::requests::pairs;
-use crate::shown::{push_answer, quoted};
+use crate::shown::{push_given, quoted, told, unknown};
 use crate::words::{numbers_of, parts, shared, size_of};
+use bytes::Bytes;
 use smithy_core::{CalmFrames, FaultyFrames, FramePart, FrameSource, Headers, Mem, Polled};
 use std::alloc::Global;
 
@@ -9,70 +13,105 @@ const LONGEST: usize = 4_294_967_295;
 
 pub fn answer(alloc: Global, call: &[&str]) -> Mem<String> {
     match call {
-        ["faulty", data, pair, fails, waits, first, count] => {
-            faulty(
-                alloc,
-                [data, pair, fails, waits],
-                size_of(first),
-                size_of(count),
-            )
-        }
-        ["empty", fails, waits, count] => empty(alloc, fails, waits, size_of(count)),
-        ["calm", first_data, second_data, first, count] => {
-            calm(
-                alloc,
-                [first_data, second_data],
-                size_of(first),
-                size_of(count),
-            )
-        }
-        ["copied_frame", frame] => copied_frame(alloc, frame),
-        ["copied_answer", answer] => copied_answer(alloc, answer),
-        _ => String::from_str(alloc, "no such call"),
+        [call, word] => copied(alloc, call, word),
+        [call, words @ ..] => polled_source(alloc, call, words),
+        [] => unknown(alloc),
+    }
+}
+
+fn copied(alloc: Global, call: &str, word: &str) -> Mem<String> {
+    match call {
+        "copied_frame" => copied_frame(alloc, word),
+        "copied_answer" => copied_answer(alloc, word),
+        _ => unknown(alloc),
+    }
+}
+
+fn polled_source(alloc: Global, call: &str, words: &[&str]) -> Mem<String> {
+    match call {
+        "faulty" => faulty(alloc, words),
+        "empty" => empty(alloc, words),
+        "calm" => calm(alloc, words),
+        _ => unknown(alloc),
     }
 }
 
 // The first polls of a source of data and trailers, and then those of its copy.
-fn faulty(alloc: Global, words: [&str; 4], first: usize, count: usize) -> Mem<String> {
-    let [data, pair, fails, waits] = words;
-    let data = shared(alloc, data)?;
-    if data.len() > LONGEST {
-        return String::from_str(alloc, "too long");
-    }
+fn faulty(alloc: Global, words: &[&str]) -> Mem<String> {
+    let [data, pair, fails, waits, first, count] = words else {
+        return unknown(alloc);
+    };
+    let frames = data_and_trailers(alloc, data, pair)?;
+    let fails = numbers_of(alloc, fails)?;
+    let mut source = FaultyFrames::new(frames, fails, numbers_of(alloc, waits)?);
+    polled_faulty(alloc, &mut source, size_of(first), size_of(count))
+}
+
+fn data_and_trailers(alloc: Global, data: &str, pair: &str) -> Mem<Vec<FramePart>>
+    ensures { IfOk result (λ frames. AreShort frames.items) }
+{
+    let data = FramePart::Data(piece_of(alloc, data)?);
     let trailers = FramePart::Trailers(trailers_of(alloc, pair)?);
-    let frames = vec![in alloc; FramePart::Data(data), trailers]?;
-    let mut source = FaultyFrames::new(
-        frames,
-        numbers_of(alloc, fails)?,
-        numbers_of(alloc, waits)?,
-    );
-    let mut answers = polls(alloc, &mut source, first)?;
+    Ok(vec![in alloc; data, trailers]?)
+}
+
+// A piece of data, which is empty in place of one that would be too long.
+fn piece_of(alloc: Global, word: &str) -> Mem<Bytes>
+    ensures { IfOk result (λ piece. length piece ≤ 4294967295) }
+{
+    let piece = shared(alloc, word)?;
+    if piece.len() > LONGEST {
+        return Ok(Bytes::from_static(b""));
+    }
+    Ok(piece)
+}
+
+fn polled_faulty(
+    alloc: Global,
+    source: &mut FaultyFrames,
+    first: usize,
+    count: usize,
+) -> Mem<String> {
+    let mut answers = polls(alloc, source, first)?;
     let mut copy = source.try_clone()?;
-    push_answer(&mut answers, polls(alloc, &mut copy, count)?.as_str())?;
+    push_given(&mut answers, polls(alloc, &mut copy, count))?;
     Ok(answers)
 }
 
-fn empty(alloc: Global, fails: &str, waits: &str, count: usize) -> Mem<String> {
-    let (fails, waits) = (numbers_of(alloc, fails)?, numbers_of(alloc, waits)?);
+fn empty(alloc: Global, words: &[&str]) -> Mem<String> {
+    let [fails, waits, count] = words else {
+        return unknown(alloc);
+    };
+    let fails = numbers_of(alloc, fails)?;
+    let waits = numbers_of(alloc, waits)?;
     polls(
         alloc,
         &mut FaultyFrames::new(Vec::new(alloc), fails, waits),
-        count,
+        size_of(count),
     )
 }
 
 // The first polls of a source of two pieces of data, and then those of its copy.
-fn calm(alloc: Global, data: [&str; 2], first: usize, count: usize) -> Mem<String> {
-    let [left, right] = data;
-    let (left, right) = (shared(alloc, left)?, shared(alloc, right)?);
-    if left.len() > LONGEST || right.len() > LONGEST {
-        return String::from_str(alloc, "too long");
-    }
-    let frames = vec![in alloc; FramePart::Data(left), FramePart::Data(right)]?;
-    let mut source = CalmFrames::new(frames);
-    let mut answers = polls(alloc, &mut source, first)?;
+fn calm(alloc: Global, words: &[&str]) -> Mem<String> {
+    let [left, right, first, count] = words else {
+        return unknown(alloc);
+    };
+    let mut source = CalmFrames::new(two_pieces(alloc, left, right)?);
+    polled_calm(alloc, &mut source, size_of(first), size_of(count))
+}
+
+fn two_pieces(alloc: Global, left: &str, right: &str) -> Mem<Vec<FramePart>>
+    ensures { IfOk result (λ frames. AreShort frames.items) }
+{
+    let left = FramePart::Data(piece_of(alloc, left)?);
+    let right = FramePart::Data(piece_of(alloc, right)?);
+    Ok(vec![in alloc; left, right]?)
+}
+
+fn polled_calm(alloc: Global, source: &mut CalmFrames, first: usize, count: usize) -> Mem<String> {
+    let mut answers = polls(alloc, source, first)?;
     let mut copy = source.try_clone()?;
-    push_answer(&mut answers, polls(alloc, &mut copy, count)?.as_str())?;
+    push_given(&mut answers, polls(alloc, &mut copy, count))?;
     Ok(answers)
 }
 
@@ -80,9 +119,13 @@ fn calm(alloc: Global, data: [&str; 2], first: usize, count: usize) -> Mem<Strin
 fn polls<S: FrameSource>(alloc: Global, source: &mut S, count: usize) -> Mem<String> {
     let mut answers = String::new(alloc);
     for _ in 0..count {
-        push_answer(&mut answers, polled(alloc, &source.poll_frame())?.as_str())?;
+        push_given(&mut answers, poll(alloc, source))?;
     }
     Ok(answers)
+}
+
+fn poll<S: FrameSource>(alloc: Global, source: &mut S) -> Mem<String> {
+    polled(alloc, &source.poll_frame())
 }
 
 fn copied_frame(alloc: Global, word: &str) -> Mem<String> {
@@ -91,29 +134,20 @@ fn copied_frame(alloc: Global, word: &str) -> Mem<String> {
 }
 
 fn copied_answer(alloc: Global, word: &str) -> Mem<String> {
-    let copy = answer_of(alloc, word)?.try_clone()?;
+    let answer = answer_of(alloc, word)?;
+    let copy = answer.try_clone()?;
     polled(alloc, &copy)
 }
 
 fn polled(alloc: Global, answer: &Polled) -> Mem<String> {
     match answer {
-        Polled::Data(data) => data_text(alloc, data.as_slice()),
-        Polled::Trailers(trailers) => trailers_text(alloc, trailers),
+        Polled::Data(data) => told(alloc, "data", quoted(alloc, data.as_slice())),
+        Polled::Trailers(trailers) => told(alloc, "trailers", pairs(alloc, trailers)),
         Polled::NotYet => String::from_str(alloc, "NotYet"),
         Polled::End => String::from_str(alloc, "End"),
         Polled::Failed => String::from_str(alloc, "Failed"),
         Polled::NoMemory => String::from_str(alloc, "NoMemory"),
     }
-}
-
-fn data_text(alloc: Global, data: &[u8]) -> Mem<String> {
-    let data = quoted(alloc, data)?;
-    format!(in alloc; "data {data}")
-}
-
-fn trailers_text(alloc: Global, trailers: &Headers) -> Mem<String> {
-    let trailers = pairs(alloc, trailers)?;
-    format!(in alloc; "trailers {trailers}")
 }
 
 fn answer_of(alloc: Global, word: &str) -> Mem<Polled> {

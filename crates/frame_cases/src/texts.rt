@@ -1,23 +1,17 @@
-use crate::shown::{digits, header, message, quoted, truth};
-use crate::words::{bytes_of, header_of, headers_of, message_of, shared, text_of};
+use crate::shown::{digits, header, message, quoted, told, truth, unknown};
+use crate::words::{bytes_of, header_of, message_of, shared, text_of};
 use smithy_core::{
-    AppName, Blob, Env, ErrorMetadata, Mem, Message, RawMessage, Region, SigningName, StrBytes,
-    is_header_name, is_header_value, is_lower_of, push_line,
+    AppName, Blob, Env, ErrorMetadata, Header, Mem, Message, RawMessage, Region, SigningName,
+    StrBytes, is_header_name, is_header_value, is_lower_of, push_line,
 };
 use std::alloc::Global;
 
 pub fn answer(alloc: Global, call: &[&str]) -> Mem<String> {
     match call {
-        ["copied_message", headers @ .., payload] => copied_message(alloc, headers, payload),
-        ["copied_decoded", headers @ .., payload] => copied_decoded(alloc, headers, payload),
-        ["copied_unread"] => copied_raw(alloc, &RawMessage::Invalid(None)),
-        ["shown_variables", sets @ ..] => shown_variables(alloc, sets),
-        ["push_lines", lines @ ..] => push_lines(alloc, lines),
-        ["variable", sets @ .., name] => variable(alloc, sets, name),
-        ["static_text"] => static_text(alloc),
         [call, word] => of_one(alloc, call, word),
         [call, first, second] => of_two(alloc, call, first, second),
-        _ => String::from_str(alloc, "no such call"),
+        [call, words @ ..] => of_words(alloc, call, words),
+        [] => unknown(alloc),
     }
 }
 
@@ -29,11 +23,17 @@ fn of_one(alloc: Global, call: &str, word: &str) -> Mem<String> {
         "text_of_bytes" => text_of_bytes(alloc, word),
         "copied_blob" => copied_blob(alloc, word),
         "copied_header" => copied_header(alloc, word),
+        _ => of_name(alloc, call, word),
+    }
+}
+
+fn of_name(alloc: Global, call: &str, word: &str) -> Mem<String> {
+    match call {
         "app_name" => app_name(alloc, word),
         "region" => region(alloc, word),
         "signing_name" => signing_name(alloc, word),
         "copied_invalid" => copied_invalid(alloc, word),
-        _ => String::from_str(alloc, "no such call"),
+        _ => of_words(alloc, call, &[word]),
     }
 }
 
@@ -42,7 +42,20 @@ fn of_two(alloc: Global, call: &str, first: &str, second: &str) -> Mem<String> {
         "is_lower_of" => truth(alloc, is_lower_of(first, second)),
         "copied_metadata" => copied_metadata(alloc, first, second),
         "push_line" => lines(alloc, first, second),
-        _ => String::from_str(alloc, "no such call"),
+        _ => of_words(alloc, call, &[first, second]),
+    }
+}
+
+fn of_words(alloc: Global, call: &str, words: &[&str]) -> Mem<String> {
+    match call {
+        "copied_message" => copied_message(alloc, words),
+        "copied_decoded" => copied_decoded(alloc, words),
+        "copied_unread" => copied_raw(alloc, &RawMessage::Invalid(None)),
+        "shown_variables" => shown_variables(alloc, words),
+        "push_lines" => push_lines(alloc, words),
+        "variable" => variable(alloc, words),
+        "static_text" => static_text(alloc),
+        _ => unknown(alloc),
     }
 }
 
@@ -57,22 +70,21 @@ fn static_text(alloc: Global) -> Mem<String> {
 }
 
 fn copied_header(alloc: Global, word: &str) -> Mem<String> {
-    let copy = header_of(alloc, word)?.try_clone()?;
+    let header_given = header_of(alloc, word)?;
+    let copy = header_given.try_clone()?;
     header(alloc, &copy)
 }
 
 fn copied_text(alloc: Global, text: &str) -> Mem<String> {
-    let text = StrBytes::copy_from_str(alloc, text)?.try_clone()?;
-    String::from_str(alloc, text.as_str())
+    let text = StrBytes::copy_from_str(alloc, text)?;
+    let copy = text.try_clone()?;
+    String::from_str(alloc, copy.as_str())
 }
 
 fn text_of_bytes(alloc: Global, bytes: &str) -> Mem<String> {
     match StrBytes::try_from_bytes(shared(alloc, bytes)?) {
         Ok(text) => String::from_str(alloc, text.as_str()),
-        Err(bytes) => {
-            let bytes = digits(alloc, bytes.as_slice())?;
-            format!(in alloc; "refused {bytes}")
-        }
+        Err(bytes) => told(alloc, "refused", digits(alloc, bytes.as_slice())),
     }
 }
 
@@ -84,15 +96,33 @@ fn copied_blob(alloc: Global, bytes: &str) -> Mem<String> {
 }
 
 // A copy of a message to which the headers were added one by one.
-fn copied_message(alloc: Global, headers: &[&str], payload: &str) -> Mem<String> {
+fn copied_message(alloc: Global, words: &[&str]) -> Mem<String> {
+    let [headers @ .., payload] = words else {
+        return unknown(alloc);
+    };
     let mut built = Message::new(alloc, shared(alloc, payload)?);
-    for header in headers_of(alloc, headers)? {
-        built = built.add_header(header)?;
+    for header in headers {
+        built = with_header(built, header_of(alloc, header))?;
     }
-    message(alloc, &built.try_clone()?)
+    message_copy(alloc, &built)
 }
 
-fn copied_decoded(alloc: Global, headers: &[&str], payload: &str) -> Mem<String> {
+fn with_header(message: Message, header: Mem<Header>) -> Mem<Message> {
+    match header {
+        Ok(header) => message.add_header(header),
+        Err(fault) => Err(fault),
+    }
+}
+
+fn message_copy(alloc: Global, built: &Message) -> Mem<String> {
+    let copy = built.try_clone()?;
+    message(alloc, &copy)
+}
+
+fn copied_decoded(alloc: Global, words: &[&str]) -> Mem<String> {
+    let [headers @ .., payload] = words else {
+        return unknown(alloc);
+    };
     let message = message_of(alloc, headers, payload)?;
     copied_raw(alloc, &RawMessage::Decoded(message))
 }
@@ -103,23 +133,27 @@ fn copied_invalid(alloc: Global, bytes: &str) -> Mem<String> {
 }
 
 fn copied_raw(alloc: Global, raw: &RawMessage) -> Mem<String> {
-    match raw.try_clone()? {
-        RawMessage::Decoded(decoded) => message(alloc, &decoded),
-        RawMessage::Invalid(Some(bytes)) => invalid(alloc, bytes.as_slice()),
+    let copy = raw.try_clone()?;
+    raw_shown(alloc, &copy)
+}
+
+fn raw_shown(alloc: Global, raw: &RawMessage) -> Mem<String> {
+    match raw {
+        RawMessage::Decoded(decoded) => message(alloc, decoded),
+        RawMessage::Invalid(Some(bytes)) => {
+            told(alloc, "invalid", quoted(alloc, bytes.as_slice()))
+        }
         RawMessage::Invalid(None) => String::from_str(alloc, "invalid"),
     }
 }
 
-fn invalid(alloc: Global, bytes: &[u8]) -> Mem<String> {
-    let bytes = quoted(alloc, bytes)?;
-    format!(in alloc; "invalid {bytes}")
+fn copied_metadata(alloc: Global, code: &str, message: &str) -> Mem<String> {
+    let code = unless_empty(alloc, code)?;
+    let message = unless_empty(alloc, message)?;
+    metadata_copy(alloc, &ErrorMetadata { code, message })
 }
 
-fn copied_metadata(alloc: Global, code: &str, message: &str) -> Mem<String> {
-    let error = ErrorMetadata {
-        code: unless_empty(alloc, code)?,
-        message: unless_empty(alloc, message)?,
-    };
+fn metadata_copy(alloc: Global, error: &ErrorMetadata) -> Mem<String> {
     let copy = error.try_clone()?;
     format!(in alloc; "{:?}, {:?}", copy.code, copy.message)
 }
@@ -133,9 +167,14 @@ pub fn unless_empty(alloc: Global, text: &str) -> Mem<Option<String>> {
 
 fn app_name(alloc: Global, text: &str) -> Mem<String> {
     match AppName::new(String::from_str(alloc, text)?) {
-        Ok(name) => String::from_str(alloc, name.try_clone()?.as_str()),
+        Ok(name) => app_name_copy(alloc, &name),
         Err(fault) => format!(in alloc; "{fault:?}"),
     }
+}
+
+fn app_name_copy(alloc: Global, name: &AppName) -> Mem<String> {
+    let copy = name.try_clone()?;
+    String::from_str(alloc, copy.as_str())
 }
 
 // The name and its copy.
@@ -152,8 +191,12 @@ fn signing_name(alloc: Global, text: &str) -> Mem<String> {
 }
 
 // The value of a name in a copy of the variables that were set.
-fn variable(alloc: Global, sets: &[&str], name: &str) -> Mem<String> {
-    let copy = variables_of(alloc, sets)?.try_clone()?;
+fn variable(alloc: Global, words: &[&str]) -> Mem<String> {
+    let [sets @ .., name] = words else {
+        return unknown(alloc);
+    };
+    let env = variables_of(alloc, sets)?;
+    let copy = env.try_clone()?;
     format!(in alloc; "{:?}", copy.get(name))
 }
 
@@ -173,7 +216,7 @@ fn variables_of(alloc: Global, sets: &[&str]) -> Mem<Env> {
 
 fn lines(alloc: Global, front: &str, line: &str) -> Mem<String> {
     let mut buffer = bytes_of(alloc, front)?;
-    push_line(&mut buffer, bytes_of(alloc, line)?.as_slice())?;
+    push_word(alloc, &mut buffer, line)?;
     digits(alloc, buffer.as_slice())
 }
 
@@ -181,7 +224,12 @@ fn lines(alloc: Global, front: &str, line: &str) -> Mem<String> {
 fn push_lines(alloc: Global, lines: &[&str]) -> Mem<String> {
     let mut buffer = Vec::new(alloc);
     for line in lines {
-        push_line(&mut buffer, bytes_of(alloc, line)?.as_slice())?;
+        push_word(alloc, &mut buffer, line)?;
     }
     digits(alloc, buffer.as_slice())
+}
+
+fn push_word(alloc: Global, buffer: &mut Vec<u8>, line: &str) -> Mem<()> {
+    let line = bytes_of(alloc, line)?;
+    push_line(buffer, line.as_slice())
 }

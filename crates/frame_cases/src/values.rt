@@ -1,22 +1,28 @@
-use crate::shown::{digits, moment, value};
+use crate::shown::{digits, moment, told, unknown, value};
 use crate::words::header_of;
-use smithy_core::{HeaderValue, Mem, StrBytes};
+use smithy_core::{Header, HeaderValue, Mem, StrBytes};
 use std::alloc::Global;
 use std::fmt::Display;
 
 pub fn answer(alloc: Global, call: &[&str]) -> Mem<String> {
     match call {
+        [call, header] => of_header(alloc, call, &header_of(alloc, header)?),
         ["from"] => from_static(alloc),
-        ["print", header] => header_of(alloc, header)?.value().to_string(alloc),
-        [kind, header] => of_kind(alloc, kind, header_of(alloc, header)?.value()),
-        _ => String::from_str(alloc, "no such call"),
+        _ => unknown(alloc),
+    }
+}
+
+fn of_header(alloc: Global, call: &str, header: &Header) -> Mem<String> {
+    match call {
+        "print" => header.value().to_string(alloc),
+        kind => of_kind(alloc, kind, header.value()),
     }
 }
 
 // A text of a literal, and the value of one.
 fn from_static(alloc: Global) -> Mem<String> {
-    let text = StrBytes::from("ab");
     let value = of_kind(alloc, "as_string", &HeaderValue::from("ab"))?;
+    let text = StrBytes::from("ab");
     format!(in alloc; "{text} {value}")
 }
 
@@ -32,7 +38,7 @@ fn of_kind(alloc: Global, kind: &str, value: &HeaderValue) -> Mem<String> {
         "as_byte_array" => as_byte_array(alloc, value),
         "as_timestamp" => as_timestamp(alloc, value),
         "as_uuid" => plain(alloc, value.as_uuid()),
-        _ => String::from_str(alloc, "no such call"),
+        _ => unknown(alloc),
     }
 }
 
@@ -65,6 +71,5 @@ fn as_timestamp(alloc: Global, value: &HeaderValue) -> Mem<String> {
 }
 
 fn refused(alloc: Global, other: &HeaderValue) -> Mem<String> {
-    let other = value(alloc, other)?;
-    format!(in alloc; "refused {other}")
+    told(alloc, "refused", value(alloc, other))
 }

@@ -88,22 +88,28 @@ pub fn numbers_of(alloc: Global, word: &str) -> Result<Vec<u64>, AllocError> {
 pub fn header_of(alloc: Global, word: &str) -> Result<Header, AllocError> {
     let (name, value) = parts(word);
     let (kind, value) = parts(value);
-    let name = shared_text(alloc, name)?;
-    Ok(Header::new(name, value_of(alloc, kind, value)?))
+    let value = value_of(alloc, kind, value)?;
+    Ok(Header::new(shared_text(alloc, name)?, value))
 }
 
 fn value_of(alloc: Global, kind: &str, word: &str) -> Result<HeaderValue, AllocError> {
-    Ok(match kind {
+    match kind {
+        "bytes" => Ok(HeaderValue::ByteArray(shared(alloc, word)?)),
+        "text" => Ok(HeaderValue::String(shared_text(alloc, word)?)),
+        _ => Ok(plain_value_of(kind, word)),
+    }
+}
+
+fn plain_value_of(kind: &str, word: &str) -> HeaderValue {
+    match kind {
         "bool" => HeaderValue::Bool(word == "true"),
         "i8" => HeaderValue::Byte(word.parse().unwrap_or(0)),
         "i16" => HeaderValue::Int16(word.parse().unwrap_or(0)),
         "i32" => HeaderValue::Int32(word.parse().unwrap_or(0)),
         "i64" => HeaderValue::Int64(number(word)),
-        "bytes" => HeaderValue::ByteArray(shared(alloc, word)?),
-        "text" => HeaderValue::String(shared_text(alloc, word)?),
         "time" => HeaderValue::Timestamp(moment_of(word)),
         _ => HeaderValue::Uuid(u128::from_str_radix(word, 16).unwrap_or(0)),
-    })
+    }
 }
 
 pub fn headers_of(alloc: Global, words: &[&str]) -> Result<Vec<Header>, AllocError> {

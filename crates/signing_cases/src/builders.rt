@@ -8,11 +8,11 @@ use smithy_core::{Identity, Mem, Moment};
 use std::alloc::Global;
 
 /// The answer of a call on parameters.
-pub fn answer(alloc: Global, call: &str, words: &[&str]) -> Mem<String> {
+pub fn answer(alloc: Global, call: &str, parts: &[&str]) -> Mem<String> {
     match call {
-        "build" => build(alloc, words),
-        "change" => change(alloc, words),
-        "whole" => whole(alloc, words),
+        "build" => build(alloc, parts),
+        "change" => change(alloc, parts),
+        "whole" => whole(alloc, parts),
         _ => unknown(alloc),
     }
 }
@@ -41,45 +41,56 @@ fn builder_of<'a>(identity: &'a Identity, parts: &[&str]) -> Builder<'a, i64> {
 
 // Region, name, second, nanoseconds, settings and algorithm.
 fn shown_params(alloc: Global, params: &SigningParams<'_, i64>) -> Mem<String> {
-    let time = params.time();
-    let numbers = format!(in alloc;
-        " {} {} {} ",
-        time.secs(),
-        time.subsec_nanos(),
-        params.settings()
-    )?;
-    let mut text = String::from_str(alloc, params.region())?;
-    text.push(' ')?;
-    text.push_str(params.name())?;
-    text.push_str(numbers.as_str())?;
-    text.push_str(params.algorithm())?;
-    Ok(text)
+    let (region, name, algorithm) = (params.region(), params.name(), params.algorithm());
+    let (time, settings) = (params.time(), params.settings());
+    let (secs, nanos) = (time.secs(), time.subsec_nanos());
+    format!(in alloc; "{region} {name} {secs} {nanos} {settings} {algorithm}")
 }
 
 // Expiry, region, name, second, algorithm and version of a copy of the parameters of a request, which a copy of a
 // builder built, after the settings in them got `expires-in N`.
 fn change(alloc: Global, parts: &[&str]) -> Mem<String> {
     let identity = identity_of(alloc, parts)?;
-    let builder = SigningParams::builder()
-        .identity(&identity)
+    let settings = SigningSettings::new(alloc)?;
+    let expiry = part(parts, "expires-in").unwrap_or("");
+    change_copy(alloc, &whole_builder(&identity, settings), expiry)
+}
+
+fn whole_builder<'a>(
+    identity: &'a Identity,
+    settings: SigningSettings,
+) -> Builder<'a, SigningSettings> {
+    SigningParams::builder()
+        .identity(identity)
         .region("eu-west-1")
         .name("service")
         .time(Moment::new(7, 9))
-        .settings(SigningSettings::new(alloc)?);
-    let mut params = match builder.try_clone()?.build() {
-        Ok(params) => RequestParams::from(params),
-        Err(_) => unreachable!(),
-    };
-    params.settings_mut().expires_in = part(parts, "expires-in").unwrap_or("").parse().ok();
+        .settings(settings)
+}
+
+fn change_copy(alloc: Global, builder: &Builder<'_, SigningSettings>, expiry: &str) -> Mem<String> {
+    match builder.try_clone()?.build() {
+        Ok(params) => with_expiry(alloc, RequestParams::from(params), expiry),
+        Err(missing) => format!(in alloc; "{missing:?}"),
+    }
+}
+
+fn with_expiry(alloc: Global, params: RequestParams<'_>, expiry: &str) -> Mem<String> {
+    let mut params = params;
+    params.settings_mut().expires_in = expiry.parse().ok();
+    shown_copy(alloc, &params)
+}
+
+fn shown_copy(alloc: Global, params: &RequestParams<'_>) -> Mem<String> {
     let copy = params.try_clone()?;
-    let mut text = format!(in alloc; "{:?} ", copy.settings().expires_in)?;
-    text.push_str(copy.region().unwrap_or("none"))?;
-    text.push(' ')?;
-    text.push_str(copy.name())?;
-    text.push_str(format!(in alloc; " {} ", copy.time().secs())?.as_str())?;
-    text.push_str(copy.algorithm())?;
-    text.push_str(format!(in alloc; " {}", copy.signature_version())?.as_str())?;
-    Ok(text)
+    shown_request_params(alloc, &copy)
+}
+
+fn shown_request_params(alloc: Global, params: &RequestParams<'_>) -> Mem<String> {
+    let (region, name) = (params.region().unwrap_or("none"), params.name());
+    let (expiry, secs) = (params.settings().expires_in, params.time().secs());
+    let (algorithm, version) = (params.algorithm(), params.signature_version());
+    format!(in alloc; "{expiry:?} {region} {name} {secs} {algorithm} {version}")
 }
 
 // The parameters of all parts: who signs, and what they show, under the settings `settings N` and then those of
@@ -89,10 +100,13 @@ fn whole(alloc: Global, parts: &[&str]) -> Mem<String> {
     let (region, name, time) = (region_of(parts), name_of(parts), time_of(parts));
     let settings = number(part(parts, "settings").unwrap_or(""));
     let params = SigningParams::new(&identity, region, name, time, settings);
+    shown_again(alloc, params, number(part(parts, "again").unwrap_or("")))
+}
+
+fn shown_again(alloc: Global, params: SigningParams<'_, i64>, settings: i64) -> Mem<String> {
     let who = key_id(params.identity());
     let first = shown_params(alloc, &params)?;
-    let params = params.with_settings(number(part(parts, "again").unwrap_or("")));
-    let second = shown_params(alloc, &params)?;
+    let second = shown_params(alloc, &params.with_settings(settings))?;
     format!(in alloc; "{who} {first}, {second}")
 }
 

@@ -1,42 +1,49 @@
 //! Copies, each compared with what it was made of by what both show.
+ghost use Rattle.sigv4.specs.Request.{params_settings};
+ghost use Rattle.sigv4.specs.Settings.{IsHeaderForm};
+
 use crate::faults::endpoint_error_of;
-use crate::instructions::{told, told_header};
-use crate::requests::{
-    identity_of, name_of, params_of, payload_of, region_of, request_of, settings_of, signable_of,
-    time_of,
-};
+use crate::instructions::{push_header, told};
+use crate::parts::first;
+use crate::requests::{identity_of, params_of, payload_of, request_of, settings_of, signable_of};
 use crate::signatures::{refusal, signed};
 use crate::texts::{on_one_line, unknown};
 use case_lines::shown;
-use sigv4::{SigningError, SigningInstructions, canonical_text};
-use smithy_core::{ErrorMetadata, Mem};
-use smithy_http::{
-    EndpointPrefix, InvalidEndpointError, QueryWriter, ResolveEndpointError, UriFault,
+use sigv4::{
+    Header, SignableRequest, SigningError, SigningInstructions, SigningParams, canonical_text,
 };
+use smithy_core::{ErrorMetadata, HttpRequest, Mem};
+use smithy_http::{EndpointPrefix, InvalidEndpointError, QueryWriter, ResolveEndpointError};
 use std::alloc::Global;
 
 /// What both a value of this kind and its copy show.
-pub fn answer(alloc: Global, kind: &str, words: &[&str]) -> Mem<String> {
-    match (kind, words) {
-        ("QueryWriter", [target]) => shown(alloc, writer(alloc, target)),
-        ("EndpointPrefix", [text]) => shown(alloc, prefix(alloc, text)),
-        ("InvalidEndpointError", [text]) => endpoint_error(alloc, text),
-        ("ResolveEndpointError", [message, why]) => resolve_error(alloc, message, why),
-        ("SignableBody", [text]) => body(alloc, text),
-        ("SigningSettings", parts) => settings(alloc, parts),
-        ("SignableRequest", [request, parts @ ..]) => shown(alloc, signable(alloc, request, parts)),
-        ("SigningError", [request, parts @ ..]) => signing_error(alloc, request, parts),
-        ("SigningOutput", [request, parts @ ..]) => shown(alloc, output(alloc, request, parts)),
-        ("SigningInstructions", [request, parts @ ..]) => {
-            shown(alloc, instructions(alloc, request, parts))
-        }
-        ("Header", [request, parts @ ..]) => shown(alloc, headers(alloc, request, parts)),
+pub fn answer(alloc: Global, words: &[&str]) -> Mem<String> {
+    match words {
+        [kind, rest @ ..] => of_kind(alloc, kind, rest),
+        [] => unknown(alloc),
+    }
+}
+
+fn of_kind(alloc: Global, kind: &str, words: &[&str]) -> Mem<String> {
+    match kind {
+        "QueryWriter" => writer(alloc, first(words)),
+        "EndpointPrefix" => shown(alloc, prefix(alloc, first(words))),
+        "InvalidEndpointError" => endpoint_error(alloc, first(words)),
+        "ResolveEndpointError" => resolve_error(alloc, words),
+        "SignableBody" => body(alloc, first(words)),
+        "SigningSettings" => settings(alloc, words),
+        "SignableRequest" => shown(alloc, signable(alloc, words)),
+        "SigningError" => signing_error(alloc, words),
+        "SigningOutput" => shown(alloc, output(alloc, words)),
+        "SigningInstructions" => shown(alloc, instructions(alloc, words)),
+        "Header" => shown(alloc, headers(alloc, words)),
         _ => unknown(alloc),
     }
 }
 
 // The text of both, or both.
-fn compared(alloc: Global, first: String, copy: String) -> Mem<String> {
+fn compared(alloc: Global, first: Mem<String>, copy: Mem<String>) -> Mem<String> {
+    let (first, copy) = (first?, copy?);
     if first == copy {
         on_one_line(alloc, first.as_str())
     } else {
@@ -44,109 +51,162 @@ fn compared(alloc: Global, first: String, copy: String) -> Mem<String> {
     }
 }
 
-fn writer(alloc: Global, target: &str) -> Result<String, UriFault> {
-    let writer = QueryWriter::new_from_string(alloc, target)?;
+fn writer(alloc: Global, target: &str) -> Mem<String> {
+    match QueryWriter::new_from_string(alloc, target) {
+        Ok(writer) => copied_writer(alloc, writer),
+        Err(fault) => format!(in alloc; "{fault:?}"),
+    }
+}
+
+fn copied_writer(alloc: Global, writer: QueryWriter) -> Mem<String> {
     let copy = writer.try_clone()?;
-    Ok(compared(alloc, writer.build_text()?, copy.build_text()?)?)
+    let text = shown(alloc, writer.build_text());
+    compared(alloc, text, shown(alloc, copy.build_text()))
 }
 
 fn prefix(alloc: Global, text: &str) -> Result<String, InvalidEndpointError> {
     let prefix = EndpointPrefix::new(String::from_str(alloc, text)?)?;
-    let copy = String::from_str(alloc, prefix.try_clone()?.as_str())?;
-    Ok(compared(alloc, String::from_str(alloc, prefix.as_str())?, copy)?)
+    Ok(copied_prefix(alloc, &prefix)?)
+}
+
+fn copied_prefix(alloc: Global, prefix: &EndpointPrefix) -> Mem<String> {
+    let copy = prefix.try_clone()?;
+    let text = String::from_str(alloc, prefix.as_str());
+    compared(alloc, text, String::from_str(alloc, copy.as_str()))
 }
 
 fn endpoint_error(alloc: Global, text: &str) -> Mem<String> {
     let error = endpoint_error_of(alloc, text)?;
     let copy = error.try_clone()?;
-    compared(
-        alloc,
-        format!(in alloc; "{error:?}")?,
-        format!(in alloc; "{copy:?}")?,
-    )
+    let text = format!(in alloc; "{error:?}");
+    compared(alloc, text, format!(in alloc; "{copy:?}"))
 }
 
-fn resolve_error(alloc: Global, message: &str, why: &str) -> Mem<String> {
+// A message, and the source's message.
+fn resolve_error(alloc: Global, words: &[&str]) -> Mem<String> {
+    let [message, why] = words else {
+        return unknown(alloc);
+    };
     let source = ErrorMetadata {
         code: None,
         message: Some(String::from_str(alloc, why)?),
     };
     let error = ResolveEndpointError::message(String::from_str(alloc, message)?);
-    let error = error.with_source(Some(source));
+    copied_resolve_error(alloc, &error.with_source(Some(source)))
+}
+
+fn copied_resolve_error(alloc: Global, error: &ResolveEndpointError) -> Mem<String> {
     let copy = error.try_clone()?;
-    compared(
-        alloc,
-        format!(in alloc; "{error:?}")?,
-        format!(in alloc; "{copy:?}")?,
-    )
+    let text = format!(in alloc; "{error:?}");
+    compared(alloc, text, format!(in alloc; "{copy:?}"))
 }
 
 fn body(alloc: Global, text: &str) -> Mem<String> {
     let body = payload_of(alloc, text)?;
     let copy = body.try_clone()?;
-    format!(in alloc; "{copy:?}, equal: {}", copy == body)
+    let is_equal = copy == body;
+    format!(in alloc; "{copy:?}, equal: {is_equal}")
 }
 
 fn settings(alloc: Global, parts: &[&str]) -> Mem<String> {
     let settings = settings_of(alloc, parts)?;
     let copy = settings.try_clone()?;
-    format!(in alloc; "equal: {}", copy == settings)
+    let is_equal = copy == settings;
+    format!(in alloc; "equal: {is_equal}")
 }
 
-fn signable(alloc: Global, request: &str, parts: &[&str]) -> Result<String, SigningError> {
-    let request = request_of(alloc, request, parts)?;
-    let identity = identity_of(alloc, parts)?;
-    let settings = settings_of(alloc, parts)?;
-    let (region, name, time) = (region_of(parts), name_of(parts), time_of(parts));
-    let params = params_of(&identity, region, name, time, settings);
-    let signable = signable_of(alloc, &request, parts)?;
+fn signable(alloc: Global, words: &[&str]) -> Result<String, SigningError> {
+    let request = request_of(alloc, words)?;
+    let identity = identity_of(alloc, words)?;
+    let params = params_of(alloc, &identity, words)?;
+    signable_under(alloc, &request, &params, words)
+}
+
+fn signable_under(
+    alloc: Global,
+    request: &HttpRequest,
+    params: &SigningParams<'_>,
+    words: &[&str],
+) -> Result<String, SigningError>
+    requires { IsHeaderForm (params_settings params.now) }
+{
+    let signable = signable_of(alloc, request, words)?;
+    let text = canonical_text(alloc, &signable, params)?;
+    let copied = copied_text(alloc, &signable, params)?;
+    Ok(compared(alloc, Ok(text), Ok(copied))?)
+}
+
+// The canonical text of a copy.
+fn copied_text(
+    alloc: Global,
+    signable: &SignableRequest<'_>,
+    params: &SigningParams<'_>,
+) -> Result<String, SigningError>
+    requires { IsHeaderForm (params_settings params.now) }
+{
     let copy = signable.try_clone()?;
-    let text = canonical_text(alloc, &signable, &params)?;
-    Ok(compared(alloc, text, canonical_text(alloc, &copy, &params)?)?)
+    canonical_text(alloc, &copy, params)
 }
 
-fn signing_error(alloc: Global, request: &str, parts: &[&str]) -> Mem<String> {
-    let request = request_of(alloc, request, parts)?;
-    match signed(alloc, &request, parts) {
+fn signing_error(alloc: Global, words: &[&str]) -> Mem<String> {
+    let request = request_of(alloc, words)?;
+    match signed(alloc, &request, words) {
         Ok(_) => String::from_str(alloc, "signed"),
-        Err(error) => {
-            let copy = error.try_clone()?;
-            compared(alloc, refusal(alloc, &error)?, refusal(alloc, &copy)?)
-        }
+        Err(error) => copied_signing_error(alloc, &error),
     }
 }
 
-fn output(alloc: Global, request: &str, parts: &[&str]) -> Result<String, SigningError> {
-    let request = request_of(alloc, request, parts)?;
-    let output = signed(alloc, &request, parts)?;
-    let copy = output.try_clone()?;
-    let (_, signature) = copy.into_parts();
-    Ok(compared(
-        alloc,
-        String::from_str(alloc, output.signature())?,
-        signature,
-    )?)
+fn copied_signing_error(alloc: Global, error: &SigningError) -> Mem<String> {
+    let copy = error.try_clone()?;
+    compared(alloc, refusal(alloc, error), refusal(alloc, &copy))
 }
 
-fn instructions(alloc: Global, request: &str, parts: &[&str]) -> Result<String, SigningError> {
-    let made = made(alloc, request, parts)?;
+fn output(alloc: Global, words: &[&str]) -> Result<String, SigningError> {
+    let request = request_of(alloc, words)?;
+    let output = signed(alloc, &request, words)?;
+    let (_, signature) = output.try_clone()?.into_parts();
+    let text = String::from_str(alloc, output.signature());
+    Ok(compared(alloc, text, Ok(signature))?)
+}
+
+fn instructions(alloc: Global, words: &[&str]) -> Result<String, SigningError> {
+    let made = made(alloc, words)?;
+    Ok(copied_instructions(alloc, made)?)
+}
+
+fn copied_instructions(alloc: Global, made: SigningInstructions) -> Mem<String> {
     let copy = made.try_clone()?;
-    Ok(compared(alloc, told(alloc, made)?, told(alloc, copy)?)?)
+    let text = told(alloc, made);
+    compared(alloc, text, told(alloc, copy))
 }
 
-fn headers(alloc: Global, request: &str, parts: &[&str]) -> Result<String, SigningError> {
-    let (headers, _) = made(alloc, request, parts)?.into_parts();
+fn headers(alloc: Global, words: &[&str]) -> Result<String, SigningError> {
+    let (headers, _) = made(alloc, words)?.into_parts();
+    Ok(copied_headers(alloc, headers.as_slice())?)
+}
+
+fn copied_headers(alloc: Global, headers: &[Header]) -> Mem<String> {
     let mut text = String::new(alloc);
-    for header in &headers {
-        let copy = header.try_clone()?;
-        let copy = told_header(alloc, &copy)?;
-        text.push_str(compared(alloc, told_header(alloc, header)?, copy)?.as_str())?;
+    for header in headers {
+        push_copied_header(alloc, &mut text, header)?;
     }
     Ok(text)
 }
 
-fn made(alloc: Global, request: &str, parts: &[&str]) -> Result<SigningInstructions, SigningError> {
-    let request = request_of(alloc, request, parts)?;
-    let (made, _) = signed(alloc, &request, parts)?.into_parts();
+fn push_copied_header(alloc: Global, text: &mut String, header: &Header) -> Mem<()> {
+    let copy = header.try_clone()?;
+    let both = compared(alloc, told_header(alloc, header), told_header(alloc, &copy))?;
+    text.push_str(both.as_str())
+}
+
+fn told_header(alloc: Global, header: &Header) -> Mem<String> {
+    let mut text = String::new(alloc);
+    push_header(&mut text, header)?;
+    Ok(text)
+}
+
+fn made(alloc: Global, words: &[&str]) -> Result<SigningInstructions, SigningError> {
+    let request = request_of(alloc, words)?;
+    let (made, _) = signed(alloc, &request, words)?.into_parts();
     Ok(made)
 }

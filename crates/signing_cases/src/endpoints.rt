@@ -1,5 +1,4 @@
-use crate::texts::{length, unknown, with_repeats};
-use case_lines::shown;
+use crate::texts::{unknown, with_repeats};
 use http_uri::Uri;
 use smithy_core::{ErrorMetadata, Mem};
 use smithy_http::{
@@ -9,42 +8,51 @@ use std::alloc::Global;
 
 /// The answer of a call on endpoints.
 pub fn answer(alloc: Global, call: &str, words: &[&str]) -> Mem<String> {
-    match (call, words) {
-        ("endpoint", [target, endpoint, prefix]) => shown(
-            alloc,
-            moved(alloc, target, endpoint, prefix),
-        ),
-        ("endpoint_length", [target, endpoint]) => endpoint_length(alloc, target, endpoint),
-        ("resolve_error", [message, why]) => resolve_error(alloc, message, why),
+    match call {
+        "endpoint" => endpoint(alloc, words),
+        "endpoint_length" => endpoint_length(alloc, words),
+        "resolve_error" => resolve_error(alloc, words),
         _ => unknown(alloc),
     }
 }
 
-// The length of the target at the endpoint.
-fn endpoint_length(alloc: Global, target: &str, endpoint: &str) -> Mem<String> {
-    let target = with_repeats(alloc, target)?;
-    length(alloc, moved_whole(alloc, target.as_str(), endpoint))
-}
-
 // The target at the endpoint, or the fault and then the target, which has stayed.
-fn moved(alloc: Global, target: &str, endpoint: &str, prefix: &str) -> Result<String, UriFault> {
-    let mut uri = target_of(alloc, target)?;
-    let answer = apply(alloc, &mut uri, endpoint, prefix);
-    let target = uri.to_string(alloc)?;
-    match answer {
-        Ok(()) => Ok(target),
-        Err(fault) => Ok(format!(in alloc; "{fault:?} {target}")?),
+fn endpoint(alloc: Global, words: &[&str]) -> Mem<String> {
+    let [target, endpoint, prefix] = words else {
+        return unknown(alloc);
+    };
+    match target_of(alloc, target) {
+        Ok(uri) => moved(alloc, uri, endpoint, prefix),
+        Err(fault) => format!(in alloc; "{fault:?}"),
     }
 }
 
-fn moved_whole(
-    alloc: Global,
-    target: &str,
-    endpoint: &str,
-) -> Result<String, InvalidEndpointError> {
-    let mut uri = target_of(alloc, target)?;
-    apply(alloc, &mut uri, endpoint, "")?;
-    Ok(uri.to_string(alloc)?)
+fn moved(alloc: Global, uri: Uri, endpoint: &str, prefix: &str) -> Mem<String> {
+    let mut uri = uri;
+    match apply(alloc, &mut uri, endpoint, prefix) {
+        Ok(()) => uri.to_string(alloc),
+        Err(fault) => format!(in alloc; "{fault:?} {uri}"),
+    }
+}
+
+// The length of the target at the endpoint.
+fn endpoint_length(alloc: Global, words: &[&str]) -> Mem<String> {
+    let [target, endpoint] = words else {
+        return unknown(alloc);
+    };
+    let target = with_repeats(alloc, target)?;
+    match target_of(alloc, target.as_str()) {
+        Ok(uri) => moved_length(alloc, uri, endpoint),
+        Err(fault) => format!(in alloc; "{fault:?}"),
+    }
+}
+
+fn moved_length(alloc: Global, uri: Uri, endpoint: &str) -> Mem<String> {
+    let mut uri = uri;
+    match apply(alloc, &mut uri, endpoint, "") {
+        Ok(()) => uri.to_string(alloc)?.len().to_string(alloc),
+        Err(fault) => format!(in alloc; "{fault:?}"),
+    }
 }
 
 fn apply(
@@ -54,17 +62,20 @@ fn apply(
     prefix: &str,
 ) -> Result<(), InvalidEndpointError> {
     let endpoint = target_of(alloc, endpoint)?;
-    match prefix_of(alloc, prefix)? {
-        Some(prefix) => apply_endpoint(alloc, uri, &endpoint, Some(&prefix)),
-        None => apply_endpoint(alloc, uri, &endpoint, None),
+    if prefix.is_empty() {
+        return apply_endpoint(alloc, uri, &endpoint, None);
     }
+    apply_prefixed(alloc, uri, &endpoint, prefix)
 }
 
-fn prefix_of(alloc: Global, text: &str) -> Result<Option<EndpointPrefix>, InvalidEndpointError> {
-    if text.is_empty() {
-        return Ok(None);
-    }
-    Ok(Some(EndpointPrefix::new(String::from_str(alloc, text)?)?))
+fn apply_prefixed(
+    alloc: Global,
+    uri: &mut Uri,
+    endpoint: &Uri,
+    prefix: &str,
+) -> Result<(), InvalidEndpointError> {
+    let prefix = EndpointPrefix::new(String::from_str(alloc, prefix)?)?;
+    apply_endpoint(alloc, uri, endpoint, Some(&prefix))
 }
 
 fn target_of(alloc: Global, text: &str) -> Result<Uri, UriFault> {
@@ -72,13 +83,25 @@ fn target_of(alloc: Global, text: &str) -> Result<Uri, UriFault> {
 }
 
 // What an error from a source prints, the source's message, and whether it has a source without it.
-fn resolve_error(alloc: Global, message: &str, why: &str) -> Mem<String> {
+fn resolve_error(alloc: Global, words: &[&str]) -> Mem<String> {
+    let [message, why] = words else {
+        return unknown(alloc);
+    };
     let source = ErrorMetadata {
         code: None,
         message: Some(String::from_str(alloc, why)?),
     };
     let error = ResolveEndpointError::from_source(String::from_str(alloc, message)?, source);
-    let text = format!(in alloc; "{error}, from {:?}", error.source())?;
-    let bare = error.with_source(None);
-    format!(in alloc; "{text}; {bare}, from {:?}", bare.source())
+    with_bare(alloc, error)
+}
+
+fn with_bare(alloc: Global, error: ResolveEndpointError) -> Mem<String> {
+    let text = from_told(alloc, &error)?;
+    let bare = from_told(alloc, &error.with_source(None))?;
+    format!(in alloc; "{text}; {bare}")
+}
+
+fn from_told(alloc: Global, error: &ResolveEndpointError) -> Mem<String> {
+    let source = error.source();
+    format!(in alloc; "{error}, from {source:?}")
 }

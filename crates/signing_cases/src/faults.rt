@@ -5,7 +5,14 @@ use smithy_http::{HeaderFault, InvalidEndpointError, MergeFault, UriFault};
 use std::alloc::Global;
 
 /// What the fault of a type prints.
-pub fn answer(alloc: Global, kind: &str, name: &str) -> Mem<String> {
+pub fn answer(alloc: Global, words: &[&str]) -> Mem<String> {
+    match words {
+        [kind, name] => printed(alloc, kind, name),
+        _ => unknown(alloc),
+    }
+}
+
+fn printed(alloc: Global, kind: &str, name: &str) -> Mem<String> {
     match kind {
         "UriFault" => uri_fault(alloc, name),
         "HeaderFault" => header_fault(alloc, name),

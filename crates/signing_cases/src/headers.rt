@@ -1,26 +1,28 @@
 use crate::texts::{on_one_line, unknown};
-use bytes::Bytes;
 use smithy_core::{Headers, HttpRequest, HttpResponse, Mem};
 use smithy_http::{HeaderFault, set_request_header_if_absent, set_response_header_if_absent};
 use std::alloc::Global;
 
 /// The answer of a call on headers that may be absent.
 pub fn answer(alloc: Global, call: &str, words: &[&str]) -> Mem<String> {
-    match (call, words) {
-        ("request_header", [name, value]) => request_header(alloc, name, value),
-        ("response_header", [name, value]) => response_header(alloc, name, value),
+    match words {
+        [name, value] => set(alloc, call, name, value),
+        _ => unknown(alloc),
+    }
+}
+
+fn set(alloc: Global, call: &str, name: &str, value: &str) -> Mem<String> {
+    match call {
+        "request_header" => request_header(alloc, name, value),
+        "response_header" => response_header(alloc, name, value),
         _ => unknown(alloc),
     }
 }
 
 // The headers of a request after one is set beside `foo=bar`, and before them the fault where it isn't.
 fn request_header(alloc: Global, name: &str, value: &str) -> Mem<String> {
-    let mut request = HttpRequest {
-        method: String::from_str(alloc, "GET")?,
-        target: String::from_str(alloc, "/")?,
-        headers: foo(alloc)?,
-        body: Bytes::from_static(b""),
-    };
+    let mut request = HttpRequest::new(alloc, "GET", "/")?;
+    request.headers.append("foo", "bar")?;
     let answer = set_request_header_if_absent(alloc, &mut request, name, value);
     outcome(alloc, answer, &request.headers)
 }
@@ -29,29 +31,31 @@ fn request_header(alloc: Global, name: &str, value: &str) -> Mem<String> {
 fn response_header(alloc: Global, name: &str, value: &str) -> Mem<String> {
     let mut response = HttpResponse {
         status: 200,
-        headers: foo(alloc)?,
+        headers: Headers::new(alloc),
         skew: None,
     };
+    response.headers.append("foo", "bar")?;
     let answer = set_response_header_if_absent(alloc, &mut response, name, value);
     outcome(alloc, answer, &response.headers)
 }
 
-fn foo(alloc: Global) -> Mem<Headers> {
-    let mut headers = Headers::new(alloc);
-    headers.append("foo", "bar")?;
-    Ok(headers)
+fn outcome(alloc: Global, answer: Result<(), HeaderFault>, headers: &Headers) -> Mem<String> {
+    let mut text = String::new(alloc);
+    push_fault(&mut text, answer)?;
+    push_pairs(&mut text, headers)?;
+    on_one_line(alloc, text.as_str())
 }
 
-fn outcome(alloc: Global, answer: Result<(), HeaderFault>, headers: &Headers) -> Mem<String> {
-    let mut text = match answer {
-        Ok(()) => String::new(alloc),
-        Err(fault) => format!(in alloc; "{fault:?} ")?,
-    };
-    for (name, value) in headers.iter() {
-        text.push_str(name)?;
-        text.push('=')?;
-        text.push_str(value)?;
-        text.push(';')?;
+fn push_fault(text: &mut String, answer: Result<(), HeaderFault>) -> Mem<()> {
+    match answer {
+        Ok(()) => Ok(()),
+        Err(fault) => write!(text, "{fault:?} "),
     }
-    on_one_line(alloc, text.as_str())
+}
+
+fn push_pairs(text: &mut String, headers: &Headers) -> Mem<()> {
+    for (name, value) in headers.iter() {
+        write!(text, "{name}={value};")?;
+    }
+    Ok(())
 }

@@ -2,96 +2,109 @@ use crate::parts::part;
 use crate::requests::request_of;
 use crate::signatures::{refusal, signed};
 use crate::texts::{on_one_line, unknown};
-use sigv4::{Header, SigningInstructions};
+use sigv4::{Header, SigningError, SigningInstructions, SigningOutput};
 use smithy_core::{HttpRequest, Mem};
 use std::alloc::Global;
 
 /// The answer of a call on what a signature adds.
 pub fn answer(alloc: Global, call: &str, words: &[&str]) -> Mem<String> {
-    match (call, words) {
-        ("instructions", [request, parts @ ..]) => instructions(alloc, request, parts),
-        ("apply", [request, parts @ ..]) => apply(alloc, request, parts),
+    match call {
+        "instructions" => instructions(alloc, words),
+        "apply" => apply(alloc, words),
         _ => unknown(alloc),
     }
 }
 
 // The headers that go out, the sensitive ones with `!`, and the parameters.
-fn instructions(alloc: Global, request: &str, parts: &[&str]) -> Mem<String> {
-    let request = request_of(alloc, request, parts)?;
-    match signed(alloc, &request, parts) {
-        Ok(output) => {
-            let (instructions, _) = output.into_parts();
-            told(alloc, instructions)
-        }
+fn instructions(alloc: Global, words: &[&str]) -> Mem<String> {
+    let request = request_of(alloc, words)?;
+    match signed(alloc, &request, words) {
+        Ok(output) => told_output(alloc, output),
         Err(error) => refusal(alloc, &error),
     }
+}
+
+fn told_output(alloc: Global, output: SigningOutput<SigningInstructions>) -> Mem<String> {
+    let (instructions, _) = output.into_parts();
+    told(alloc, instructions)
 }
 
 /// The headers and the parameters, a line each.
 pub fn told(alloc: Global, instructions: SigningInstructions) -> Mem<String> {
     let mut text = String::new(alloc);
-    let (headers, params) = instructions.into_parts();
-    for header in &headers {
-        text.push_str(told_header(alloc, header)?.as_str())?;
-    }
-    for (key, value) in &params {
-        text.push('?')?;
-        push_pair(&mut text, key.as_str(), "=", value.as_str())?;
-    }
+    push_told(&mut text, instructions)?;
     on_one_line(alloc, text.as_str())
 }
 
-/// The line of a header.
-pub fn told_header(alloc: Global, header: &Header) -> Mem<String> {
-    let mut text = String::new(alloc);
-    if header.sensitive() {
-        text.push('!')?;
-    }
-    push_pair(&mut text, header.name(), ": ", header.value())?;
-    Ok(text)
+fn push_told(text: &mut String, instructions: SigningInstructions) -> Mem<()> {
+    let (headers, params) = instructions.into_parts();
+    push_headers(text, headers.as_slice())?;
+    push_params(text, params.as_slice())
 }
 
-fn push_pair(text: &mut String, name: &str, mark: &str, value: &str) -> Mem<()> {
-    text.push_str(name)?;
-    text.push_str(mark)?;
-    text.push_str(value)?;
-    text.push('\n')
+fn push_headers(text: &mut String, headers: &[Header]) -> Mem<()> {
+    for header in headers {
+        push_header(text, header)?;
+    }
+    Ok(())
+}
+
+fn push_params(text: &mut String, params: &[(String, String)]) -> Mem<()> {
+    for (key, value) in params {
+        write!(text, "?{key}={value}\n")?;
+    }
+    Ok(())
+}
+
+/// Appends the line of a header.
+pub fn push_header(text: &mut String, header: &Header) -> Mem<()> {
+    let mark = if header.sensitive() { "!" } else { "" };
+    let (name, value) = (header.name(), header.value());
+    write!(text, "{mark}{name}: {value}\n")
 }
 
 // The request after its signature is put into it, and before it the refusal where it isn't. `onto TARGET` puts the
 // signature into the same request at another target.
-fn apply(alloc: Global, request: &str, parts: &[&str]) -> Mem<String> {
-    let mut request = request_of(alloc, request, parts)?;
-    match signed(alloc, &request, parts) {
-        Ok(output) => {
-            let (instructions, _) = output.into_parts();
-            if let Some(target) = part(parts, "onto") {
-                request.target = String::from_str(alloc, target)?;
-            }
-            applied(alloc, instructions, request)
-        }
+fn apply(alloc: Global, words: &[&str]) -> Mem<String> {
+    let mut request = request_of(alloc, words)?;
+    match signed(alloc, &request, words) {
+        Ok(output) => apply_onto(alloc, output, &mut request, part(words, "onto")),
         Err(error) => refusal(alloc, &error),
     }
 }
 
-fn applied(
+fn apply_onto(
     alloc: Global,
-    instructions: SigningInstructions,
-    mut request: HttpRequest,
+    output: SigningOutput<SigningInstructions>,
+    request: &mut HttpRequest,
+    onto: Option<&str>,
 ) -> Mem<String> {
+    if let Some(target) = onto {
+        request.target = String::from_str(alloc, target)?;
+    }
+    let (instructions, _) = output.into_parts();
+    let answer = instructions.apply_to_request(request);
+    applied(alloc, answer, request)
+}
+
+fn applied(alloc: Global, answer: Result<(), SigningError>, request: &HttpRequest) -> Mem<String> {
     let mut text = String::new(alloc);
-    if let Err(error) = instructions.apply_to_request(&mut request) {
-        text.push_str(refusal(alloc, &error)?.as_str())?;
-        text.push('\n')?;
-    }
-    push_pair(
-        &mut text,
-        request.method.as_str(),
-        " ",
-        request.target.as_str(),
-    )?;
-    for (name, value) in request.headers.iter() {
-        push_pair(&mut text, name, ": ", value)?;
-    }
+    push_refusal(&mut text, answer)?;
+    push_request(&mut text, request)?;
     on_one_line(alloc, text.as_str())
+}
+
+fn push_refusal(text: &mut String, answer: Result<(), SigningError>) -> Mem<()> {
+    match answer {
+        Ok(()) => Ok(()),
+        Err(error) => write!(text, "{error:?}: {error}\n"),
+    }
+}
+
+fn push_request(text: &mut String, request: &HttpRequest) -> Mem<()> {
+    write!(text, "{} {}\n", request.method, request.target)?;
+    for (name, value) in request.headers.iter() {
+        write!(text, "{name}: {value}\n")?;
+    }
+    Ok(())
 }

@@ -1,4 +1,5 @@
 use crate::moments::moment_of;
+use crate::parts::first;
 use crate::texts::unknown;
 use sigv4::normalize_uri_path;
 use sigv4::v4::{calculate_signature, credential_scope, generate_signing_key, request_signature};
@@ -7,82 +8,78 @@ use std::alloc::Global;
 
 /// The answer of a call on paths, scopes, keys and codes.
 pub fn answer(alloc: Global, call: &str, words: &[&str]) -> Mem<String> {
-    match (call, words) {
-        ("path", [path]) => normalize_uri_path(alloc, path),
-        ("stamp", [moment]) => stamp(alloc, moment),
-        ("scope", [moment, region, name]) => scope(alloc, moment, region, name),
-        ("key", [secret, moment, region, name]) => key(alloc, secret, moment, region, name),
-        ("code", [secret, moment, region, name, text]) => code(
-            alloc, secret, moment, region, name, text,
-        ),
-        ("request_code", [secret, moment, region, name, text]) => request_code(
-            alloc, secret, moment, region, name, text,
-        ),
+    match call {
+        "path" => normalize_uri_path(alloc, first(words)),
+        "stamp" => stamp(alloc, first(words)),
+        "scope" => scope(alloc, words),
+        "key" => key(alloc, words),
+        "code" => code(alloc, words),
+        "request_code" => request_code(alloc, words),
         _ => unknown(alloc),
     }
 }
-
-const OUTSIDE: &str = "outside the years";
 
 // Date and time of a moment.
 fn stamp(alloc: Global, moment: &str) -> Mem<String> {
     match civil(moment_of(moment)) {
         Some(civil) => civil.stamp_text(alloc),
-        None => String::from_str(alloc, OUTSIDE),
+        None => outside_years(alloc),
     }
 }
 
-fn scope(alloc: Global, moment: &str, region: &str, name: &str) -> Mem<String> {
+fn outside_years(alloc: Global) -> Mem<String> {
+    String::from_str(alloc, "outside the years")
+}
+
+fn scope(alloc: Global, words: &[&str]) -> Mem<String> {
+    let [moment, region, name] = words else {
+        return unknown(alloc);
+    };
     let time = moment_of(moment);
     match civil(time) {
         Some(_) => credential_scope(alloc, time, region, name),
-        None => String::from_str(alloc, OUTSIDE),
+        None => outside_years(alloc),
     }
 }
 
 // The signing key in hexadecimal.
-fn key(alloc: Global, secret: &str, moment: &str, region: &str, name: &str) -> Mem<String> {
+fn key(alloc: Global, words: &[&str]) -> Mem<String> {
+    let [secret, moment, region, name] = words else {
+        return unknown(alloc);
+    };
     let time = moment_of(moment);
     match civil(time) {
         Some(_) => {
             let key = generate_signing_key(secret, time, region, name);
             hex::encode(alloc, key.as_slice())
         }
-        None => String::from_str(alloc, OUTSIDE),
+        None => outside_years(alloc),
     }
 }
 
 // The signature of a string to sign under the signing key.
-fn code(
-    alloc: Global,
-    secret: &str,
-    moment: &str,
-    region: &str,
-    name: &str,
-    text: &str,
-) -> Mem<String> {
+fn code(alloc: Global, words: &[&str]) -> Mem<String> {
+    let [secret, moment, region, name, text] = words else {
+        return unknown(alloc);
+    };
     let time = moment_of(moment);
     match civil(time) {
         Some(_) => {
             let key = generate_signing_key(secret, time, region, name);
             calculate_signature(alloc, key.as_slice(), text.as_bytes())
         }
-        None => String::from_str(alloc, OUTSIDE),
+        None => outside_years(alloc),
     }
 }
 
 // The signature of a canonical text.
-fn request_code(
-    alloc: Global,
-    secret: &str,
-    moment: &str,
-    region: &str,
-    name: &str,
-    text: &str,
-) -> Mem<String> {
+fn request_code(alloc: Global, words: &[&str]) -> Mem<String> {
+    let [secret, moment, region, name, text] = words else {
+        return unknown(alloc);
+    };
     let time = moment_of(moment);
     match civil(time) {
         Some(_) => request_signature(alloc, text.as_bytes(), secret, time, region, name),
-        None => String::from_str(alloc, OUTSIDE),
+        None => outside_years(alloc),
     }
 }

@@ -36,14 +36,13 @@ struct Calls;
 impl Answers for Calls {
     fn answer(&self, alloc: Global, words: &[&str]) -> Mem<String> {
         match words {
-            ["copy", kind, rest @ ..] => copies::answer(alloc, kind, rest),
-            ["fault", kind, name] => faults::answer(alloc, kind, name),
             [call, rest @ ..] => answer(alloc, call, rest),
             [] => texts::unknown(alloc),
         }
     }
 }
 
+// What requests are made of, and else what signs them.
 fn answer(alloc: Global, call: &str, words: &[&str]) -> Mem<String> {
     match call {
         "label" | "label_time" | "query" | "query_time" => escapes::answer(alloc, call, words),
@@ -53,6 +52,12 @@ fn answer(alloc: Global, call: &str, words: &[&str]) -> Mem<String> {
         "endpoint" | "endpoint_length" | "resolve_error" => endpoints::answer(alloc, call, words),
         "request_header" | "response_header" => headers::answer(alloc, call, words),
         "merge" | "merge_into" => merges::answer(alloc, call, words),
+        _ => signing_answer(alloc, call, words),
+    }
+}
+
+fn signing_answer(alloc: Global, call: &str, words: &[&str]) -> Mem<String> {
+    match call {
         "path" | "stamp" | "scope" | "key" | "code" | "request_code" => {
             keys::answer(alloc, call, words)
         }
@@ -60,6 +65,8 @@ fn answer(alloc: Global, call: &str, words: &[&str]) -> Mem<String> {
         "instructions" | "apply" => instructions::answer(alloc, call, words),
         "build" | "change" | "whole" => builders::answer(alloc, call, words),
         "link" | "link_headers" | "closing" => messages::answer(alloc, call, words),
+        "copy" => copies::answer(alloc, words),
+        "fault" => faults::answer(alloc, words),
         _ => runs::answer(alloc, call, words),
     }
 }

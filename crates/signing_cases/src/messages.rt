@@ -1,4 +1,4 @@
-use crate::parts::part;
+use crate::parts::{first, part_or_none};
 use crate::requests::{identity_of, name_of, region_of, time_of};
 use crate::signatures::refusal;
 use crate::texts::{unknown, with_repeats};
@@ -7,41 +7,49 @@ use eventstream::write_message_to;
 use mac_core::sha256_hex;
 use sigv4::event_stream::{SigningParams, sign_empty_message, sign_message};
 use sigv4::{SigningError, SigningOutput};
-use smithy_core::{Header, HeaderValue, Identity, Mem, Message, Moment, StrBytes};
+use smithy_core::{Header, HeaderValue, Identity, Mem, Message, StrBytes};
 use std::alloc::Global;
 
 /// The answer of a call on signed messages.
 pub fn answer(alloc: Global, call: &str, words: &[&str]) -> Mem<String> {
-    match (call, words) {
-        ("link", [last, parts @ ..]) => link(alloc, last, parts),
-        ("link_headers", [last, parts @ ..]) => link_headers(alloc, last, parts),
-        ("closing", [last, parts @ ..]) => closing(alloc, last, parts),
+    match call {
+        "link" => link(alloc, words),
+        "link_headers" => link_headers(alloc, words),
+        "closing" => closing(alloc, words),
         _ => unknown(alloc),
     }
 }
 
 // The signature of a message over the last one, and the digest of the frame of the signed message.
-fn link(alloc: Global, last: &str, parts: &[&str]) -> Mem<String> {
-    let identity = identity_of(alloc, parts)?;
-    let message = message_of(alloc, parts)?;
-    let params = params_of(&identity, region_of(parts), name_of(parts), time_of(parts));
-    told(alloc, sign_message(alloc, &message, last, &params))
-}
-
-// The same of no message, which ends a stream.
-fn closing(alloc: Global, last: &str, parts: &[&str]) -> Mem<String> {
-    let identity = identity_of(alloc, parts)?;
-    let params = params_of(&identity, region_of(parts), name_of(parts), time_of(parts));
-    told(alloc, sign_empty_message(alloc, last, &params))
+fn link(alloc: Global, words: &[&str]) -> Mem<String> {
+    match signed(alloc, words)? {
+        Ok(output) => told(alloc, &output),
+        Err(error) => refusal(alloc, &error),
+    }
 }
 
 // The headers of a signed message.
-fn link_headers(alloc: Global, last: &str, parts: &[&str]) -> Mem<String> {
-    let identity = identity_of(alloc, parts)?;
-    let message = message_of(alloc, parts)?;
-    let params = params_of(&identity, region_of(parts), name_of(parts), time_of(parts));
-    match sign_message(alloc, &message, last, &params) {
+fn link_headers(alloc: Global, words: &[&str]) -> Mem<String> {
+    match signed(alloc, words)? {
         Ok(output) => headers_of(alloc, output.output()),
+        Err(error) => refusal(alloc, &error),
+    }
+}
+
+fn signed(alloc: Global, words: &[&str]) -> Mem<Signed> {
+    let message = message_of(alloc, words)?;
+    let identity = identity_of(alloc, words)?;
+    let params = params_of(&identity, words);
+    Ok(sign_message(alloc, &message, first(words), &params))
+}
+
+type Signed = Result<SigningOutput<Message>, SigningError>;
+
+// The same of no message, which ends a stream.
+fn closing(alloc: Global, words: &[&str]) -> Mem<String> {
+    let identity = identity_of(alloc, words)?;
+    match sign_empty_message(alloc, first(words), &params_of(&identity, words)) {
+        Ok(output) => told(alloc, &output),
         Err(error) => refusal(alloc, &error),
     }
 }
@@ -49,29 +57,33 @@ fn link_headers(alloc: Global, last: &str, parts: &[&str]) -> Mem<String> {
 fn headers_of(alloc: Global, message: &Message) -> Mem<String> {
     let mut text = String::new(alloc);
     for header in message.headers() {
-        let value = match header.value() {
-            HeaderValue::ByteArray(bytes) => hex::encode(alloc, bytes.as_slice())?,
-            HeaderValue::Timestamp(time) => {
-                format!(in alloc; "{} {}", time.secs(), time.subsec_nanos())?
-            }
-            other => format!(in alloc; "{other:?}")?,
-        };
-        text.push_str(format!(in alloc; "{} {value};", header.name().as_str())?.as_str())?;
+        push_header(alloc, &mut text, header)?;
     }
     Ok(text)
 }
 
-fn params_of<'a>(
-    identity: &'a Identity,
-    region: &'a str,
-    name: &'a str,
-    time: Moment,
-) -> SigningParams<'a> {
+fn push_header(alloc: Global, text: &mut String, header: &Header) -> Mem<()> {
+    let value = value_of(alloc, header.value())?;
+    let name = header.name().as_str();
+    write!(text, "{name} {value};")
+}
+
+fn value_of(alloc: Global, value: &HeaderValue) -> Mem<String> {
+    match value {
+        HeaderValue::ByteArray(bytes) => hex::encode(alloc, bytes.as_slice()),
+        HeaderValue::Timestamp(time) => {
+            format!(in alloc; "{} {}", time.secs(), time.subsec_nanos())
+        }
+        other => format!(in alloc; "{other:?}"),
+    }
+}
+
+fn params_of<'a>(identity: &'a Identity, parts: &[&'a str]) -> SigningParams<'a> {
     let builder = SigningParams::builder()
         .identity(identity)
-        .region(region)
-        .name(name)
-        .time(time)
+        .region(region_of(parts))
+        .name(name_of(parts))
+        .time(time_of(parts))
         .settings(());
     match builder.build() {
         Ok(params) => params,
@@ -81,24 +93,23 @@ fn params_of<'a>(
 
 // The message of `header NAME: TEXT` and `payload TEXT`.
 fn message_of(alloc: Global, parts: &[&str]) -> Mem<Message> {
-    let header = with_repeats(alloc, part(parts, "header").unwrap_or(""))?;
-    let (name, value) = header.as_str().split_once(": ").unwrap_or(("", ""));
-    let name = StrBytes::copy_from_str(alloc, name)?;
-    let value = HeaderValue::String(StrBytes::copy_from_str(alloc, value)?);
-    let payload = part(parts, "payload").unwrap_or("");
-    Message::new(alloc, Bytes::copy_from_slice(alloc, payload.as_bytes())?).add_header(Header::new(
-        name, value,
-    ))
+    let header = header_of(alloc, part_or_none(parts, "header"))?;
+    let payload = Bytes::copy_from_slice(alloc, part_or_none(parts, "payload").as_bytes())?;
+    Message::new(alloc, payload).add_header(header)
 }
 
-fn told(alloc: Global, answer: Result<SigningOutput<Message>, SigningError>) -> Mem<String> {
-    match answer {
-        Ok(output) => {
-            let mut frame = Vec::new(alloc);
-            let _ = write_message_to(alloc, output.output(), &mut frame);
-            let digest = sha256_hex(alloc, frame.as_slice())?;
-            format!(in alloc; "{} {digest}", output.signature())
-        }
-        Err(error) => refusal(alloc, &error),
-    }
+fn header_of(alloc: Global, text: &str) -> Mem<Header> {
+    let text = with_repeats(alloc, text)?;
+    let (name, value) = text.as_str().split_once(": ").unwrap_or(("", ""));
+    let name = StrBytes::copy_from_str(alloc, name)?;
+    let value = StrBytes::copy_from_str(alloc, value)?;
+    Ok(Header::new(name, HeaderValue::String(value)))
+}
+
+fn told(alloc: Global, output: &SigningOutput<Message>) -> Mem<String> {
+    let mut frame = Vec::new(alloc);
+    let _ = write_message_to(alloc, output.output(), &mut frame);
+    let digest = sha256_hex(alloc, frame.as_slice())?;
+    let signature = output.signature();
+    format!(in alloc; "{signature} {digest}")
 }

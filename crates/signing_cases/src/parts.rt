@@ -1,3 +1,11 @@
+/// The first word of a call.
+pub fn first<'a>(words: &[&'a str]) -> &'a str {
+    match words {
+        [word, ..] => *word,
+        [] => "",
+    }
+}
+
 /// What stands after the key in the first part `KEY REST` of it, and nothing in a part that is the key alone.
 pub fn part<'a>(parts: &[&'a str], key: &str) -> Option<&'a str> {
     for part in parts {
@@ -7,6 +15,11 @@ pub fn part<'a>(parts: &[&'a str], key: &str) -> Option<&'a str> {
         }
     }
     None
+}
+
+/// What stands after the key, and no text where there is no such part.
+pub fn part_or_none<'a>(parts: &[&'a str], key: &str) -> &'a str {
+    part(parts, key).unwrap_or("")
 }
 
 /// Whether there is a part of the key.

@@ -8,12 +8,19 @@ use std::alloc::Global;
 
 /// The answer of a call on queries and targets.
 pub fn answer(alloc: Global, call: &str, words: &[&str]) -> Mem<String> {
-    match (call, words) {
-        ("write", [front, pieces @ ..]) => write(alloc, front, pieces),
-        ("target", [target, steps @ ..]) => shown(alloc, built(alloc, target, steps)),
-        ("target_length", [target, steps @ ..]) => length(alloc, built(alloc, target, steps)),
-        ("target_query", [target, steps @ ..]) => shown(alloc, built_query(alloc, target, steps)),
-        ("target_text", [target, steps @ ..]) => shown(alloc, built_text(alloc, target, steps)),
+    match words {
+        [target, steps @ ..] => answer_at(alloc, call, target, steps),
+        [] => unknown(alloc),
+    }
+}
+
+fn answer_at(alloc: Global, call: &str, target: &str, steps: &[&str]) -> Mem<String> {
+    match call {
+        "write" => write(alloc, target, steps),
+        "target" => shown(alloc, built(alloc, target, steps)),
+        "target_length" => length(alloc, built(alloc, target, steps)),
+        "target_query" => shown(alloc, built_query(alloc, target, steps)),
+        "target_text" => shown(alloc, built_text(alloc, target, steps)),
         _ => unknown(alloc),
     }
 }
@@ -33,8 +40,10 @@ fn write(alloc: Global, front: &str, pieces: &[&str]) -> Mem<String> {
 
 // The target after these steps.
 fn built(alloc: Global, target: &str, steps: &[&str]) -> Result<String, UriFault> {
-    let uri = stepped(alloc, target, steps)?.build_uri()?;
-    Ok(uri.to_string(alloc)?)
+    match stepped(alloc, target, steps)?.build_uri() {
+        Ok(uri) => Ok(uri.to_string(alloc)?),
+        Err(fault) => Err(fault),
+    }
 }
 
 // Its query.
@@ -47,16 +56,33 @@ fn built_text(alloc: Global, target: &str, steps: &[&str]) -> Result<String, Uri
     stepped(alloc, target, steps)?.build_text()
 }
 
-// A writer on the target after these steps. After `uri ` the target is read as a URI, and isn't tested.
+// A writer on the target after these steps.
 fn stepped(alloc: Global, target: &str, steps: &[&str]) -> Result<QueryWriter, UriFault> {
-    let mut writer = match target.strip_prefix("uri ") {
-        Some(text) => QueryWriter::new(alloc, &Uri::from_str(alloc, text)?)?,
-        None => QueryWriter::new_from_string(alloc, target)?,
-    };
-    for step in steps {
-        take_step(alloc, &mut writer, step)?;
-    }
+    let mut writer = writer_of(alloc, target)?;
+    take_steps(alloc, &mut writer, steps)?;
     Ok(writer)
+}
+
+// After `uri ` the target is read as a URI, and isn't tested.
+fn writer_of(alloc: Global, target: &str) -> Result<QueryWriter, UriFault> {
+    match target.strip_prefix("uri ") {
+        Some(text) => writer_of_uri(alloc, text),
+        None => QueryWriter::new_from_string(alloc, target),
+    }
+}
+
+fn writer_of_uri(alloc: Global, text: &str) -> Result<QueryWriter, UriFault> {
+    match Uri::from_str(alloc, text) {
+        Ok(uri) => Ok(QueryWriter::new(alloc, &uri)?),
+        Err(fault) => Err(UriFault::from(fault)),
+    }
+}
+
+fn take_steps(alloc: Global, writer: &mut QueryWriter, steps: &[&str]) -> Mem<()> {
+    for step in steps {
+        take_step(alloc, writer, step)?;
+    }
+    Ok(())
 }
 
 // One step: `clear`, `k=v`, `k:v` for what is escaped already, or `k=v` with repeats after `long `.

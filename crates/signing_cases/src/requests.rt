@@ -1,7 +1,10 @@
 //! A request and how it is signed, from the words `METHOD TARGET`, `header NAME: VALUE`, `body TEXT` and so on.
+ghost use Rattle.std.specs.Prelude.{◌≡◌, IfOk};
+ghost use Rattle.sigv4.specs.Request.{params_settings};
+ghost use Rattle.sigv4.specs.Settings.{IsHeaderForm, settings_of};
 
 use crate::moments::moment_of;
-use crate::parts::{has_part, part};
+use crate::parts::{first, has_part, part, part_or_none};
 use bytes::Bytes;
 use sigv4::{
     PayloadChecksumKind, PercentEncodingMode, SessionTokenMode, SignableBody, SignableRequest,
@@ -10,49 +13,51 @@ use sigv4::{
 use smithy_core::{Credentials, Headers, HttpRequest, Identity, Mem, Moment};
 use std::alloc::Global;
 
-/// The request of `METHOD TARGET`, its headers and its body.
-pub fn request_of(alloc: Global, request: &str, parts: &[&str]) -> Mem<HttpRequest> {
-    let (method, target) = request.split_once(' ').unwrap_or((request, ""));
-    let body = part(parts, "body").unwrap_or("");
-    Ok(HttpRequest {
-        method: String::from_str(alloc, method)?,
-        target: String::from_str(alloc, target)?,
-        headers: headers_of(alloc, parts)?,
-        body: Bytes::copy_from_slice(alloc, body.as_bytes())?,
-    })
+/// The request of `METHOD TARGET`, which comes first, its headers and its body.
+pub fn request_of(alloc: Global, words: &[&str]) -> Mem<HttpRequest> {
+    let (method, target) = first(words).split_once(' ').unwrap_or(("", ""));
+    let mut request = HttpRequest::new(alloc, method, target)?;
+    add_headers(&mut request.headers, words)?;
+    request.body = Bytes::copy_from_slice(alloc, part_or_none(words, "body").as_bytes())?;
+    Ok(request)
 }
 
-fn headers_of(alloc: Global, parts: &[&str]) -> Mem<Headers> {
-    let mut headers = Headers::new(alloc);
+fn add_headers(headers: &mut Headers, parts: &[&str]) -> Mem<()> {
     for part in parts {
         if let Some(("header", pair)) = part.split_once(' ') {
             let (name, value) = pair.split_once(": ").unwrap_or((pair, ""));
             headers.append(name, value)?;
         }
     }
-    Ok(headers)
+    Ok(())
 }
 
 /// Who signs: `bearer TOKEN`, or else the credentials of AWS's examples, with `token TOKEN`.
 pub fn identity_of(alloc: Global, parts: &[&str]) -> Mem<Identity> {
-    if let Some(token) = part(parts, "bearer") {
-        return Ok(Identity::Token(String::from_str(alloc, token)?));
+    match part(parts, "bearer") {
+        Some(token) => Ok(Identity::Token(String::from_str(alloc, token)?)),
+        None => Ok(Identity::Credentials(credentials_of(alloc, parts)?)),
     }
-    let token = match part(parts, "token") {
-        Some(token) => Some(String::from_str(alloc, token)?),
-        None => None,
-    };
-    Ok(Identity::Credentials(Credentials::new(
-        String::from_str(alloc, part(parts, "key-id").unwrap_or("AKIDEXAMPLE"))?,
-        String::from_str(alloc, "wJalrXUtnFEMI/K7MDENG+bPxRfiCYEXAMPLEKEY")?,
-        token,
-        None,
-    )))
+}
+
+fn credentials_of(alloc: Global, parts: &[&str]) -> Mem<Credentials> {
+    let key_id = String::from_str(alloc, part(parts, "key-id").unwrap_or("AKIDEXAMPLE"))?;
+    let secret = String::from_str(alloc, "wJalrXUtnFEMI/K7MDENG+bPxRfiCYEXAMPLEKEY")?;
+    Ok(Credentials::new(key_id, secret, token_of(alloc, parts)?, None))
+}
+
+fn token_of(alloc: Global, parts: &[&str]) -> Mem<Option<String>> {
+    match part(parts, "token") {
+        Some(token) => Ok(Some(String::from_str(alloc, token)?)),
+        None => Ok(None),
+    }
 }
 
 /// The settings: `encode-once`, `keep-path`, `payload-header`, `omit-token` and `exclude-none` change the usual ones, and
 /// `for-s3` gives those for Amazon S3.
-pub fn settings_of(alloc: Global, parts: &[&str]) -> Mem<SigningSettings> {
+pub fn settings_of(alloc: Global, parts: &[&str]) -> Mem<SigningSettings>
+    ensures { IfOk result (λ settings. IsHeaderForm (settings_of settings)) }
+{
     if has_part(parts, "for-s3") {
         return SigningSettings::for_s3(alloc);
     }
@@ -74,24 +79,18 @@ pub fn settings_of(alloc: Global, parts: &[&str]) -> Mem<SigningSettings> {
     Ok(settings)
 }
 
-/// What signs.
+/// What signs: region, name, moment and settings beside who does.
 pub fn params_of<'a>(
+    alloc: Global,
     identity: &'a Identity,
-    region: &'a str,
-    name: &'a str,
-    time: Moment,
-    settings: SigningSettings,
-) -> SigningParams<'a> {
-    let builder = v4::SigningParams::builder()
-        .identity(identity)
-        .region(region)
-        .name(name)
-        .time(time)
-        .settings(settings);
-    match builder.build() {
-        Ok(params) => SigningParams::from(params),
-        Err(_) => unreachable!(),
-    }
+    parts: &[&'a str],
+) -> Mem<SigningParams<'a>>
+    ensures { IfOk result (λ params. IsHeaderForm (params_settings params)) }
+{
+    let settings = settings_of(alloc, parts)?;
+    let (region, name, time) = (region_of(parts), name_of(parts), time_of(parts));
+    let params = v4::SigningParams::new(identity, region, name, time, settings);
+    Ok(SigningParams::V4(params))
 }
 
 /// The region of `region R`, or else that of the AWS signing test suite.

@@ -10,11 +10,18 @@ use std::alloc::Global;
 
 /// The answer of a run.
 pub fn answer(alloc: Global, call: &str, words: &[&str]) -> Mem<String> {
-    match (call, words) {
-        ("run", [command, lines @ ..]) => whole(alloc, command, lines),
-        ("run_digest", [command, lines @ ..]) => digest(alloc, command, lines),
-        ("run_events", [command, lines @ ..]) => events(alloc, command, lines),
-        ("run_refusal", [command, lines @ ..]) => refusal(alloc, command, lines),
+    match words {
+        [command, lines @ ..] => answer_to(alloc, call, command, lines),
+        [] => unknown(alloc),
+    }
+}
+
+fn answer_to(alloc: Global, call: &str, command: &str, lines: &[&str]) -> Mem<String> {
+    match call {
+        "run" => whole(alloc, command, lines),
+        "run_digest" => digest(alloc, command, lines),
+        "run_events" => events(alloc, command, lines),
+        "run_refusal" => refusal(alloc, command, lines),
         _ => unknown(alloc),
     }
 }
@@ -23,7 +30,11 @@ pub fn answer(alloc: Global, call: &str, words: &[&str]) -> Mem<String> {
 fn whole(alloc: Global, command: &str, lines: &[&str]) -> Mem<String> {
     let mut out = FaultySink::new(alloc, fails_of(alloc, lines, "@out")?);
     let ending = ending(alloc, command, lines, &mut out)?;
-    let held = bytes_on_one_line(alloc, out.held())?;
+    with_held(alloc, ending.as_str(), out.held())
+}
+
+fn with_held(alloc: Global, ending: &str, held: &[u8]) -> Mem<String> {
+    let held = bytes_on_one_line(alloc, held)?;
     format!(in alloc; "{ending}|{held}")
 }
 
@@ -31,21 +42,30 @@ fn whole(alloc: Global, command: &str, lines: &[&str]) -> Mem<String> {
 fn digest(alloc: Global, command: &str, lines: &[&str]) -> Mem<String> {
     let mut out = FaultySink::new(alloc, fails_of(alloc, lines, "@out")?);
     let ending = ending(alloc, command, lines, &mut out)?;
-    let digest = sha256_hex(alloc, out.held())?;
-    format!(in alloc; "{ending}|{} {digest}", out.held().len())
+    with_digest(alloc, ending.as_str(), out.held())
+}
+
+fn with_digest(alloc: Global, ending: &str, held: &[u8]) -> Mem<String> {
+    let digest = sha256_hex(alloc, held)?;
+    format!(in alloc; "{ending}|{} {digest}", held.len())
 }
 
 // The number of the status, what `err` holds, and the frames of the events, each from the payload of its signed one.
 fn events(alloc: Global, command: &str, lines: &[&str]) -> Mem<String> {
     let mut out = FaultySink::new(alloc, fails_of(alloc, lines, "@out")?);
     let mut text = ending(alloc, command, lines, &mut out)?;
-    let held = std::str::from_utf8(out.held()).unwrap_or("");
+    push_events(alloc, &mut text, out.held())?;
+    Ok(text)
+}
+
+fn push_events(alloc: Global, text: &mut String, held: &[u8]) -> Mem<()> {
+    let held = std::str::from_utf8(held).unwrap_or("");
     let (_, frames) = held.split_once("\n\n").unwrap_or(("", ""));
     for frame in frames.split('\n') {
         text.push('|')?;
         text.push_str(payload_of(alloc, frame)?.as_str())?;
     }
-    Ok(text)
+    Ok(())
 }
 
 // The payload of a frame in hexadecimal.
@@ -101,21 +121,23 @@ fn ended(
     err: &mut FaultySink,
 ) -> Mem<Status> {
     let words = words_of(alloc, command)?;
+    let mut input = input_source(alloc, lines)?;
     let env = env_of(alloc, lines)?;
-    let fails = fails_of(alloc, lines, "@read")?;
-    let mut input = FaultySource::new(input_of(alloc, lines)?, fails);
-    let mut disk = CalmDisk::new(Vec::new(alloc));
-    let mut clock = FixedClock::new(Moment::new(0, 0));
     Ok(run(
         alloc,
         words.as_slice(),
         &env,
         &mut input,
-        &mut disk,
-        &mut clock,
+        &mut CalmDisk::new(Vec::new(alloc)),
+        &mut FixedClock::new(Moment::new(0, 0)),
         out,
         err,
     ))
+}
+
+fn input_source(alloc: Global, lines: &[&str]) -> Mem<FaultySource> {
+    let fails = fails_of(alloc, lines, "@read")?;
+    Ok(FaultySource::new(input_of(alloc, lines)?, fails))
 }
 
 // The words between single spaces.

@@ -1,40 +1,49 @@
-use crate::requests::{
-    identity_of, name_of, params_of, region_of, request_of, settings_of, signable_of, time_of,
-};
+use crate::parts::first;
+use crate::requests::{identity_of, params_of, request_of, settings_of, signable_of};
 use crate::texts::{on_one_line, unknown};
 use sigv4::{
     SignableBody, SigningError, SigningInstructions, SigningOutput, SigningSettings,
     canonical_text, sign,
 };
-use smithy_core::{HttpRequest, Mem};
+use smithy_core::{HttpRequest, Identity, Mem};
 use std::alloc::Global;
 
 /// The answer of a call on canonical texts and signatures.
 pub fn answer(alloc: Global, call: &str, words: &[&str]) -> Mem<String> {
-    match (call, words) {
-        ("canonical", [part, request, parts @ ..]) => canonical(alloc, part, request, parts),
-        ("signature", [request, parts @ ..]) => signature(alloc, request, parts),
-        ("s3", parts) => s3(alloc, parts),
-        ("bytes", [text]) => bytes(alloc, text),
+    match call {
+        "canonical" => canonical(alloc, words),
+        "signature" => signature(alloc, words),
+        "s3" => s3(alloc, words),
+        "bytes" => bytes(alloc, first(words)),
         _ => unknown(alloc),
     }
 }
 
 // A part of the canonical text: `whole`, `path`, `query`, the value of a header `NAME:`, `signed` or `payload`.
-fn canonical(alloc: Global, part: &str, request: &str, parts: &[&str]) -> Mem<String> {
-    match text_of(alloc, request, parts) {
+fn canonical(alloc: Global, words: &[&str]) -> Mem<String> {
+    let [part, words @ ..] = words else {
+        return unknown(alloc);
+    };
+    match text_of(alloc, words) {
         Ok(text) => on_one_line(alloc, part_of(text.as_str(), part)),
         Err(error) => refusal(alloc, &error),
     }
 }
 
-fn text_of(alloc: Global, request: &str, parts: &[&str]) -> Result<String, SigningError> {
-    let request = request_of(alloc, request, parts)?;
-    let identity = identity_of(alloc, parts)?;
-    let settings = settings_of(alloc, parts)?;
-    let (region, name, time) = (region_of(parts), name_of(parts), time_of(parts));
-    let params = params_of(&identity, region, name, time, settings);
-    let signable = signable_of(alloc, &request, parts)?;
+fn text_of(alloc: Global, words: &[&str]) -> Result<String, SigningError> {
+    let request = request_of(alloc, words)?;
+    let identity = identity_of(alloc, words)?;
+    text_over(alloc, &request, &identity, words)
+}
+
+fn text_over(
+    alloc: Global,
+    request: &HttpRequest,
+    identity: &Identity,
+    words: &[&str],
+) -> Result<String, SigningError> {
+    let params = params_of(alloc, identity, words)?;
+    let signable = signable_of(alloc, request, words)?;
     canonical_text(alloc, &signable, &params)
 }
 
@@ -60,9 +69,9 @@ fn value_of<'a>(text: &'a str, name: &str) -> &'a str {
 }
 
 // The signature of a request.
-fn signature(alloc: Global, request: &str, parts: &[&str]) -> Mem<String> {
-    let request = request_of(alloc, request, parts)?;
-    match signed(alloc, &request, parts) {
+fn signature(alloc: Global, words: &[&str]) -> Mem<String> {
+    let request = request_of(alloc, words)?;
+    match signed(alloc, &request, words) {
         Ok(output) => String::from_str(alloc, output.signature()),
         Err(error) => refusal(alloc, &error),
     }
@@ -72,14 +81,11 @@ fn signature(alloc: Global, request: &str, parts: &[&str]) -> Mem<String> {
 pub fn signed(
     alloc: Global,
     request: &HttpRequest,
-    parts: &[&str],
+    words: &[&str],
 ) -> Result<SigningOutput<SigningInstructions>, SigningError> {
-    let identity = identity_of(alloc, parts)?;
-    let settings = settings_of(alloc, parts)?;
-    let (region, name, time) = (region_of(parts), name_of(parts), time_of(parts));
-    let params = params_of(&identity, region, name, time, settings);
-    let signable = signable_of(alloc, request, parts)?;
-    sign(alloc, signable, &params)
+    let identity = identity_of(alloc, words)?;
+    let params = params_of(alloc, &identity, words)?;
+    sign(alloc, signable_of(alloc, request, words)?, &params)
 }
 
 /// The error with its place, and what it prints.
@@ -91,8 +97,8 @@ pub fn refusal(alloc: Global, error: &SigningError) -> Mem<String> {
 // Whether the settings are those for Amazon S3.
 fn s3(alloc: Global, parts: &[&str]) -> Mem<String> {
     let settings = settings_of(alloc, parts)?;
-    let s3_settings = SigningSettings::for_s3(alloc)?;
-    format!(in alloc; "equal: {}", settings == s3_settings)
+    let is_equal = settings == SigningSettings::for_s3(alloc)?;
+    format!(in alloc; "equal: {is_equal}")
 }
 
 // What a body of these bytes shows.

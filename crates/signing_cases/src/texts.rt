@@ -5,34 +5,47 @@ use std::alloc::Global;
 pub fn with_repeats(alloc: Global, text: &str) -> Mem<String> {
     let mut out = String::new(alloc);
     for part in text.split('}') {
-        match part.split_once('{') {
-            Some((plain, repeat)) => {
-                out.push_str(plain)?;
-                out.push_str(repeated(alloc, repeat)?.as_str())?;
-            }
-            None => out.push_str(part)?,
-        }
+        push_part(&mut out, part)?;
     }
     Ok(out)
 }
 
-// `N PIECE` as the piece N times.
-fn repeated(alloc: Global, repeat: &str) -> Mem<String> {
+// Appends a text that ends in a repeat without its bracket, or has none.
+fn push_part(out: &mut String, part: &str) -> Mem<()> {
+    match part.split_once('{') {
+        Some((plain, repeat)) => {
+            out.push_str(plain)?;
+            push_repeated(out, repeat)
+        }
+        None => out.push_str(part),
+    }
+}
+
+// Appends `N PIECE` as the piece N times.
+fn push_repeated(out: &mut String, repeat: &str) -> Mem<()> {
     let (count, piece) = repeat.split_once(' ').unwrap_or(("0", ""));
-    piece.repeat(alloc, count.parse().unwrap_or(0))
+    let count: usize = count.parse().unwrap_or(0);
+    for _ in 0..count {
+        out.push_str(piece)?;
+    }
+    Ok(())
 }
 
 /// The text with a line feed and a tab as `\n` and `\t`, since an answer stands on one line.
 pub fn on_one_line(alloc: Global, text: &str) -> Mem<String> {
     let mut out = String::new(alloc);
     for c in text.chars() {
-        match c {
-            '\n' => out.push_str("\\n")?,
-            '\t' => out.push_str("\\t")?,
-            _ => out.push(c)?,
-        }
+        push_visible(&mut out, c)?;
     }
     Ok(out)
+}
+
+fn push_visible(out: &mut String, c: char) -> Mem<()> {
+    match c {
+        '\n' => out.push_str("\\n"),
+        '\t' => out.push_str("\\t"),
+        _ => out.push(c),
+    }
 }
 
 /// The bytes on one line, where they are UTF-8.
