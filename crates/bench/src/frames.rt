@@ -101,7 +101,8 @@ fn with_message(digest: Digest, message: &Message) -> Digest {
     }
 }
 
-fn message_of(alloc: Global, size: usize) -> anyhow::Result<Message> {
+/// A message with a payload of so many bytes.
+pub fn message_of(alloc: Global, size: usize) -> anyhow::Result<Message> {
     let payload = vec![in alloc; 7; size]?;
     Ok(Message::new(alloc, Bytes::from_vec(payload)?))
 }

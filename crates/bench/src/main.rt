@@ -2,6 +2,7 @@
 //!
 //! ```notrust
 //! bench sign COUNT            signs a small request: three headers and no body
+//! bench operation COUNT       signs the same request by the inputs of its operation
 //! bench chain COUNT SIZE      signs a chain of so many events with so many bytes each
 //! bench checksum COUNT SIZE   the CRC-32 of so many bytes
 //! bench hash COUNT SIZE       the SHA-256 of so many bytes

@@ -1,9 +1,17 @@
 use crate::digest::Digest;
+use crate::frames;
 use crate::frames::with_frame;
-use bytes::Bytes;
-use sigv4::event_stream::{sign_empty_message, sign_message};
-use sigv4::{SignableBody, SignableRequest, SigningParams, SigningSettings, sign, v4};
-use smithy_core::{Credentials, Headers, Identity, Message, Moment};
+use aws_auth::{
+    OverrideError, SigV4OperationSigningConfig, SigV4SessionTokenNameOverride, SigV4Signer,
+    SigV4SigningError, Signed, SigningInputs, SigningOptions,
+};
+use sigv4::event_stream::{SigningParams as EventParams, sign_empty_message, sign_message};
+use sigv4::{
+    SignableBody, SignableRequest, SigningOutput, SigningParams, SigningSettings, sign, v4,
+};
+use smithy_core::{
+    Credentials, Headers, HttpRequest, Identity, Message, Moment, Region, SigningName,
+};
 use std::alloc::{AllocError, Global};
 
 /// Signs a small request so many times, each a second after the last one.
@@ -25,13 +33,85 @@ fn signature_at(
     headers: &Headers,
     number: u32,
 ) -> anyhow::Result<String> {
-    let at = Moment::new(1_440_938_160 + i64::from(number), 0);
     let settings = SigningSettings::new(alloc)?;
+    let at = moment_of(number);
     let params = v4::SigningParams::new(identity, "us-east-1", "service", at, settings);
-    let target = "https://service.us-east-1.amazonaws.com/path";
-    let request = SignableRequest::new(alloc, "GET", target, headers, SignableBody::empty())?;
-    let (_, signature) = sign(alloc, request, &SigningParams::V4(params))?.into_parts();
+    signature_under(alloc, headers, &SigningParams::V4(params))
+}
+
+fn signature_under(
+    alloc: Global,
+    headers: &Headers,
+    params: &SigningParams<'_>,
+) -> anyhow::Result<String> {
+    let request = SignableRequest::new(alloc, "GET", TARGET, headers, SignableBody::empty())?;
+    let (_, signature) = sign(alloc, request, params)?.into_parts();
     Ok(signature)
+}
+
+fn moment_of(number: u32) -> Moment {
+    Moment::new(1_440_938_160 + i64::from(number), 0)
+}
+
+const TARGET: &str = "https://service.us-east-1.amazonaws.com/path";
+
+/// Signs the same request so many times by the inputs of its operation, each a second after the last one.
+pub fn operations(alloc: Global, count: u32) -> anyhow::Result<Digest> {
+    let identity = example_identity(alloc)?;
+    let config = example_config(alloc)?;
+    let mut digest = Digest::new();
+    for number in 0..count {
+        let signature = operation_at(alloc, &identity, &config, number)?;
+        digest = digest.with(signature.as_bytes());
+    }
+    Ok(digest)
+}
+
+fn example_config(alloc: Global) -> Result<SigV4OperationSigningConfig, AllocError> {
+    let region = Region::new(String::from_str(alloc, "us-east-1")?);
+    let name = SigningName::new(String::from_str(alloc, "service")?);
+    Ok(SigV4OperationSigningConfig {
+        region: Some(region),
+        name: Some(name),
+        signing_options: SigningOptions::default(),
+    })
+}
+
+fn operation_at(
+    alloc: Global,
+    identity: &Identity,
+    config: &SigV4OperationSigningConfig,
+    number: u32,
+) -> anyhow::Result<String> {
+    let mut request = HttpRequest::new(alloc, "GET", TARGET)?;
+    request.headers = example_headers(alloc)?;
+    Ok(sign_operation(&mut request, identity, config, moment_of(number))?.signature)
+}
+
+fn sign_operation(
+    request: &mut HttpRequest,
+    identity: &Identity,
+    config: &SigV4OperationSigningConfig,
+    at: Moment,
+) -> Result<Signed, SigV4SigningError> {
+    let inputs = SigningInputs {
+        config: Some(config),
+        endpoint: None,
+        name: None,
+        region: None,
+        payload: None,
+        skew_millis: None,
+    };
+    let name_override = SigV4SessionTokenNameOverride::new(usual_name);
+    SigV4Signer::new().sign_http_request(request, identity, &inputs, at, Some(&name_override))
+}
+
+// Leaves the session token its usual name.
+fn usual_name(
+    _settings: &SigningSettings,
+    _config: &SigV4OperationSigningConfig,
+) -> Result<Option<String>, OverrideError> {
+    Ok(None)
 }
 
 fn example_headers(alloc: Global) -> Result<Headers, AllocError> {
@@ -47,19 +127,59 @@ pub fn chain(alloc: Global, count: u32, size: usize) -> anyhow::Result<Digest> {
     let identity = example_identity(alloc)?;
     let at = Moment::new(1_440_938_160, 0);
     let params = v4::SigningParams::new(&identity, "us-east-1", "service", at, ());
-    let payload = vec![in alloc; 7; size]?;
-    let event = Message::new(alloc, Bytes::copy_from_slice(alloc, payload.as_slice())?);
-    let mut frame = Vec::new(alloc);
-    let mut signature = String::new(alloc);
-    let mut digest = Digest::new();
+    let event = frames::message_of(alloc, size)?;
+    chain_of(alloc, &event, count, &params)
+}
+
+fn chain_of(
+    alloc: Global,
+    event: &Message,
+    count: u32,
+    params: &EventParams<'_>,
+) -> anyhow::Result<Digest> {
+    let mut chain = Chain {
+        signature: String::new(alloc),
+        frame: Vec::new(alloc),
+        digest: Digest::new(),
+    };
     for _ in 0..count {
-        let signed = sign_message(alloc, &event, signature.as_str(), &params)?;
-        let (message, next) = signed.into_parts();
-        digest = with_frame(alloc, digest.with(next.as_bytes()), &message, &mut frame)?;
-        signature = next;
+        chain.sign(alloc, event, params)?;
     }
-    let (closing, last) = sign_empty_message(alloc, signature.as_str(), &params)?.into_parts();
-    with_frame(alloc, digest.with(last.as_bytes()), &closing, &mut frame)
+    chain.close(alloc, params)?;
+    Ok(chain.digest)
+}
+
+// What a chain has come to: the last signature and its frame, and the digest of all signatures and frames.
+#[derive(Drop)]
+struct Chain {
+    signature: String,
+    frame: Vec<u8>,
+    digest: Digest,
+}
+
+impl Chain {
+    fn sign(
+        &mut self,
+        alloc: Global,
+        event: &Message,
+        params: &EventParams<'_>,
+    ) -> anyhow::Result<()> {
+        let signed = sign_message(alloc, event, self.signature.as_str(), params)?;
+        self.push(alloc, signed)
+    }
+
+    fn close(&mut self, alloc: Global, params: &EventParams<'_>) -> anyhow::Result<()> {
+        let signed = sign_empty_message(alloc, self.signature.as_str(), params)?;
+        self.push(alloc, signed)
+    }
+
+    fn push(&mut self, alloc: Global, signed: SigningOutput<Message>) -> anyhow::Result<()> {
+        let (message, signature) = signed.into_parts();
+        let digest = self.digest.with(signature.as_bytes());
+        self.digest = with_frame(alloc, digest, &message, &mut self.frame)?;
+        self.signature = signature;
+        Ok(())
+    }
 }
 
 fn example_identity(alloc: Global) -> Result<Identity, AllocError> {

@@ -7,6 +7,7 @@ use std::fmt;
 #[derive(Clone, Copy, Debug, PartialEq, Eq)]
 pub enum Work {
     Sign { count: u32 },
+    Operation { count: u32 },
     Chain { count: u32, size: usize },
     Checksum { count: u32, size: usize },
     Hash { count: u32, size: usize },
@@ -34,6 +35,7 @@ impl Work {
     fn each(alloc: Global, count: u32) -> Result<Vec<Work>, AllocError> {
         let works = vec![in alloc;
             Work::Sign { count },
+            Work::Operation { count },
             Work::Chain { count, size: 100 },
             Work::Checksum { count, size: 100 },
             Work::Hash { count, size: 100 },
@@ -59,6 +61,7 @@ impl Work {
     fn counted(kind: &str, count: u32) -> Option<Work> {
         match kind {
             "sign" => Some(Work::Sign { count }),
+            "operation" => Some(Work::Operation { count }),
             "decode" => Some(Work::Decode { count }),
             "profiles" => Some(Work::Profiles { count }),
             _ => None,
@@ -79,6 +82,7 @@ impl Work {
     pub fn answers(self, alloc: Global) -> anyhow::Result<Digest> {
         match self {
             Work::Sign { count } => signing::signatures(alloc, count),
+            Work::Operation { count } => signing::operations(alloc, count),
             Work::Chain { count, size } => signing::chain(alloc, count, size),
             Work::Checksum { count, size } => Ok(sums::checksums(alloc, count, size)?),
             Work::Hash { count, size } => Ok(sums::hashes(alloc, count, size)?),
@@ -93,6 +97,7 @@ impl fmt::Display for Work {
     fn fmt<W: fmt::Write>(&self, f: &mut fmt::Formatter<W>) -> fmt::Result {
         match self {
             Work::Sign { count } => write!(f, "sign {count}"),
+            Work::Operation { count } => write!(f, "operation {count}"),
             Work::Chain { count, size } => write!(f, "chain {count} {size}"),
             Work::Checksum { count, size } => write!(f, "checksum {count} {size}"),
             Work::Hash { count, size } => write!(f, "hash {count} {size}"),

@@ -1,4 +1,4 @@
-use crate::parts::{has_part, part};
+use crate::parts::{has_part, part_or_none};
 use crate::requests::{identity_of, name_of, region_of, time_of};
 use crate::texts::unknown;
 use case_lines::number;
@@ -51,9 +51,10 @@ fn shown_params(alloc: Global, params: &SigningParams<'_, i64>) -> Mem<String> {
 // builder built, after the settings in them got `expires-in N`.
 fn change(alloc: Global, parts: &[&str]) -> Mem<String> {
     let identity = identity_of(alloc, parts)?;
-    let settings = SigningSettings::new(alloc)?;
-    let expiry = part(parts, "expires-in").unwrap_or("");
-    change_copy(alloc, &whole_builder(&identity, settings), expiry)
+    match SigningSettings::new(alloc) {
+        Ok(settings) => change_copy(alloc, &whole_builder(&identity, settings), parts),
+        Err(fault) => Err(fault),
+    }
 }
 
 fn whole_builder<'a>(
@@ -68,9 +69,17 @@ fn whole_builder<'a>(
         .settings(settings)
 }
 
-fn change_copy(alloc: Global, builder: &Builder<'_, SigningSettings>, expiry: &str) -> Mem<String> {
+fn change_copy(
+    alloc: Global,
+    builder: &Builder<'_, SigningSettings>,
+    parts: &[&str],
+) -> Mem<String> {
     match builder.try_clone()?.build() {
-        Ok(params) => with_expiry(alloc, RequestParams::from(params), expiry),
+        Ok(params) => with_expiry(
+            alloc,
+            RequestParams::from(params),
+            part_or_none(parts, "expires-in"),
+        ),
         Err(missing) => format!(in alloc; "{missing:?}"),
     }
 }
@@ -98,9 +107,9 @@ fn shown_request_params(alloc: Global, params: &RequestParams<'_>) -> Mem<String
 fn whole(alloc: Global, parts: &[&str]) -> Mem<String> {
     let identity = identity_of(alloc, parts)?;
     let (region, name, time) = (region_of(parts), name_of(parts), time_of(parts));
-    let settings = number(part(parts, "settings").unwrap_or(""));
+    let settings = number(part_or_none(parts, "settings"));
     let params = SigningParams::new(&identity, region, name, time, settings);
-    shown_again(alloc, params, number(part(parts, "again").unwrap_or("")))
+    shown_again(alloc, params, number(part_or_none(parts, "again")))
 }
 
 fn shown_again(alloc: Global, params: SigningParams<'_, i64>, settings: i64) -> Mem<String> {

@@ -1,7 +1,4 @@
 //! Copies, each compared with what it was made of by what both show.
-ghost use Rattle.sigv4.specs.Request.{params_settings};
-ghost use Rattle.sigv4.specs.Settings.{IsHeaderForm};
-
 use crate::faults::endpoint_error_of;
 use crate::instructions::{push_header, told};
 use crate::parts::first;
@@ -10,9 +7,10 @@ use crate::signatures::{refusal, signed};
 use crate::texts::{on_one_line, unknown};
 use case_lines::shown;
 use sigv4::{
-    Header, SignableRequest, SigningError, SigningInstructions, SigningParams, canonical_text,
+    Header, SignableRequest, SigningError, SigningInstructions, SigningOutput, SigningParams,
+    canonical_text,
 };
-use smithy_core::{ErrorMetadata, HttpRequest, Mem};
+use smithy_core::{ErrorMetadata, HttpRequest, Identity, Mem};
 use smithy_http::{EndpointPrefix, InvalidEndpointError, QueryWriter, ResolveEndpointError};
 use std::alloc::Global;
 
@@ -32,11 +30,11 @@ fn of_kind(alloc: Global, kind: &str, words: &[&str]) -> Mem<String> {
         "ResolveEndpointError" => resolve_error(alloc, words),
         "SignableBody" => body(alloc, first(words)),
         "SigningSettings" => settings(alloc, words),
-        "SignableRequest" => shown(alloc, signable(alloc, words)),
+        "SignableRequest" => signable(alloc, words),
         "SigningError" => signing_error(alloc, words),
-        "SigningOutput" => shown(alloc, output(alloc, words)),
-        "SigningInstructions" => shown(alloc, instructions(alloc, words)),
-        "Header" => shown(alloc, headers(alloc, words)),
+        "SigningOutput" => output(alloc, words),
+        "SigningInstructions" => instructions(alloc, words),
+        "Header" => headers(alloc, words),
         _ => unknown(alloc),
     }
 }
@@ -115,37 +113,57 @@ fn settings(alloc: Global, parts: &[&str]) -> Mem<String> {
     format!(in alloc; "equal: {is_equal}")
 }
 
-fn signable(alloc: Global, words: &[&str]) -> Result<String, SigningError> {
+fn signable(alloc: Global, words: &[&str]) -> Mem<String> {
     let request = request_of(alloc, words)?;
     let identity = identity_of(alloc, words)?;
-    let params = params_of(alloc, &identity, words)?;
-    signable_under(alloc, &request, &params, words)
+    signable_by(alloc, &request, &identity, words)
+}
+
+fn signable_by(
+    alloc: Global,
+    request: &HttpRequest,
+    identity: &Identity,
+    words: &[&str],
+) -> Mem<String> {
+    match params_of(alloc, identity, words) {
+        Ok(params) => signable_under(alloc, signable_of(alloc, request, words), &params),
+        Err(fault) => Err(fault),
+    }
 }
 
 fn signable_under(
     alloc: Global,
-    request: &HttpRequest,
+    signable: Result<SignableRequest<'_>, SigningError>,
     params: &SigningParams<'_>,
-    words: &[&str],
-) -> Result<String, SigningError>
-    requires { IsHeaderForm (params_settings params.now) }
-{
-    let signable = signable_of(alloc, request, words)?;
-    let text = canonical_text(alloc, &signable, params)?;
-    let copied = copied_text(alloc, &signable, params)?;
-    Ok(compared(alloc, Ok(text), Ok(copied))?)
+) -> Mem<String> {
+    match signable {
+        Ok(signable) => both_texts(alloc, &signable, params),
+        Err(error) => format!(in alloc; "{error:?}"),
+    }
 }
 
-// The canonical text of a copy.
-fn copied_text(
+fn both_texts(
     alloc: Global,
     signable: &SignableRequest<'_>,
     params: &SigningParams<'_>,
-) -> Result<String, SigningError>
-    requires { IsHeaderForm (params_settings params.now) }
-{
-    let copy = signable.try_clone()?;
-    canonical_text(alloc, &copy, params)
+) -> Mem<String> {
+    let text = shown(alloc, canonical_text(alloc, signable, params));
+    compared(
+        alloc,
+        text,
+        shown(alloc, text_of_copy(alloc, signable, params)),
+    )
+}
+
+fn text_of_copy(
+    alloc: Global,
+    signable: &SignableRequest<'_>,
+    params: &SigningParams<'_>,
+) -> Result<String, SigningError> {
+    match signable.try_clone() {
+        Ok(copy) => canonical_text(alloc, &copy, params),
+        Err(_) => Err(SigningError::NoMemory),
+    }
 }
 
 fn signing_error(alloc: Global, words: &[&str]) -> Mem<String> {
@@ -161,17 +179,25 @@ fn copied_signing_error(alloc: Global, error: &SigningError) -> Mem<String> {
     compared(alloc, refusal(alloc, error), refusal(alloc, &copy))
 }
 
-fn output(alloc: Global, words: &[&str]) -> Result<String, SigningError> {
+fn output(alloc: Global, words: &[&str]) -> Mem<String> {
     let request = request_of(alloc, words)?;
-    let output = signed(alloc, &request, words)?;
-    let (_, signature) = output.try_clone()?.into_parts();
-    let text = String::from_str(alloc, output.signature());
-    Ok(compared(alloc, text, Ok(signature))?)
+    match signed(alloc, &request, words) {
+        Ok(output) => copied_output(alloc, &output),
+        Err(error) => format!(in alloc; "{error:?}"),
+    }
 }
 
-fn instructions(alloc: Global, words: &[&str]) -> Result<String, SigningError> {
-    let made = made(alloc, words)?;
-    Ok(copied_instructions(alloc, made)?)
+fn copied_output(alloc: Global, output: &SigningOutput<SigningInstructions>) -> Mem<String> {
+    let (_, signature) = output.try_clone()?.into_parts();
+    let text = String::from_str(alloc, output.signature());
+    compared(alloc, text, Ok(signature))
+}
+
+fn instructions(alloc: Global, words: &[&str]) -> Mem<String> {
+    match made(alloc, words) {
+        Ok(made) => copied_instructions(alloc, made),
+        Err(error) => format!(in alloc; "{error:?}"),
+    }
 }
 
 fn copied_instructions(alloc: Global, made: SigningInstructions) -> Mem<String> {
@@ -180,9 +206,11 @@ fn copied_instructions(alloc: Global, made: SigningInstructions) -> Mem<String> 
     compared(alloc, text, told(alloc, copy))
 }
 
-fn headers(alloc: Global, words: &[&str]) -> Result<String, SigningError> {
-    let (headers, _) = made(alloc, words)?.into_parts();
-    Ok(copied_headers(alloc, headers.as_slice())?)
+fn headers(alloc: Global, words: &[&str]) -> Mem<String> {
+    match made(alloc, words) {
+        Ok(made) => copied_headers(alloc, made.into_parts().0.as_slice()),
+        Err(error) => format!(in alloc; "{error:?}"),
+    }
 }
 
 fn copied_headers(alloc: Global, headers: &[Header]) -> Mem<String> {
@@ -207,6 +235,8 @@ fn told_header(alloc: Global, header: &Header) -> Mem<String> {
 
 fn made(alloc: Global, words: &[&str]) -> Result<SigningInstructions, SigningError> {
     let request = request_of(alloc, words)?;
-    let (made, _) = signed(alloc, &request, words)?.into_parts();
-    Ok(made)
+    match signed(alloc, &request, words) {
+        Ok(output) => Ok(output.into_parts().0),
+        Err(error) => Err(error),
+    }
 }

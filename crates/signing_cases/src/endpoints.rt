@@ -1,4 +1,4 @@
-use crate::texts::{unknown, with_repeats};
+use crate::texts::{length, unknown, with_repeats};
 use http_uri::Uri;
 use smithy_core::{ErrorMetadata, Mem};
 use smithy_http::{
@@ -50,7 +50,7 @@ fn endpoint_length(alloc: Global, words: &[&str]) -> Mem<String> {
 fn moved_length(alloc: Global, uri: Uri, endpoint: &str) -> Mem<String> {
     let mut uri = uri;
     match apply(alloc, &mut uri, endpoint, "") {
-        Ok(()) => uri.to_string(alloc)?.len().to_string(alloc),
+        Ok(()) => length(alloc, uri.to_string(alloc)),
         Err(fault) => format!(in alloc; "{fault:?}"),
     }
 }
@@ -61,11 +61,22 @@ fn apply(
     endpoint: &str,
     prefix: &str,
 ) -> Result<(), InvalidEndpointError> {
-    let endpoint = target_of(alloc, endpoint)?;
-    if prefix.is_empty() {
-        return apply_endpoint(alloc, uri, &endpoint, None);
+    match target_of(alloc, endpoint) {
+        Ok(endpoint) => apply_at(alloc, uri, &endpoint, prefix),
+        Err(fault) => Err(InvalidEndpointError::from(fault)),
     }
-    apply_prefixed(alloc, uri, &endpoint, prefix)
+}
+
+fn apply_at(
+    alloc: Global,
+    uri: &mut Uri,
+    endpoint: &Uri,
+    prefix: &str,
+) -> Result<(), InvalidEndpointError> {
+    if prefix.is_empty() {
+        return apply_endpoint(alloc, uri, endpoint, None);
+    }
+    apply_prefixed(alloc, uri, endpoint, prefix)
 }
 
 fn apply_prefixed(

@@ -1,7 +1,7 @@
 use crate::parts::part;
 use crate::requests::request_of;
 use crate::signatures::{refusal, signed};
-use crate::texts::{on_one_line, unknown};
+use crate::texts::{on_one_line, unknown, with_repeats};
 use sigv4::{Header, SigningError, SigningInstructions, SigningOutput};
 use smithy_core::{HttpRequest, Mem};
 use std::alloc::Global;
@@ -11,6 +11,7 @@ pub fn answer(alloc: Global, call: &str, words: &[&str]) -> Mem<String> {
     match call {
         "instructions" => instructions(alloc, words),
         "apply" => apply(alloc, words),
+        "apply_length" => apply_length(alloc, words),
         _ => unknown(alloc),
     }
 }
@@ -68,7 +69,38 @@ pub fn push_header(text: &mut String, header: &Header) -> Mem<()> {
 fn apply(alloc: Global, words: &[&str]) -> Mem<String> {
     let mut request = request_of(alloc, words)?;
     match signed(alloc, &request, words) {
-        Ok(output) => apply_onto(alloc, output, &mut request, part(words, "onto")),
+        Ok(output) => apply_output(alloc, output, &mut request, words),
+        Err(error) => refusal(alloc, &error),
+    }
+}
+
+fn apply_output(
+    alloc: Global,
+    output: SigningOutput<SigningInstructions>,
+    request: &mut HttpRequest,
+    words: &[&str],
+) -> Mem<String> {
+    let answer = apply_onto(alloc, output, request, part(words, "onto"))?;
+    applied(alloc, answer, request)
+}
+
+// The length of the target after that, or the refusal.
+fn apply_length(alloc: Global, words: &[&str]) -> Mem<String> {
+    let mut request = request_of(alloc, words)?;
+    match signed(alloc, &request, words) {
+        Ok(output) => length_with(alloc, output, &mut request, words),
+        Err(error) => refusal(alloc, &error),
+    }
+}
+
+fn length_with(
+    alloc: Global,
+    output: SigningOutput<SigningInstructions>,
+    request: &mut HttpRequest,
+    words: &[&str],
+) -> Mem<String> {
+    match apply_onto(alloc, output, request, part(words, "onto"))? {
+        Ok(()) => request.target.len().to_string(alloc),
         Err(error) => refusal(alloc, &error),
     }
 }
@@ -78,13 +110,12 @@ fn apply_onto(
     output: SigningOutput<SigningInstructions>,
     request: &mut HttpRequest,
     onto: Option<&str>,
-) -> Mem<String> {
+) -> Mem<Result<(), SigningError>> {
     if let Some(target) = onto {
-        request.target = String::from_str(alloc, target)?;
+        request.target = with_repeats(alloc, target)?;
     }
     let (instructions, _) = output.into_parts();
-    let answer = instructions.apply_to_request(request);
-    applied(alloc, answer, request)
+    Ok(instructions.apply_to_request(request))
 }
 
 fn applied(alloc: Global, answer: Result<(), SigningError>, request: &HttpRequest) -> Mem<String> {

@@ -32,17 +32,32 @@ pub fn input_of(alloc: Global, lines: &[&str]) -> Mem<Vec<u8>> {
 
 fn push_line(alloc: Global, input: &mut Vec<u8>, line: &str) -> Mem<()> {
     match line.split_once(' ').unwrap_or((line, "")) {
-        ("@request", _) => input.extend_from_slice(REQUEST),
-        ("@profile", _) => input.extend_from_slice(PROFILE),
-        ("@event", _) => input.extend_from_slice(EVENT),
-        ("@hex", digits) => input.extend_from_slice(bytes_of_hex(alloc, digits)?.as_slice()),
+        ("@hex", digits) => push_digits(alloc, input, digits),
         ("@text", text) => input.extend_from_slice(text.as_bytes()),
         ("@env" | "@read" | "@out" | "@err", _) => Ok(()),
-        _ => {
-            input.extend_from_slice(with_repeats(alloc, line)?.as_bytes())?;
-            input.extend_from_slice(b"\n")
-        }
+        (word, _) => push_part(alloc, input, word, line),
     }
+}
+
+fn push_digits(alloc: Global, input: &mut Vec<u8>, digits: &str) -> Mem<()> {
+    let bytes = bytes_of_hex(alloc, digits)?;
+    input.extend_from_slice(bytes.as_slice())
+}
+
+// Appends a part of the example, or else the line.
+fn push_part(alloc: Global, input: &mut Vec<u8>, word: &str, line: &str) -> Mem<()> {
+    match word {
+        "@request" => input.extend_from_slice(REQUEST),
+        "@profile" => input.extend_from_slice(PROFILE),
+        "@event" => input.extend_from_slice(EVENT),
+        _ => push_job_line(alloc, input, line),
+    }
+}
+
+fn push_job_line(alloc: Global, input: &mut Vec<u8>, line: &str) -> Mem<()> {
+    let line = with_repeats(alloc, line)?;
+    input.extend_from_slice(line.as_bytes())?;
+    input.extend_from_slice(b"\n")
 }
 
 /// The variables.

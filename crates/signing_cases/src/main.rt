@@ -62,7 +62,7 @@ fn signing_answer(alloc: Global, call: &str, words: &[&str]) -> Mem<String> {
             keys::answer(alloc, call, words)
         }
         "canonical" | "signature" | "s3" | "bytes" => signatures::answer(alloc, call, words),
-        "instructions" | "apply" => instructions::answer(alloc, call, words),
+        "instructions" | "apply" | "apply_length" => instructions::answer(alloc, call, words),
         "build" | "change" | "whole" => builders::answer(alloc, call, words),
         "link" | "link_headers" | "closing" => messages::answer(alloc, call, words),
         "copy" => copies::answer(alloc, words),

@@ -40,7 +40,14 @@ fn write(alloc: Global, front: &str, pieces: &[&str]) -> Mem<String> {
 
 // The target after these steps.
 fn built(alloc: Global, target: &str, steps: &[&str]) -> Result<String, UriFault> {
-    match stepped(alloc, target, steps)?.build_uri() {
+    match stepped(alloc, target, steps) {
+        Ok(writer) => uri_text(alloc, writer.build_uri()),
+        Err(fault) => Err(fault),
+    }
+}
+
+fn uri_text(alloc: Global, uri: Result<Uri, UriFault>) -> Result<String, UriFault> {
+    match uri {
         Ok(uri) => Ok(uri.to_string(alloc)?),
         Err(fault) => Err(fault),
     }
@@ -58,7 +65,14 @@ fn built_text(alloc: Global, target: &str, steps: &[&str]) -> Result<String, Uri
 
 // A writer on the target after these steps.
 fn stepped(alloc: Global, target: &str, steps: &[&str]) -> Result<QueryWriter, UriFault> {
-    let mut writer = writer_of(alloc, target)?;
+    match writer_of(alloc, target) {
+        Ok(writer) => Ok(with_steps(alloc, writer, steps)?),
+        Err(fault) => Err(fault),
+    }
+}
+
+fn with_steps(alloc: Global, writer: QueryWriter, steps: &[&str]) -> Mem<QueryWriter> {
+    let mut writer = writer;
     take_steps(alloc, &mut writer, steps)?;
     Ok(writer)
 }
@@ -73,9 +87,13 @@ fn writer_of(alloc: Global, target: &str) -> Result<QueryWriter, UriFault> {
 
 fn writer_of_uri(alloc: Global, text: &str) -> Result<QueryWriter, UriFault> {
     match Uri::from_str(alloc, text) {
-        Ok(uri) => Ok(QueryWriter::new(alloc, &uri)?),
+        Ok(uri) => writer_on(alloc, &uri),
         Err(fault) => Err(UriFault::from(fault)),
     }
+}
+
+fn writer_on(alloc: Global, uri: &Uri) -> Result<QueryWriter, UriFault> {
+    Ok(QueryWriter::new(alloc, uri)?)
 }
 
 fn take_steps(alloc: Global, writer: &mut QueryWriter, steps: &[&str]) -> Mem<()> {

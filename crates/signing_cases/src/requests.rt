@@ -1,14 +1,11 @@
 //! A request and how it is signed, from the words `METHOD TARGET`, `header NAME: VALUE`, `body TEXT` and so on.
-ghost use Rattle.std.specs.Prelude.{◌≡◌, IfOk};
-ghost use Rattle.sigv4.specs.Request.{params_settings};
-ghost use Rattle.sigv4.specs.Settings.{IsHeaderForm, settings_of};
 
 use crate::moments::moment_of;
 use crate::parts::{first, has_part, part, part_or_none};
 use bytes::Bytes;
 use sigv4::{
     PayloadChecksumKind, PercentEncodingMode, SessionTokenMode, SignableBody, SignableRequest,
-    SigningError, SigningParams, SigningSettings, UriPathNormalizationMode, v4,
+    SignatureLocation, SigningError, SigningParams, SigningSettings, UriPathNormalizationMode, v4,
 };
 use smithy_core::{Credentials, Headers, HttpRequest, Identity, Mem, Moment};
 use std::alloc::Global;
@@ -16,10 +13,21 @@ use std::alloc::Global;
 /// The request of `METHOD TARGET`, which comes first, its headers and its body.
 pub fn request_of(alloc: Global, words: &[&str]) -> Mem<HttpRequest> {
     let (method, target) = first(words).split_once(' ').unwrap_or(("", ""));
-    let mut request = HttpRequest::new(alloc, method, target)?;
-    add_headers(&mut request.headers, words)?;
-    request.body = Bytes::copy_from_slice(alloc, part_or_none(words, "body").as_bytes())?;
+    match HttpRequest::new(alloc, method, target) {
+        Ok(request) => with_parts(alloc, request, words),
+        Err(fault) => Err(fault),
+    }
+}
+
+fn with_parts(alloc: Global, request: HttpRequest, words: &[&str]) -> Mem<HttpRequest> {
+    let mut request = request;
+    add_parts(alloc, &mut request, words)?;
     Ok(request)
+}
+
+fn add_parts(alloc: Global, request: &mut HttpRequest, words: &[&str]) -> Mem<()> {
+    request.body = Bytes::copy_from_slice(alloc, part_or_none(words, "body").as_bytes())?;
+    add_headers(&mut request.headers, words)
 }
 
 fn add_headers(headers: &mut Headers, parts: &[&str]) -> Mem<()> {
@@ -43,25 +51,36 @@ pub fn identity_of(alloc: Global, parts: &[&str]) -> Mem<Identity> {
 fn credentials_of(alloc: Global, parts: &[&str]) -> Mem<Credentials> {
     let key_id = String::from_str(alloc, part(parts, "key-id").unwrap_or("AKIDEXAMPLE"))?;
     let secret = String::from_str(alloc, "wJalrXUtnFEMI/K7MDENG+bPxRfiCYEXAMPLEKEY")?;
-    Ok(Credentials::new(key_id, secret, token_of(alloc, parts)?, None))
+    Ok(Credentials::new(key_id, secret, text_of_part(alloc, parts, "token")?, None))
 }
 
-fn token_of(alloc: Global, parts: &[&str]) -> Mem<Option<String>> {
-    match part(parts, "token") {
-        Some(token) => Ok(Some(String::from_str(alloc, token)?)),
+fn text_of_part(alloc: Global, parts: &[&str], key: &str) -> Mem<Option<String>> {
+    match part(parts, key) {
+        Some(text) => Ok(Some(String::from_str(alloc, text)?)),
         None => Ok(None),
     }
 }
 
-/// The settings: `encode-once`, `keep-path`, `payload-header`, `omit-token` and `exclude-none` change the usual ones, and
-/// `for-s3` gives those for Amazon S3.
-pub fn settings_of(alloc: Global, parts: &[&str]) -> Mem<SigningSettings>
-    ensures { IfOk result (λ settings. IsHeaderForm (settings_of settings)) }
-{
+/// The settings: `encode-once`, `keep-path`, `payload-header`, `omit-token`, `exclude-none`, `query-form`, `expires-in N` and
+/// `token-name N` change the usual ones, and `for-s3` gives those for Amazon S3.
+pub fn settings_of(alloc: Global, parts: &[&str]) -> Mem<SigningSettings> {
     if has_part(parts, "for-s3") {
         return SigningSettings::for_s3(alloc);
     }
-    let mut settings = SigningSettings::new(alloc)?;
+    match SigningSettings::new(alloc) {
+        Ok(settings) => changed(alloc, settings, parts),
+        Err(fault) => Err(fault),
+    }
+}
+
+fn changed(alloc: Global, settings: SigningSettings, parts: &[&str]) -> Mem<SigningSettings> {
+    let mut settings = settings;
+    change(&mut settings, parts);
+    settings.session_token_name_override = text_of_part(alloc, parts, "token-name")?;
+    Ok(settings)
+}
+
+fn change(settings: &mut SigningSettings, parts: &[&str]) {
     if has_part(parts, "encode-once") {
         settings.percent_encoding_mode = PercentEncodingMode::Single;
     }
@@ -76,7 +95,14 @@ pub fn settings_of(alloc: Global, parts: &[&str]) -> Mem<SigningSettings>
     if has_part(parts, "exclude-none") {
         settings.excluded_headers = None;
     }
-    Ok(settings)
+    change_location(settings, parts);
+}
+
+fn change_location(settings: &mut SigningSettings, parts: &[&str]) {
+    if has_part(parts, "query-form") {
+        settings.signature_location = SignatureLocation::QueryParams;
+    }
+    settings.expires_in = part_or_none(parts, "expires-in").parse().ok();
 }
 
 /// What signs: region, name, moment and settings beside who does.
@@ -84,9 +110,7 @@ pub fn params_of<'a>(
     alloc: Global,
     identity: &'a Identity,
     parts: &[&'a str],
-) -> Mem<SigningParams<'a>>
-    ensures { IfOk result (λ params. IsHeaderForm (params_settings params)) }
-{
+) -> Mem<SigningParams<'a>> {
     let settings = settings_of(alloc, parts)?;
     let (region, name, time) = (region_of(parts), name_of(parts), time_of(parts));
     let params = v4::SigningParams::new(identity, region, name, time, settings);

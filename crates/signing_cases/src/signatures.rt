@@ -2,8 +2,8 @@ use crate::parts::first;
 use crate::requests::{identity_of, params_of, request_of, settings_of, signable_of};
 use crate::texts::{on_one_line, unknown};
 use sigv4::{
-    SignableBody, SigningError, SigningInstructions, SigningOutput, SigningSettings,
-    canonical_text, sign,
+    SignableBody, SignableRequest, SigningError, SigningInstructions, SigningOutput, SigningParams,
+    SigningSettings, canonical_text, sign,
 };
 use smithy_core::{HttpRequest, Identity, Mem};
 use std::alloc::Global;
@@ -42,9 +42,21 @@ fn text_over(
     identity: &Identity,
     words: &[&str],
 ) -> Result<String, SigningError> {
-    let params = params_of(alloc, identity, words)?;
-    let signable = signable_of(alloc, request, words)?;
-    canonical_text(alloc, &signable, &params)
+    match params_of(alloc, identity, words) {
+        Ok(params) => text_under(alloc, signable_of(alloc, request, words), &params),
+        Err(_) => Err(SigningError::NoMemory),
+    }
+}
+
+fn text_under(
+    alloc: Global,
+    signable: Result<SignableRequest<'_>, SigningError>,
+    params: &SigningParams<'_>,
+) -> Result<String, SigningError> {
+    match signable {
+        Ok(signable) => canonical_text(alloc, &signable, params),
+        Err(error) => Err(error),
+    }
 }
 
 fn part_of<'a>(text: &'a str, part: &str) -> &'a str {
@@ -78,14 +90,31 @@ fn signature(alloc: Global, words: &[&str]) -> Mem<String> {
 }
 
 /// What a signature adds to a request, and the signature.
-pub fn signed(
+pub fn signed(alloc: Global, request: &HttpRequest, words: &[&str]) -> Signed {
+    match identity_of(alloc, words) {
+        Ok(identity) => signed_by(alloc, request, &identity, words),
+        Err(_) => Err(SigningError::NoMemory),
+    }
+}
+
+type Signed = Result<SigningOutput<SigningInstructions>, SigningError>;
+
+fn signed_by(alloc: Global, request: &HttpRequest, identity: &Identity, words: &[&str]) -> Signed {
+    match params_of(alloc, identity, words) {
+        Ok(params) => signed_under(alloc, signable_of(alloc, request, words), &params),
+        Err(_) => Err(SigningError::NoMemory),
+    }
+}
+
+fn signed_under(
     alloc: Global,
-    request: &HttpRequest,
-    words: &[&str],
-) -> Result<SigningOutput<SigningInstructions>, SigningError> {
-    let identity = identity_of(alloc, words)?;
-    let params = params_of(alloc, &identity, words)?;
-    sign(alloc, signable_of(alloc, request, words)?, &params)
+    signable: Result<SignableRequest<'_>, SigningError>,
+    params: &SigningParams<'_>,
+) -> Signed {
+    match signable {
+        Ok(signable) => sign(alloc, signable, params),
+        Err(error) => Err(error),
+    }
 }
 
 /// The error with its place, and what it prints.
