@@ -1,0 +1,95 @@
+//! Copies, each compared with what it was made of: by `==` where there is one, and else by what both show.
+use crate::faults::error_of;
+use crate::inputs::{config_of, options_of, override_of};
+use crate::parts::unknown;
+use crate::signing::sign_anew;
+use aws_auth::{
+    OverrideError, SigV4MessageSigner, SigV4OperationSigningConfig, SigV4SessionTokenNameOverride,
+    SigV4SigningError, Signed,
+};
+use case_lines::shown;
+use sigv4::SigningSettings;
+use smithy_core::Mem;
+use std::alloc::Global;
+use std::fmt;
+
+/// What a value of this kind and its copy show.
+pub fn answer(alloc: Global, words: &[&str]) -> Mem<String> {
+    match words {
+        ["PayloadSigningOverride", text] => payload(alloc, text),
+        ["SigningOptions", parts @ ..] => options(alloc, parts),
+        ["SigV4OperationSigningConfig", parts @ ..] => config(alloc, parts),
+        ["SigV4SigningError", name, rest @ ..] => error(alloc, name, rest),
+        ["SigV4SessionTokenNameOverride", name] => shown(alloc, name_override(alloc, name)),
+        [kind, parts @ ..] => shown(alloc, of_signed(alloc, kind, parts)),
+        [] => unknown(alloc),
+    }
+}
+
+fn payload(alloc: Global, text: &str) -> Mem<String> {
+    let payload = override_of(alloc, text)?;
+    let copy = payload.try_clone()?;
+    let is_equal = copy == payload;
+    format!(in alloc; "{copy:?}, equal: {is_equal}")
+}
+
+fn options(alloc: Global, parts: &[&str]) -> Mem<String> {
+    let options = options_of(alloc, parts)?;
+    let copy = options.try_clone()?;
+    let is_equal = copy == options;
+    format!(in alloc; "{copy:?}, equal: {is_equal}")
+}
+
+fn config(alloc: Global, parts: &[&str]) -> Mem<String> {
+    let config = config_of(alloc, parts)?;
+    let copy = config.try_clone()?;
+    let is_equal = copy == config;
+    format!(in alloc; "{copy:?}, equal: {is_equal}")
+}
+
+fn error(alloc: Global, name: &str, rest: &[&str]) -> Mem<String> {
+    let error = error_of(name, rest);
+    let copy = error.try_clone()?;
+    compared(alloc, &error, &copy)
+}
+
+fn of_signed(alloc: Global, kind: &str, parts: &[&str]) -> Result<String, SigV4SigningError> {
+    let signed = sign_anew(alloc, parts)?;
+    Ok(match kind {
+        "Signed" => compared(alloc, &signed, &signed.try_clone()?)?,
+        "message_signer" => signer(alloc, &signed.message_signer)?,
+        "chunk_signer" => signer(alloc, &signed.chunk_signer)?,
+        _ => unknown(alloc)?,
+    })
+}
+
+fn signer<S: Clone + Drop>(alloc: Global, signer: &SigV4MessageSigner<S>) -> Mem<String> {
+    let copy = signer.try_clone()?;
+    compared(alloc, signer, &copy)
+}
+
+// What a value and its copy show, once where that is the same.
+fn compared<T: fmt::Debug>(alloc: Global, value: &T, copy: &T) -> Mem<String> {
+    let text = format!(in alloc; "{value:?}")?;
+    let copied = format!(in alloc; "{copy:?}")?;
+    if text == copied {
+        return Ok(text);
+    }
+    format!(in alloc; "{text} and {copied}")
+}
+
+// The name that a copy of an override gives.
+fn name_override(alloc: Global, name: &str) -> Result<String, OverrideError> {
+    let config = SigV4OperationSigningConfig::default();
+    let settings = SigningSettings::new(alloc)?;
+    let name_override = SigV4SessionTokenNameOverride::new(
+        move |_: &SigningSettings, _: &SigV4OperationSigningConfig| name_given(alloc, name),
+    );
+    let copy = name_override.try_clone()?;
+    let given = copy.name_override(&settings, &config)?;
+    Ok(format!(in alloc; "{copy:?} {given:?}")?)
+}
+
+fn name_given(alloc: Global, name: &str) -> Result<Option<String>, OverrideError> {
+    Ok(Some(String::from_str(alloc, name)?))
+}

@@ -1,0 +1,35 @@
+//! The request and who signs it.
+use crate::parts::{has_part, part, part_text};
+use bytes::Bytes;
+use smithy_core::{Credentials, HttpRequest, Identity, Mem};
+use std::alloc::Global;
+
+/// The request `GET` of `target T`, or else of `https://h.example/`, with the body of `body TEXT`.
+pub fn request_of(alloc: Global, parts: &[&str]) -> Mem<HttpRequest> {
+    let target = part(parts, "target").unwrap_or("https://h.example/");
+    let mut request = HttpRequest::new(alloc, "GET", target)?;
+    let body = part(parts, "body").unwrap_or("");
+    request.body = Bytes::copy_from_slice(alloc, body.as_bytes())?;
+    Ok(request)
+}
+
+/// The method and the target, and then the headers in order.
+pub fn request_told(alloc: Global, request: &HttpRequest) -> Mem<String> {
+    let (method, target) = (request.method.as_str(), request.target.as_str());
+    let mut told = format!(in alloc; "{method} {target}")?;
+    for (name, value) in request.headers.iter() {
+        write!(told, " | {name}: {value}")?;
+    }
+    Ok(told)
+}
+
+/// Who signs: with `bearer` a token, and else the credentials of AWS's examples, with `token TOKEN`.
+pub fn identity_of(alloc: Global, parts: &[&str]) -> Mem<Identity> {
+    if has_part(parts, "bearer") {
+        return Ok(Identity::Token(String::from_str(alloc, "t")?));
+    }
+    let key_id = String::from_str(alloc, "AKIDEXAMPLE")?;
+    let secret = String::from_str(alloc, "wJalrXUtnFEMI/K7MDENG+bPxRfiCYEXAMPLEKEY")?;
+    let token = part_text(alloc, parts, "token")?;
+    Ok(Identity::Credentials(Credentials::new(key_id, secret, token, None)))
+}

@@ -1,0 +1,103 @@
+//! Signs requests.
+use crate::inputs::Given;
+use crate::parts::{has_part, part, part_text};
+use crate::requests::{identity_of, request_of, request_told};
+use aws_auth::{
+    OverrideError, SigV4AuthScheme, SigV4OperationSigningConfig, SigV4SessionTokenNameOverride,
+    SigV4SigningError, Signed,
+};
+use case_lines::{number, shown};
+use sigv4::SigningSettings;
+use smithy_core::{HttpRequest, Identity, Mem, Moment};
+use std::alloc::Global;
+
+/// The signature and which signers start at it, or the refusal, and then the request as it is after the call.
+pub fn answer(alloc: Global, parts: &[&str]) -> Mem<String> {
+    let mut request = request_of(alloc, parts)?;
+    let signed = signed(alloc, &mut request, parts);
+    let signed = match signed {
+        Ok(signed) => signature_told(alloc, &signed)?,
+        Err(error) => format!(in alloc; "{error:?}")?,
+    };
+    let request = request_told(alloc, &request)?;
+    format!(in alloc; "{signed}: {request}")
+}
+
+fn signature_told(alloc: Global, signed: &Signed) -> Mem<String> {
+    let signature = signed.signature.as_str();
+    let for_messages = signed.message_signer.running_signature() == signature;
+    let for_chunks = signed.chunk_signer.running_signature() == signature;
+    let starts = if for_messages && for_chunks {
+        "both"
+    } else {
+        "not both"
+    };
+    format!(in alloc; "{signature} {starts}")
+}
+
+/// What the answer shows to one who debugs.
+pub fn debug(alloc: Global, parts: &[&str]) -> Mem<String> {
+    shown(alloc, debug_text(alloc, parts))
+}
+
+fn debug_text(alloc: Global, parts: &[&str]) -> Result<String, SigV4SigningError> {
+    let signed = sign_anew(alloc, parts)?;
+    Ok(format!(in alloc; "{signed:?}")?)
+}
+
+/// Signs a request that isn't kept.
+pub fn sign_anew(alloc: Global, parts: &[&str]) -> Result<Signed, SigV4SigningError> {
+    let mut request = request_of(alloc, parts)?;
+    signed(alloc, &mut request, parts)
+}
+
+fn signed(
+    alloc: Global,
+    request: &mut HttpRequest,
+    parts: &[&str],
+) -> Result<Signed, SigV4SigningError> {
+    let identity = identity_of(alloc, parts)?;
+    let given = Given::of(alloc, parts)?;
+    sign_by(alloc, request, &identity, &given, parts)
+}
+
+// Signs by `override NAME`, `override-none` or `override-refuses`, and at the moment of `at SECONDS`, or else at that of
+// the AWS signing test suite.
+fn sign_by(
+    alloc: Global,
+    request: &mut HttpRequest,
+    identity: &Identity,
+    given: &Given,
+    parts: &[&str],
+) -> Result<Signed, SigV4SigningError> {
+    let at = Moment::new(number(part(parts, "at").unwrap_or("1440938160")), 0);
+    let name_override = SigV4SessionTokenNameOverride::new(
+        move |_: &SigningSettings, _: &SigV4OperationSigningConfig| name_asked(alloc, parts),
+    );
+    let asked = if has_override(parts) {
+        Some(&name_override)
+    } else {
+        None
+    };
+    let scheme = SigV4AuthScheme::new();
+    scheme
+        .signer()
+        .sign_http_request(request, identity, &given.inputs(), at, asked)
+}
+
+fn has_override(parts: &[&str]) -> bool {
+    has_part(parts, "override")
+        || has_part(parts, "override-none")
+        || has_part(parts, "override-refuses")
+        || has_part(parts, "override-no-memory")
+}
+
+fn name_asked(alloc: Global, parts: &[&str]) -> Result<Option<String>, OverrideError> {
+    if has_part(parts, "override-refuses") {
+        return Err(OverrideError::Refused);
+    }
+    if has_part(parts, "override-no-memory") {
+        return Err(OverrideError::NoMemory);
+    }
+    Ok(part_text(alloc, parts, "override")?)
+}
