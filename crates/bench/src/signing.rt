@@ -137,7 +137,7 @@ fn chain_of(
     count: u32,
     params: &EventParams<'_>,
 ) -> anyhow::Result<Digest> {
-    let mut chain = Chain {
+    let mut chain = LinkedFrames {
         signature: String::new(alloc),
         frame: Vec::new(alloc),
         digest: Digest::new(),
@@ -151,13 +151,13 @@ fn chain_of(
 
 // What a chain has come to: the last signature and its frame, and the digest of all signatures and frames.
 #[derive(Drop)]
-struct Chain {
+struct LinkedFrames {
     signature: String,
     frame: Vec<u8>,
     digest: Digest,
 }
 
-impl Chain {
+impl LinkedFrames {
     fn sign(
         &mut self,
         alloc: Global,
