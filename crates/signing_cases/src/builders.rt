@@ -109,13 +109,10 @@ fn whole(alloc: Global, parts: &[&str]) -> Mem<String> {
     let (region, name, time) = (region_of(parts), name_of(parts), time_of(parts));
     let settings = number(part_or_none(parts, "settings"));
     let params = SigningParams::new(&identity, region, name, time, settings);
-    shown_again(alloc, params, number(part_or_none(parts, "again")))
-}
-
-fn shown_again(alloc: Global, params: SigningParams<'_, i64>, settings: i64) -> Mem<String> {
     let who = key_id(params.identity());
     let first = shown_params(alloc, &params)?;
-    let second = shown_params(alloc, &params.with_settings(settings))?;
+    let params = params.with_settings(number(part_or_none(parts, "again")));
+    let second = shown_params(alloc, &params)?;
     format!(in alloc; "{who} {first}, {second}")
 }
 

@@ -39,8 +39,11 @@ fn link_headers(alloc: Global, words: &[&str]) -> Mem<String> {
 fn signed(alloc: Global, words: &[&str]) -> Mem<Signed> {
     let message = message_of(alloc, words)?;
     let identity = identity_of(alloc, words)?;
-    let params = params_of(&identity, words);
-    Ok(sign_message(alloc, &message, first(words), &params))
+    Ok(signed_by(alloc, &message, &identity, words))
+}
+
+fn signed_by(alloc: Global, message: &Message, identity: &Identity, words: &[&str]) -> Signed {
+    sign_message(alloc, message, first(words), &params_of(identity, words))
 }
 
 type Signed = Result<SigningOutput<Message>, SigningError>;
@@ -48,10 +51,14 @@ type Signed = Result<SigningOutput<Message>, SigningError>;
 // The same of no message, which ends a stream.
 fn closing(alloc: Global, words: &[&str]) -> Mem<String> {
     let identity = identity_of(alloc, words)?;
-    match sign_empty_message(alloc, first(words), &params_of(&identity, words)) {
+    match closed_by(alloc, &identity, words) {
         Ok(output) => told(alloc, &output),
         Err(error) => refusal(alloc, &error),
     }
+}
+
+fn closed_by(alloc: Global, identity: &Identity, words: &[&str]) -> Signed {
+    sign_empty_message(alloc, first(words), &params_of(identity, words))
 }
 
 fn headers_of(alloc: Global, message: &Message) -> Mem<String> {
