@@ -4,7 +4,7 @@ use Rattle.smithy_core.specs.Outside.{Rose}
 use Rattle.smithy_core.proofs.GainLemmas.{prefix_at_start, prefix_from_whole}
 use Rattle.signed_stream.specs.Carriers.{GoesForInput}
 use Rattle.signed_stream.specs.Plan.{GainsAsPlanned, GoesAsPlanned, Plan, Supplied, stops, unread, writes}
-use Rattle.signed_stream.specs.Running.{Ask, CountsReads, CountsWrites, EndsAsAsked, Keeps, RunsAsPlanned, ask_plan, ends, streams}
+use Rattle.signed_stream.specs.Running.{Ask, CountsReads, CountsWrites, EndsAsAsked, KeepsOutput, RunsAsPlanned, ask_plan, ends, streams}
 use Rattle.signed_stream.specs.Status.{Ending, bad_job, bad_words, done, job_too_large, no_memory, not_built, output_fault, read_fault, refused}
 use Rattle.signed_stream.proofs.RunLemmas.{goes_no_memory}
 
@@ -47,7 +47,7 @@ one_given asked None answer before now runs = (record { texts = []; moments = []
 one_given asked (Some all) answer before now runs =
     let found = runs all refl in (found.0, λ bytes told. let same : all ≡ bytes = cc in rw (← same) found.1)
 
-pub said_keeps : (in_years : Bool) (end answer : Ending) (before now : Option (List ℕ)) → Keeps in_years end before now → IsSaid end answer → Keeps in_years answer before now
+pub said_keeps : (in_years : Bool) (end answer : Ending) (before now : Option (List ℕ)) → KeepsOutput in_years end before now → IsSaid end answer → KeepsOutput in_years answer before now
 said_keeps in_years end answer before now keeps (inl is) = rw is keeps
 said_keeps in_years end answer before now keeps (inr is) = rw is tt
 

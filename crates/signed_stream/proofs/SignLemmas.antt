@@ -29,9 +29,9 @@ use Rattle.aws_auth.specs.declared.signer.Signed.{Signed}
 use Rattle.signed_stream.specs.Case.{request_moment, settings_with}
 use Rattle.signed_stream.specs.Chain.{IsCredentials}
 use Rattle.signed_stream.specs.Command.{Wanted}
-use Rattle.signed_stream.specs.Plan.{ReadsTarget, TargetRead, accepted, unaccepted, unread}
+use Rattle.signed_stream.specs.Plan.{TargetSpells, TargetRead, accepted, unaccepted, unread}
 use Rattle.signed_stream.specs.Sign.{GivesName, IsRequestError, SignsJob, TellsError, case_fault, fault_for, identity_case, request_fault, unsigned}
-use Rattle.signed_stream.specs.Status.{Fault, fault_of, invalid_uri, moment_out_of_range}
+use Rattle.signed_stream.specs.Status.{RunFault, run_fault, invalid_uri, moment_out_of_range}
 use Rattle.signed_stream.proofs.TestLemmas.{IsPartError, IsTestError, unsigned_test}
 use Rattle.signed_stream.specs.declared.halt.Halt.{Halt}
 use Rattle.signed_stream.specs.declared.halt.Halt.TheVariants as halts
@@ -71,7 +71,7 @@ abbrev pub TellsFault : List ℕ → Instant → (Target → Case) → HttpReque
 TellsFault text at case new error = IsRequestError error × ((halt : Halt) → TellsError error halt → SignsJob text at case new (Err halt))
 
 -- a halt that tells an error tells its fault
-told_fault : (text : List ℕ) (at : Instant) (case : Target → Case) (new : HttpRequest) (error : SigningError) (target : TargetRead) → ReadsTarget text target
+told_fault : (text : List ℕ) (at : Instant) (case : Target → Case) (new : HttpRequest) (error : SigningError) (target : TargetRead) → TargetSpells text target
     → request_fault at case target ≡ Some (fault_for error) → (halt : Halt) → TellsError (auth.Signing error) halt → SignsJob text at case new (Err halt)
 told_fault text at case new error target reads is (halts.Refused fault) tells = (target, reads, rw tells is)
 told_fault text at case new error target reads is halts.OutputFault tells = absurd tells

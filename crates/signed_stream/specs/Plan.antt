@@ -18,10 +18,10 @@ pub data TargetRead : Type 0 where
   accepted : Target → TargetRead
 
 -- the text spells this, where it was read
-abbrev pub ReadsTarget : List ℕ → TargetRead → Type 0
-ReadsTarget text unread = Unit {0}
-ReadsTarget text unaccepted = SpellsNoTarget text
-ReadsTarget text (accepted target) = SpellsParts text target
+abbrev pub TargetSpells : List ℕ → TargetRead → Type 0
+TargetSpells text unread = Unit {0}
+TargetSpells text unaccepted = SpellsNoTarget text
+TargetSpells text (accepted target) = SpellsParts text target
 
 -- what the outside gave in one call
 pub record Supplied : Type 0 where

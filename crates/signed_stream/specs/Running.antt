@@ -93,18 +93,18 @@ Unless false P = P
 
 -- the answers that leave the output as it was, whether or not the input tells its bytes: of the refusals those of the profile and of the request, which
 -- is refused for its moment where that doesn't lie in the years
-abbrev pub Keeps : Bool → Ending → Option (List ℕ) → Option (List ℕ) → Type 0
-Keeps in_years done before now = Unit {0}
-Keeps in_years (refused (moment_out_of_range moment)) before now = Unless in_years (now ≡ before)
-Keeps in_years (refused (invalid_header_name_length place)) before now = Unit {0}
-Keeps in_years (refused (header_value_too_long place)) before now = Unit {0}
-Keeps in_years (refused (timestamp_value_too_large place)) before now = Unit {0}
-Keeps in_years (refused (headers_too_long place)) before now = Unit {0}
-Keeps in_years (refused (payload_too_long place)) before now = Unit {0}
-Keeps in_years (refused (message_too_long place)) before now = Unit {0}
-Keeps in_years output_fault before now = Unit {0}
-Keeps in_years no_memory before now = Unit {0}
-Keeps in_years answer before now = now ≡ before
+abbrev pub KeepsOutput : Bool → Ending → Option (List ℕ) → Option (List ℕ) → Type 0
+KeepsOutput in_years done before now = Unit {0}
+KeepsOutput in_years (refused (moment_out_of_range moment)) before now = Unless in_years (now ≡ before)
+KeepsOutput in_years (refused (invalid_header_name_length place)) before now = Unit {0}
+KeepsOutput in_years (refused (header_value_too_long place)) before now = Unit {0}
+KeepsOutput in_years (refused (timestamp_value_too_large place)) before now = Unit {0}
+KeepsOutput in_years (refused (headers_too_long place)) before now = Unit {0}
+KeepsOutput in_years (refused (payload_too_long place)) before now = Unit {0}
+KeepsOutput in_years (refused (message_too_long place)) before now = Unit {0}
+KeepsOutput in_years output_fault before now = Unit {0}
+KeepsOutput in_years no_memory before now = Unit {0}
+KeepsOutput in_years answer before now = now ≡ before
 
 -- a sink before a run and after it: what it holds, where it tells, and its count of faults
 pub record SinkChange : Type 0 where
@@ -120,7 +120,7 @@ pub record Ran (asked : Ask) (left : Option (List ℕ)) (given : Supplied) (answ
   -- where the input tells its bytes, it ended and the output gained as planned
   pub planned : (bytes : List ℕ) → left ≡ Some bytes → RunsAsPlanned asked bytes given answer out.held_before out.held_now
   -- what the output keeps also where it doesn't
-  pub kept : Keeps (asks_in_years asked) answer out.held_before out.held_now
+  pub kept : KeepsOutput (asks_in_years asked) answer out.held_before out.held_now
   -- what `err` gained
   pub said : Says answer err.held_before err.held_now err.faults_before err.faults_now
   -- which counts rose

@@ -9,7 +9,7 @@ ghost use Rattle.eventstream.specs.Writing.{IsFrameFault};
 ghost use Rattle.sigv4.specs.Params.{signer_of};
 ghost use Rattle.signed_stream.specs.Chain.{IsCredentials, fault_at, first_refusal, link_line, outside_years, refusal_fault, streamed_lines, unframed_at, unlinked};
 ghost use Rattle.signed_stream.specs.Halt.{Sends, unless_refused};
-ghost use Rattle.signed_stream.specs.Status.{fault_of};
+ghost use Rattle.signed_stream.specs.Status.{run_fault};
 
 use crate::halt::Halt;
 use crate::status::StreamFault;
@@ -148,7 +148,7 @@ fn write_frame<K: ByteSink>(
 // The fault that tells of the message at a place why it has no frame.
 fn fault_at(place: usize, reason: &ErrorKind) -> StreamFault
     requires { IsFrameFault reason.now }
-    ensures { fault_of result ≡ fault_at place reason.now }
+    ensures { run_fault result ≡ fault_at place reason.now }
 {
     match reason {
         ErrorKind::InvalidHeaderNameLength => StreamFault::InvalidHeaderNameLength(place),

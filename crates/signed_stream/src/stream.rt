@@ -10,7 +10,7 @@ ghost use Rattle.signed_stream.specs.Halt.{Sends, ended};
 ghost use Rattle.signed_stream.specs.Job.{job, whole_job};
 ghost use Rattle.signed_stream.specs.Options.{wanted_of};
 ghost use Rattle.signed_stream.specs.Plan.{most_input};
-ghost use Rattle.signed_stream.specs.Running.{Keeps, asks_in_years, streams};
+ghost use Rattle.signed_stream.specs.Running.{KeepsOutput, asks_in_years, streams};
 ghost use Rattle.signed_stream.specs.Sign.{identity_case};
 ghost use Rattle.signed_stream.specs.Status.{bad_words, done, ending_of, output_fault, read_fault};
 ghost use Rattle.signed_stream.specs.Written.{head};
@@ -41,7 +41,7 @@ pub fn stream_input<S: ByteSource, K: ByteSink>(
     ensures never_bad_words { (place : ℕ) → ending_of result ≡ bad_words place → ⊥ }
     ensures planned { (bytes : List ℕ) → S.left input.old ≡ Some bytes
         → GoesForInput (streams (wanted_of words.entry)) bytes (ending_of result) (K.held out.old) (K.held out.new) }
-    ensures kept { Keeps (asks_in_years (streams (wanted_of words.entry))) (ending_of result) (K.held out.old) (K.held out.new) }
+    ensures kept { KeepsOutput (asks_in_years (streams (wanted_of words.entry))) (ending_of result) (K.held out.old) (K.held out.new) }
     ensures read_failed { ending_of result ≡ read_fault → Rose (S.faults input.old) (S.faults input.new) }
     ensures read_steady { (ending_of result ≡ read_fault → ⊥) → S.faults input.new ≡ S.faults input.old }
     ensures output_failed { ending_of result ≡ output_fault → Rose (K.faults out.old) (K.faults out.new) }
