@@ -1,11 +1,9 @@
 -- The fields that an endpoint may have for signing.
-use Rattle.std.specs.Prelude.{◌≡◌, ℕ, Bool, true, false, List, codes, Option, Some, None, option_copied, Result, Ok, Err}
-use Rattle.std.specs.Borrow.{Bor}
+use Rattle.std.specs.Prelude.{ℕ, Bool, List, codes, Option, Some, None}
 use Rattle.std.specs.Option.{option_or}
 use Rattle.smithy_core.specs.Document.{Data, get, text, truth}
 use Rattle.aws_auth.specs.declared.endpoint.EndpointField.{EndpointField}
 use Rattle.aws_auth.specs.declared.endpoint.EndpointField.TheVariants.{SigningName, SigningRegion, DisableDoubleEncoding, DisableNormalizePath}
-use Rattle.aws_auth.specs.declared.endpoint.EndpointFields.{EndpointFields}
 use Rattle.aws_auth.specs.declared.error.SigV4SigningError.{SigV4SigningError}
 use Rattle.aws_auth.specs.declared.error.SigV4SigningError.TheVariants.{BadTypeInEndpointAuthSchemeConfig}
 
@@ -70,27 +68,3 @@ fields_of endpoint = record {
   disable_double_encoding = truth_in (field_of endpoint DisableDoubleEncoding);
   disable_normalize_path = truth_in (field_of endpoint DisableNormalizePath);
 }
-
--- what was found of them
-abbrev pub found : EndpointFields → Fields
-found fields = record {
-  name = option_copied fields.name;
-  region = option_copied fields.region;
-  disable_double_encoding = fields.disable_double_encoding;
-  disable_normalize_path = fields.disable_normalize_path;
-}
-
--- the text of a field, or its error
-abbrev pub FindsText : Option Data → EndpointField → Result (Option (Bor (List ℕ))) SigV4SigningError → Type 0
-FindsText endpoint field (Ok found) = (bad_text endpoint field ≡ None) × (option_copied found ≡ text_in (field_of endpoint field))
-FindsText endpoint field (Err error) = bad_text endpoint field ≡ Some error
-
--- the truth value of a field, or its error
-abbrev pub FindsTruth : Option Data → EndpointField → Result (Option Bool) SigV4SigningError → Type 0
-FindsTruth endpoint field (Ok found) = (bad_truth endpoint field ≡ None) × (found ≡ truth_in (field_of endpoint field))
-FindsTruth endpoint field (Err error) = bad_truth endpoint field ≡ Some error
-
--- what the fields say, or the error of the first whose value is of another type
-abbrev pub FindsFields : Option Data → Result EndpointFields SigV4SigningError → Type 0
-FindsFields endpoint (Ok fields) = (bad_field endpoint ≡ None) × (found fields ≡ fields_of endpoint)
-FindsFields endpoint (Err error) = bad_field endpoint ≡ Some error

@@ -89,18 +89,19 @@ pub record Chosen : Type 0 where
   pub settings : Settings
   pub at : Instant
 
--- what is chosen by the inputs for a request that is signed now
+-- what is chosen by the fields of an endpoint, the inputs and a config, for a request that is signed now
+abbrev pub chosen_by : Fields → SigningInputs → SigV4OperationSigningConfig → Instant → Chosen
+chosen_by fields inputs config now = record {
+  region = chosen_region fields inputs config;
+  name = chosen_name fields inputs config;
+  payload = chosen_payload inputs config;
+  settings = made_settings fields config.signing_options;
+  at = signing_moment now config.signing_options.signature_type inputs.skew_millis;
+}
+
+-- the same by the endpoint and the config of the inputs
 unfoldable pub chosen : SigningInputs → Instant → Chosen
-chosen inputs now =
-    let config = given_config inputs in
-    let fields = fields_of (given_endpoint inputs) in
-    record {
-      region = chosen_region fields inputs config;
-      name = chosen_name fields inputs config;
-      payload = chosen_payload inputs config;
-      settings = made_settings fields config.signing_options;
-      at = signing_moment now config.signing_options.signature_type inputs.skew_millis;
-    }
+chosen inputs now = chosen_by (fields_of (given_endpoint inputs)) inputs (given_config inputs) now
 
 -- the case of a request that an identity signs, for the name that an override gives the token and what the target spells; a region and a name that
 -- are missing are refused

@@ -7,3 +7,4 @@ pub mod NameOverride
 pub mod Options
 pub mod Payload
 pub mod Signer
+pub mod Steps

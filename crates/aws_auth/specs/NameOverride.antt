@@ -6,7 +6,7 @@ use Rattle.std.specs.declared.alloc.Global.{Global}
 use Rattle.sigv4.specs.Settings.{Settings, settings_of}
 use Rattle.sigv4.specs.declared.settings.SigningSettings.{SigningSettings}
 use Rattle.aws_auth.specs.declared.name_override.OverrideError.{OverrideError}
-use Rattle.aws_auth.specs.declared.name_override.OverrideError.TheVariants.{Refused, NoMemory}
+use Rattle.aws_auth.specs.declared.name_override.OverrideError.TheVariants as overrides
 use Rattle.aws_auth.specs.declared.options.SigV4OperationSigningConfig.{SigV4OperationSigningConfig}
 
 -- the name, where it gives one, or why it doesn't
@@ -29,5 +29,5 @@ module _ {F : Type 0} (calls : Shared F (Bor SigningSettings × (Bor SigV4Operat
 
 -- what is printed of an override that gives no name
 abbrev pub override_error_text : OverrideError → List ℕ
-override_error_text Refused = codes "the name of the session token is refused"
-override_error_text NoMemory = codes "no memory"
+override_error_text overrides.Refused = codes "the name of the session token is refused"
+override_error_text overrides.NoMemory = codes "no memory"

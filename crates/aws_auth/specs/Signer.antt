@@ -1,5 +1,5 @@
 -- What signing a request by its inputs promises.
-use Rattle.std.specs.Prelude.{◌≡◌, ◌⊎◌, ℕ, List, Option, Some, None, option_map, Result, Ok, Err, String, string_bytes, if◌then◌else◌}
+use Rattle.std.specs.Prelude.{◌≡◌, ◌⊎◌, ⊤, ℕ, List, Option, Some, None, option_map, Result, Ok, Err, String, string_bytes, if◌then◌else◌}
 use Rattle.std.specs.Borrow.{Bor}
 use Rattle.std.specs.Fn.{Shared}
 use Rattle.std.specs.Option.{option_or}
@@ -22,7 +22,7 @@ use Rattle.sigv4.specs.declared.settings.SigningSettings.{SigningSettings}
 use Rattle.aws_auth.specs.Endpoint.{bad_field}
 use Rattle.aws_auth.specs.Error.{override_error}
 use Rattle.aws_auth.specs.Inputs.{Chosen, chosen, chosen_case, given_config, given_endpoint}
-use Rattle.aws_auth.specs.MessageSigner.{GoesOn}
+use Rattle.aws_auth.specs.MessageSigner.{GoesOn, IsSameSigner}
 use Rattle.aws_auth.specs.NameOverride.{Answers, NameAnswer}
 use Rattle.aws_auth.specs.declared.error.SigV4SigningError.{SigV4SigningError}
 use Rattle.aws_auth.specs.declared.error.SigV4SigningError.TheVariants.{MissingOperationSigningConfig, MissingSigningRegion, MissingSigningName, WrongIdentityType, Signing, NoMemory}
@@ -49,10 +49,14 @@ refused_name (Err error) = Some (override_error error)
 abbrev pub out_of_years : Instant → Option SigV4SigningError
 out_of_years t = if is_in_years t then None else Some (Signing (MomentOutOfRange t))
 
--- the error of a request whose case is this for what its target spells: it spells none, or the request isn't signed, or its target gets too long
-abbrev pub unsigned_target : (Target → Case) → Option Target → Option SigV4SigningError
-unsigned_target case None = Some (Signing InvalidUri)
-unsigned_target case (Some target) = option_map Signing (option_or (unfit (case target)) (unfit_signed_target (case target)))
+-- the first of a region, a name and a moment that is missing or out of the years
+abbrev pub unfit_params : Option (List ℕ) → Option (List ℕ) → Instant → Option SigV4SigningError
+unfit_params region name at = option_or (unless_there region MissingSigningRegion) (option_or (unless_there name MissingSigningName) (out_of_years at))
+
+-- why a request isn't signed, whose case is this for what its target spells: that is none, or the request is refused, or its target takes no more
+abbrev pub unsigned_target : (Target → Case) → Option Target → Option SigningError
+unsigned_target case None = Some InvalidUri
+unsigned_target case (Some target) = option_or (unfit (case target)) (unfit_signed_target (case target))
 
 -- the first test that fails before an override is asked: who signs, the config, and the endpoint's fields in order
 abbrev pub refusal_before_override : Identity → SigningInputs → Option SigV4SigningError
@@ -62,8 +66,7 @@ refusal_before_override identity inputs =
 -- the first test that fails from there on, before the target is read: the override's answer, the region, the name and the moment
 abbrev pub refusal_before_target : Chosen → NameAnswer → Option SigV4SigningError
 refusal_before_target choice answer =
-    option_or (refused_name answer) (option_or (unless_there choice.region MissingSigningRegion)
-    (option_or (unless_there choice.name MissingSigningName) (out_of_years choice.at)))
+    option_or (refused_name answer) (unfit_params choice.region choice.name choice.at)
 
 -- the name in an answer that gives one
 abbrev pub name_in : NameAnswer → Option (List ℕ)
@@ -75,7 +78,7 @@ abbrev pub signing_refusal : HttpRequest → Identity → SigningInputs → Inst
 signing_refusal request identity inputs now answer target =
     let choice = chosen inputs now in
     option_or (refusal_before_override identity inputs) (option_or (refusal_before_target choice answer)
-    (unsigned_target (chosen_case request identity choice (name_in answer)) target))
+    (option_map Signing (unsigned_target (chosen_case request identity choice (name_in answer)) target)))
 
 -- the text spells a target of these parts, or none
 abbrev pub SpellsAs : List ℕ → Option Target → Type 0
@@ -87,9 +90,15 @@ pub record IsSignedCase (identity : Identity) (c : Case) (old new : HttpRequest)
   pub headers : new.headers ≡ signed_headers c
   pub target : string_bytes new.target ≡ signed_target c (string_bytes old.target)
   pub signature : string_bytes signed.signature ≡ signature_of c
-  pub message_signer : GoesOn identity c signed.message_signer
-  pub chunk_signer : GoesOn identity c signed.chunk_signer
+  pub message_signer : GoesOn identity (signature_of c) c.signer c.at signed.message_signer
+  pub chunk_signer : GoesOn identity (signature_of c) c.signer c.at signed.chunk_signer
   pub chunk_settings : settings_of signed.chunk_signer.settings ≡ c.settings
+
+-- the signatures are the same, and so are the signers that go on
+pub record IsSameSigned (signed copy : Signed) : Type 0 where
+  pub signature : string_bytes copy.signature ≡ string_bytes signed.signature
+  pub message_signer : IsSameSigner (λ _ _. ⊤) signed.message_signer copy.message_signer
+  pub chunk_signer : IsSameSigner (λ settings other. settings_of other ≡ settings_of settings) signed.chunk_signer copy.chunk_signer
 
 module _ {F : Type 0} (calls : Shared F (Bor SigningSettings × (Bor SigV4OperationSigningConfig × Unit {0})) NameAnswer) (closure : Option F)
     (identity : Identity) (inputs : SigningInputs) (now : Instant) (old : HttpRequest) where

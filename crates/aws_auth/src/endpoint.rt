@@ -1,6 +1,7 @@
 ghost use Rattle.std.specs.Prelude.{◌≡◌, option_copied, option_map};
 ghost use Rattle.smithy_core.specs.Document.{data_of};
-ghost use Rattle.aws_auth.specs.Endpoint.{FindsFields, FindsText, FindsTruth, field_name, field_of};
+ghost use Rattle.aws_auth.specs.Endpoint.{field_name, field_of};
+ghost use Rattle.aws_auth.specs.Steps.{FindsFields, FindsText, FindsTruth};
 
 use crate::error::SigV4SigningError;
 use smithy_core::Document;
@@ -45,6 +46,7 @@ impl fmt::Display for EndpointField {
 }
 
 /// What an endpoint's fields say, as far as it has them.
+#[derive(Drop)]
 pub(crate) struct EndpointFields<'a> {
     pub(crate) name: Option<&'a str>,
     pub(crate) region: Option<&'a str>,

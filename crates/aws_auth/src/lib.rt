@@ -1,8 +1,8 @@
 //! The signer of an operation's requests: AWS Signature Version 4 by options, an endpoint's fields and overrides.
 //!
 //! The layer above is promised that [`SigV4Signer::sign_http_request`] makes the signed request of its case and two signers that
-//! go on from its signature, or leaves the request and answers exactly the first test that fails (`specs/Signing.antt`); the
-//! region, the name, the settings, the payload and the moment of the case are chosen as `specs/Choice.antt` says.
+//! go on from its signature, or leaves the request and answers exactly the first test that fails (`specs/Signer.antt`); the
+//! region, the name, the settings, the payload and the moment of the case are chosen as `specs/Inputs.antt` says.
 #![tactic(auto)]
 
 mod endpoint;
@@ -14,6 +14,7 @@ mod name_override;
 mod options;
 mod payload;
 mod scheme;
+mod settings;
 mod signer;
 
 pub use crate::endpoint::EndpointField;

@@ -62,10 +62,11 @@ impl<S: Clone + Drop> SigV4MessageSigner<S> {
     }
 }
 
-// Shows the region, the name and the moment. Who signs has a secret, and a signature in a query opens its request.
+// Shows all but who signs, which has a secret, and the settings.
 impl<S> fmt::Debug for SigV4MessageSigner<S> {
     fn fmt<W: fmt::Write>(&self, f: &mut fmt::Formatter<W>) -> fmt::Result {
         f.debug_struct("SigV4MessageSigner")
+            .field("running_signature", &self.running_signature)
             .field("region", &self.region)
             .field("name", &self.name)
             .field("time", &self.time)

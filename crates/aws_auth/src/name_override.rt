@@ -1,8 +1,9 @@
-ghost use Rattle.std.specs.Prelude.{◌≡◌};
+ghost use Rattle.std.specs.Prelude.{◌≡◌, IfOk};
 ghost use Rattle.aws_auth.specs.declared.name_override.OverrideError.TheVariants.{NoMemory};
 
 use crate::options::SigV4OperationSigningConfig;
 use sigv4::SigningSettings;
+use smithy_core::Mem;
 use std::alloc::AllocError;
 use std::fmt;
 use std::marker::Model;
@@ -80,6 +81,17 @@ where
         ensures { F.post self.now settings.entry config.entry result }
     {
         (self.name_override)(settings, config)
+    }
+}
+
+impl<F: Clone + Drop> SigV4SessionTokenNameOverride<F> {
+    /// The override by a copy of the closure.
+    pub fn try_clone(&self) -> Mem<SigV4SessionTokenNameOverride<F>>
+        ensures { IfOk result (λ copy. F.is_clone self.now copy) }
+    {
+        Ok(SigV4SessionTokenNameOverride {
+            name_override: self.name_override.clone()?,
+        })
     }
 }
 

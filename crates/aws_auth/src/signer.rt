@@ -1,13 +1,26 @@
-ghost use Rattle.std.specs.Prelude.{◌≡◌, IfSome, OnErr, option_copied};
-ghost use Rattle.aws_auth.specs.Signer.{SignsByInputs};
+ghost use Rattle.std.specs.Prelude.{◌≡◌, None, IfOk, IfSome, OnErr, option_copied, string_bytes};
+ghost use Rattle.sigv4.specs.EventStream.{unsignable};
+ghost use Rattle.sigv4.specs.Params.{signer_of};
+ghost use Rattle.sigv4.specs.Request.{identity_of};
+ghost use Rattle.sigv4.specs.SigningParams.{params_time};
+ghost use Rattle.aws_auth.specs.MessageSigner.{GoesOn};
+ghost use Rattle.aws_auth.specs.Signer.{IsSameSigned, SignsByInputs};
+ghost use Rattle.aws_auth.specs.Steps.{IsSignedWith, SignsParts, SignsTarget, TestsParams, params_case};
 
 use crate::error::SigV4SigningError;
-use crate::inputs::SigningInputs;
+use crate::inputs::{SigningInputs, choose, signable_body};
 use crate::message_signer::SigV4MessageSigner;
 use crate::name_override::{OverrideError, SigV4SessionTokenNameOverride};
 use crate::options::SigV4OperationSigningConfig;
-use sigv4::SigningSettings;
-use smithy_core::{HttpRequest, Identity, Moment};
+use crate::payload::PayloadSigningOverride;
+use crate::settings::named_settings;
+use http_uri::Uri;
+use sigv4::{
+    SignableRequest, SigningError, SigningInstructions, SigningOutput, SigningParams,
+    SigningSettings, sign_request, v4,
+};
+use smithy_core::{HttpRequest, Identity, Mem, Moment, Region, SigningName, civil};
+use std::alloc::Global;
 
 /// The signature of a request, and what signs what follows it.
 #[derive(Debug, Drop)]
@@ -18,6 +31,19 @@ pub struct Signed {
     pub message_signer: SigV4MessageSigner<()>,
     /// What signs the chunks that follow, at the moment of the request.
     pub chunk_signer: SigV4MessageSigner<SigningSettings>,
+}
+
+impl Signed {
+    /// The same signature, and signers that go on from the same ones.
+    pub fn try_clone(&self) -> Mem<Signed>
+        ensures { IfOk result (IsSameSigned self.now) }
+    {
+        Ok(Signed {
+            signature: self.signature.clone()?,
+            message_signer: self.message_signer.try_clone()?,
+            chunk_signer: self.chunk_signer.try_clone()?,
+        })
+    }
 }
 
 /// What signs a request.
@@ -70,7 +96,109 @@ impl SigV4Signer {
         ensures body { request.new.body ≡ request.old.body }
         ensures err { OnErr result (request.new ≡ request.old) }
     {
-        let _request = request;
-        Err(SigV4SigningError::NoMemory)
+        let alloc = *request.method.allocator();
+        let (config, choice) = choose(alloc, identity, inputs, now)?;
+        let settings = named_settings(choice.settings, config, name_override)?;
+        let params = tested_params(identity, choice.region, choice.name, choice.at, settings)?;
+        Ok(sign_by(alloc, request, choice.payload, &params)?)
     }
+}
+
+// The parameters of a signature, where there are a region and a name, and the moment lies in the years 0 to 9999.
+fn tested_params<'a>(
+    identity: &'a Identity,
+    region: Option<&'a str>,
+    name: Option<&'a str>,
+    at: Moment,
+    settings: SigningSettings,
+) -> Result<SigningParams<'a>, SigV4SigningError>
+    ensures { TestsParams identity.entry.now (option_copied region.entry) (option_copied name.entry) at settings result }
+{
+    let region = match region {
+        Some(region) => region,
+        None => return Err(SigV4SigningError::MissingSigningRegion),
+    };
+    let name = match name {
+        Some(name) => name,
+        None => return Err(SigV4SigningError::MissingSigningName),
+    };
+    if civil(at).is_none() {
+        return Err(SigV4SigningError::Signing(SigningError::MomentOutOfRange(at)));
+    }
+    let params = v4::SigningParams::new(identity, region, name, at, settings);
+    Ok(SigningParams::V4(params))
+}
+
+// Signs a request by parameters, and makes what goes on from its signature. The request changes last, all or nothing.
+fn sign_by(
+    alloc: Global,
+    request: &mut HttpRequest,
+    payload: Option<&PayloadSigningOverride>,
+    params: &SigningParams<'_>,
+) -> Result<Signed, SigningError>
+    requires { unsignable (identity_of params.now) (params_time params.now) ≡ None }
+    ensures signs { SignsTarget (identity_of params.now) (params_case request.old (option_copied payload.entry) params.now) request.old request.new result }
+    ensures method { request.new.method ≡ request.old.method }
+    ensures body { request.new.body ≡ request.old.body }
+    ensures err { OnErr result (request.new ≡ request.old) }
+{
+    let (output, uri) = signed_parts(alloc, request, payload, params)?;
+    let (instructions, signature) = output.into_parts();
+    let signed = signed_with(alloc, params, signature)?;
+    instructions.apply_to_parsed(request, &uri)?;
+    Ok(signed)
+}
+
+// What a signature adds to a request, and what was read of its target.
+fn signed_parts(
+    alloc: Global,
+    request: &HttpRequest,
+    payload: Option<&PayloadSigningOverride>,
+    params: &SigningParams<'_>,
+) -> Result<(SigningOutput<SigningInstructions>, Uri), SigningError>
+    requires { unsignable (identity_of params.now) (params_time params.now) ≡ None }
+    ensures { SignsParts (string_bytes request.now.target) (params_case request.now (option_copied payload.entry) params.now) result }
+{
+    let signable = SignableRequest::new(
+        alloc,
+        request.method.as_str(),
+        request.target.as_str(),
+        &request.headers,
+        signable_body(payload, request.body.as_slice())?,
+    )?;
+    let output = sign_request(alloc, &signable, params)?;
+    Ok((output, signable.into_uri()))
+}
+
+// The signature, and two signers that go on from it.
+fn signed_with(alloc: Global, params: &SigningParams<'_>, signature: String) -> Mem<Signed>
+    ensures { IfOk result (IsSignedWith params.now (string_bytes signature)) }
+{
+    let SigningParams::V4(params) = params;
+    let settings = params.settings().try_clone()?;
+    Ok(Signed {
+        message_signer: signer_with(alloc, params, signature.clone()?, ())?,
+        chunk_signer: signer_with(alloc, params, signature.clone()?, settings)?,
+        signature,
+    })
+}
+
+// A signer with these settings that goes on from a signature.
+fn signer_with<S: Drop>(
+    alloc: Global,
+    params: &v4::SigningParams<'_, SigningSettings>,
+    signature: String,
+    settings: S,
+) -> Mem<SigV4MessageSigner<S>>
+    ensures from { IfOk result (GoesOn params.now.identity.now (string_bytes signature) (signer_of params.now) params.now.time) }
+    ensures settings { IfOk result (λ signer. signer.settings ≡ settings) }
+{
+    Ok(SigV4MessageSigner::new(
+        signature,
+        params.identity().try_clone()?,
+        Region::new(String::from_str(alloc, params.region())?),
+        SigningName::new(String::from_str(alloc, params.name())?),
+        params.time(),
+        settings,
+    ))
 }

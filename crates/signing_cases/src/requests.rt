@@ -1,7 +1,4 @@
 //! A request and how it is signed, from the words `METHOD TARGET`, `header NAME: VALUE`, `body TEXT` and so on.
-ghost use Rattle.std.specs.Prelude.{◌≡◌, IfOk};
-ghost use Rattle.sigv4.specs.Request.{params_settings};
-ghost use Rattle.sigv4.specs.Settings.{IsHeaderForm, settings_of};
 
 use crate::moments::moment_of;
 use crate::parts::{has_part, part};
@@ -55,9 +52,7 @@ pub fn identity_of(alloc: Global, parts: &[&str]) -> Mem<Identity> {
 
 /// The settings: `encode-once`, `keep-path`, `payload-header`, `omit-token` and `exclude-none` change the usual ones, and
 /// `for-s3` gives those for Amazon S3.
-pub fn settings_of(alloc: Global, parts: &[&str]) -> Mem<SigningSettings>
-    ensures { IfOk result (λ settings. IsHeaderForm (settings_of settings)) }
-{
+pub fn settings_of(alloc: Global, parts: &[&str]) -> Mem<SigningSettings> {
     if has_part(parts, "for-s3") {
         return SigningSettings::for_s3(alloc);
     }
@@ -86,10 +81,7 @@ pub fn params_of<'a>(
     name: &'a str,
     time: Moment,
     settings: SigningSettings,
-) -> SigningParams<'a>
-    requires { IsHeaderForm (settings_of settings) }
-    ensures { IsHeaderForm (params_settings result) }
-{
+) -> SigningParams<'a> {
     let builder = v4::SigningParams::builder()
         .identity(identity)
         .region(region)

@@ -1,11 +1,15 @@
+pub mod CanonicalLemmas
 pub mod CopyLemmas
+pub mod HeaderLemmas
 pub mod JoinLemmas
 pub mod NameLemmas
+pub mod ParameterLemmas
 pub mod PathLemmas
 pub mod QueryLemmas
 pub mod RefusalLemmas
 pub mod ScopeLemmas
 pub mod SignatureLemmas
+pub mod SignedLemmas
 pub mod SortLemmas
 pub mod TargetLemmas
 pub mod TrimLemmas

@@ -1,6 +1,7 @@
 -- Tests of names and values of headers.
-use Rattle.std.proofs.Common.{◌≡◌, ℕ, Bool, true, false, ◌&&◌, List, length, refl, sym}
-use Rattle.std.specs.Prelude.{IsTrue, bytes_eq, ◌↔◌}
+use Rattle.std.proofs.Common.{◌≡◌, ℕ, Bool, true, false, cond, ◌&&◌, List, [], ◌∷◌, length, Option, Some, None, is_some, refl, sym, ◌∙◌}
+use Rattle.std.specs.Prelude.{IsSome, IsTrue, bytes_eq, ◌↔◌}
+use Rattle.std.specs.Option.{option_or}
 use Rattle.std.proofs.lemmas.Bool.{false≢true, le-leb, lt-ltb}
 use Rattle.std.proofs.lemmas.List.Sums.{AllPass-from_list_all, list_all-from_AllPass}
 use Rattle.std.proofs.lemmas.Slice.Eq.{bytes_eq-Decides}
@@ -8,10 +9,14 @@ use Rattle.http_header.specs.FieldName.{IsFieldName}
 use Rattle.http_header.specs.FieldValue.{IsFieldValue}
 use Rattle.http_header.specs.Token.{is_token_byte, is_value_byte, token_test}
 use Rattle.http_header.proofs.TokenLemmas.{IsFieldName-from_test}
+use Rattle.smithy_core.specs.Pairs.{AreLower, first_value, lower, value_if}
+use Rattle.sigv4.specs.Canonical.{given_headers}
+use Rattle.sigv4.specs.Query.{Pair}
 use Rattle.sigv4.specs.Refusal.{is_name, is_value}
+use Rattle.sigv4.specs.Trim.{trim_all}
 
 -- a test that decides a fact is the one that decides it
-same_test : {P : Type 0} (a b : Bool) → (IsTrue a ↔ P) → (IsTrue b → P) → (P → IsTrue b) → a ≡ b
+pub same_test : {P : Type 0} (a b : Bool) → (IsTrue a ↔ P) → (IsTrue b → P) → (P → IsTrue b) → a ≡ b
 same_test true b is gives tests = sym (tests (is.0 refl))
 same_test false true is gives tests = absurd (false≢true (is.1 (gives refl)))
 same_test false false is gives tests = refl
@@ -26,6 +31,25 @@ decides-name name b is = same_test b (is_name name) is (IsFieldName-from_test na
 pub decides-value : (text : List ℕ) (b : Bool) → (IsTrue b ↔ IsFieldValue text) → b ≡ is_value text
 decides-value text b is = same_test b (is_value text) is (AllPass-from_list_all is_value_byte text) (list_all-from_AllPass is_value_byte text)
 
--- a name that is a text in lower case
+-- texts that are the same in lower case
 pub decides-text : (a b : List ℕ) (r : Bool) → (IsTrue r ↔ (a ≡ b)) → r ≡ bytes_eq a b
 decides-text a b r is = same_test r (bytes_eq a b) is ((bytes_eq-Decides a b).0) ((bytes_eq-Decides a b).1)
+
+-- headers with names in lower case have a name where the given headers have it
+value-given : (pair : Pair) (name : List ℕ) → lower pair.0 ≡ pair.0 → (rest all : Option (List ℕ)) → is_some rest ≡ is_some all
+    → is_some (option_or (value_if (lower pair.0, trim_all pair.1) name) rest) ≡ is_some (option_or (value_if pair name) all)
+value-given pair name same rest all again =
+    (λ i. is_some (option_or (value_if (same i, trim_all pair.1) name) rest)) ∙ by (bytes_eq pair.0 name)
+  where
+    by : (b : Bool) → is_some (option_or (cond b (Some (trim_all pair.1)) None) rest) ≡ is_some (option_or (cond b (Some pair.1) None) all)
+    by true = refl
+    by false = again
+
+pub first-given : (headers : List Pair) (name : List ℕ) → AreLower headers → is_some (first_value (given_headers headers) name) ≡ is_some (first_value headers name)
+first-given [] name lower = refl
+first-given (header ∷ headers) name lower =
+    value-given header name lower.0 (first_value (given_headers headers) name) (first_value headers name) (first-given headers name lower.1)
+
+-- a test whether there is a value
+pub decides-some : (value : Option (List ℕ)) (r : Bool) → (IsTrue r ↔ IsSome value) → r ≡ is_some value
+decides-some value r is = same_test r (is_some value) is (λ holds. holds) (λ holds. holds)

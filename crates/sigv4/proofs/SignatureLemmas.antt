@@ -1,5 +1,5 @@
 -- Signatures are values of headers.
-use Rattle.std.proofs.Common.{◌≡◌, ℕ, zero, suc, ◌/◌, ◌%◌, ◌<◌, Bool, true, false, ◌&&◌, List, [], ◌∷◌, slice_index, refl, ap, ◌∙◌, arith}
+use Rattle.std.proofs.Common.{◌≡◌, ℕ, zero, suc, ◌/◌, ◌%◌, ◌<◌, Bool, true, false, ◌&&◌, List, [], ◌∷◌, ◌++◌, codes, slice_index, refl, ap, ◌∙◌, arith}
 use Rattle.std.specs.Prelude.{nat_lt}
 use Rattle.std.specs.Int.{byte_at, bytes_high_first, to_be_bytes, w32}
 use Rattle.std.specs.List.{list_all}
@@ -9,10 +9,11 @@ use Rattle.sha2.specs.Sha256.{sha256, digest_bytes, final_hash, initial_hash_256
 use Rattle.hex.specs.Hex.{encode_lower, encode_with, lower_digits}
 use Rattle.http_header.specs.Token.{is_value_byte}
 use Rattle.mac_core.specs.Mac.{mac, mac_of_block}
+use Rattle.sigv4.specs.Canonical.{credential, joined_names, names}
 use Rattle.sigv4.specs.Request.{Case}
 use Rattle.sigv4.specs.Refusal.{is_value}
 use Rattle.sigv4.specs.Signature.{signature}
-use Rattle.sigv4.specs.Signed.{authorization, authorization_front, signature_of}
+use Rattle.sigv4.specs.Signed.{authorization, signature_of}
 
 abbrev is_byte : ℕ → Bool
 is_byte b = nat_lt b 256
@@ -59,13 +60,23 @@ pub signature-value : (c : Case) → is_value (signature_of c) ≡ true
 unfolding signature_of signature
 signature-value c = encode-value _ (mac-bytes _ _)
 
--- an authorization may be a header's value where it may without its signature
-pub authorization-value : (c : Case) → is_value (authorization c) ≡ is_value (authorization_front c)
+and-true : (b : Bool) → (b && true) ≡ b
+and-true true = refl
+and-true false = refl
+
+-- a text of such bytes in front changes nothing
+behind : (front text : List ℕ) → is_value front ≡ true → is_value (front ++ text) ≡ is_value text
+behind front text fine = list_all-append is_value_byte front text ∙ (λ i. fine i && is_value text)
+
+-- an authorization may be a header's value where the credential and the names may
+pub authorization-value : (c : Case) → is_value (authorization c) ≡ (is_value (credential c) && is_value (joined_names (names c)))
 unfolding authorization
 authorization-value c =
-    list_all-append is_value_byte (authorization_front c) (signature_of c)
-    ∙ ap (λ b. is_value (authorization_front c) && b) (signature-value c) ∙ and-true (is_value (authorization_front c))
-  where
-    and-true : (b : Bool) → (b && true) ≡ b
-    and-true true = refl
-    and-true false = refl
+    let key = credential c in
+    let listed = joined_names (names c) in
+    let last = codes ", Signature=" ++ signature_of c in
+    let middle = codes ", SignedHeaders=" ++ (listed ++ last) in
+    behind (codes "AWS4-HMAC-SHA256 Credential=") (key ++ middle) refl ∙ list_all-append is_value_byte key middle
+    ∙ ap (λ b. is_value key && b)
+    (behind (codes ", SignedHeaders=") (listed ++ last) refl ∙ list_all-append is_value_byte listed last
+    ∙ ap (λ b. is_value listed && b) (behind (codes ", Signature=") (signature_of c) refl ∙ signature-value c) ∙ and-true (is_value listed))

@@ -1,5 +1,5 @@
 -- The canonical request of AWS Signature Version 4, whose signature goes into headers or into the target's query.
-use Rattle.std.specs.Prelude.{ℕ, Bool, true, false, not, List, [], ◌∷◌, ◌++◌, codes, filter, map, bytes_eq, Option, Some, None, is_some, unwrap_or, if◌then◌else◌}
+use Rattle.std.specs.Prelude.{ℕ, Bool, not, List, [], ◌∷◌, ◌++◌, codes, filter, map, bytes_eq, Option, Some, None, is_some, unwrap_or, if◌then◌else◌}
 use Rattle.std.specs.Cmp.Lexicographic.{slice_cmp}
 use Rattle.std.specs.FinMap.{from_entries, keys}
 use Rattle.std.specs.Fmt.{decimal}
@@ -50,21 +50,20 @@ abbrev pub told_payload : PayloadChecksumKind → List ℕ → Option (List ℕ)
 told_payload NoHeader payload = None
 told_payload XAmzSha256 payload = Some payload
 
--- the headers with those that a signature in headers adds: the date, the token and the payload's text
+-- the headers with those that a signature adds: none in query form, and in header form the date, the token and the payload's text
 abbrev pub with_signing_headers : Settings → List ℕ → Option (List ℕ) → Option (List ℕ) → List Pair → List Pair
 with_signing_headers settings date token payload headers =
-    with_optional (codes "x-amz-content-sha256") payload (with_optional (token_header settings) token (inserted headers (codes "x-amz-date") date))
+    if is_query_form settings then headers
+    else with_optional (codes "x-amz-content-sha256") payload (with_optional (token_header settings) token (inserted headers (codes "x-amz-date") date))
 
 -- the given headers, with the host
 abbrev pub hosted_headers : Target → List Pair → List Pair
 hosted_headers target headers = with_optional (codes "host") (added_host target headers) (given_headers headers)
 
--- the headers as they can be signed: those of the signature where it goes into headers
+-- the headers as they can be signed
 unfoldable pub canonical_headers : Case → List Pair
 canonical_headers c =
-    let headers = hosted_headers c.target c.headers in
-    if is_query_form c.settings then headers
-    else with_signing_headers c.settings (stamp c.at) c.token (told_payload c.settings.payload_checksum_kind c.payload) headers
+    with_signing_headers c.settings (stamp c.at) c.token (told_payload c.settings.payload_checksum_kind c.payload) (hosted_headers c.target c.headers)
 
 -- the name of a token that isn't signed
 abbrev pub excluded_token : SessionTokenMode → List ℕ → List (List ℕ)
@@ -131,21 +130,21 @@ parameters_for credential_text date expires_in names_text =
 unfoldable pub signing_parameters : Case → List Pair
 signing_parameters c = parameters_for (credential c) (stamp c.at) c.settings.expires_in (joined_names (names c))
 
--- the token under a name, where one is held
+-- the token under a name, where there is one
 abbrev pub token_pairs : List ℕ → Option (List ℕ) → List Pair
 token_pairs name None = []
 token_pairs name (Some token) = (name, token) ∷ []
 
--- the token's parameter, where one is held and is signed
-abbrev pub signed_token : SessionTokenMode → List ℕ → Option (List ℕ) → List Pair
-signed_token Include name token = token_pairs name token
-signed_token Exclude name token = []
+-- the token, where it is signed
+abbrev pub signed_token : SessionTokenMode → Option (List ℕ) → Option (List ℕ)
+signed_token Include token = token
+signed_token Exclude token = None
 
 -- the pairs that are signed: those of the target's query, and in query form the parameters and the token
 unfoldable pub pairs : Case → List Pair
 pairs c =
     if is_query_form c.settings
-    then decoded c.target ++ signing_parameters c ++ signed_token c.settings.session_token_mode (token_parameter c.settings) c.token
+    then decoded c.target ++ signing_parameters c ++ token_pairs (token_parameter c.settings) (signed_token c.settings.session_token_mode c.token)
     else decoded c.target
 
 -- the lines method, path, query, those of the headers, an empty one, the names, and the payload's text with no LF after it

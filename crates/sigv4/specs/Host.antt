@@ -19,6 +19,6 @@ has_default_port (Some scheme) authority =
 abbrev pub host_of : Option (List ℕ) → List ℕ → List ℕ
 host_of scheme authority = if has_default_port scheme authority then authority_host authority else authority
 
--- the same of a target, where it has an authority
+-- the host of a target that has an authority
 unfoldable pub host_text : Target → Option (List ℕ)
 host_text target = option_map (host_of target.scheme) target.authority

@@ -27,7 +27,7 @@ decoded_pair p = (decoded_text p.0, decoded_text p.1)
 abbrev pub decoded_pairs : List ℕ → List Pair
 decoded_pairs query = map decoded_pair (raw_pairs query)
 
--- the same of a target's query
+-- the pairs of a target's query
 unfoldable pub decoded : Target → List Pair
 decoded target = decoded_pairs (unwrap_or target.query [])
 

@@ -5,7 +5,7 @@ use denote.Ref.{Bor}
 use Rattle.std.specs.Option.{option_or}
 use Rattle.http_header.specs.FieldName.{is_field_name}
 use Rattle.http_header.specs.Token.{is_value_byte}
-use Rattle.smithy_core.specs.Pairs.{lower}
+use Rattle.smithy_core.specs.Pairs.{AreLower, lower}
 use Rattle.smithy_core.specs.declared.identity.Identity.{Identity}
 use Rattle.smithy_http.specs.Target.{Target}
 use Rattle.sigv4.specs.Canonical.{added_host, has_host, told_payload}
@@ -122,7 +122,33 @@ abbrev pub Tests : Option SigningError → Result (Unit {0}) SigningError → Ty
 Tests refused (Ok _) = refused ≡ None
 Tests refused (Err error) = refused ≡ Some error
 
--- the host that is added, exactly where the test of the host doesn't fail
+-- the host that is added to headers with names in lower case, exactly where the test of the host doesn't fail
 abbrev pub AddsHost : Target → List Pair → Result (Option (Bor (List ℕ))) SigningError → Type 0
-AddsHost target headers (Ok host) = (unfit_host target headers ≡ None) × (option_copied host ≡ added_host target headers)
+AddsHost target headers (Ok host) = (unfit_host target headers ≡ None) × (option_copied host ≡ added_host target headers) × AreLower headers
 AddsHost target headers (Err error) = unfit_host target headers ≡ Some error
+
+-- ---- the tests in the order of the code, which hashes the body after those that need no hash
+
+-- in query form the expiry, and in header form the token's text
+abbrev pub unfit_early_text : Settings → Option (List ℕ) → Option SigningError
+unfit_early_text settings token = if is_query_form settings then unfit_expiry settings.expires_in else unfit_optional Token token
+
+-- the first test that fails of those that need no hash
+abbrev pub unfit_unhashed : Settings → Target → List Pair → Option (List ℕ) → Option SigningError
+unfit_unhashed settings target headers token =
+    option_or (unfit_target settings target) (option_or (unfit_headers 1 headers) (option_or (unfit_host target headers)
+    (option_or (unfit_token_name settings) (unfit_early_text settings token))))
+
+-- in header form the first test that fails of the payload's text and of the parts of the authorization
+abbrev pub unfit_late_texts : Settings → List ℕ → List ℕ → List ℕ → Option SigningError
+unfit_late_texts settings payload credential_text names_text =
+    if is_query_form settings then None
+    else
+    option_or (unfit_optional PayloadHash (told_payload settings.payload_checksum_kind payload))
+    (option_or (unfit_value Authorization credential_text) (unfit_value Authorization names_text))
+
+-- the host that is added to headers with names in lower case, exactly where no test fails that needs no hash
+abbrev pub FindsHost : Settings → Target → List Pair → Option (List ℕ) → Result (Option (Bor (List ℕ))) SigningError → Type 0
+FindsHost settings target headers token (Ok host) =
+    (unfit_unhashed settings target headers token ≡ None) × (option_copied host ≡ added_host target headers) × AreLower headers
+FindsHost settings target headers token (Err error) = unfit_unhashed settings target headers token ≡ Some error

@@ -46,10 +46,6 @@ token_of (Token token) = None
 abbrev pub identity_of : SigningParams → Identity
 identity_of (V4 params) = params.identity.now
 
--- the settings
-abbrev pub params_settings : SigningParams → Settings
-params_settings (V4 params) = settings_of params.settings
-
 -- the URI that was read of the request's target
 abbrev pub request_uri : SignableRequest → Uri
 request_uri request = request.uri

@@ -8,11 +8,14 @@ use Rattle.smithy_core.specs.Instant.{Instant}
 use Rattle.smithy_core.specs.Text.{line}
 use Rattle.eventstream.specs.Key.{Signer, scope, signing_key}
 
--- the string to sign of a canonical text, for a region and a name: the algorithm, the stamp, the scope and the digest, a line each,
--- with no LF after the last
+-- the algorithm, a stamp, a scope and the digest of a canonical text, a line each, with no LF after the last
+abbrev pub string_to_sign_of : List ℕ → List ℕ → List ℕ → List ℕ
+string_to_sign_of stamp_text scope_text canonical =
+    line (codes "AWS4-HMAC-SHA256") ++ line stamp_text ++ line scope_text ++ encode_lower (sha256 canonical)
+
+-- the string to sign of a canonical text, for a region and a name
 unfoldable pub string_to_sign : Instant → List ℕ → List ℕ → List ℕ → List ℕ
-string_to_sign t region name canonical =
-    line (codes "AWS4-HMAC-SHA256") ++ line (stamp t) ++ line (scope t region name) ++ encode_lower (sha256 canonical)
+string_to_sign t region name canonical = string_to_sign_of (stamp t) (scope t region name) canonical
 
 -- the code of the string to sign under the signing key, in lower-case hexadecimal
 unfoldable pub signature : Signer → Instant → List ℕ → List ℕ

@@ -13,18 +13,14 @@ use Rattle.sigv4.specs.Signature.{signature}
 unfoldable pub signature_of : Case → List ℕ
 signature_of c = signature c.signer c.at (canonical c)
 
--- the algorithm, the credential and the names of the signed headers
-abbrev pub authorization_text : List ℕ → List ℕ → List ℕ
-authorization_text credential_text names_text =
-    codes "AWS4-HMAC-SHA256 Credential=" ++ (credential_text ++ (codes ", SignedHeaders=" ++ (names_text ++ codes ", Signature=")))
-
--- the authorization of a case up to its signature
-unfoldable pub authorization_front : Case → List ℕ
-authorization_front c = authorization_text (credential c) (joined_names (names c))
+-- the algorithm, the credential, the names of the signed headers and the signature
+abbrev pub authorization_text : List ℕ → List ℕ → List ℕ → List ℕ
+authorization_text credential_text names_text signature_text =
+    codes "AWS4-HMAC-SHA256 Credential=" ++ (credential_text ++ (codes ", SignedHeaders=" ++ (names_text ++ (codes ", Signature=" ++ signature_text))))
 
 -- the authorization of a case
 unfoldable pub authorization : Case → List ℕ
-authorization c = authorization_front c ++ signature_of c
+authorization c = authorization_text (credential c) (joined_names (names c)) (signature_of c)
 
 -- a header that may be told
 abbrev pub plain : List ℕ → List ℕ → Instruction
@@ -37,8 +33,8 @@ optional_header name sensitive (Some value) = record { name = name; value = valu
 
 -- the date, the authorization, the payload's text and the token
 abbrev pub instructions_for : Settings → List ℕ → List ℕ → Option (List ℕ) → Option (List ℕ) → List Instruction
-instructions_for settings date authorization_text payload token =
-    (plain (codes "x-amz-date") date ∷ plain (codes "authorization") authorization_text ∷ [])
+instructions_for settings date authorization payload token =
+    (plain (codes "x-amz-date") date ∷ plain (codes "authorization") authorization ∷ [])
     ++ optional_header (codes "x-amz-content-sha256") false payload
     ++ optional_header (token_header settings) true token
 

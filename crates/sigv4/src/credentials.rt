@@ -1,25 +1,21 @@
-ghost use Rattle.std.specs.Prelude.{◌≡◌, Some, None, MatchResult};
-ghost use Rattle.smithy_core.specs.Civil.{IsInYears};
-ghost use Rattle.sigv4.specs.Request.{HasKeys};
+ghost use Rattle.std.specs.Prelude.{◌≡◌, None, Some, MatchResult, if◌then◌else◌};
+ghost use Rattle.smithy_core.specs.Civil.{is_in_years};
+ghost use Rattle.smithy_core.specs.Instant.{Instant};
 ghost use Rattle.sigv4.specs.EventStream.{unsignable};
+ghost use Rattle.sigv4.specs.Request.{HasKeys};
 
 use crate::error::SigningError;
-use smithy_core::{Credentials, Identity, Moment, civil};
+use smithy_core::{Credentials, Identity};
 
-/// The credentials of an identity that signs at a moment.
-pub(crate) fn credentials_for(
-    identity: &Identity,
-    time: Moment,
-) -> Result<&Credentials, SigningError>
+/// The credentials of an identity that signs.
+pub(crate) fn credentials_of(identity: &Identity) -> Result<&Credentials, SigningError>
     ensures { MatchResult result
-        (λ credentials. (unsignable identity.now time ≡ None) × IsInYears time × HasKeys identity.now credentials.now)
-        (λ error. unsignable identity.now time ≡ Some error) }
+        (λ credentials. HasKeys identity.now credentials.now
+        × ((t : Instant) → unsignable identity.now t ≡ (if is_in_years t then None else Some (SigningError.MomentOutOfRange t))))
+        (λ error. (t : Instant) → unsignable identity.now t ≡ Some error) }
 {
     match identity {
+        Identity::Credentials(credentials) => Ok(credentials),
         Identity::Token(_) => Err(SigningError::UnsupportedIdentityType),
-        Identity::Credentials(credentials) => match civil(time) {
-            Some(_) => Ok(credentials),
-            None => Err(SigningError::MomentOutOfRange(time)),
-        },
     }
 }

@@ -1,25 +1,27 @@
 //! Signed messages of an event stream: each is signed over the signature before it.
 
-ghost use Rattle.std.specs.Prelude.{◌≡◌, [], None, Some, codes, IfOk, MatchResult};
+ghost use Rattle.std.specs.Prelude.{◌≡◌, [], ◌∷◌, codes, IfOk};
 ghost use Rattle.std.specs.String.{string_bytes};
 ghost use Rattle.sha2.specs.Sha256.{sha256};
 ghost use Rattle.hex.specs.Hex.{encode_lower};
 ghost use Rattle.smithy_core.specs.Civil.{IsInYears};
 ghost use Rattle.smithy_core.specs.Instant.{floor_secs};
 ghost use Rattle.eventstream.specs.Frame.{frame, spelling};
-ghost use Rattle.eventstream.specs.Key.{signing_key};
-ghost use Rattle.eventstream.specs.Link.{date_header, link_message, link_signature, string_to_sign};
-ghost use Rattle.sigv4.specs.Params.{secret_of, signer_of};
+ghost use Rattle.eventstream.specs.Link.{date_header, string_to_sign};
+ghost use Rattle.sigv4.specs.Params.{signer_of};
 ghost use Rattle.sigv4.specs.EventStream.{Links, message_refusal, unsignable};
 
-use crate::credentials::credentials_for;
+use crate::credentials::credentials_of;
 use crate::error::SigningError;
-use crate::key::{generate_signing_key, scope_bytes};
+use crate::line::push_line;
 use crate::output::SigningOutput;
+use crate::signature::begun_string_to_sign;
+use crate::signing_scope::SigningScope;
+use crate::signing_time::SigningTime;
 use bytes::Bytes;
 use eventstream::{ErrorKind, write_headers_to, write_message_to};
 use mac_core::{hmac_sha256, sha256_hex};
-use smithy_core::{Header, HeaderValue, Mem, Message, Moment, StrBytes, civil, push_line};
+use smithy_core::{Header, HeaderValue, Mem, Message, Moment, StrBytes};
 use std::alloc::{AllocError, Global};
 
 /// The parameters of a signed message, which have no settings.
@@ -76,6 +78,7 @@ pub fn sign_empty_message(
     sign_bytes(alloc, Vec::new(alloc), last_signature, params)
 }
 
+#[tactic(auto, unfolding(eventstream::specs::Link::link_message, eventstream::specs::Link::link_signature, eventstream::specs::Link::link_code))]
 fn sign_bytes(
     alloc: Global,
     bytes: Vec<u8>,
@@ -85,14 +88,15 @@ fn sign_bytes(
     ensures { Links (unsignable params.now.identity.now params.now.time)
         params.now last_signature.now bytes.items result }
 {
-    let credentials = credentials_for(params.identity(), params.time())?;
-    let key = generate_signing_key(
-        credentials.secret_access_key(),
-        whole_second(params.time()),
-        params.region(),
-        params.name(),
-    );
-    Ok(link(alloc, bytes, last_signature, params, key.as_slice())?)
+    let credentials = credentials_of(params.identity())?;
+    let time = SigningTime::new(whole_second(params.time())).ok_or(SigningError::MomentOutOfRange(
+        params.time(),
+    ))?;
+    let secret = credentials.secret_access_key();
+    let key = time.signing_key(secret, params.region(), params.name());
+    let text = string_to_sign(alloc, bytes.as_slice(), last_signature, params, &time)?;
+    let code = hmac_sha256(key.as_slice(), text.as_bytes());
+    Ok(link(alloc, bytes, params.time(), code.as_slice())?)
 }
 
 // The moment without its nanoseconds.
@@ -102,55 +106,42 @@ fn whole_second(time: Moment) -> Moment
     Moment::new(time.secs(), 0)
 }
 
-// The link of bytes over the signature before them, under the signing key of the parameters.
-#[tactic(auto, unfolding(eventstream::specs::Link::link_message, eventstream::specs::Link::link_signature, eventstream::specs::Link::link_code))]
-fn link(
-    alloc: Global,
-    bytes: Vec<u8>,
-    last_signature: &str,
-    params: &SigningParams<'_>,
-    key: &[u8],
-) -> Mem<SigningOutput<Message>>
-    requires in_years { IsInYears params.now.time }
-    requires key { key.now ≡ signing_key (signer_of params.now) (floor_secs params.now.time) }
-    ensures { IfOk result (λ output.
-        (output.output ≡ link_message (signer_of params.now) last_signature.now bytes.items params.now.time)
-        × (string_bytes output.signature ≡ link_signature (signer_of params.now) last_signature.now bytes.items params.now.time)) }
+// The message of bytes that were signed with this code, and the code as a signature.
+fn link(alloc: Global, bytes: Vec<u8>, time: Moment, code: &[u8]) -> Mem<SigningOutput<Message>>
+    ensures message { IfOk result (λ output. output.output ≡ record {
+      headers = record { name = codes ":chunk-signature"; value = HeaderValue.ByteArray code.now } ∷ date_header (floor_secs time) ∷ [];
+      payload = bytes.items;
+    }) }
+    ensures signature { IfOk result (λ output. string_bytes output.signature ≡ encode_lower code.now) }
 {
-    let text = string_to_sign(alloc, bytes.as_slice(), last_signature, params)?;
-    let code = hmac_sha256(key, text.as_slice());
-    let signature = hex::encode(alloc, code.as_slice())?;
+    let signature = hex::encode(alloc, code)?;
     let mut headers = Vec::with_capacity(alloc, 2)?;
-    headers.push(code_header(alloc, code.as_slice())?)?;
-    headers.push(date_header(params.time()))?;
+    headers.push(code_header(alloc, code)?)?;
+    headers.push(date_header(time))?;
     let message = Message::new_from_parts(headers, Bytes::from_vec(bytes)?);
     Ok(SigningOutput::new(message, signature))
 }
 
-// The string to sign of bytes over the signature before them.
-#[tactic(auto, unfolding(smithy_core::specs::Civil::stamp, eventstream::specs::Link::string_to_sign))]
+// The string to sign of bytes over the signature before them, where the time is that of the parameters.
+#[tactic(auto, unfolding(eventstream::specs::Link::string_to_sign))]
 fn string_to_sign(
     alloc: Global,
     bytes: &[u8],
     last_signature: &str,
     params: &SigningParams<'_>,
-) -> Mem<Vec<u8>>
-    requires { IsInYears params.now.time }
-    ensures { IfOk result (λ text. text.items
-        ≡ string_to_sign (signer_of params.now) last_signature.now bytes.now (floor_secs params.now.time)) }
+    time: &SigningTime,
+) -> Mem<String>
+    requires in_years { IsInYears params.now.time }
+    requires time { time.now ≡ floor_secs params.now.time }
+    ensures { IfOk result (λ text. string_bytes text ≡ string_to_sign (signer_of params.now) last_signature.now bytes.now time.now) }
 {
-    let date = whole_second(params.time());
-    let stamp = civil(date).unwrap().stamp();
-    let scope = scope_bytes(alloc, date, params.region(), params.name())?;
+    let scope = SigningScope::new(alloc, time, params.region(), params.name())?;
     let date_digest = date_digest(alloc, params.time())?;
     let digest = sha256_hex(alloc, bytes)?;
-    let mut text = Vec::with_capacity(alloc, 320)?;
-    push_line(&mut text, b"AWS4-HMAC-SHA256-PAYLOAD")?;
-    push_line(&mut text, stamp.as_slice())?;
-    push_line(&mut text, scope.as_slice())?;
-    push_line(&mut text, last_signature.as_bytes())?;
-    push_line(&mut text, date_digest.as_bytes())?;
-    text.extend_from_slice(digest.as_bytes())?;
+    let mut text = begun_string_to_sign(alloc, "AWS4-HMAC-SHA256-PAYLOAD", &scope)?;
+    push_line(&mut text, last_signature)?;
+    push_line(&mut text, date_digest.as_str())?;
+    text.push_str(digest.as_str())?;
     Ok(text)
 }
 

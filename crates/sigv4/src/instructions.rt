@@ -1,4 +1,5 @@
-ghost use Rattle.std.specs.Prelude.{◌≡◌, map, IfOk, OnOk, OnErr};
+ghost use Rattle.std.specs.Prelude.{◌≡◌, [], map, IfOk, OnOk, OnErr};
+ghost use Rattle.std.specs.Option.{option_map_or};
 ghost use Rattle.std.specs.String.{string_bytes};
 ghost use Rattle.smithy_core.specs.Pairs.{text_pairs};
 ghost use Rattle.smithy_http.specs.Building.{SpellsTarget};
@@ -8,8 +9,10 @@ ghost use Rattle.sigv4.specs.Parameters.{AppliesParams, AppliesTo};
 
 use crate::error::SigningError;
 use crate::header::{Header, HeaderPairs};
+use crate::parameters::target_with;
 use http_uri::Uri;
-use smithy_core::{HttpRequest, Mem};
+use smithy_core::{Headers, HttpRequest, Mem};
+use smithy_http::read_target;
 use std::alloc::Global;
 use std::marker::Model;
 
@@ -32,6 +35,26 @@ impl Model for SigningInstructions {
 }
 
 impl SigningInstructions {
+    // These headers, and no parameters.
+    pub(crate) fn of_headers(alloc: Global, headers: Vec<Header>) -> SigningInstructions
+        ensures { result ≡ record { headers = headers.items; params = [] } }
+    {
+        SigningInstructions {
+            headers,
+            params: Vec::new(alloc),
+        }
+    }
+
+    // These parameters, and no headers.
+    pub(crate) fn of_params(alloc: Global, params: Vec<(String, String)>) -> SigningInstructions
+        ensures { result ≡ record { headers = []; params = text_pairs params.items } }
+    {
+        SigningInstructions {
+            headers: Vec::new(alloc),
+            params,
+        }
+    }
+
     /// The headers and the parameters, in order.
     pub fn into_parts(self) -> (Vec<Header>, Vec<(String, String)>)
         ensures headers { result.0.items ≡ self.headers }
@@ -69,8 +92,8 @@ impl SigningInstructions {
         ensures body { request.new.body ≡ request.old.body }
         ensures err { OnErr result ((request.new.headers ≡ request.old.headers) × (request.new.target ≡ request.old.target)) }
     {
-        let _request = request;
-        Err(SigningError::NoMemory)
+        let uri = read_target(*self.headers.allocator(), request.target.as_str())?;
+        self.apply_to_parsed(request, &uri)
     }
 
     /// Puts the signature into its request as [`SigningInstructions::apply_to_request`] does, where the request's target was
@@ -89,9 +112,12 @@ impl SigningInstructions {
         ensures body { request.new.body ≡ request.old.body }
         ensures err { OnErr result ((request.new.headers ≡ request.old.headers) × (request.new.target ≡ request.old.target)) }
     {
-        let _uri = uri;
-        let _request = request;
-        Err(SigningError::NoMemory)
+        let alloc = *self.headers.allocator();
+        let target = target_with(alloc, uri, self.params.as_slice())?;
+        let headers = headers_with(&request.headers, self.headers.as_slice())?;
+        request.headers = headers;
+        replace_text(&mut request.target, target);
+        Ok(())
     }
 
     /// Equal instructions.
@@ -111,4 +137,31 @@ impl Clone for SigningInstructions {
     fn clone(&self) -> Mem<SigningInstructions> {
         self.try_clone()
     }
+}
+
+// Puts the new text in place of the old one, where there is a new one.
+fn replace_text(text: &mut String, new: Option<String>)
+    ensures { string_bytes text.new ≡ option_map_or string_bytes new (string_bytes text.old) }
+{
+    if let Some(new) = new {
+        *text = new;
+    }
+}
+
+// The headers of a request after inserting these.
+fn headers_with(headers: &Headers, more: &[Header]) -> Mem<Headers>
+    ensures { IfOk result (λ all. all ≡ with_instructions headers.now more.now) }
+{
+    let mut all = headers.try_clone()?;
+    insert_all(&mut all, more)?;
+    Ok(all)
+}
+
+fn insert_all(headers: &mut Headers, more: &[Header]) -> Mem<()>
+    ensures { OnOk result (headers.new ≡ with_instructions headers.old more.now) }
+{
+    for header in more {
+        headers.insert(header.name(), header.value())?;
+    }
+    Ok(())
 }

@@ -1,12 +1,17 @@
-ghost use Rattle.std.specs.Prelude.{◌≡◌, ◌↔◌, ℕ, List};
+ghost use Rattle.std.specs.Prelude.{◌≡◌, ◌↔◌, ℕ, true, List, None, Some, Ok};
 ghost use Rattle.std.specs.Cmp.Lexicographic.{slice_cmp};
 ghost use Rattle.std.specs.List.Sorted.{IsStrictlySortedBy};
 ghost use Rattle.std.specs.Ordering.{nat_cmp};
 ghost use Rattle.std.specs.declared.cmp.Ordering.TheVariants.{Equal};
 ghost use Rattle.sigv4.specs.Canonical.{names};
 ghost use Rattle.sigv4.specs.Request.{Case};
+ghost use Rattle.sigv4.specs.Instructions.{with_instructions};
+ghost use Rattle.sigv4.specs.Parameters.{AppliesTo, takes_no_more};
 ghost use Rattle.sigv4.specs.Path.{norm};
+ghost use Rattle.sigv4.specs.Refusal.{unfit_signed_target};
+ghost use Rattle.sigv4.specs.Signed.{instructions, parameters, signed_headers, signed_target};
 ghost use Rattle.sigv4.specs.Trim.{trim_all};
+ghost use Rattle.sigv4.specs.declared.error.SigningError.TheVariants.{InvalidUri};
 
 /// A path in its normal form is its own normal form.
 #[tactic(auto, using(crate::proofs::PathLemmas::norm_twice))]
@@ -25,4 +30,14 @@ pub fn trimmed_texts_stay()
 pub fn signed_names_ascend()
     ensures ascend { (c : Case) → IsStrictlySortedBy (slice_cmp nat_cmp) (names c) }
     ensures agree { (a b : List ℕ) → (slice_cmp nat_cmp a b ≡ Equal) ↔ (a ≡ b) }
+{}
+
+/// What goes out of a case makes its signed request: the headers are those of it, and the target, where it takes the
+/// parameters, is its target; where it doesn't, that is the last test of a case that fails.
+#[tactic(auto, using(crate::proofs::SignedLemmas::makes_signed))]
+pub fn instructions_make_the_signed_request()
+    ensures headers { (c : Case) → with_instructions c.headers (instructions c) ≡ signed_headers c }
+    ensures target { (c : Case) (old new : List ℕ) → AppliesTo (parameters c) c.target old new (Ok tt)
+        → (unfit_signed_target c ≡ None) × (new ≡ signed_target c old) }
+    ensures refused { (c : Case) → takes_no_more (parameters c) c.target ≡ true → unfit_signed_target c ≡ Some InvalidUri }
 {}

@@ -1,9 +1,9 @@
-//! AWS Signature Version 4: signing keys, signed requests in header form, and signed messages.
+//! AWS Signature Version 4: signing keys, signed requests in header form and in query form, and signed messages.
 //!
-//! The layer above is promised that [`sign`] answers the headers and the signature of a request, and [`canonical_text`] its
-//! canonical text (`specs/Canonical.antt`, `specs/Signed.antt`), or exactly the first test that the request fails
-//! (`specs/Refusal.antt`), and that [`SigningInstructions::apply_to_request`] puts the signature into the request
-//! (`specs/Parameters.antt`).
+//! The layer above is promised that [`sign`] answers the headers or the parameters and the signature of a request, and
+//! [`canonical_text`] its canonical text (`specs/Canonical.antt`, `specs/Signed.antt`), or exactly the first test that the
+//! request fails (`specs/Refusal.antt`), and that [`SigningInstructions::apply_to_request`] puts the signature into the
+//! request (`specs/Parameters.antt`).
 //!
 //! The layer above is promised that [`v4::generate_signing_key`] is the signing key of a secret, a date, a
 //! region and a name, and takes no memory, and that [`v4::request_signature`] is the signature of a
@@ -14,29 +14,46 @@
 #![tactic(auto)]
 
 mod body;
+mod canonical;
+mod canonical_headers;
+mod canonical_query;
 mod credentials;
 mod error;
 pub mod event_stream;
+mod grammar;
 mod header;
+mod host;
 mod instructions;
 mod key;
 mod laws;
+mod line;
 mod modes;
 mod output;
+mod parameters;
 mod params;
 mod path;
+mod refusal;
 mod request;
 mod request_signing;
 mod settings;
 mod signature;
+mod signed;
 mod signing_params;
+mod signing_scope;
+mod signing_texts;
+mod signing_time;
+mod token_name;
+mod trim;
 pub mod v4;
 
 pub use crate::body::SignableBody;
 pub use crate::error::{SigningError, ValuePlace};
 pub use crate::header::{Header, HeaderPairs};
 pub use crate::instructions::SigningInstructions;
-pub use crate::laws::{normal_paths_stay, signed_names_ascend, trimmed_texts_stay};
+pub use crate::laws::{
+    instructions_make_the_signed_request, normal_paths_stay, signed_names_ascend,
+    trimmed_texts_stay,
+};
 pub use crate::modes::{PercentEncodingMode, UriPathNormalizationMode};
 pub use crate::output::SigningOutput;
 pub use crate::path::normalize_uri_path;

@@ -91,7 +91,7 @@ impl<'a, S> SigningParams<'a, S> {
 }
 
 impl<'a, S: Drop> SigningParams<'a, S> {
-    /// The same parameters with these settings.
+    /// These parameters with other settings.
     pub fn with_settings(self, settings: S) -> SigningParams<'a, S>
         ensures { result ≡ record self.entry { settings = settings } }
     {
@@ -100,7 +100,7 @@ impl<'a, S: Drop> SigningParams<'a, S> {
 }
 
 impl<'a, S: Clone + Drop> SigningParams<'a, S> {
-    /// The same parameters, with a copy of the settings.
+    /// Parameters of the same parts, with a copy of the settings.
     pub fn try_clone(&self) -> Mem<SigningParams<'a, S>>
         ensures { IfOk result (IsCopied S.is_clone self.now) }
     {

@@ -1,11 +1,21 @@
-ghost use Rattle.sigv4.specs.Request.{identity_of, request_case};
-ghost use Rattle.sigv4.specs.RequestSigning.{SignsCase, TellsCanonical};
+ghost use Rattle.std.specs.Prelude.{◌≡◌, true, false, MatchResult};
+ghost use Rattle.smithy_core.specs.Civil.{is_in_years};
+ghost use Rattle.sigv4.specs.Refusal.{unfit};
+ghost use Rattle.sigv4.specs.Request.{HasKeys, identity_of, request_case, v4_request_case};
+ghost use Rattle.sigv4.specs.RequestSigning.{Signs, SignsCase, TellsCanonical};
 
+use crate::credentials::credentials_of;
 use crate::error::SigningError;
 use crate::instructions::SigningInstructions;
 use crate::output::SigningOutput;
 use crate::request::SignableRequest;
+use crate::settings::SigningSettings;
+use crate::signed::instructions;
 use crate::signing_params::SigningParams;
+use crate::signing_texts::SigningTexts;
+use crate::signing_time::SigningTime;
+use crate::v4;
+use smithy_core::{Credentials, Moment};
 use std::alloc::Global;
 
 /// Signs a request: what the signature adds to it, and the signature.
@@ -56,13 +66,43 @@ pub fn sign(
 ///
 /// Those of [`sign`].
 pub fn sign_request(
-    _alloc: Global,
-    _request: &SignableRequest<'_>,
-    _params: &SigningParams<'_>,
+    alloc: Global,
+    request: &SignableRequest<'_>,
+    params: &SigningParams<'_>,
 ) -> Result<SigningOutput<SigningInstructions>, SigningError>
-    ensures { SignsCase (identity_of _params.now) (request_case _request.now _params.now) result }
+    ensures { SignsCase (identity_of params.now) (request_case request.now params.now) result }
 {
-    Err(SigningError::NoMemory)
+    let SigningParams::V4(params) = params;
+    let credentials = credentials_of(params.identity())?;
+    let time = signing_time(params.time())?;
+    sign_at(alloc, request, params, credentials, &time)
+}
+
+// The signed request of the credentials at the moment of the parameters.
+fn sign_at(
+    alloc: Global,
+    request: &SignableRequest<'_>,
+    params: &v4::SigningParams<'_, SigningSettings>,
+    credentials: &Credentials,
+    time: &SigningTime,
+) -> Result<SigningOutput<SigningInstructions>, SigningError>
+    requires time { time.now ≡ params.now.time }
+    requires keys { HasKeys params.now.identity.now credentials.now }
+    ensures { Signs (unfit (v4_request_case request.now params.now)) (v4_request_case request.now params.now) result }
+{
+    let texts = SigningTexts::new(alloc, request, params, credentials, time)?;
+    let secret = credentials.secret_access_key();
+    let key = time.signing_key(secret, params.region(), params.name());
+    let signature = texts.signature(alloc, key.as_slice())?;
+    let token = credentials.session_token();
+    let instructions = instructions(alloc, params.settings(), token, texts, signature.as_str())?;
+    Ok(SigningOutput::new(instructions, signature))
+}
+
+fn signing_time(time: Moment) -> Result<SigningTime, SigningError>
+    ensures { MatchResult result (λ at. (at ≡ time) × (is_in_years time ≡ true)) (λ error. (error ≡ SigningError.MomentOutOfRange time) × (is_in_years time ≡ false)) }
+{
+    SigningTime::new(time).ok_or(SigningError::MomentOutOfRange(time))
 }
 
 /// The canonical text of a request.
@@ -71,11 +111,15 @@ pub fn sign_request(
 ///
 /// Those of [`sign`].
 pub fn canonical_text(
-    _alloc: Global,
-    _request: &SignableRequest<'_>,
-    _params: &SigningParams<'_>,
+    alloc: Global,
+    request: &SignableRequest<'_>,
+    params: &SigningParams<'_>,
 ) -> Result<String, SigningError>
-    ensures { TellsCanonical (identity_of _params.now) (request_case _request.now _params.now) result }
+    ensures { TellsCanonical (identity_of params.now) (request_case request.now params.now) result }
 {
-    Err(SigningError::NoMemory)
+    let SigningParams::V4(params) = params;
+    let credentials = credentials_of(params.identity())?;
+    let time = signing_time(params.time())?;
+    let texts = SigningTexts::new(alloc, request, params, credentials, &time)?;
+    Ok(texts.canonical)
 }

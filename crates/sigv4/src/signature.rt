@@ -1,13 +1,16 @@
-ghost use Rattle.std.specs.Prelude.{◌≡◌, IfOk};
+ghost use Rattle.std.specs.Prelude.{◌≡◌, ◌++◌, IfOk};
 ghost use Rattle.std.specs.String.{string_bytes};
 ghost use Rattle.hex.specs.Hex.{encode_lower};
 ghost use Rattle.mac_core.specs.Mac.{mac};
 ghost use Rattle.smithy_core.specs.Civil.{IsInYears};
-ghost use Rattle.sigv4.specs.Signature.{signature, string_to_sign};
+ghost use Rattle.smithy_core.specs.Text.{line};
+ghost use Rattle.sigv4.specs.Signature.{signature, string_to_sign_of};
 
-use crate::key::{generate_signing_key, scope_bytes};
+use crate::line::push_line;
+use crate::signing_scope::SigningScope;
+use crate::signing_time::SigningTime;
 use mac_core::{hmac_sha256, sha256_hex};
-use smithy_core::{Mem, Moment, civil, push_line};
+use smithy_core::{Mem, Moment};
 use std::alloc::Global;
 
 /// The signature of a string to sign: its code under the signing key, in lower-case hexadecimal.
@@ -21,7 +24,7 @@ pub fn calculate_signature(alloc: Global, signing_key: &[u8], string_to_sign: &[
 /// The signature of a request with this canonical text.
 ///
 /// The moment has to lie in the years 0 to 9999. This crate's own.
-#[tactic(auto, unfolding(crate::specs::Signature::signature))]
+#[tactic(auto, unfolding(crate::specs::Signature::signature, crate::specs::Signature::string_to_sign))]
 pub fn request_signature(
     alloc: Global,
     canonical_text: &[u8],
@@ -34,30 +37,40 @@ pub fn request_signature(
     ensures { IfOk result (λ text. string_bytes text
         ≡ signature (record { secret = secret.now; region = region.now; name = name.now }) time canonical_text.now) }
 {
-    let text = string_to_sign(alloc, canonical_text, time, region, name)?;
-    let key = generate_signing_key(secret, time, region, name);
-    calculate_signature(alloc, key.as_slice(), text.as_slice())
+    let time = SigningTime::new(time).unwrap();
+    let scope = SigningScope::new(alloc, &time, region, name)?;
+    let key = time.signing_key(secret, region, name);
+    signature_under(alloc, key.as_slice(), &scope, canonical_text)
 }
 
-// The string to sign of a canonical text.
-#[tactic(auto, unfolding(smithy_core::specs::Civil::stamp, crate::specs::Signature::string_to_sign))]
-fn string_to_sign(
+/// The signature of a canonical text under a signing key.
+pub(crate) fn signature_under(
     alloc: Global,
+    signing_key: &[u8],
+    scope: &SigningScope,
     canonical_text: &[u8],
-    time: Moment,
-    region: &str,
-    name: &str,
-) -> Mem<Vec<u8>>
-    requires { IsInYears time }
-    ensures { IfOk result (λ text. text.items ≡ string_to_sign time region.now name.now canonical_text.now) }
+) -> Mem<String>
+    ensures { IfOk result (λ text. string_bytes text
+        ≡ encode_lower (mac signing_key.now (string_to_sign_of (string_bytes scope.now.stamp) (string_bytes scope.now.scope) canonical_text.now))) }
 {
-    let stamp = civil(time).unwrap().stamp();
-    let scope = scope_bytes(alloc, time, region, name)?;
     let digest = sha256_hex(alloc, canonical_text)?;
-    let mut text = Vec::with_capacity(alloc, 192)?;
-    push_line(&mut text, b"AWS4-HMAC-SHA256")?;
-    push_line(&mut text, stamp.as_slice())?;
-    push_line(&mut text, scope.as_slice())?;
-    text.extend_from_slice(digest.as_bytes())?;
+    let mut text = begun_string_to_sign(alloc, "AWS4-HMAC-SHA256", scope)?;
+    text.push_str(digest.as_str())?;
+    calculate_signature(alloc, signing_key, text.as_bytes())
+}
+
+/// The lines with which each string to sign begins: the algorithm, the stamp and the scope.
+pub(crate) fn begun_string_to_sign(
+    alloc: Global,
+    algorithm: &str,
+    scope: &SigningScope,
+) -> Mem<String>
+    ensures { IfOk result (λ text. string_bytes text
+        ≡ line algorithm.now ++ line (string_bytes scope.now.stamp) ++ line (string_bytes scope.now.scope)) }
+{
+    let mut text = String::with_capacity(alloc, 320)?;
+    push_line(&mut text, algorithm)?;
+    push_line(&mut text, scope.stamp.as_str())?;
+    push_line(&mut text, scope.scope.as_str())?;
     Ok(text)
 }

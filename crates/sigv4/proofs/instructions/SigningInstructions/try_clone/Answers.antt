@@ -3,7 +3,7 @@ use Rattle.sigv4.specs.Instructions.{Instruction, Instructions}
 use Rattle.sigv4.proofs.CopyLemmas.{headers_copied, pairs_copied}
 use Rattle.sigv4.proofs.instructions.SigningInstructions.try_clone.Goals as goal
 
--- the same headers and parameters
+-- headers and parameters that are copied are the same
 together : List Instruction → List (List ℕ × List ℕ) → Instructions
 together headers params = record { headers = headers; params = params }
 

@@ -1,0 +1,2 @@
+mod InputsLemmas
+mod SignerLemmas
