@@ -102,7 +102,7 @@ outside_told text at case new error years is =
 
 -- the target isn't read, or a test of the request fails
 target_told : (text : List ℕ) (at : Instant) (case : Target → Case) (new : HttpRequest) (error : SigV4SigningError) (target : Option Target) → is_in_years at ≡ true → SpellsAs text target
-    → unsigned_target case target ≡ Some error → TellsFault text at case new error
+    → option_map auth.Signing (unsigned_target case target) ≡ Some error → TellsFault text at case new error
 target_told text at case new error None years reads is =
     let same : error ≡ auth.Signing errors.InvalidUri = cc in
     rw same (tt, told_fault text at case new errors.InvalidUri unaccepted reads (rw years refl))
@@ -153,14 +153,14 @@ module _ {F : Type 0} (calls : Shared F (Bor SigningSettings × (Bor SigV4Operat
     where
       by_years : (years : Bool) → is_in_years (request_moment wanted wanted.at) ≡ years
           → (out_of_years (request_moment wanted wanted.at) ≡ None → SpellsAs (string_bytes old.target) refused.target)
-          → option_or (if years then None else Some (auth.Signing (errors.MomentOutOfRange (request_moment wanted wanted.at)))) (unsigned_target (identity_case old identity region wanted) refused.target) ≡ Some error
+          → option_or (if years then None else Some (auth.Signing (errors.MomentOutOfRange (request_moment wanted wanted.at)))) (option_map auth.Signing (unsigned_target (identity_case old identity region wanted) refused.target)) ≡ Some error
           → TellsFault (string_bytes old.target) (request_moment wanted wanted.at) (identity_case old identity region wanted) new error
       by_years false outside reads is = outside_told _ (request_moment wanted wanted.at) _ new error outside (let same : error ≡ auth.Signing (errors.MomentOutOfRange (request_moment wanted wanted.at)) = cc in same)
       by_years true within reads is = target_told _ (request_moment wanted wanted.at) _ new error refused.target within (reads (rw within refl)) is
 
       by_answer : (answer : NameAnswer) → GivesName wanted.token_name answer
           → (refusal_before_target (chosen inputs wanted.at) answer ≡ None → SpellsAs (string_bytes old.target) refused.target)
-          → option_or (refusal_before_target (chosen inputs wanted.at) answer) (unsigned_target (chosen_case old identity (chosen inputs wanted.at) (name_in answer)) refused.target) ≡ Some error
+          → option_or (refusal_before_target (chosen inputs wanted.at) answer) (option_map auth.Signing (unsigned_target (chosen_case old identity (chosen inputs wanted.at) (name_in answer)) refused.target)) ≡ Some error
           → TellsFault (string_bytes old.target) (request_moment wanted wanted.at) (identity_case old identity region wanted) new error
       by_answer (Err e) is reads fails =
           let told : Some (override_error e) ≡ Some error = fails in
