@@ -4,15 +4,16 @@ use Rattle.std.specs.Prelude.{Result, Ok, Err, if◌then◌else◌}
 use Rattle.std.specs.Option.{option_or}
 use Rattle.std.proofs.Math.Seq.{drop-cons}
 use Rattle.smithy_core.specs.Civil.{IsInYears, is_in_years}
-use Rattle.smithy_core.specs.Moment.{Instant}
+use Rattle.smithy_core.specs.Instant.{Instant}
 use Rattle.smithy_core.specs.Outside.{Gains, GainsPrefix, GainsRest}
-use Rattle.smithy_core.specs.Message.{Parts}
+use Rattle.smithy_core.specs.Parts.{Parts}
 use Rattle.smithy_core.specs.declared.identity.Identity.{Identity}
 use Rattle.smithy_core.specs.declared.identity.Identity.TheVariants.{Credentials, Token}
 use Rattle.smithy_core.proofs.GainLemmas.{gains_front, gains_join, gains_last, gains_nothing, prefix_at_start, prefix_join, prefix_within}
 use Rattle.eventstream.specs.Frame.{frame, unframed}
 use Rattle.eventstream.specs.Key.{Signer}
 use Rattle.eventstream.specs.Link.{begun, link_message, link_signature}
+use Rattle.eventstream.specs.declared.error.Error.{Error}
 use Rattle.eventstream.specs.declared.error.ErrorKind.{ErrorKind}
 use Rattle.eventstream.proofs.LinkLemmas.{link_framed}
 use Rattle.eventstream.proofs.UnframedLemmas.{unframed_fault}
@@ -21,7 +22,7 @@ use Rattle.sigv4.specs.declared.error.SigningError.{SigningError}
 use Rattle.sigv4.specs.declared.error.SigningError.TheVariants as errors
 use Rattle.signed_stream.specs.Chain.{IsChained, IsCredentials, Refusal, chain_lines, fault_at, first_refusal, frame_lines, lines_before, link_line, outside_years, refusal_at, refusal_fault, streamed_lines, unframed_at, unlinked}
 use Rattle.signed_stream.specs.Halt.{Halts, Sends, unless_refused}
-use Rattle.signed_stream.specs.Status.{Fault, fault_of, moment_out_of_range}
+use Rattle.signed_stream.specs.Status.{RunFault, run_fault, moment_out_of_range}
 use Rattle.signed_stream.proofs.YearLemmas.{in_years, years_in}
 use Rattle.signed_stream.specs.declared.halt.Halt.{Halt}
 use Rattle.signed_stream.specs.declared.halt.Halt.TheVariants.{Refused, OutputFault, NoMemory}
@@ -106,12 +107,12 @@ unfolding unlinked
 event_outside signer place signature event t framed is = rw (framed, is) refl
 
 -- a message that has a frame is sent as its line
-pub line_sent : {T : Type 0} (fault : Option Fault) (text : List ℕ) (before now : Option (List ℕ)) (answer : Result T Halt)
+pub line_sent : {T : Type 0} (fault : Option RunFault) (text : List ℕ) (before now : Option (List ℕ)) (answer : Result T Halt)
     → fault ≡ None → Sends None text before now answer → Sends fault (unless_refused fault text) before now answer
 line_sent fault text before now answer none sends = rw none sends
 
 -- a message that has none is refused
-pub line_refused : (fault : Option Fault) (told : Fault) (text : List ℕ) (held : Option (List ℕ))
+pub line_refused : (fault : Option RunFault) (told : RunFault) (text : List ℕ) (held : Option (List ℕ))
     → fault ≡ Some told → (fault ≡ Some told) × Gains held held (unless_refused fault text)
 line_refused fault told text held is = rw is (refl, gains_nothing held)
 
@@ -127,9 +128,9 @@ unfolding chain_lines link_line
 chain_lines-cons signer event events at moments signature = refl
 
 -- with no events there is the closing line alone
-chain_lines-nil : (signer : Signer) (at : Instant) (signature : List ℕ) → chain_lines signer [] (at ∷ []) signature ≡ link_line signer signature [] at
+chain_lines-nil : (signer : Signer) (at : Instant) (moments : List Instant) (signature : List ℕ) → chain_lines signer [] (at ∷ moments) signature ≡ link_line signer signature [] at
 unfolding chain_lines link_line
-chain_lines-nil signer at signature = append-nil _
+chain_lines-nil signer at moments signature = append-nil _
 
 -- the lines of these events, whose places count from this one on, up to the refused one
 abbrev pub lines_from : Signer → ℕ → List Parts → List Instant → List ℕ → Option Refusal → List ℕ
@@ -156,13 +157,13 @@ later signer place [] [] signature refused is = cc
 later signer place (event ∷ events) [] signature refused is = cc
 later signer place [] (at ∷ moments) signature refused is = by_fault (outside_years at) is
   where
-    by_fault : (fault : Option Fault) → option_map (refusal_at place) fault ≡ Some refused → place ≤ refused.place
+    by_fault : (fault : Option RunFault) → option_map (refusal_at place) fault ≡ Some refused → place ≤ refused.place
     by_fault None is = cc
     by_fault (Some fault) is = let same : place ≡ refused.place = cc in omega arith
 later signer place (event ∷ events) (at ∷ moments) signature refused is =
     by_fault (unlinked signer place signature event at) (later signer (place + 1) events moments (link_signature signer signature (frame event) at) refused) is
   where
-    by_fault : (fault : Option Fault) → (first_refusal signer (place + 1) events moments (link_signature signer signature (frame event) at) ≡ Some refused → place + 1 ≤ refused.place)
+    by_fault : (fault : Option RunFault) → (first_refusal signer (place + 1) events moments (link_signature signer signature (frame event) at) ≡ Some refused → place + 1 ≤ refused.place)
         → option_or (option_map (refusal_at place) fault) (first_refusal signer (place + 1) events moments (link_signature signer signature (frame event) at)) ≡ Some refused
         → place ≤ refused.place
     by_fault None others is = omega (arith, others is)
@@ -192,12 +193,12 @@ linked_lines signer place event events at moments signature linked =
         let one_more : refused.place - place ≡ suc (refused.place - (place + 1)) = omega (arith, after refused refl) in rw one_more refl
 
 -- the first event isn't linked: it is refused, and nothing is written
-unlinked_refusal : (signer : Signer) (place : ℕ) (event : Parts) (events : List Parts) (at : Instant) (moments : List Instant) (signature : List ℕ) (fault : Fault)
+unlinked_refusal : (signer : Signer) (place : ℕ) (event : Parts) (events : List Parts) (at : Instant) (moments : List Instant) (signature : List ℕ) (fault : RunFault)
     → unlinked signer place signature event at ≡ Some fault → first_refusal signer place (event ∷ events) (at ∷ moments) signature ≡ Some (refusal_at place fault)
 unlinked_refusal signer place event events at moments signature fault is = rw is refl
 
 -- what is refused first has no lines before it
-refused_lines : (signer : Signer) (place : ℕ) (events : List Parts) (moments : List Instant) (signature : List ℕ) (fault : Fault)
+refused_lines : (signer : Signer) (place : ℕ) (events : List Parts) (moments : List Instant) (signature : List ℕ) (fault : RunFault)
     → first_refusal signer place events moments signature ≡ Some (refusal_at place fault) → streamed_from signer place events moments signature ≡ []
 refused_lines signer place events moments signature fault is =
     let none : place - place ≡ 0 = omega arith in
@@ -238,57 +239,57 @@ pub event_halted : (a b c : Option (List ℕ)) (signer : Signer) (place : ℕ) (
 event_halted a b c signer place event events at moments signature text whole halt decided first sends =
     by_fault (unlinked signer place signature event at) halt refl sends
   where
-    none_left : (fault : Fault) → unlinked signer place signature event at ≡ Some fault → GainsRest a b [] text
+    none_left : (fault : RunFault) → unlinked signer place signature event at ≡ Some fault → GainsRest a b [] text
     none_left fault is = rw (refused_lines signer place (event ∷ events) (at ∷ moments) signature fault (unlinked_refusal signer place event events at moments signature fault is)) at first
 
-    cut : (fault : Option Fault) → unlinked signer place signature event at ≡ fault → GainsPrefix b c (unless_refused fault (link_line signer signature (frame event) at)) → GainsPrefix a c text
+    cut : (fault : Option RunFault) → unlinked signer place signature event at ≡ fault → GainsPrefix b c (unless_refused fault (link_line signer signature (frame event) at)) → GainsPrefix a c text
     cut None is part =
         prefix_join a b c (streamed_from signer place (event ∷ events) (at ∷ moments) signature) text first
         (rw (linked_lines signer place event events at moments signature is) (prefix_within b c (link_line signer signature (frame event) at) _ part))
     cut (Some fault) is part = prefix_join a b c [] text (none_left fault is) part
 
-    by_fault : (fault : Option Fault) (halt : Halt) → unlinked signer place signature event at ≡ fault
+    by_fault : (fault : Option RunFault) (halt : Halt) → unlinked signer place signature event at ≡ fault
         → Halts fault (unless_refused fault (link_line signer signature (frame event) at)) b c halt → Halts (refusal_fault whole) text a c halt
     by_fault fault OutputFault is sends = cut fault is sends
     by_fault fault NoMemory is sends = cut fault is sends
-    by_fault None (Refused told) is sends = let wrong : None ≡ Some (fault_of told) = sends.0 in cc
+    by_fault None (Refused told) is sends = let wrong : None ≡ Some (run_fault told) = sends.0 in cc
     by_fault (Some fault) (Refused told) is sends =
-        let same : Some fault ≡ Some (fault_of told) = sends.0 in (
+        let same : Some fault ≡ Some (run_fault told) = sends.0 in (
           rw (← decided, unlinked_refusal signer place event events at moments signature fault is) same,
           gains_last a b c [] text (none_left fault is) sends.1,
         )
 
 -- all events were sent: the closing line is left, or refused
-pub closing_sent : {T : Type 0} (a b c : Option (List ℕ)) (signer : Signer) (place : ℕ) (at : Instant) (signature text : List ℕ) (whole : Option Refusal) (answer : Result T Halt)
-    → first_refusal signer place [] (at ∷ []) signature ≡ whole
-    → GainsRest a b (streamed_from signer place [] (at ∷ []) signature) text
+pub closing_sent : {T : Type 0} (a b c : Option (List ℕ)) (signer : Signer) (place : ℕ) (at : Instant) (moments : List Instant) (signature text : List ℕ) (whole : Option Refusal) (answer : Result T Halt)
+    → first_refusal signer place [] (at ∷ moments) signature ≡ whole
+    → GainsRest a b (streamed_from signer place [] (at ∷ moments) signature) text
     → Sends (outside_years at) (unless_refused (outside_years at) (link_line signer signature [] at)) b c answer
     → Sends (refusal_fault whole) text a c answer
-closing_sent {T} a b c signer place at signature text whole answer decided first =
+closing_sent {T} a b c signer place at moments signature text whole answer decided first =
     by_fault (outside_years at) refl answer
   where
     whole_left : outside_years at ≡ None → GainsRest a b (link_line signer signature [] at) text
     whole_left is =
-        let none : first_refusal signer place [] (at ∷ []) signature ≡ None = rw is refl in
-        rw (ap (lines_from signer place [] (at ∷ []) signature) none ∙ chain_lines-nil signer at signature) at first
+        let none : first_refusal signer place [] (at ∷ moments) signature ≡ None = rw is refl in
+        rw (ap (lines_from signer place [] (at ∷ moments) signature) none ∙ chain_lines-nil signer at moments signature) at first
 
-    none_left : (fault : Fault) → outside_years at ≡ Some fault → GainsRest a b [] text
-    none_left fault is = rw (refused_lines signer place [] (at ∷ []) signature fault (rw is refl)) at first
+    none_left : (fault : RunFault) → outside_years at ≡ Some fault → GainsRest a b [] text
+    none_left fault is = rw (refused_lines signer place [] (at ∷ moments) signature fault (rw is refl)) at first
 
-    by_fault : (fault : Option Fault) → outside_years at ≡ fault → (answer : Result T Halt) → Sends fault (unless_refused fault (link_line signer signature [] at)) b c answer → Sends (refusal_fault whole) text a c answer
+    by_fault : (fault : Option RunFault) → outside_years at ≡ fault → (answer : Result T Halt) → Sends fault (unless_refused fault (link_line signer signature [] at)) b c answer → Sends (refusal_fault whole) text a c answer
     by_fault None is (Ok x) sends = (rw (← decided, is) refl, gains_last a b c (link_line signer signature [] at) text (whole_left is) sends.1)
-    by_fault None is (Err (Refused told)) sends = let wrong : None ≡ Some (fault_of told) = sends.0 in cc
+    by_fault None is (Err (Refused told)) sends = let wrong : None ≡ Some (run_fault told) = sends.0 in cc
     by_fault None is (Err OutputFault) sends = prefix_join a b c (link_line signer signature [] at) text (whole_left is) sends
     by_fault None is (Err NoMemory) sends = prefix_join a b c (link_line signer signature [] at) text (whole_left is) sends
     by_fault (Some fault) is (Ok x) sends = let wrong : Some fault ≡ None = sends.0 in cc
     by_fault (Some fault) is (Err (Refused told)) sends =
-        let same : Some fault ≡ Some (fault_of told) = sends.0 in (rw (← decided, is) same, gains_last a b c [] text (none_left fault is) sends.1)
+        let same : Some fault ≡ Some (run_fault told) = sends.0 in (rw (← decided, is) same, gains_last a b c [] text (none_left fault is) sends.1)
     by_fault (Some fault) is (Err OutputFault) sends = prefix_join a b c [] text (none_left fault is) sends
     by_fault (Some fault) is (Err NoMemory) sends = prefix_join a b c [] text (none_left fault is) sends
 
 -- ## No refusal
 
-none_of : (a b : Option Fault) → option_or a b ≡ None → (a ≡ None) × (b ≡ None)
+none_of : (a b : Option RunFault) → option_or a b ≡ None → (a ≡ None) × (b ≡ None)
 none_of None b none = (refl, none)
 none_of (Some fault) b none = cc
 
@@ -296,7 +297,7 @@ none_at : (place : ℕ) (reason : Option ErrorKind) → option_map (fault_at pla
 none_at place None none = refl
 none_at place (Some reason) none = cc
 
-none_refused : (place : ℕ) (fault : Option Fault) → option_map (refusal_at place) fault ≡ None → fault ≡ None
+none_refused : (place : ℕ) (fault : Option RunFault) → option_map (refusal_at place) fault ≡ None → fault ≡ None
 none_refused place None none = refl
 none_refused place (Some fault) none = cc
 

@@ -1,11 +1,11 @@
 -- How the stream of a job goes as planned.
-use Rattle.std.proofs.Common.{◌≡◌, ℕ, ◌+◌, Bool, true, false, List, [], ◌++◌, length, replicate, Option, Some, None, refl}
+use Rattle.std.proofs.Common.{◌≡◌, ℕ, ◌+◌, inl, inr, Bool, true, false, List, [], ◌∷◌, ◌++◌, length, replicate, suc, Option, Some, None, option_map, refl, sym, ap, arith}
 use Rattle.std.specs.Prelude.{Result, Ok, Err, String, string_bytes, if◌then◌else◌}
 use Rattle.std.specs.Option.{option_or}
 use Rattle.std.specs.declared.alloc.Global.{Global}
 use Rattle.smithy_core.specs.Civil.{is_in_years}
-use Rattle.smithy_core.specs.Moment.{Instant}
-use Rattle.smithy_core.specs.Message.{Parts}
+use Rattle.smithy_core.specs.Instant.{Instant}
+use Rattle.smithy_core.specs.Parts.{Parts}
 use Rattle.smithy_core.specs.declared.request.HttpRequest.{HttpRequest}
 use Rattle.smithy_http.specs.Target.{Target}
 use Rattle.eventstream.specs.Key.{Signer}
@@ -16,22 +16,22 @@ use Rattle.signed_stream.specs.Chain.{first_refusal, refusal_fault, streamed_lin
 use Rattle.signed_stream.specs.Command.{Wanted}
 use Rattle.signed_stream.specs.Halt.{Sends, ended, halted}
 use Rattle.signed_stream.specs.Job.{JobParts, whole_job}
-use Rattle.signed_stream.specs.Plan.{GoesAsPlanned, Supplied, TargetRead, accepted, stops, unaccepted, unread}
+use Rattle.signed_stream.specs.Plan.{GoesAsPlanned, Plan, TargetSpells, Supplied, TargetRead, accepted, stops, unaccepted, unread}
 use Rattle.signed_stream.specs.Sign.{SignsJob, case_fault, request_fault, target_fault}
-use Rattle.signed_stream.specs.Status.{Ending, Fault, fault_of, invalid_uri, moment_out_of_range, refused}
-use Rattle.signed_stream.specs.Stream.{GaveJob, case_plan, job_plan, request_plan, target_plan}
-use Rattle.signed_stream.specs.Written.{head, refusal_of}
+use Rattle.signed_stream.specs.Status.{Ending, RunFault, run_fault, invalid_uri, moment_out_of_range, no_memory, refused}
+use Rattle.signed_stream.specs.Stream.{GaveJob, case_plan, job_plan, profile_plan, request_plan, target_plan}
+use Rattle.signed_stream.specs.Written.{head, case_refusal}
 use Rattle.signed_stream.proofs.RunLemmas.{first_moment, goes_no_memory, goes_stopped}
-use Rattle.signed_stream.proofs.SendLemmas.{end_counted, sends_goes, written_lines}
+use Rattle.signed_stream.proofs.SendLemmas.{end_counted, end_of, sends_goes, written_lines}
 use Rattle.signed_stream.specs.declared.halt.Halt.{Halt}
 use Rattle.signed_stream.specs.declared.halt.Halt.TheVariants as halts
 
 -- a fault that stops
-stopped : (fault told : Fault) (held : Option (List ℕ)) → fault ≡ told → GoesAsPlanned (stops (refused fault)) (refused told) held held
+stopped : (fault told : RunFault) (held : Option (List ℕ)) → fault ≡ told → GoesAsPlanned (stops (refused fault)) (refused told) held held
 stopped fault told held is = rw is (goes_stopped (refused told) held)
 
 -- a request that isn't signed is refused
-refused_goes : (text : List ℕ) (at : Instant) (case : Target → Case) (events : List Parts) (moments : List Instant) (target : TargetRead) (told : Fault) (held : Option (List ℕ))
+refused_goes : (text : List ℕ) (at : Instant) (case : Target → Case) (events : List Parts) (moments : List Instant) (target : TargetRead) (told : RunFault) (held : Option (List ℕ))
     → request_fault at case target ≡ Some told → GoesAsPlanned (request_plan text at case events moments target) (refused told) held held
 refused_goes text at case events moments target told held is = by_years (is_in_years at) is
   where
@@ -47,7 +47,7 @@ refused_goes text at case events moments target told held is = by_years (is_in_y
 
 pub unsigned_goes : (text : List ℕ) (at : Instant) (case : Target → Case) (events : List Parts) (moments : List Instant) (new : HttpRequest) (halt : Halt) (held : Option (List ℕ))
     → SignsJob text at case new (Err halt) → GoesForTarget text at case events moments (halted halt) held held
-unsigned_goes text at case events moments new (halts.Refused told) held signs = (signs.0, signs.1, refused_goes text at case events moments signs.0 (fault_of told) held signs.2)
+unsigned_goes text at case events moments new (halts.Refused told) held signs = (signs.0, signs.1, refused_goes text at case events moments signs.0 (run_fault told) held signs.2)
 unsigned_goes text at case events moments new halts.OutputFault held signs = absurd signs
 unsigned_goes text at case events moments new halts.NoMemory held signs = (unread, tt, goes_no_memory (request_plan text at case events moments unread) held)
 
@@ -56,7 +56,7 @@ passed_plan : (text : List ℕ) (at : Instant) (case : Target → Case) (events 
     → request_plan text at case events moments (accepted target) ≡ case_plan text (case target) events moments None
 passed_plan text at case events moments target passed = by_years (is_in_years at) (case_fault (case target)) passed
   where
-    by_years : (years : Bool) (fault : Option Fault) → option_or (if years then None else Some (moment_out_of_range at)) fault ≡ None
+    by_years : (years : Bool) (fault : Option RunFault) → option_or (if years then None else Some (moment_out_of_range at)) fault ≡ None
         → (if years then case_plan text (case target) events moments fault else stops (refused (moment_out_of_range at))) ≡ case_plan text (case target) events moments None
     by_years true None passed = refl
     by_years true (Some fault) passed = cc
@@ -72,20 +72,20 @@ pub signed_goes : {T : Type 0} (text method : List ℕ) (at : Instant) (case : T
 signed_goes text method at case events moments new signature before now answer signs method_is method_stays counted signer signer_is sends =
     let target = signs.0 in
     let c = case target in
-    let refusal = refusal_of c events moments in
+    let refusal = case_refusal c events moments in
     let sent = rw (method_stays, method_is target, signer_is target, signs.3, signs.4, signs.5, ← written_lines refusal text c events moments) at sends in
     (accepted target, signs.1, rw (passed_plan text at case events moments target signs.2, end_counted refusal events moments counted) (sends_goes _ _ before now answer sent))
 
 -- ## The job
 
 -- what the profile of a job gives
-pub record Gives (j : JobParts) (k s r : List ℕ) : Type 0 where
+pub record GivesKeys (j : JobParts) (k s r : List ℕ) : Type 0 where
   pub key_id : j.profile.key_id ≡ Some k
   pub secret : j.profile.secret ≡ Some s
   pub region : j.profile.region ≡ Some r
 
 pub job_goes : (wanted : Wanted) (j : JobParts) (selected : Selected) (answer : Ending) (before now : Option (List ℕ))
-    → Gives j selected.key_id selected.secret selected.region → selected.token ≡ j.profile.token
+    → GivesKeys j selected.key_id selected.secret selected.region → selected.token ≡ j.profile.token
     → GoesForTarget j.target (request_moment wanted wanted.at) (job_case j wanted selected wanted.at) j.events (replicate (length j.events + 1) wanted.at) answer before now
     → GoesForJob wanted (whole_job j) answer before now
 job_goes wanted j selected answer before now gives token goes =

@@ -1,29 +1,29 @@
 -- A run that is done has streamed, and what is valid is done.
-use Rattle.std.proofs.Common.{◌≡◌, ◌==◌, ℕ, ◌+◌, ◌≤◌, ◌⊎◌, inl, inr, Bool, true, false, List, [], ◌∷◌, Option, Some, None, option_map, nat_lt, length, refl, sym, ◌∙◌, arith}
+use Rattle.std.proofs.Common.{◌≡◌, ◌==◌, ℕ, ◌+◌, ◌≤◌, ◌⊎◌, inl, inr, Bool, true, false, List, [], ◌∷◌, Option, Some, None, option_map, nat_lt, length, replicate, refl, sym, ◌∙◌, arith}
 use Rattle.std.specs.Prelude.{if◌then◌else◌}
 use Rattle.std.specs.Option.{option_or}
 use Rattle.std.proofs.lemmas.Bool.{eq-eqb, eqb-true}
 use Rattle.std.proofs.lemmas.Bool.Decides.{nat_tests}
 use Rattle.smithy_core.specs.Civil.{IsInYears, is_in_years}
-use Rattle.smithy_core.specs.Moment.{Instant}
+use Rattle.smithy_core.specs.Instant.{Instant}
 use Rattle.smithy_core.specs.Outside.{Gains}
-use Rattle.smithy_core.specs.Message.{Parts}
+use Rattle.smithy_core.specs.Parts.{Parts}
 use Rattle.smithy_http.specs.Target.{Target}
 use Rattle.sigv4.specs.Request.{Case}
 use Rattle.sigv4.specs.Refusal.{unfit, unfit_signed_target}
 use Rattle.sigv4.specs.Signed.{signature_of}
 use Rattle.sigv4.specs.declared.error.SigningError.{SigningError}
 use Rattle.signed_stream.specs.Carriers.{GoesForInput}
-use Rattle.signed_stream.specs.Case.{Selected, job_case, request_moment}
+use Rattle.signed_stream.specs.Case.{Selected, job_case, profile_giving, request_moment}
 use Rattle.signed_stream.specs.Chain.{IsChained, Refusal}
 use Rattle.signed_stream.specs.Command.{Command, Wanted, bad_word, command, stream, unbuilt_word}
 use Rattle.signed_stream.specs.Job.{JobParts, Reading, bad_line, job, unbuilt_line, whole_job}
-use Rattle.signed_stream.specs.Plan.{EndsAsPlanned, GoesAsPlanned, ReadsTarget, Supplied, TargetRead, accepted, most_input, stops, unaccepted, unread, writes}
-use Rattle.signed_stream.specs.Running.{Completes, Gave, IsValid, Streams, ask, ask_plan, command_ask, ends, has_later_variable, streams}
+use Rattle.signed_stream.specs.Plan.{EndsAsPlanned, GoesAsPlanned, TargetSpells, Supplied, TargetRead, accepted, most_input, stops, unaccepted, unless_large, unread, writes}
+use Rattle.signed_stream.specs.Running.{Completes, Gave, IsValid, RunsAsPlanned, Streams, ask, ask_plan, command_ask, ends, has_later_variable, streams}
 use Rattle.signed_stream.specs.Sign.{case_fault, fault_for, unsigned}
-use Rattle.signed_stream.specs.Status.{Ending, Fault, done, job_too_large, no_memory, not_built, output_fault, read_fault, refused, moment_out_of_range}
+use Rattle.signed_stream.specs.Status.{Ending, RunFault, done, job_too_large, no_memory, not_built, output_fault, read_fault, refused, moment_out_of_range}
 use Rattle.signed_stream.specs.Stream.{GaveJob, GaveReading, IsStreamable, case_plan, input_plan, job_plan, profile_plan, selected_plan, streamed, target_plan}
-use Rattle.signed_stream.specs.Written.{refusal_of, written, written_end, written_until}
+use Rattle.signed_stream.specs.Written.{case_refusal, written_stream, written_before, written_end, written_until}
 use Rattle.signed_stream.proofs.ChainLemmas.{chained_moments, frames_unrefused, unrefused_frames}
 use Rattle.signed_stream.proofs.TargetLemmas.{reads_one, reads_one_way}
 use Rattle.signed_stream.proofs.YearLemmas.{in_years, years_in}
@@ -54,7 +54,7 @@ record DoneCase (text : List ℕ) (c : Case) (events : List Parts) (moments : Li
   fit : unfit c ≡ None
   fits : unfit_signed_target c ≡ None
   chained : IsChained c.signer events moments (signature_of c)
-  gains : Gains before now (written text c events moments)
+  gains : Gains before now (written_stream text c events moments)
 
 no_fault : (error : Option SigningError) → option_map fault_for error ≡ None → error ≡ None
 no_fault None none = refl
@@ -64,16 +64,16 @@ none_of : (a b : Option SigningError) → option_or a b ≡ None → (a ≡ None
 none_of None b none = (refl, none)
 none_of (Some error) b none = cc
 
-done_case : (text : List ℕ) (c : Case) (events : List Parts) (moments : List Instant) (before now : Option (List ℕ)) (fault : Option Fault) → case_fault c ≡ fault
+done_case : (text : List ℕ) (c : Case) (events : List Parts) (moments : List Instant) (before now : Option (List ℕ)) (fault : Option RunFault) → case_fault c ≡ fault
     → GoesAsPlanned (case_plan text c events moments fault) done before now → DoneCase text c events moments before now
 done_case text c events moments before now (Some fault) is goes = absurd (stops_undone _ before now (λ e. cc) goes)
-done_case text c events moments before now None is goes = by_refusal (refusal_of c events moments) refl goes
+done_case text c events moments before now None is goes = by_refusal (case_refusal c events moments) refl goes
   where
     passed : (unfit c ≡ None) × (unfit_signed_target c ≡ None)
     passed = none_of (unfit c) (unfit_signed_target c) (no_fault (unsigned c) is)
 
-    by_count : (whole : Bool) → (length moments == length events + 1) ≡ whole → refusal_of c events moments ≡ None
-        → GoesAsPlanned (writes (written text c events moments) (if whole then done else no_memory)) done before now → DoneCase text c events moments before now
+    by_count : (whole : Bool) → (length moments == length events + 1) ≡ whole → case_refusal c events moments ≡ None
+        → GoesAsPlanned (writes (written_stream text c events moments) (if whole then done else no_memory)) done before now → DoneCase text c events moments before now
     by_count false counted none goes = let wrong : no_memory ≡ done = writes_done _ _ before now goes in cc
     by_count true counted none goes = record {
       fit = passed.0;
@@ -82,7 +82,7 @@ done_case text c events moments before now None is goes = by_refusal (refusal_of
       gains = goes.gains;
     }
 
-    by_refusal : (refusal : Option Refusal) → refusal_of c events moments ≡ refusal
+    by_refusal : (refusal : Option Refusal) → case_refusal c events moments ≡ refusal
         → GoesAsPlanned (writes (written_until refusal text c events moments) (written_end refusal events moments)) done before now → DoneCase text c events moments before now
     by_refusal (Some refusal) is goes = let wrong : refused refusal.fault ≡ done = writes_done _ _ before now goes in cc
     by_refusal None none goes = by_count (length moments == length events + 1) refl none goes
@@ -228,10 +228,10 @@ completes_input : (wanted : Wanted) (bytes : List ℕ) (given other : Supplied) 
 completes_input wanted bytes given other answer input gave goes =
     by_target other.target gave.target (rw (valid_plan wanted bytes given other input (gave.moments ∙ sym input.gave.moments ∙ input.moments)) at goes)
   where
-    reads : ReadsTarget input.read.target (accepted input.target)
+    reads : TargetSpells input.read.target (accepted input.target)
     reads = rw input.targets at input.gave.target
 
-    by_target : (target : TargetRead) → ReadsTarget input.read.target target
+    by_target : (target : TargetRead) → TargetSpells input.read.target target
         → EndsAsPlanned (target_plan input.read.target (job_case input.read wanted input.selected input.first) input.read.events input.others target) answer → Completes answer
     by_target unread found goes = stopped_completes answer goes
     by_target unaccepted found goes = absurd (reads_one_way input.read.target input.target found reads)

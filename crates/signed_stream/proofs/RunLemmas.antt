@@ -1,12 +1,12 @@
 -- How a run goes as planned, and what it keeps.
-use Rattle.std.proofs.Common.{◌≡◌, ℕ, suc, ◌+◌, ◌<◌, ◌≤◌, inl, inr, Bool, true, false, nat_lt, List, [], ◌∷◌, length, replicate, Option, Some, None, option_map, refl, ◌∙◌, arith}
+use Rattle.std.proofs.Common.{◌≡◌, ℕ, suc, ◌+◌, ◌<◌, ◌≤◌, ◌⊎◌, inl, inr, Bool, true, false, nat_lt, List, [], ◌∷◌, length, replicate, Option, Some, None, option_map, refl, ◌∙◌, arith}
 use Rattle.std.specs.Prelude.{if◌then◌else◌}
 use Rattle.std.specs.Option.{option_or}
 use Rattle.std.proofs.lemmas.Bool.Decides.{nat_tests}
 use Rattle.smithy_core.specs.Civil.{is_in_years}
-use Rattle.smithy_core.specs.Moment.{Instant}
+use Rattle.smithy_core.specs.Instant.{Instant}
 use Rattle.smithy_core.specs.Outside.{IsAllOf, IsLongerThan, IsRestOf}
-use Rattle.smithy_core.specs.Message.{Parts}
+use Rattle.smithy_core.specs.Parts.{Parts}
 use Rattle.smithy_core.proofs.CutLemmas.{cut_at_start}
 use Rattle.smithy_core.proofs.GainLemmas.{prefix_at_start}
 use Rattle.smithy_http.specs.Target.{Target}
@@ -17,17 +17,17 @@ use Rattle.eventstream.specs.declared.error.ErrorKind.{ErrorKind}
 use Rattle.eventstream.specs.declared.error.ErrorKind.TheVariants as reasons
 use Rattle.sigv4.specs.Request.{Case}
 use Rattle.sigv4.specs.Signed.{signature_of}
-use Rattle.signed_stream.specs.Carriers.{GoesForInput, GoesForJob}
+use Rattle.signed_stream.specs.Carriers.{GoesForInput, GoesForJob, IsEarly}
 use Rattle.signed_stream.specs.Case.{Selected, job_case, request_moment}
 use Rattle.signed_stream.specs.Chain.{Refusal, fault_at, first_refusal, outside_years, refusal_at, unframed_at, unlinked}
 use Rattle.signed_stream.specs.Command.{Wanted}
 use Rattle.signed_stream.specs.Job.{JobParts, Reading, bad_line, job, unbuilt_line, whole_job}
 use Rattle.signed_stream.specs.Plan.{EndsAsPlanned, GainsAsPlanned, GoesAsPlanned, Plan, Supplied, TargetRead, accepted, most_input, stops, unaccepted, unread, writes}
-use Rattle.signed_stream.specs.Running.{Ask, EndsAsAsked, Gave, IfEnds, Keeps, ask_plan, asks_in_years, ends, streams}
+use Rattle.signed_stream.specs.Running.{Ask, EndsAsAsked, Gave, IfEnds, KeepsOutput, RunsAsPlanned, ask_plan, asks_in_years, ends, streams}
 use Rattle.signed_stream.specs.Sign.{case_fault}
-use Rattle.signed_stream.specs.Status.{Ending, Fault, bad_job, bad_words, done, header_value_too_long, headers_too_long, invalid_header_name, invalid_header_name_length, invalid_header_value, invalid_token_name, invalid_uri, job_too_large, message_too_long, missing_credentials, missing_expires, missing_host, missing_signing_region, moment_out_of_range, no_memory, not_built, output_fault, payload_too_long, read_fault, refused, timestamp_value_too_large}
-use Rattle.signed_stream.specs.Stream.{GaveReading, case_plan, input_plan, job_plan, profile_plan, request_plan, target_plan}
-use Rattle.signed_stream.specs.Written.{refusal_of, written_end, written_until}
+use Rattle.signed_stream.specs.Status.{Ending, RunFault, bad_job, bad_words, done, header_value_too_long, headers_too_long, invalid_header_name, invalid_header_name_length, invalid_header_value, invalid_token_name, invalid_uri, job_too_large, message_too_long, missing_credentials, missing_expires, missing_host, missing_signing_region, moment_out_of_range, no_memory, not_built, output_fault, payload_too_long, read_fault, refused, timestamp_value_too_large}
+use Rattle.signed_stream.specs.Stream.{GaveJob, GaveReading, case_plan, input_plan, job_plan, profile_plan, request_plan, selected_plan, target_plan}
+use Rattle.signed_stream.specs.Written.{case_refusal, written_end, written_until}
 
 -- ## As planned
 
@@ -48,7 +48,7 @@ goes_read_fault (writes text end) held = record { ends = inr (inl refl); gains =
 -- ## What is kept
 
 -- what stays as it was is kept by every answer
-pub keeps_same : (in_years : Bool) (answer : Ending) (before now : Option (List ℕ)) → now ≡ before → Keeps in_years answer before now
+pub keeps_same : (in_years : Bool) (answer : Ending) (before now : Option (List ℕ)) → now ≡ before → KeepsOutput in_years answer before now
 keeps_same in_years done before now same = tt
 keeps_same in_years output_fault before now same = tt
 keeps_same in_years no_memory before now same = tt
@@ -75,7 +75,7 @@ keeps_same in_years (refused (payload_too_long place)) before now same = tt
 keeps_same in_years (refused (message_too_long place)) before now same = tt
 
 -- the faults of frames
-abbrev pub IsOfFrame : Fault → Type 0
+abbrev pub IsOfFrame : RunFault → Type 0
 IsOfFrame (moment_out_of_range moment) = Unit {0}
 IsOfFrame (invalid_header_name_length place) = Unit {0}
 IsOfFrame (header_value_too_long place) = Unit {0}
@@ -86,11 +86,11 @@ IsOfFrame (message_too_long place) = Unit {0}
 IsOfFrame fault = ⊥
 
 -- no fault, or one of these
-abbrev OfFrames : Option Fault → Type 0
+abbrev OfFrames : Option RunFault → Type 0
 OfFrames None = Unit {0}
 OfFrames (Some fault) = IsOfFrame fault
 
-either : (a b : Option Fault) → OfFrames a → OfFrames b → OfFrames (option_or a b)
+either : (a b : Option RunFault) → OfFrames a → OfFrames b → OfFrames (option_or a b)
 either None b first second = second
 either (Some fault) b first second = first
 
@@ -125,7 +125,7 @@ abbrev pub RefusesFrames : Option Refusal → Type 0
 RefusesFrames None = Unit {0}
 RefusesFrames (Some refusal) = IsOfFrame refusal.fault
 
-refuses_at : (place : ℕ) (fault : Option Fault) → OfFrames fault → RefusesFrames (option_map (refusal_at place) fault)
+refuses_at : (place : ℕ) (fault : Option RunFault) → OfFrames fault → RefusesFrames (option_map (refusal_at place) fault)
 refuses_at place None of = tt
 refuses_at place (Some fault) of = of
 
@@ -142,7 +142,7 @@ refuses_frames signer place (event ∷ events) (t ∷ moments) signature =
     (refuses_frames signer (place + 1) events moments (link_signature signer signature (frame event) t))
 
 -- what is refused for the fault of a frame keeps nothing
-keeps_frame : (fault : Fault) (before now : Option (List ℕ)) → IsOfFrame fault → Keeps true (refused fault) before now
+keeps_frame : (fault : RunFault) (before now : Option (List ℕ)) → IsOfFrame fault → KeepsOutput true (refused fault) before now
 keeps_frame (moment_out_of_range moment) before now of = tt
 keeps_frame (invalid_header_name_length place) before now of = tt
 keeps_frame (header_value_too_long place) before now of = tt
@@ -153,18 +153,18 @@ keeps_frame (message_too_long place) before now of = tt
 keeps_frame fault before now of = absurd of
 
 -- how what is written ends keeps nothing
-keeps_end : (refusal : Option Refusal) (events : List Parts) (moments : List Instant) (before now : Option (List ℕ)) → RefusesFrames refusal → Keeps true (written_end refusal events moments) before now
+keeps_end : (refusal : Option Refusal) (events : List Parts) (moments : List Instant) (before now : Option (List ℕ)) → RefusesFrames refusal → KeepsOutput true (written_end refusal events moments) before now
 keeps_end (Some refusal) events moments before now of = keeps_frame refusal.fault before now of
 keeps_end None events moments before now of = by_count _
   where
-    by_count : (whole : Bool) → Keeps true (if whole then done else no_memory) before now
+    by_count : (whole : Bool) → KeepsOutput true (if whole then done else no_memory) before now
     by_count true = tt
     by_count false = tt
 
-keeps_written : (text : List ℕ) (end answer : Ending) (before now : Option (List ℕ)) → Keeps true end before now → GoesAsPlanned (writes text end) answer before now → Keeps true answer before now
+keeps_written : (text : List ℕ) (end answer : Ending) (before now : Option (List ℕ)) → KeepsOutput true end before now → GoesAsPlanned (writes text end) answer before now → KeepsOutput true answer before now
 keeps_written text end answer before now keeps goes = by_answer goes.ends goes.gains
   where
-    by_answer : EndsAsPlanned (writes text end) answer → GainsAsPlanned (writes text end) answer before now → Keeps true answer before now
+    by_answer : EndsAsPlanned (writes text end) answer → GainsAsPlanned (writes text end) answer before now → KeepsOutput true answer before now
     by_answer (inl is) gains = rw is keeps
     by_answer (inr (inl is)) gains = rw is (rw is at gains)
     by_answer (inr (inr (inl is))) gains = rw is tt
@@ -172,16 +172,16 @@ keeps_written text end answer before now keeps goes = by_answer goes.ends goes.g
 
 -- an answer as planned keeps the output, but where it is done, tells the fault of a frame or was cut short
 keeps_target : (text : List ℕ) (case : Target → Case) (events : List Parts) (moments : List Instant) (target : TargetRead) (answer : Ending) (before now : Option (List ℕ))
-    → GoesAsPlanned (target_plan text case events moments target) answer before now → Keeps true answer before now
+    → GoesAsPlanned (target_plan text case events moments target) answer before now → KeepsOutput true answer before now
 keeps_target text case events moments unread answer before now goes = keeps_same true answer before now goes.gains
 keeps_target text case events moments unaccepted answer before now goes = keeps_same true answer before now goes.gains
 keeps_target text case events moments (accepted target) answer before now goes = by_fault (case_fault (case target)) goes
   where
-    by_fault : (fault : Option Fault) → GoesAsPlanned (case_plan text (case target) events moments fault) answer before now → Keeps true answer before now
+    by_fault : (fault : Option RunFault) → GoesAsPlanned (case_plan text (case target) events moments fault) answer before now → KeepsOutput true answer before now
     by_fault (Some fault) goes = keeps_same true answer before now goes.gains
     by_fault None goes =
         let c = case target in
-        let refusal = refusal_of c events moments in
+        let refusal = case_refusal c events moments in
         keeps_written (written_until refusal text c events moments) (written_end refusal events moments) answer before now
         (keeps_end refusal events moments before now (refuses_frames c.signer 1 events moments (signature_of c))) goes
 
@@ -190,16 +190,16 @@ pub first_moment : (events : List Parts) (t : Instant) → replicate (length eve
 first_moment events t = let more : length events + 2 ≡ suc (length events + 1) = omega arith in rw more refl
 
 keeps_request : (text : List ℕ) (at : Instant) (case : Target → Case) (events : List Parts) (moments : List Instant) (target : TargetRead) (answer : Ending) (before now : Option (List ℕ))
-    → GoesAsPlanned (request_plan text at case events moments target) answer before now → Keeps (is_in_years at) answer before now
+    → GoesAsPlanned (request_plan text at case events moments target) answer before now → KeepsOutput (is_in_years at) answer before now
 keeps_request text at case events moments target answer before now goes = by_years (is_in_years at) goes
   where
-    by_years : (years : Bool) → GoesAsPlanned (if years then target_plan text case events moments target else stops (refused (moment_out_of_range at))) answer before now → Keeps years answer before now
+    by_years : (years : Bool) → GoesAsPlanned (if years then target_plan text case events moments target else stops (refused (moment_out_of_range at))) answer before now → KeepsOutput years answer before now
     by_years true goes = keeps_target text case events moments target answer before now goes
     by_years false goes = keeps_same false answer before now goes.gains
 
 keeps_job : (wanted : Wanted) (j : JobParts) (given : Supplied) (answer : Ending) (before now : Option (List ℕ)) → given.moments ≡ replicate (length j.events + 2) wanted.at
     → (key_id secret region : Option (List ℕ)) → GoesAsPlanned (profile_plan j wanted given key_id secret region) answer before now
-    → Keeps (is_in_years (request_moment wanted wanted.at)) answer before now
+    → KeepsOutput (is_in_years (request_moment wanted wanted.at)) answer before now
 keeps_job wanted j given answer before now moments (Some key_id) (Some secret) (Some region) goes =
     let selected : Selected = record { key_id = key_id; secret = secret; token = j.profile.token; region = region } in
     keeps_request j.target (request_moment wanted wanted.at) (job_case j wanted selected wanted.at) j.events (replicate (length j.events + 1) wanted.at) given.target answer before now
@@ -208,7 +208,7 @@ keeps_job wanted j given answer before now moments (Some key_id) (Some secret) N
 keeps_job wanted j given answer before now moments (Some key_id) None region goes = keeps_same (is_in_years (request_moment wanted wanted.at)) answer before now goes.gains
 keeps_job wanted j given answer before now moments None secret region goes = keeps_same (is_in_years (request_moment wanted wanted.at)) answer before now goes.gains
 
-pub read_keeps : (wanted : Wanted) (reading : Reading) (answer : Ending) (before now : Option (List ℕ)) → GoesForJob wanted reading answer before now → Keeps (is_in_years (request_moment wanted wanted.at)) answer before now
+pub read_keeps : (wanted : Wanted) (reading : Reading) (answer : Ending) (before now : Option (List ℕ)) → GoesForJob wanted reading answer before now → KeepsOutput (is_in_years (request_moment wanted wanted.at)) answer before now
 read_keeps wanted (bad_line place) answer before now found = keeps_same (is_in_years (request_moment wanted wanted.at)) answer before now found.2.gains
 read_keeps wanted (unbuilt_line place) answer before now found = keeps_same (is_in_years (request_moment wanted wanted.at)) answer before now found.2.gains
 read_keeps wanted (whole_job j) answer before now found = keeps_job wanted j found.0 answer before now found.1.moments j.profile.key_id j.profile.secret j.profile.region found.2
@@ -324,7 +324,7 @@ pub later_runs : (asked : Ask) (wanted : Wanted) (end : Ending) (bytes : List �
 later_runs asked wanted end bytes before now is runs = rw (← is) runs
 
 pub later_keeps : (asked : Ask) (wanted : Wanted) (end : Ending) (before now : Option (List ℕ)) → streams wanted ≡ asked
-    → Keeps (asks_in_years (streams wanted)) end before now → Keeps (asks_in_years asked) end before now
+    → KeepsOutput (asks_in_years (streams wanted)) end before now → KeepsOutput (asks_in_years asked) end before now
 later_keeps asked wanted end before now is keeps = rw (← is) keeps
 
 pub later_ends : (asked : Ask) (wanted : Wanted) (P : Type 0) → streams wanted ≡ asked → IfEnds asked P

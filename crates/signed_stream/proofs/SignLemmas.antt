@@ -1,11 +1,12 @@
 -- A request that is signed by what was wanted.
-use Rattle.std.proofs.Common.{◌≡◌, ℕ, inl, inr, Bool, true, false, List, Option, Some, None, option_map, refl}
-use Rattle.std.specs.Prelude.{Ok, Err, string_bytes, if◌then◌else◌}
+use Rattle.std.proofs.Common.{◌≡◌, ℕ, ◌⊎◌, inl, inr, Bool, true, false, List, Option, Some, None, option_map, refl, sym, ap}
+use Rattle.std.specs.Prelude.{Result, Ok, Err, String, string_bytes, if◌then◌else◌}
 use Rattle.std.specs.Borrow.{Bor}
 use Rattle.std.specs.Fn.{Shared}
 use Rattle.std.specs.Option.{option_or}
+use Rattle.std.specs.declared.alloc.Global.{Global}
 use Rattle.smithy_core.specs.Civil.{is_in_years}
-use Rattle.smithy_core.specs.Moment.{Instant}
+use Rattle.smithy_core.specs.Instant.{Instant}
 use Rattle.smithy_core.specs.declared.identity.Identity.{Identity}
 use Rattle.smithy_core.specs.declared.identity.Identity.TheVariants.{Credentials, Token}
 use Rattle.smithy_core.specs.declared.request.HttpRequest.{HttpRequest}
@@ -17,19 +18,20 @@ use Rattle.sigv4.specs.declared.settings.SigningSettings.{SigningSettings}
 use Rattle.aws_auth.specs.Error.{override_error}
 use Rattle.aws_auth.specs.Inputs.{Chosen, chosen, chosen_case, given_config}
 use Rattle.aws_auth.specs.NameOverride.{MayAnswer, NameAnswer}
-use Rattle.aws_auth.specs.Signer.{IsSignedCase, SignsByInputs, SpellsAs, name_in, out_of_years, refusal_before_override, refusal_before_target, unsigned_target, wrong_identity}
+use Rattle.aws_auth.specs.Signer.{IsSignedCase, RefusesRequest, SignsByInputs, SignsRequest, SpellsAs, name_in, out_of_years, refusal_before_override, refusal_before_target, signing_refusal, unsigned_target, wrong_identity}
 use Rattle.aws_auth.specs.declared.error.SigV4SigningError.{SigV4SigningError}
 use Rattle.aws_auth.specs.declared.error.SigV4SigningError.TheVariants as auth
 use Rattle.aws_auth.specs.declared.inputs.SigningInputs.{SigningInputs}
+use Rattle.aws_auth.specs.declared.name_override.OverrideError.{OverrideError}
 use Rattle.aws_auth.specs.declared.name_override.OverrideError.TheVariants as overrides
 use Rattle.aws_auth.specs.declared.options.SigV4OperationSigningConfig.{SigV4OperationSigningConfig}
 use Rattle.aws_auth.specs.declared.signer.Signed.{Signed}
 use Rattle.signed_stream.specs.Case.{request_moment, settings_with}
 use Rattle.signed_stream.specs.Chain.{IsCredentials}
 use Rattle.signed_stream.specs.Command.{Wanted}
-use Rattle.signed_stream.specs.Plan.{ReadsTarget, TargetRead, accepted, unaccepted, unread}
-use Rattle.signed_stream.specs.Sign.{GivesName, IsRequestError, SignsJob, TellsError, fault_for, identity_case, request_fault, unsigned}
-use Rattle.signed_stream.specs.Status.{moment_out_of_range}
+use Rattle.signed_stream.specs.Plan.{TargetSpells, TargetRead, accepted, unaccepted, unread}
+use Rattle.signed_stream.specs.Sign.{GivesName, IsRequestError, SignsJob, TellsError, case_fault, fault_for, identity_case, request_fault, unsigned}
+use Rattle.signed_stream.specs.Status.{RunFault, run_fault, invalid_uri, moment_out_of_range}
 use Rattle.signed_stream.proofs.TestLemmas.{IsPartError, IsTestError, unsigned_test}
 use Rattle.signed_stream.specs.declared.halt.Halt.{Halt}
 use Rattle.signed_stream.specs.declared.halt.Halt.TheVariants as halts
@@ -69,7 +71,7 @@ abbrev pub TellsFault : List ℕ → Instant → (Target → Case) → HttpReque
 TellsFault text at case new error = IsRequestError error × ((halt : Halt) → TellsError error halt → SignsJob text at case new (Err halt))
 
 -- a halt that tells an error tells its fault
-told_fault : (text : List ℕ) (at : Instant) (case : Target → Case) (new : HttpRequest) (error : SigningError) (target : TargetRead) → ReadsTarget text target
+told_fault : (text : List ℕ) (at : Instant) (case : Target → Case) (new : HttpRequest) (error : SigningError) (target : TargetRead) → TargetSpells text target
     → request_fault at case target ≡ Some (fault_for error) → (halt : Halt) → TellsError (auth.Signing error) halt → SignsJob text at case new (Err halt)
 told_fault text at case new error target reads is (halts.Refused fault) tells = (target, reads, rw tells is)
 told_fault text at case new error target reads is halts.OutputFault tells = absurd tells

@@ -1,13 +1,13 @@
 -- A text spells one target, or none.
-use Rattle.std.proofs.Common.{◌≡◌, ◌==◌, ℕ, inl, inr, not, List, [], length, Option, refl, sym, ap, ◌∙◌, subst}
+use Rattle.std.proofs.Common.{◌≡◌, ◌==◌, ℕ, inl, inr, not, List, [], length, Option, Some, None, refl, sym, ap, ◌∙◌, subst}
 use Rattle.std.specs.Prelude.{if◌then◌else◌, ◌||◌, is_some}
 use Rattle.http_uri.specs.Grammar.{path_of, query_of}
 use Rattle.http_uri.specs.Uri.{Spells, uri_authority, uri_data, uri_scheme}
 use Rattle.http_uri.specs.declared.uri.Uri.{Uri}
 use Rattle.http_uri.proofs.Theorems.{Spells_unique}
-use Rattle.smithy_http.specs.QueryWriter.{SpellsNoTarget, SpellsTarget}
+use Rattle.smithy_http.specs.Building.{SpellsNoTarget, SpellsTarget}
 use Rattle.smithy_http.specs.Target.{IsAuthorityAlone, Target, target_of}
-use Rattle.signed_stream.specs.Plan.{ReadsTarget, accepted, unaccepted}
+use Rattle.signed_stream.specs.Plan.{TargetSpells, TargetRead, accepted, unaccepted, unread}
 
 -- the target of a scheme, an authority and a path with its query
 target_with : Option (List ℕ) → Option (List ℕ) → List ℕ → Target
@@ -35,9 +35,9 @@ spells_one_way text uri (inl none) spells = none _ _ _ spells.0
 spells_one_way text uri (inr other) spells = spells.1 (subst IsAuthorityAlone (one_target text other.0 uri other.1 spells.0) other.2)
 
 -- what a text spells is determined
-pub reads_one : (text : List ℕ) (a b : Target) → ReadsTarget text (accepted a) → ReadsTarget text (accepted b) → a ≡ b
+pub reads_one : (text : List ℕ) (a b : Target) → TargetSpells text (accepted a) → TargetSpells text (accepted b) → a ≡ b
 reads_one text a b first second = sym first.2 ∙ one_target text first.0 second.0 first.1.0 second.1.0 ∙ second.2
 
 -- a text that spells a target is accepted
-pub reads_one_way : (text : List ℕ) (a : Target) → ReadsTarget text unaccepted → ReadsTarget text (accepted a) → ⊥
+pub reads_one_way : (text : List ℕ) (a : Target) → TargetSpells text unaccepted → TargetSpells text (accepted a) → ⊥
 reads_one_way text a first second = spells_one_way text second.0 first second.1

@@ -1,9 +1,9 @@
 -- A run that is refused for its target.
-use Rattle.std.proofs.Common.{◌≡◌, ℕ, inl, inr, Bool, true, false, List, [], ◌∷◌, length, nat_lt, Option, Some, None, option_map, refl, sym}
+use Rattle.std.proofs.Common.{◌≡◌, ℕ, ◌⊎◌, inl, inr, Bool, true, false, List, [], ◌∷◌, length, nat_lt, Option, Some, None, option_map, refl, sym}
 use Rattle.std.specs.Prelude.{if◌then◌else◌}
 use Rattle.smithy_core.specs.Civil.{is_in_years}
-use Rattle.smithy_core.specs.Moment.{Instant}
-use Rattle.smithy_core.specs.Message.{Parts}
+use Rattle.smithy_core.specs.Instant.{Instant}
+use Rattle.smithy_core.specs.Parts.{Parts}
 use Rattle.sigv4.specs.Request.{Case}
 use Rattle.sigv4.specs.Parameters.{takes_no_more}
 use Rattle.sigv4.specs.Signed.{parameters, signature_of}
@@ -14,12 +14,12 @@ use Rattle.signed_stream.specs.Case.{Selected, job_case, request_moment}
 use Rattle.signed_stream.specs.Chain.{Refusal}
 use Rattle.signed_stream.specs.Command.{Command, Wanted, bad_word, command, stream, unbuilt_word}
 use Rattle.signed_stream.specs.Job.{JobParts, Reading, bad_line, job, unbuilt_line, whole_job}
-use Rattle.signed_stream.specs.Plan.{EndsAsPlanned, ReadsTarget, Supplied, TargetRead, accepted, most_input, stops, unaccepted, unread}
+use Rattle.signed_stream.specs.Plan.{EndsAsPlanned, TargetSpells, Supplied, TargetRead, accepted, most_input, stops, unaccepted, unread}
 use Rattle.signed_stream.specs.Running.{Gave, IfStreams, ask, ask_plan, command_ask, ends, has_later_variable, streams}
 use Rattle.signed_stream.specs.Sign.{case_fault, fault_for, unsigned}
-use Rattle.signed_stream.specs.Status.{Ending, Fault, done, invalid_uri, job_too_large, moment_out_of_range, no_memory, not_built, refused}
+use Rattle.signed_stream.specs.Status.{Ending, RunFault, done, invalid_uri, job_too_large, moment_out_of_range, no_memory, not_built, output_fault, read_fault, refused}
 use Rattle.signed_stream.specs.Stream.{GaveReading, ReadsUnfitTarget, case_plan, input_plan, job_plan, profile_plan, selected_plan, target_plan}
-use Rattle.signed_stream.specs.Written.{refusal_of, written_end}
+use Rattle.signed_stream.specs.Written.{case_refusal, written_end}
 use Rattle.signed_stream.proofs.RunLemmas.{IsOfFrame, RefusesFrames, refuses_frames}
 use Rattle.signed_stream.proofs.TestLemmas.{IsPartError, IsTestError, unsigned_test}
 
@@ -43,7 +43,7 @@ target_test c error (inr part) is = absurd (by_error error part is)
     by_error error part is = absurd part
 
 -- no frame does
-other_frame : (fault : Fault) → IsOfFrame fault → refused invalid_uri ≡ refused fault → ⊥
+other_frame : (fault : RunFault) → IsOfFrame fault → refused invalid_uri ≡ refused fault → ⊥
 other_frame fault of is = let same : fault ≡ invalid_uri = cc in (let wrong : IsOfFrame invalid_uri = rw same at of in wrong)
 
 -- what is written doesn't end so
@@ -56,7 +56,7 @@ other_end None events moments of is = by_count _ is
     by_count false is = cc
 
 -- a request whose target is accepted is refused for it where it takes no parameters
-case_refused : (text : List ℕ) (c : Case) (events : List Parts) (moments : List Instant) (fault : Option Fault) → case_fault c ≡ fault → EndsAsPlanned (case_plan text c events moments fault) (refused invalid_uri)
+case_refused : (text : List ℕ) (c : Case) (events : List Parts) (moments : List Instant) (fault : Option RunFault) → case_fault c ≡ fault → EndsAsPlanned (case_plan text c events moments fault) (refused invalid_uri)
     → takes_no_more (parameters c) c.target ≡ true
 case_refused text c events moments (Some fault) is (inl end) = by_error (unsigned c) refl (let same : fault ≡ invalid_uri = cc in rw same at is)
   where
@@ -65,7 +65,7 @@ case_refused text c events moments (Some fault) is (inl end) = by_error (unsigne
     by_error (Some error) found is = target_test c error (unsigned_test c error found) cc
 case_refused text c events moments (Some fault) is (inr (inl end)) = cc
 case_refused text c events moments (Some fault) is (inr (inr end)) = cc
-case_refused text c events moments None is (inl end) = absurd (other_end (refusal_of c events moments) events moments (refuses_frames c.signer 1 events moments (signature_of c)) end)
+case_refused text c events moments None is (inl end) = absurd (other_end (case_refusal c events moments) events moments (refuses_frames c.signer 1 events moments (signature_of c)) end)
 case_refused text c events moments None is (inr (inl end)) = cc
 case_refused text c events moments None is (inr (inr (inl end))) = cc
 case_refused text c events moments None is (inr (inr (inr end))) = cc
@@ -74,7 +74,7 @@ case_refused text c events moments None is (inr (inr (inr end))) = cc
 abbrev TargetIsUnfit : Wanted → JobParts → Type 0
 TargetIsUnfit wanted j = ReadsUnfitTarget wanted (whole_job j)
 
-target_refused : (j : JobParts) (wanted : Wanted) (selected : Selected) (first : Instant) (moments : List Instant) (target : TargetRead) → ReadsTarget j.target target
+target_refused : (j : JobParts) (wanted : Wanted) (selected : Selected) (first : Instant) (moments : List Instant) (target : TargetRead) → TargetSpells j.target target
     → EndsAsPlanned (target_plan j.target (job_case j wanted selected first) j.events moments target) (refused invalid_uri) → TargetIsUnfit wanted j
 target_refused j wanted selected first moments unread reads goes = absurd (other_stop _ (λ e. cc) goes)
 target_refused j wanted selected first moments unaccepted reads goes = inl reads
@@ -82,7 +82,7 @@ target_refused j wanted selected first moments (accepted target) reads goes =
     let c = job_case j wanted selected first target in
     inr (target, reads, selected, first, case_refused j.target c j.events moments (case_fault c) refl goes)
 
-selected_refused : (j : JobParts) (wanted : Wanted) (selected : Selected) (target : TargetRead) (moments : List Instant) → ReadsTarget j.target target
+selected_refused : (j : JobParts) (wanted : Wanted) (selected : Selected) (target : TargetRead) (moments : List Instant) → TargetSpells j.target target
     → EndsAsPlanned (selected_plan j wanted selected target moments) (refused invalid_uri) → TargetIsUnfit wanted j
 selected_refused j wanted selected target [] reads goes = absurd (other_stop _ (λ e. cc) goes)
 selected_refused j wanted selected target (first ∷ others) reads goes = by_years (is_in_years (request_moment wanted first)) goes
@@ -93,7 +93,7 @@ selected_refused j wanted selected target (first ∷ others) reads goes = by_yea
     by_years true goes = target_refused j wanted selected first others target reads goes
     by_years false goes = absurd (other_stop _ (λ e. cc) goes)
 
-profile_refused : (j : JobParts) (wanted : Wanted) (given : Supplied) (key_id secret region : Option (List ℕ)) → ReadsTarget j.target given.target
+profile_refused : (j : JobParts) (wanted : Wanted) (given : Supplied) (key_id secret region : Option (List ℕ)) → TargetSpells j.target given.target
     → EndsAsPlanned (profile_plan j wanted given key_id secret region) (refused invalid_uri) → TargetIsUnfit wanted j
 profile_refused j wanted given (Some key_id) (Some secret) (Some region) reads goes =
     selected_refused j wanted (record { key_id = key_id; secret = secret; token = j.profile.token; region = region }) given.target given.moments reads goes

@@ -1,14 +1,14 @@
 -- What the functions below `run` promise to one another, and what carries the proofs of its promises. A reader of those needs none of it: they are in
 -- Running, and what they rest on in Plan and Stream.
-use Rattle.std.specs.Prelude.{ℕ, List, Option, Result, Ok, Err}
-use Rattle.smithy_core.specs.Moment.{Instant}
-use Rattle.smithy_core.specs.Message.{Parts}
+use Rattle.std.specs.Prelude.{◌≡◌, ℕ, List, Option, Result, Ok, Err}
+use Rattle.smithy_core.specs.Instant.{Instant}
+use Rattle.smithy_core.specs.Parts.{Parts}
 use Rattle.smithy_http.specs.Target.{Target}
 use Rattle.sigv4.specs.Request.{Case}
 use Rattle.signed_stream.specs.Command.{Wanted}
 use Rattle.signed_stream.specs.Job.{Reading}
 use Rattle.signed_stream.specs.Options.{wanted_of}
-use Rattle.signed_stream.specs.Plan.{GoesAsPlanned, ReadsTarget, Supplied, TargetRead}
+use Rattle.signed_stream.specs.Plan.{GoesAsPlanned, TargetSpells, Supplied, TargetRead}
 use Rattle.signed_stream.specs.Running.{Ask, RunsAsPlanned, ends, streams}
 use Rattle.signed_stream.specs.Status.{Ending, bad_words, ending_of, not_built}
 use Rattle.signed_stream.specs.Stream.{GaveReading, job_plan, request_plan}
@@ -30,7 +30,7 @@ IsEarly end = ⊥
 -- as planned for what the target spells
 abbrev pub GoesForTarget : List ℕ → Instant → (Target → Case) → List Parts → List Instant → Ending → Option (List ℕ) → Option (List ℕ) → Type 0
 GoesForTarget text at case events moments answer before now =
-    (target : TargetRead) × ReadsTarget text target × GoesAsPlanned (request_plan text at case events moments target) answer before now
+    (target : TargetRead) × TargetSpells text target × GoesAsPlanned (request_plan text at case events moments target) answer before now
 
 -- as planned for what the outside gave for a job
 abbrev pub GoesForJob : Wanted → Reading → Ending → Option (List ℕ) → Option (List ℕ) → Type 0

@@ -4,8 +4,8 @@ use Rattle.std.specs.List.{flat_map}
 use Rattle.std.specs.Option.{option_or}
 use Rattle.hex.specs.Hex.{encode_lower}
 use Rattle.smithy_core.specs.Civil.{IsInYears, is_in_years}
-use Rattle.smithy_core.specs.Moment.{Instant}
-use Rattle.smithy_core.specs.Message.{Parts}
+use Rattle.smithy_core.specs.Instant.{Instant}
+use Rattle.smithy_core.specs.Parts.{Parts}
 use Rattle.smithy_core.specs.Text.{line}
 use Rattle.smithy_core.specs.declared.identity.Identity.{Identity}
 use Rattle.smithy_core.specs.declared.identity.Identity.TheVariants.{Credentials, Token}
@@ -14,7 +14,7 @@ use Rattle.eventstream.specs.Key.{Signer}
 use Rattle.eventstream.specs.Link.{begun, chain, link_message, link_signature}
 use Rattle.eventstream.specs.declared.error.ErrorKind.{ErrorKind}
 use Rattle.eventstream.specs.declared.error.ErrorKind.TheVariants as reasons
-use Rattle.signed_stream.specs.Status.{Fault, moment_out_of_range, invalid_header_name_length, header_value_too_long, timestamp_value_too_large, headers_too_long, payload_too_long, message_too_long}
+use Rattle.signed_stream.specs.Status.{RunFault, moment_out_of_range, invalid_header_name_length, header_value_too_long, timestamp_value_too_large, headers_too_long, payload_too_long, message_too_long}
 
 -- the identity can sign: it is credentials
 abbrev pub IsCredentials : Identity → Type 0
@@ -48,7 +48,7 @@ IsChained signer (event ∷ events) (at ∷ moments) signature =
 -- ## Refusals
 
 -- the fault that tells of a message at a place why it has no frame; the last reason is that the frame is too long
-abbrev pub fault_at : ℕ → ErrorKind → Fault
+abbrev pub fault_at : ℕ → ErrorKind → RunFault
 fault_at place reasons.InvalidHeaderNameLength = invalid_header_name_length place
 fault_at place reasons.HeaderValueTooLong = header_value_too_long place
 fault_at place (reasons.TimestampValueTooLarge moment) = timestamp_value_too_large place
@@ -57,16 +57,16 @@ fault_at place reasons.PayloadTooLong = payload_too_long place
 fault_at place reason = message_too_long place
 
 -- the message at a place has no frame
-abbrev pub unframed_at : ℕ → Parts → Option Fault
+abbrev pub unframed_at : ℕ → Parts → Option RunFault
 unframed_at place message = option_map (fault_at place) (unframed message)
 
 -- the moment lies outside the years
-abbrev pub outside_years : Instant → Option Fault
+abbrev pub outside_years : Instant → Option RunFault
 outside_years at = if is_in_years at then None else Some (moment_out_of_range at)
 
 -- why an event isn't sent at its moment over the signature before it: it has no frame, or the moment lies outside the years, or its signed message has
 -- no frame
-unfoldable pub unlinked : Signer → ℕ → List ℕ → Parts → Instant → Option Fault
+unfoldable pub unlinked : Signer → ℕ → List ℕ → Parts → Instant → Option RunFault
 unlinked signer place signature event at =
     option_or (unframed_at place event)
     (option_or (outside_years at) (unframed_at place (link_message signer signature (frame event) at)))
@@ -74,9 +74,9 @@ unlinked signer place signature event at =
 -- an event that is refused, or the closing frame, whose place is the next; and why
 pub record Refusal : Type 0 where
   pub place : ℕ
-  pub fault : Fault
+  pub fault : RunFault
 
-abbrev pub refusal_at : ℕ → Fault → Refusal
+abbrev pub refusal_at : ℕ → RunFault → Refusal
 refusal_at place fault = record { place = place; fault = fault }
 
 -- the first event that is refused at its moment, or else the closing frame, which is for its moment alone; places count from this one on
@@ -88,7 +88,7 @@ first_refusal signer place (event ∷ events) (at ∷ moments) signature =
     (first_refusal signer (place + 1) events moments (link_signature signer signature (frame event) at))
 
 -- the fault of a refusal
-abbrev pub refusal_fault : Option Refusal → Option Fault
+abbrev pub refusal_fault : Option Refusal → Option RunFault
 refusal_fault refusal = option_map (λ r. r.fault) refusal
 
 -- the lines of the frames before the one at a place

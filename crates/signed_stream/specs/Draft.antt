@@ -39,11 +39,11 @@ draft_of draft =
     }
 
 -- a line was taken as the step says, unless memory ran out
-abbrev pub Steps : LineStep → JobDraft → Result (Unit {0}) LineFault → Type 0
-Steps step now (Ok _) = step ≡ moves_to (draft_of now)
-Steps step now (Err Bad) = step ≡ bad
-Steps step now (Err NotBuilt) = step ≡ unbuilt
-Steps step now (Err NoMemory) = Unit {0}
+abbrev pub MovesDraft : LineStep → JobDraft → Result (Unit {0}) LineFault → Type 0
+MovesDraft step now (Ok _) = step ≡ moves_to (draft_of now)
+MovesDraft step now (Err Bad) = step ≡ bad
+MovesDraft step now (Err NotBuilt) = step ≡ unbuilt
+MovesDraft step now (Err NoMemory) = Unit {0}
 
 -- the profile is the one that the lines give, unless memory ran out
 abbrev pub GivesProfile : Option ProfileTexts → ProfileKeys → Result (Unit {0}) LineFault → Type 0
@@ -53,11 +53,11 @@ GivesProfile profile now (Err NotBuilt) = profile ≡ None
 GivesProfile profile now (Err NoMemory) = Unit {0}
 
 -- what is given is what the text spells, unless memory ran out
-abbrev pub Gives : {A : Type 0} → Option A → Result A LineFault → Type 0
-Gives spelled (Ok given) = spelled ≡ Some given
-Gives spelled (Err Bad) = spelled ≡ None
-Gives spelled (Err NotBuilt) = ⊥
-Gives spelled (Err NoMemory) = Unit {0}
+abbrev pub GivesSpelled : {A : Type 0} → Option A → Result A LineFault → Type 0
+GivesSpelled spelled (Ok given) = spelled ≡ Some given
+GivesSpelled spelled (Err Bad) = spelled ≡ None
+GivesSpelled spelled (Err NotBuilt) = ⊥
+GivesSpelled spelled (Err NoMemory) = Unit {0}
 
 -- the texts and lists of a job
 abbrev pub job_parts : Job → JobParts

@@ -3,10 +3,10 @@ use Rattle.std.specs.Prelude.{ℕ, ◌==◌, true, false, if◌then◌else◌, L
 use Rattle.std.specs.Int.{w8, w16, w32, w64, w128, from_be_bytes}
 use Rattle.std.specs.Result.{result_ok}
 use Rattle.hex.specs.Hex.{decode_of, decode_sized}
-use Rattle.smithy_core.specs.Header.{Header}
+use Rattle.smithy_core.specs.declared.header.Header.{Header}
 use Rattle.smithy_core.specs.declared.header.HeaderValue.{HeaderValue}
 use Rattle.smithy_core.specs.declared.header.HeaderValue.TheVariants.{Bool as Truth, Byte, Int16, Int32, Int64, ByteArray, String as Text, Timestamp, Uuid}
-use Rattle.smithy_core.specs.Moment.{Instant}
+use Rattle.smithy_core.specs.Instant.{Instant}
 use Rattle.signed_stream.specs.Lines.{rest_of, word_of}
 use Rattle.signed_stream.specs.Numbers.{natural_below, number}
 
@@ -15,8 +15,8 @@ unfoldable pub hex_bytes : List ℕ → Option (List ℕ)
 hex_bytes digits = result_ok (decode_of digits)
 
 -- the number of 32 hexadecimal digits, in either case, the highest first
-unfoldable pub uuid_of : List ℕ → Option ℕ
-uuid_of digits = option_map (from_be_bytes w128) (result_ok (decode_sized digits 16))
+unfoldable pub spelled_uuid : List ℕ → Option ℕ
+spelled_uuid digits = option_map (from_be_bytes w128) (result_ok (decode_sized digits 16))
 
 -- these seconds and nanoseconds
 abbrev pub moment_of : Option ℤ → Option ℕ → Option Instant
@@ -25,8 +25,8 @@ moment_of (Some secs) None = None
 moment_of None nanos = None
 
 -- the moment of `SECS NANOS`
-unfoldable pub time_of : List ℕ → Option Instant
-time_of text = moment_of (number w64 (word_of text)) (natural_below 1000000000 (rest_of text))
+unfoldable pub spelled_time : List ℕ → Option Instant
+spelled_time text = moment_of (number w64 (word_of text)) (natural_below 1000000000 (rest_of text))
 
 -- the value, where the text is empty
 abbrev pub if_empty : List ℕ → HeaderValue → Option HeaderValue
@@ -46,8 +46,8 @@ unfoldable pub fixed_value : List ℕ → List ℕ → Option HeaderValue
 fixed_value kind text =
     if bytes_eq kind (codes "true") then if_empty text (Truth true)
     else if bytes_eq kind (codes "false") then if_empty text (Truth false)
-    else if bytes_eq kind (codes "time") then option_map Timestamp (time_of text)
-    else if bytes_eq kind (codes "uuid") then option_map Uuid (uuid_of text)
+    else if bytes_eq kind (codes "time") then option_map Timestamp (spelled_time text)
+    else if bytes_eq kind (codes "uuid") then option_map Uuid (spelled_uuid text)
     else number_value kind text
 
 -- the value of `KIND VALUE`

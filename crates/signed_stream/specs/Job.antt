@@ -3,11 +3,11 @@ use Rattle.std.specs.Prelude.{ℕ, ◌+◌, ◌==◌, Bool, ◌&&◌, ◌||◌, 
 use Rattle.std.specs.Option.{option_to_list}
 use Rattle.std.specs.List.{list_all, list_any}
 use Rattle.std.specs.Str.Lossy.{utf8_valid_len}
-use Rattle.smithy_core.specs.TextPairs.{lower}
-use Rattle.smithy_core.specs.Message.{Parts}
-use Rattle.smithy_core.specs.Header.{Header}
+use Rattle.smithy_core.specs.Pairs.{lower}
+use Rattle.smithy_core.specs.Parts.{Parts}
+use Rattle.smithy_core.specs.declared.header.Header.{Header}
 use Rattle.signed_stream.specs.EventHeader.{hex_bytes, event_header}
-use Rattle.signed_stream.specs.Lines.{lines_of, pair_of, rest_of, word_of}
+use Rattle.signed_stream.specs.Lines.{job_lines, header_pair, rest_of, word_of}
 use Rattle.signed_stream.specs.Numbers.{is_digit}
 
 abbrev pub is_lower : ℕ → Bool
@@ -65,8 +65,8 @@ pub record Event : Type 0 where
   pub payload : Option (List ℕ)
 
 -- the message of an event; without its line the payload is empty
-abbrev pub message_of : Event → Parts
-message_of event = record { headers = event.headers; payload = unwrap_or event.payload [] }
+abbrev pub event_message : Event → Parts
+event_message event = record { headers = event.headers; payload = unwrap_or event.payload [] }
 
 -- ## The draft
 
@@ -85,7 +85,7 @@ no_draft = record { method = None; target = None; headers = []; body = None; pro
 
 -- the events, with the one that is open
 abbrev pub events_of : Draft → List Parts
-events_of draft = draft.events ++ option_to_list (option_map message_of draft.event)
+events_of draft = draft.events ++ option_to_list (option_map event_message draft.event)
 
 -- what a line does
 pub data LineStep : Type 0 where
@@ -115,7 +115,7 @@ target_step draft rest = if is_some draft.target then bad else moves_to (record 
 -- `header NAME: VALUE`: the name goes in lower case
 unfoldable pub header_step : Draft → List ℕ → LineStep
 header_step draft rest =
-    whole_or_bad (option_map (λ header. record draft { headers = draft.headers ++ (lower header.0, header.1) ∷ [] }) (pair_of rest))
+    whole_or_bad (option_map (λ header. record draft { headers = draft.headers ++ (lower header.0, header.1) ∷ [] }) (header_pair rest))
 
 -- `body HEX`: once, an even number of digits in either case
 unfoldable pub body_step : Draft → List ℕ → LineStep
@@ -166,8 +166,8 @@ word_step draft word rest =
     else bad
 
 -- what a line does; an empty one does nothing
-unfoldable pub line_step : Draft → List ℕ → LineStep
-line_step draft line = if length line == 0 then moves_to draft else word_step draft (word_of line) (rest_of line)
+unfoldable pub job_line_step : Draft → List ℕ → LineStep
+job_line_step draft line = if length line == 0 then moves_to draft else word_step draft (word_of line) (rest_of line)
 
 -- ## The job
 
@@ -205,10 +205,10 @@ after_step place others unbuilt = unbuilt_line place
 -- what the lines from a place on spell, after those that gave the draft
 abbrev pub lines_from : ℕ → Draft → List (List ℕ) → Reading
 lines_from place draft [] = job_of place draft draft.method draft.target draft.profile
-lines_from place draft (line ∷ lines) = after_step place (λ next. lines_from (place + 1) next lines) (line_step draft line)
+lines_from place draft (line ∷ lines) = after_step place (λ next. lines_from (place + 1) next lines) (job_line_step draft line)
 
 -- the job that the bytes spell, or the first line that is bad or not built; bytes that aren't UTF-8 are bad at the line of the first bad byte
 unfoldable pub job : List ℕ → Reading
 job bytes =
-    if utf8_valid_len bytes == length bytes then lines_from 1 no_draft (lines_of bytes)
+    if utf8_valid_len bytes == length bytes then lines_from 1 no_draft (job_lines bytes)
     else bad_line (count_by (λ b. b == 10) (take (utf8_valid_len bytes) bytes) + 1)

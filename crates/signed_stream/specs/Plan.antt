@@ -1,8 +1,8 @@
 -- What a run is to do with what the outside gave, and what it means that it goes so.
 use Rattle.std.specs.Prelude.{◌≡◌, ℕ, ◌⊎◌, nat_lt, if◌then◌else◌, List, length, Option}
-use Rattle.smithy_core.specs.Moment.{Instant}
+use Rattle.smithy_core.specs.Instant.{Instant}
 use Rattle.smithy_core.specs.Outside.{Gains, GainsPrefix}
-use Rattle.smithy_http.specs.QueryWriter.{SpellsNoTarget}
+use Rattle.smithy_http.specs.Building.{SpellsNoTarget}
 use Rattle.smithy_http.specs.Target.{Target}
 use Rattle.sigv4.specs.Parameters.{SpellsParts}
 use Rattle.signed_stream.specs.Status.{Ending, done, job_too_large, no_memory, output_fault, read_fault, refused}
@@ -18,10 +18,10 @@ pub data TargetRead : Type 0 where
   accepted : Target → TargetRead
 
 -- the text spells this, where it was read
-abbrev pub ReadsTarget : List ℕ → TargetRead → Type 0
-ReadsTarget text unread = Unit {0}
-ReadsTarget text unaccepted = SpellsNoTarget text
-ReadsTarget text (accepted target) = SpellsParts text target
+abbrev pub TargetSpells : List ℕ → TargetRead → Type 0
+TargetSpells text unread = Unit {0}
+TargetSpells text unaccepted = SpellsNoTarget text
+TargetSpells text (accepted target) = SpellsParts text target
 
 -- what the outside gave in one call
 pub record Supplied : Type 0 where

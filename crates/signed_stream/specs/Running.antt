@@ -1,8 +1,8 @@
 -- What a run promises.
 use Rattle.std.specs.Prelude.{◌≡◌, ℕ, ◌≤◌, ◌⊎◌, Bool, true, false, ◌||◌, if◌then◌else◌, List, codes, Option, Some, is_some}
 use Rattle.smithy_core.specs.Civil.{is_in_years}
-use Rattle.smithy_core.specs.Outside.{Gains, RoseOrStands}
-use Rattle.smithy_core.specs.TextPairs.{last_value}
+use Rattle.smithy_core.specs.Outside.{Gains, Rose}
+use Rattle.smithy_core.specs.Pairs.{last_value}
 use Rattle.signed_stream.specs.Case.{request_moment}
 use Rattle.signed_stream.specs.Command.{Command, Wanted, bad_word, command, stream, unbuilt_word}
 use Rattle.signed_stream.specs.Job.{job}
@@ -71,13 +71,13 @@ EndsAsAsked (streams wanted) answer = Unit {0}
 
 -- the count of the input's faults: it rose where the input failed, and else stayed; memory may run out after a fault
 abbrev pub CountsReads : Ending → ℕ → ℕ → Type 0
-CountsReads read_fault before now = RoseOrStands before now
+CountsReads read_fault before now = Rose before now
 CountsReads no_memory before now = before ≤ now
 CountsReads answer before now = now ≡ before
 
 -- the count of the output's faults: it rose where the output failed, and else stayed; memory may run out after a fault
 abbrev pub CountsWrites : Ending → ℕ → ℕ → Type 0
-CountsWrites output_fault before now = RoseOrStands before now
+CountsWrites output_fault before now = Rose before now
 CountsWrites no_memory before now = before ≤ now
 CountsWrites answer before now = now ≡ before
 
@@ -93,18 +93,18 @@ Unless false P = P
 
 -- the answers that leave the output as it was, whether or not the input tells its bytes: of the refusals those of the profile and of the request, which
 -- is refused for its moment where that doesn't lie in the years
-abbrev pub Keeps : Bool → Ending → Option (List ℕ) → Option (List ℕ) → Type 0
-Keeps in_years done before now = Unit {0}
-Keeps in_years (refused (moment_out_of_range moment)) before now = Unless in_years (now ≡ before)
-Keeps in_years (refused (invalid_header_name_length place)) before now = Unit {0}
-Keeps in_years (refused (header_value_too_long place)) before now = Unit {0}
-Keeps in_years (refused (timestamp_value_too_large place)) before now = Unit {0}
-Keeps in_years (refused (headers_too_long place)) before now = Unit {0}
-Keeps in_years (refused (payload_too_long place)) before now = Unit {0}
-Keeps in_years (refused (message_too_long place)) before now = Unit {0}
-Keeps in_years output_fault before now = Unit {0}
-Keeps in_years no_memory before now = Unit {0}
-Keeps in_years answer before now = now ≡ before
+abbrev pub KeepsOutput : Bool → Ending → Option (List ℕ) → Option (List ℕ) → Type 0
+KeepsOutput in_years done before now = Unit {0}
+KeepsOutput in_years (refused (moment_out_of_range moment)) before now = Unless in_years (now ≡ before)
+KeepsOutput in_years (refused (invalid_header_name_length place)) before now = Unit {0}
+KeepsOutput in_years (refused (header_value_too_long place)) before now = Unit {0}
+KeepsOutput in_years (refused (timestamp_value_too_large place)) before now = Unit {0}
+KeepsOutput in_years (refused (headers_too_long place)) before now = Unit {0}
+KeepsOutput in_years (refused (payload_too_long place)) before now = Unit {0}
+KeepsOutput in_years (refused (message_too_long place)) before now = Unit {0}
+KeepsOutput in_years output_fault before now = Unit {0}
+KeepsOutput in_years no_memory before now = Unit {0}
+KeepsOutput in_years answer before now = now ≡ before
 
 -- a sink before a run and after it: what it holds, where it tells, and its count of faults
 pub record SinkChange : Type 0 where
@@ -120,7 +120,7 @@ pub record Ran (asked : Ask) (left : Option (List ℕ)) (given : Supplied) (answ
   -- where the input tells its bytes, it ended and the output gained as planned
   pub planned : (bytes : List ℕ) → left ≡ Some bytes → RunsAsPlanned asked bytes given answer out.held_before out.held_now
   -- what the output keeps also where it doesn't
-  pub kept : Keeps (asks_in_years asked) answer out.held_before out.held_now
+  pub kept : KeepsOutput (asks_in_years asked) answer out.held_before out.held_now
   -- what `err` gained
   pub said : Says answer err.held_before err.held_now err.faults_before err.faults_now
   -- which counts rose

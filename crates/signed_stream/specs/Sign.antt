@@ -2,7 +2,7 @@
 use Rattle.std.specs.Prelude.{◌≡◌, ℕ, List, Result, Ok, Err, Option, Some, None, option_map, String, string_bytes}
 use Rattle.std.specs.Option.{option_or}
 use Rattle.std.specs.declared.alloc.Global.{Global}
-use Rattle.smithy_core.specs.Moment.{Instant}
+use Rattle.smithy_core.specs.Instant.{Instant}
 use Rattle.smithy_core.specs.declared.identity.Identity.{Identity}
 use Rattle.smithy_core.specs.declared.request.HttpRequest.{HttpRequest}
 use Rattle.smithy_http.specs.Target.{Target}
@@ -20,15 +20,15 @@ use Rattle.aws_auth.specs.declared.name_override.OverrideError.TheVariants as ov
 use Rattle.signed_stream.specs.Case.{request_moment, settings_with}
 use Rattle.signed_stream.specs.Chain.{outside_years}
 use Rattle.signed_stream.specs.Command.{Wanted}
-use Rattle.signed_stream.specs.Plan.{ReadsTarget, TargetRead, accepted, unaccepted, unread}
-use Rattle.signed_stream.specs.Status.{Fault, fault_of, invalid_header_name, invalid_header_value, invalid_token_name, invalid_uri, missing_expires, missing_host, moment_out_of_range}
+use Rattle.signed_stream.specs.Plan.{TargetSpells, TargetRead, accepted, unaccepted, unread}
+use Rattle.signed_stream.specs.Status.{RunFault, run_fault, invalid_header_name, invalid_header_value, invalid_token_name, invalid_uri, missing_expires, missing_host, moment_out_of_range}
 use Rattle.signed_stream.specs.declared.halt.Halt.{Halt}
 use Rattle.signed_stream.specs.declared.halt.Halt.TheVariants.{Refused, OutputFault, NoMemory}
 
 -- ## Why a request is refused
 
 -- the fault that tells why a request isn't signed; the last reason is its target
-abbrev pub fault_for : SigningError → Fault
+abbrev pub fault_for : SigningError → RunFault
 fault_for (errors.InvalidHeaderName place) = invalid_header_name place
 fault_for (errors.InvalidHeaderValue place) = invalid_header_value place
 fault_for errors.MissingHost = missing_host
@@ -41,17 +41,17 @@ fault_for error = invalid_uri
 abbrev pub unsigned : Case → Option SigningError
 unsigned c = option_or (unfit c) (unfit_signed_target c)
 
-abbrev pub case_fault : Case → Option Fault
+abbrev pub case_fault : Case → Option RunFault
 case_fault c = option_map fault_for (unsigned c)
 
 -- the fault of a request whose case is this for what its target spells
-abbrev pub target_fault : (Target → Case) → TargetRead → Option Fault
+abbrev pub target_fault : (Target → Case) → TargetRead → Option RunFault
 target_fault case unread = None
 target_fault case unaccepted = Some invalid_uri
 target_fault case (accepted target) = case_fault (case target)
 
--- the same after the test of the request's moment
-abbrev pub request_fault : Instant → (Target → Case) → TargetRead → Option Fault
+-- its fault, where the moment is tested first
+abbrev pub request_fault : Instant → (Target → Case) → TargetRead → Option RunFault
 request_fault at case target = option_or (outside_years at) (target_fault case target)
 
 -- ## What is signed
@@ -74,15 +74,15 @@ identity_case request identity region wanted target = record {
 -- fails, or want of memory
 abbrev pub SignsJob : List ℕ → Instant → (Target → Case) → HttpRequest → Result (String Global) Halt → Type 0
 SignsJob text at case new (Ok signature) =
-    (target : Target) × ReadsTarget text (accepted target) × (request_fault at case (accepted target) ≡ None)
+    (target : Target) × TargetSpells text (accepted target) × (request_fault at case (accepted target) ≡ None)
     × (new.headers ≡ signed_headers (case target)) × (string_bytes new.target ≡ signed_target (case target) text)
     × (string_bytes signature ≡ signature_of (case target))
 SignsJob text at case new (Err (Refused fault)) =
-    (target : TargetRead) × ReadsTarget text target × (request_fault at case target ≡ Some (fault_of fault))
+    (target : TargetRead) × TargetSpells text target × (request_fault at case target ≡ Some (run_fault fault))
 SignsJob text at case new (Err OutputFault) = ⊥
 SignsJob text at case new (Err NoMemory) = Unit {0}
 
--- ## Between the functions that sign
+-- ## Between the functions that sign: a reader of `run` needs none of it
 
 -- the errors of signing a request under credentials, a config, a region and a name, by an override that doesn't refuse
 abbrev pub IsRequestError : SigV4SigningError → Type 0
@@ -98,7 +98,7 @@ IsRequestError error = ⊥
 
 -- the halt tells the error of signing a request
 abbrev pub TellsError : SigV4SigningError → Halt → Type 0
-TellsError (auth.Signing error) (Refused fault) = fault_of fault ≡ fault_for error
+TellsError (auth.Signing error) (Refused fault) = run_fault fault ≡ fault_for error
 TellsError (auth.Signing error) halt = ⊥
 TellsError error halt = halt ≡ NoMemory
 

@@ -1,6 +1,6 @@
 -- How a run ends, as contracts see it: texts are lists of bytes.
 use Rattle.std.specs.Prelude.{ℕ}
-use Rattle.smithy_core.specs.Moment.{Instant}
+use Rattle.smithy_core.specs.Instant.{Instant}
 use Rattle.sigv4.specs.declared.error.ValuePlace.{ValuePlace}
 use Rattle.signed_stream.specs.declared.status.Status.{Status}
 use Rattle.signed_stream.specs.declared.status.Status.TheVariants as statuses
@@ -8,25 +8,25 @@ use Rattle.signed_stream.specs.declared.status.StreamFault.{StreamFault}
 use Rattle.signed_stream.specs.declared.status.StreamFault.TheVariants as faults
 
 -- why a stream is refused
-pub data Fault : Type 0 where
-  missing_credentials : Fault
-  missing_signing_region : Fault
+pub data RunFault : Type 0 where
+  missing_credentials : RunFault
+  missing_signing_region : RunFault
   -- this moment lies outside the years
-  moment_out_of_range : Instant → Fault
-  invalid_uri : Fault
+  moment_out_of_range : Instant → RunFault
+  invalid_uri : RunFault
   -- of the request's header at this place
-  invalid_header_name : ℕ → Fault
-  invalid_header_value : ValuePlace → Fault
-  missing_host : Fault
-  invalid_token_name : Fault
-  missing_expires : Fault
+  invalid_header_name : ℕ → RunFault
+  invalid_header_value : ValuePlace → RunFault
+  missing_host : RunFault
+  invalid_token_name : RunFault
+  missing_expires : RunFault
   -- of the event at this place
-  invalid_header_name_length : ℕ → Fault
-  header_value_too_long : ℕ → Fault
-  timestamp_value_too_large : ℕ → Fault
-  headers_too_long : ℕ → Fault
-  payload_too_long : ℕ → Fault
-  message_too_long : ℕ → Fault
+  invalid_header_name_length : ℕ → RunFault
+  header_value_too_long : ℕ → RunFault
+  timestamp_value_too_large : ℕ → RunFault
+  headers_too_long : ℕ → RunFault
+  payload_too_long : ℕ → RunFault
+  message_too_long : ℕ → RunFault
 
 -- how a run ends
 pub data Ending : Type 0 where
@@ -37,29 +37,29 @@ pub data Ending : Type 0 where
   -- the line at this place
   bad_job : ℕ → Ending
   read_fault : Ending
-  refused : Fault → Ending
+  refused : RunFault → Ending
   output_fault : Ending
   no_memory : Ending
   -- the word or line at this place, or a variable at 0
   not_built : ℕ → Ending
 
 -- what contracts see of a fault
-abbrev pub fault_of : StreamFault → Fault
-fault_of faults.MissingCredentials = missing_credentials
-fault_of faults.MissingSigningRegion = missing_signing_region
-fault_of (faults.MomentOutOfRange moment) = moment_out_of_range moment
-fault_of faults.InvalidUri = invalid_uri
-fault_of (faults.InvalidHeaderName place) = invalid_header_name place
-fault_of (faults.InvalidHeaderValue place) = invalid_header_value place
-fault_of faults.MissingHost = missing_host
-fault_of faults.InvalidTokenName = invalid_token_name
-fault_of faults.MissingExpires = missing_expires
-fault_of (faults.InvalidHeaderNameLength place) = invalid_header_name_length place
-fault_of (faults.HeaderValueTooLong place) = header_value_too_long place
-fault_of (faults.TimestampValueTooLarge place) = timestamp_value_too_large place
-fault_of (faults.HeadersTooLong place) = headers_too_long place
-fault_of (faults.PayloadTooLong place) = payload_too_long place
-fault_of (faults.MessageTooLong place) = message_too_long place
+abbrev pub run_fault : StreamFault → RunFault
+run_fault faults.MissingCredentials = missing_credentials
+run_fault faults.MissingSigningRegion = missing_signing_region
+run_fault (faults.MomentOutOfRange moment) = moment_out_of_range moment
+run_fault faults.InvalidUri = invalid_uri
+run_fault (faults.InvalidHeaderName place) = invalid_header_name place
+run_fault (faults.InvalidHeaderValue place) = invalid_header_value place
+run_fault faults.MissingHost = missing_host
+run_fault faults.InvalidTokenName = invalid_token_name
+run_fault faults.MissingExpires = missing_expires
+run_fault (faults.InvalidHeaderNameLength place) = invalid_header_name_length place
+run_fault (faults.HeaderValueTooLong place) = header_value_too_long place
+run_fault (faults.TimestampValueTooLarge place) = timestamp_value_too_large place
+run_fault (faults.HeadersTooLong place) = headers_too_long place
+run_fault (faults.PayloadTooLong place) = payload_too_long place
+run_fault (faults.MessageTooLong place) = message_too_long place
 
 -- what contracts see of a status
 abbrev pub ending_of : Status → Ending
@@ -68,7 +68,7 @@ ending_of (statuses.BadWords place) = bad_words place
 ending_of statuses.JobTooLarge = job_too_large
 ending_of (statuses.BadJob place) = bad_job place
 ending_of statuses.ReadFault = read_fault
-ending_of (statuses.Refused fault) = refused (fault_of fault)
+ending_of (statuses.Refused fault) = refused (run_fault fault)
 ending_of statuses.OutputFault = output_fault
 ending_of statuses.NoMemory = no_memory
 ending_of (statuses.NotBuilt place) = not_built place

@@ -1,9 +1,9 @@
 -- The command `stream`: what a job asks of a run, and when it can be streamed.
 use Rattle.std.specs.Prelude.{◌≡◌, ℕ, ◌+◌, ◌≤◌, ◌⊎◌, true, if◌then◌else◌, List, [], ◌∷◌, length, replicate, Option, Some, None}
 use Rattle.smithy_core.specs.Civil.{IsInYears, is_in_years}
-use Rattle.smithy_core.specs.Moment.{Instant}
-use Rattle.smithy_core.specs.Message.{Parts}
-use Rattle.smithy_http.specs.QueryWriter.{SpellsNoTarget}
+use Rattle.smithy_core.specs.Instant.{Instant}
+use Rattle.smithy_core.specs.Parts.{Parts}
+use Rattle.smithy_http.specs.Building.{SpellsNoTarget}
 use Rattle.smithy_http.specs.Target.{Target}
 use Rattle.sigv4.specs.Request.{Case}
 use Rattle.sigv4.specs.Parameters.{SpellsParts, takes_no_more}
@@ -13,10 +13,10 @@ use Rattle.signed_stream.specs.Case.{Selected, job_case, profile_giving, request
 use Rattle.signed_stream.specs.Chain.{IsChained}
 use Rattle.signed_stream.specs.Command.{Wanted}
 use Rattle.signed_stream.specs.Job.{JobParts, Reading, bad_line, job, unbuilt_line, whole_job}
-use Rattle.signed_stream.specs.Plan.{Plan, ReadsTarget, Supplied, TargetRead, accepted, most_input, stops, unaccepted, unless_large, unread, writes}
+use Rattle.signed_stream.specs.Plan.{Plan, TargetSpells, Supplied, TargetRead, accepted, most_input, stops, unaccepted, unless_large, unread, writes}
 use Rattle.signed_stream.specs.Sign.{case_fault}
-use Rattle.signed_stream.specs.Status.{Fault, bad_job, invalid_uri, missing_credentials, missing_signing_region, moment_out_of_range, no_memory, not_built, refused}
-use Rattle.signed_stream.specs.Written.{refusal_of, written, written_end, written_until}
+use Rattle.signed_stream.specs.Status.{RunFault, bad_job, invalid_uri, missing_credentials, missing_signing_region, moment_out_of_range, no_memory, not_built, refused}
+use Rattle.signed_stream.specs.Written.{case_refusal, written_stream, written_end, written_until}
 
 -- ## What the outside gave
 
@@ -24,7 +24,7 @@ use Rattle.signed_stream.specs.Written.{refusal_of, written, written_end, writte
 pub record GaveJob (wanted : Wanted) (j : JobParts) (given : Supplied) : Type 0 where
   pub texts : given.texts ≡ []
   pub moments : given.moments ≡ replicate (length j.events + 2) wanted.at
-  pub target : ReadsTarget j.target given.target
+  pub target : TargetSpells j.target given.target
 
 -- for what was read
 abbrev pub GaveReading : Wanted → Reading → Supplied → Type 0
@@ -36,10 +36,10 @@ GaveReading wanted (unbuilt_line place) given = Unit {0}
 
 -- with a case, its target's text, its events and their moments: the first test of the request that fails, or else to write all, or what stands before the
 -- first frame that is refused
-abbrev pub case_plan : List ℕ → Case → List Parts → List Instant → Option Fault → Plan
+abbrev pub case_plan : List ℕ → Case → List Parts → List Instant → Option RunFault → Plan
 case_plan text c events moments (Some fault) = stops (refused fault)
 case_plan text c events moments None =
-    let refusal = refusal_of c events moments in writes (written_until refusal text c events moments) (written_end refusal events moments)
+    let refusal = case_refusal c events moments in writes (written_until refusal text c events moments) (written_end refusal events moments)
 
 -- with what the target spells; it wasn't read where memory ran out before
 abbrev pub target_plan : List ℕ → (Target → Case) → List Parts → List Instant → TargetRead → Plan
@@ -99,7 +99,7 @@ pub record IsStreamable (wanted : Wanted) (bytes : List ℕ) (given : Supplied) 
 
 -- the head of the signed request, and then the chain of the events
 abbrev pub streamed : {wanted : Wanted} {bytes : List ℕ} {given : Supplied} → IsStreamable wanted bytes given → List ℕ
-streamed {wanted} input = written input.read.target (job_case input.read wanted input.selected input.first input.target) input.read.events input.others
+streamed {wanted} input = written_stream input.read.target (job_case input.read wanted input.selected input.first input.target) input.read.events input.others
 
 -- a job was read whose target isn't accepted, or has an authority without a scheme, or takes no parameters of its signature: it is `*`, or gets too long
 abbrev pub ReadsUnfitTarget : Wanted → Reading → Type 0

@@ -1,6 +1,6 @@
 ghost use Rattle.std.specs.Prelude.{◌≡◌, ◌==◌, ◌+◌, [], count_by};
 ghost use Rattle.signed_stream.specs.Job.{job, lines_from, no_draft};
-ghost use Rattle.signed_stream.specs.Lines.{lines_of};
+ghost use Rattle.signed_stream.specs.Lines.{job_lines};
 ghost use Rattle.signed_stream.specs.Draft.{ReadsJob, draft_of};
 
 mod credentials;
@@ -52,7 +52,7 @@ fn count_lf(bytes: &[u8]) -> usize
 }
 
 fn read_lines(alloc: Global, text: &str) -> Result<Job, JobFault>
-    ensures { ReadsJob (lines_from 1 no_draft (lines_of text.now)) result }
+    ensures { ReadsJob (lines_from 1 no_draft (job_lines text.now)) result }
 {
     let mut draft = Draft::new(alloc);
     let mut place = 1;

@@ -1,7 +1,7 @@
 ghost use Rattle.std.specs.Prelude.{◌≡◌, ◌≤◌, ◌⊎◌, IfOk};
 ghost use Rattle.std.specs.String.{string_bytes};
 ghost use Rattle.signed_stream.specs.Saying.{Says, ending_line};
-ghost use Rattle.signed_stream.specs.Status.{done, ending_of, fault_of, no_memory, refused};
+ghost use Rattle.signed_stream.specs.Status.{done, ending_of, run_fault, no_memory, refused};
 
 use crate::status::{Status, StreamFault};
 use smithy_core::{ByteSink, Mem, SinkError, write_all};
@@ -53,7 +53,7 @@ fn line_of(alloc: Global, status: &Status) -> Mem<String>
 }
 
 fn refusal_line(alloc: Global, fault: &StreamFault) -> Mem<String>
-    ensures { IfOk result (λ line. string_bytes line ≡ ending_line (refused (fault_of fault.now))) }
+    ensures { IfOk result (λ line. string_bytes line ≡ ending_line (refused (run_fault fault.now))) }
 {
     let line = match fault {
         StreamFault::MissingCredentials => "refused 2 MissingCredentials\n",

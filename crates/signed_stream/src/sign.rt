@@ -3,7 +3,7 @@ ghost use Rattle.std.specs.String.{string_bytes};
 ghost use Rattle.signed_stream.specs.Case.{request_moment};
 ghost use Rattle.signed_stream.specs.Chain.{IsCredentials};
 ghost use Rattle.signed_stream.specs.Options.{wanted_of};
-ghost use Rattle.signed_stream.specs.Status.{fault_of};
+ghost use Rattle.signed_stream.specs.Status.{run_fault};
 ghost use Rattle.signed_stream.specs.Sign.{GivesName, IsRequestError, SignsJob, TellsError, fault_for, identity_case};
 
 use crate::command::StreamWords;
@@ -93,16 +93,16 @@ fn halt_of(error: &SigV4SigningError) -> Halt
     ensures { TellsError error.now result }
 {
     match error {
-        SigV4SigningError::Signing(error) => Halt::Refused(fault_of(error)),
+        SigV4SigningError::Signing(error) => Halt::Refused(refusal_for(error)),
         SigV4SigningError::NoMemory => Halt::NoMemory,
         _ => unreachable!(),
     }
 }
 
 // The fault that tells why a request isn't signed.
-fn fault_of(error: &SigningError) -> StreamFault
+fn refusal_for(error: &SigningError) -> StreamFault
     requires { IsRequestError (SigV4SigningError.Signing error.now) }
-    ensures { fault_of result ≡ fault_for error.now }
+    ensures { run_fault result ≡ fault_for error.now }
 {
     match error {
         SigningError::InvalidUri => StreamFault::InvalidUri,

@@ -1,7 +1,7 @@
 ghost use Rattle.std.specs.Prelude.{◌≡◌, ◌++◌, IfOk, OnOk};
 ghost use Rattle.std.specs.List.{flat_map};
 ghost use Rattle.std.specs.String.{string_bytes};
-ghost use Rattle.signed_stream.specs.Written.{head, header_line};
+ghost use Rattle.signed_stream.specs.Written.{head, name_value_line};
 
 use smithy_core::{HttpRequest, Mem, push_line};
 use std::alloc::Global;
@@ -21,7 +21,7 @@ pub fn head_of(alloc: Global, request: &HttpRequest) -> Mem<Vec<u8>>
 }
 
 fn push_headers(text: &mut Vec<u8>, request: &HttpRequest) -> Mem<()>
-    ensures { OnOk result (text.new.items ≡ text.old.items ++ flat_map header_line request.now.headers) }
+    ensures { OnOk result (text.new.items ≡ text.old.items ++ flat_map name_value_line request.now.headers) }
 {
     for (name, value) in request.headers.iter() {
         push_header(text, name, value)?;
@@ -30,7 +30,7 @@ fn push_headers(text: &mut Vec<u8>, request: &HttpRequest) -> Mem<()>
 }
 
 fn push_header(text: &mut Vec<u8>, name: &str, value: &str) -> Mem<()>
-    ensures { OnOk result (text.new.items ≡ text.old.items ++ header_line (name.now, value.now)) }
+    ensures { OnOk result (text.new.items ≡ text.old.items ++ name_value_line (name.now, value.now)) }
 {
     text.extend_from_slice(name.as_bytes())?;
     text.extend_from_slice(b": ")?;

@@ -22,8 +22,8 @@ pub struct Draft {
 
 impl Draft {
     ghost use Rattle.std.specs.Prelude.{◌≡◌, None, OnOk};
-    ghost use Rattle.signed_stream.specs.Job.{body_step, credentials_step, event_header_step, event_step, events_of, header_step, in_event, line_step, method_step, no_draft, payload_step, target_step, word_step};
-    ghost use Rattle.signed_stream.specs.Draft.{Steps, draft_of};
+    ghost use Rattle.signed_stream.specs.Job.{body_step, credentials_step, event_header_step, event_step, events_of, header_step, in_event, job_line_step, method_step, no_draft, payload_step, target_step, word_step};
+    ghost use Rattle.signed_stream.specs.Draft.{MovesDraft, draft_of};
 
     /// Nothing yet.
     #[tactic(auto, unfolding(crate::specs::Draft::draft_of))]
@@ -42,9 +42,9 @@ impl Draft {
     }
 
     /// A line; an empty one does nothing.
-    #[tactic(auto, unfolding(crate::specs::Job::line_step))]
+    #[tactic(auto, unfolding(crate::specs::Job::job_line_step))]
     pub fn take_line(&mut self, alloc: Global, line: &str) -> Result<(), LineFault>
-        ensures { Steps (line_step (draft_of self.old) line.now) self.new result }
+        ensures { MovesDraft (job_line_step (draft_of self.old) line.now) self.new result }
     {
         if line.is_empty() {
             return Ok(());
@@ -56,7 +56,7 @@ impl Draft {
     // A line of this word and this rest.
     #[tactic(auto, unfolding(crate::specs::Draft::draft_of, crate::specs::Job::word_step))]
     fn take_word(&mut self, alloc: Global, word: &str, rest: &str) -> Result<(), LineFault>
-        ensures { Steps (word_step (draft_of self.old) word.now rest.now) self.new result }
+        ensures { MovesDraft (word_step (draft_of self.old) word.now rest.now) self.new result }
     {
         match word {
             "event" => self.begin_event(alloc, rest),
@@ -76,7 +76,7 @@ impl Draft {
     // `method M`.
     #[tactic(auto, unfolding(crate::specs::Draft::draft_of, crate::specs::Job::method_step))]
     fn take_method(&mut self, alloc: Global, rest: &str) -> Result<(), LineFault>
-        ensures { Steps (method_step (draft_of self.old) rest.now) self.new result }
+        ensures { MovesDraft (method_step (draft_of self.old) rest.now) self.new result }
     {
         if self.method.is_some() || rest.is_empty() || rest.as_bytes().contains(&b' ') {
             return Err(LineFault::Bad);
@@ -88,7 +88,7 @@ impl Draft {
     // `target T`.
     #[tactic(auto, unfolding(crate::specs::Draft::draft_of, crate::specs::Job::target_step))]
     fn take_target(&mut self, alloc: Global, rest: &str) -> Result<(), LineFault>
-        ensures { Steps (target_step (draft_of self.old) rest.now) self.new result }
+        ensures { MovesDraft (target_step (draft_of self.old) rest.now) self.new result }
     {
         if self.target.is_some() {
             return Err(LineFault::Bad);
@@ -100,7 +100,7 @@ impl Draft {
     // `header NAME: VALUE`.
     #[tactic(auto, unfolding(crate::specs::Draft::draft_of, crate::specs::Job::header_step))]
     fn take_header(&mut self, rest: &str) -> Result<(), LineFault>
-        ensures { Steps (header_step (draft_of self.old) rest.now) self.new result }
+        ensures { MovesDraft (header_step (draft_of self.old) rest.now) self.new result }
     {
         let (name, value) = cut_pair(rest).ok_or(LineFault::Bad)?;
         self.headers.append(name, value)?;
@@ -110,7 +110,7 @@ impl Draft {
     // `body HEX`.
     #[tactic(auto, unfolding(crate::specs::Draft::draft_of, crate::specs::Job::body_step))]
     fn take_body(&mut self, alloc: Global, rest: &str) -> Result<(), LineFault>
-        ensures { Steps (body_step (draft_of self.old) rest.now) self.new result }
+        ensures { MovesDraft (body_step (draft_of self.old) rest.now) self.new result }
     {
         if self.body.is_some() {
             return Err(LineFault::Bad);
@@ -122,7 +122,7 @@ impl Draft {
     // `credentials TEXT`.
     #[tactic(auto, unfolding(crate::specs::Draft::draft_of, crate::specs::Job::credentials_step, crate::specs::Job::after_credentials))]
     fn take_credentials(&mut self, alloc: Global, rest: &str) -> Result<(), LineFault>
-        ensures { Steps (credentials_step (draft_of self.old) rest.now) self.new result }
+        ensures { MovesDraft (credentials_step (draft_of self.old) rest.now) self.new result }
     {
         match &mut self.profile {
             Some(profile) => profile.take_property(alloc, rest),
@@ -137,7 +137,7 @@ impl Draft {
     // `event`.
     #[tactic(auto, unfolding(crate::specs::Draft::draft_of, crate::specs::Job::event_step))]
     fn begin_event(&mut self, alloc: Global, rest: &str) -> Result<(), LineFault>
-        ensures { Steps (event_step (draft_of self.old) rest.now) self.new result }
+        ensures { MovesDraft (event_step (draft_of self.old) rest.now) self.new result }
     {
         if !rest.is_empty() || self.method.is_none() || self.target.is_none() {
             return Err(LineFault::Bad);
@@ -164,7 +164,7 @@ impl Draft {
     // `h NAME KIND VALUE`.
     #[tactic(auto, unfolding(crate::specs::Draft::draft_of, crate::specs::Job::event_header_step))]
     fn take_event_header(&mut self, alloc: Global, rest: &str) -> Result<(), LineFault>
-        ensures { Steps (in_event (draft_of self.old).event (λ event. event_header_step (draft_of self.old) event rest.now)) self.new result }
+        ensures { MovesDraft (in_event (draft_of self.old).event (λ event. event_header_step (draft_of self.old) event rest.now)) self.new result }
     {
         match &mut self.event {
             Some(event) => {
@@ -179,7 +179,7 @@ impl Draft {
     // `payload HEX`.
     #[tactic(auto, unfolding(crate::specs::Draft::draft_of, crate::specs::Job::payload_step))]
     fn take_payload(&mut self, alloc: Global, rest: &str) -> Result<(), LineFault>
-        ensures { Steps (in_event (draft_of self.old).event (λ event. payload_step (draft_of self.old) event rest.now)) self.new result }
+        ensures { MovesDraft (in_event (draft_of self.old).event (λ event. payload_step (draft_of self.old) event rest.now)) self.new result }
     {
         match &mut self.event {
             Some(event) if event.payload.is_none() => {

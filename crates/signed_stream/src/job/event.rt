@@ -1,5 +1,5 @@
 ghost use Rattle.std.specs.Prelude.{◌≡◌};
-ghost use Rattle.signed_stream.specs.Job.{message_of};
+ghost use Rattle.signed_stream.specs.Job.{event_message};
 ghost use Rattle.signed_stream.specs.Draft.{event_of};
 
 use bytes::Bytes;
@@ -15,7 +15,7 @@ pub struct OpenEvent {
 impl OpenEvent {
     /// The message of the event.
     pub fn into_message(self) -> Message
-        ensures { result ≡ message_of (event_of self) }
+        ensures { result ≡ event_message (event_of self) }
     {
         Message::new_from_parts(self.headers, self.payload.unwrap_or(Bytes::new()))
     }

@@ -1,6 +1,6 @@
 ghost use Rattle.std.specs.Prelude.{◌≡◌};
-ghost use Rattle.signed_stream.specs.EventHeader.{hex_bytes, event_header, fixed_value, header_value, number_value, time_of, uuid_of};
-ghost use Rattle.signed_stream.specs.Draft.{Gives};
+ghost use Rattle.signed_stream.specs.EventHeader.{hex_bytes, event_header, fixed_value, header_value, number_value, spelled_time, spelled_uuid};
+ghost use Rattle.signed_stream.specs.Draft.{GivesSpelled};
 
 use crate::job::fault::LineFault;
 use crate::job::lines::cut_word;
@@ -17,7 +17,7 @@ use std::alloc::Global;
 /// [`LineFault::Bad`] where the text isn't of this form.
 #[tactic(auto, unfolding(crate::specs::EventHeader::event_header))]
 pub fn header_of(alloc: Global, rest: &str) -> Result<Header, LineFault>
-    ensures { Gives (event_header rest.now) result }
+    ensures { GivesSpelled (event_header rest.now) result }
 {
     let (name, rest) = cut_word(rest);
     if name.is_empty() {
@@ -32,7 +32,7 @@ pub fn header_of(alloc: Global, rest: &str) -> Result<Header, LineFault>
 // The value of `KIND VALUE`.
 #[tactic(auto, unfolding(crate::specs::EventHeader::header_value))]
 fn value_of(alloc: Global, kind: &str, text: &str) -> Result<HeaderValue, LineFault>
-    ensures { Gives (header_value kind.now text.now) result }
+    ensures { GivesSpelled (header_value kind.now text.now) result }
 {
     match kind {
         "bytes" => Ok(HeaderValue::ByteArray(hex_bytes(alloc, text)?)),
@@ -49,8 +49,8 @@ fn fixed_value(kind: &str, text: &str) -> Option<HeaderValue>
     match kind {
         "true" => text.is_empty().then_some(HeaderValue::Bool(true)),
         "false" => text.is_empty().then_some(HeaderValue::Bool(false)),
-        "time" => Some(HeaderValue::Timestamp(time_of(text)?)),
-        "uuid" => Some(HeaderValue::Uuid(uuid_of(text)?)),
+        "time" => Some(HeaderValue::Timestamp(spelled_time(text)?)),
+        "uuid" => Some(HeaderValue::Uuid(spelled_uuid(text)?)),
         _ => number_value(kind, text),
     }
 }
@@ -76,7 +76,7 @@ fn number_value(kind: &str, text: &str) -> Option<HeaderValue>
 /// [`LineFault::Bad`] where the text isn't of this form.
 #[tactic(auto, unfolding(crate::specs::EventHeader::hex_bytes))]
 pub fn hex_bytes(alloc: Global, digits: &str) -> Result<Bytes, LineFault>
-    ensures { Gives (hex_bytes digits.now) result }
+    ensures { GivesSpelled (hex_bytes digits.now) result }
 {
     match hex::decode(alloc, digits.as_bytes()) {
         Ok(bytes) => Ok(Bytes::from_vec(bytes)?),
@@ -86,18 +86,18 @@ pub fn hex_bytes(alloc: Global, digits: &str) -> Result<Bytes, LineFault>
 }
 
 // The moment of `SECS NANOS`.
-#[tactic(auto, unfolding(crate::specs::EventHeader::time_of))]
-fn time_of(text: &str) -> Option<DateTime>
-    ensures { result ≡ time_of text.now }
+#[tactic(auto, unfolding(crate::specs::EventHeader::spelled_time))]
+fn spelled_time(text: &str) -> Option<DateTime>
+    ensures { result ≡ spelled_time text.now }
 {
     let (secs, nanos) = cut_word(text);
     Some(DateTime::new(parse_i64(secs)?, parse_nanos(nanos)?))
 }
 
 // The number of 32 hexadecimal digits, in either case.
-#[tactic(auto, unfolding(crate::specs::EventHeader::uuid_of))]
-fn uuid_of(digits: &str) -> Option<u128>
-    ensures { result ≡ uuid_of digits.now }
+#[tactic(auto, unfolding(crate::specs::EventHeader::spelled_uuid))]
+fn spelled_uuid(digits: &str) -> Option<u128>
+    ensures { result ≡ spelled_uuid digits.now }
 {
     let bytes = <[u8; 16] as FromHex>::from_hex(digits).ok()?;
     Some(u128::from_be_bytes(bytes))

@@ -1,12 +1,12 @@
 ghost use Rattle.std.specs.Prelude.{◌≡◌, ◌<◌, ◌∷◌, length};
-ghost use Rattle.signed_stream.specs.Lines.{lines_of, pair_of, rest_of, word_of};
+ghost use Rattle.signed_stream.specs.Lines.{job_lines, header_pair, rest_of, word_of};
 ghost use Rattle.signed_stream.specs.Draft.{texts_of_pair};
 
 /// The first line, and what stands after it.
 #[tactic(auto, using(crate::proofs::LineLemmas::lines))]
 pub fn cut_line(text: &str) -> (&str, &str)
     requires { 0 < length text.now }
-    ensures lines { lines_of text.now ≡ result.0.now ∷ lines_of result.1.now }
+    ensures lines { job_lines text.now ≡ result.0.now ∷ job_lines result.1.now }
     ensures shorter { length result.1.now < length text.now }
 {
     match text.split_once('\n') {
@@ -28,7 +28,7 @@ pub fn cut_word(line: &str) -> (&str, &str)
 
 /// What stands before the first `: `, and what stands after it.
 pub fn cut_pair(text: &str) -> Option<(&str, &str)>
-    ensures { texts_of_pair result ≡ pair_of text.now }
+    ensures { texts_of_pair result ≡ header_pair text.now }
 {
     text.split_once(": ")
 }

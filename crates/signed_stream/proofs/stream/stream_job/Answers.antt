@@ -1,4 +1,4 @@
-use Rattle.std.proofs.Common.{ap, option_map, refl}
+use Rattle.std.proofs.Common.{◌≡◌, ap, option_map, refl}
 use Rattle.std.specs.Prelude.{string_bytes}
 use Rattle.signed_stream.specs.Case.{Selected}
 use Rattle.signed_stream.specs.Draft.{job_parts}
@@ -6,7 +6,7 @@ use Rattle.signed_stream.specs.Halt.{ended}
 use Rattle.signed_stream.specs.Job.{whole_job}
 use Rattle.signed_stream.specs.Options.{wanted_of}
 use Rattle.signed_stream.specs.Status.{missing_credentials, missing_signing_region, refused}
-use Rattle.signed_stream.proofs.FitLemmas.{Gives, job_goes}
+use Rattle.signed_stream.proofs.FitLemmas.{GivesKeys, job_goes}
 use Rattle.signed_stream.proofs.RunLemmas.{job_stops}
 use Rattle.signed_stream.proofs.stream.stream_job.Goals as goal
 
@@ -33,7 +33,7 @@ returns-clause-planned g c =
       token = option_map string_bytes job.profile.token;
       region = string_bytes c.in-Some-region.region;
     } in
-    let gives : Gives (job_parts job) selected.key_id selected.secret selected.region = record {
+    let gives : GivesKeys (job_parts job) selected.key_id selected.secret selected.region = record {
       key_id = ap (option_map string_bytes) c.in-Some.is;
       secret = ap (option_map string_bytes) c.in-Some-secret.is;
       region = ap (option_map string_bytes) c.in-Some-region.is;
