@@ -4,16 +4,15 @@ use Rattle.std.specs.Prelude.{Result, Ok, Err, if◌then◌else◌}
 use Rattle.std.specs.Option.{option_or}
 use Rattle.std.proofs.Math.Seq.{drop-cons}
 use Rattle.smithy_core.specs.Civil.{IsInYears, is_in_years}
-use Rattle.smithy_core.specs.Instant.{Instant}
+use Rattle.smithy_core.specs.Moment.{Instant}
 use Rattle.smithy_core.specs.Outside.{Gains, GainsPrefix, GainsRest}
-use Rattle.smithy_core.specs.Parts.{Parts}
+use Rattle.smithy_core.specs.Message.{Parts}
 use Rattle.smithy_core.specs.declared.identity.Identity.{Identity}
 use Rattle.smithy_core.specs.declared.identity.Identity.TheVariants.{Credentials, Token}
 use Rattle.smithy_core.proofs.GainLemmas.{gains_front, gains_join, gains_last, gains_nothing, prefix_at_start, prefix_join, prefix_within}
 use Rattle.eventstream.specs.Frame.{frame, unframed}
 use Rattle.eventstream.specs.Key.{Signer}
 use Rattle.eventstream.specs.Link.{begun, link_message, link_signature}
-use Rattle.eventstream.specs.declared.error.Error.{Error}
 use Rattle.eventstream.specs.declared.error.ErrorKind.{ErrorKind}
 use Rattle.eventstream.proofs.LinkLemmas.{link_framed}
 use Rattle.eventstream.proofs.UnframedLemmas.{unframed_fault}
@@ -128,9 +127,9 @@ unfolding chain_lines link_line
 chain_lines-cons signer event events at moments signature = refl
 
 -- with no events there is the closing line alone
-chain_lines-nil : (signer : Signer) (at : Instant) (moments : List Instant) (signature : List ℕ) → chain_lines signer [] (at ∷ moments) signature ≡ link_line signer signature [] at
+chain_lines-nil : (signer : Signer) (at : Instant) (signature : List ℕ) → chain_lines signer [] (at ∷ []) signature ≡ link_line signer signature [] at
 unfolding chain_lines link_line
-chain_lines-nil signer at moments signature = append-nil _
+chain_lines-nil signer at signature = append-nil _
 
 -- the lines of these events, whose places count from this one on, up to the refused one
 abbrev pub lines_from : Signer → ℕ → List Parts → List Instant → List ℕ → Option Refusal → List ℕ
@@ -260,21 +259,21 @@ event_halted a b c signer place event events at moments signature text whole hal
         )
 
 -- all events were sent: the closing line is left, or refused
-pub closing_sent : {T : Type 0} (a b c : Option (List ℕ)) (signer : Signer) (place : ℕ) (at : Instant) (moments : List Instant) (signature text : List ℕ) (whole : Option Refusal) (answer : Result T Halt)
-    → first_refusal signer place [] (at ∷ moments) signature ≡ whole
-    → GainsRest a b (streamed_from signer place [] (at ∷ moments) signature) text
+pub closing_sent : {T : Type 0} (a b c : Option (List ℕ)) (signer : Signer) (place : ℕ) (at : Instant) (signature text : List ℕ) (whole : Option Refusal) (answer : Result T Halt)
+    → first_refusal signer place [] (at ∷ []) signature ≡ whole
+    → GainsRest a b (streamed_from signer place [] (at ∷ []) signature) text
     → Sends (outside_years at) (unless_refused (outside_years at) (link_line signer signature [] at)) b c answer
     → Sends (refusal_fault whole) text a c answer
-closing_sent {T} a b c signer place at moments signature text whole answer decided first =
+closing_sent {T} a b c signer place at signature text whole answer decided first =
     by_fault (outside_years at) refl answer
   where
     whole_left : outside_years at ≡ None → GainsRest a b (link_line signer signature [] at) text
     whole_left is =
-        let none : first_refusal signer place [] (at ∷ moments) signature ≡ None = rw is refl in
-        rw (ap (lines_from signer place [] (at ∷ moments) signature) none ∙ chain_lines-nil signer at moments signature) at first
+        let none : first_refusal signer place [] (at ∷ []) signature ≡ None = rw is refl in
+        rw (ap (lines_from signer place [] (at ∷ []) signature) none ∙ chain_lines-nil signer at signature) at first
 
     none_left : (fault : RunFault) → outside_years at ≡ Some fault → GainsRest a b [] text
-    none_left fault is = rw (refused_lines signer place [] (at ∷ moments) signature fault (rw is refl)) at first
+    none_left fault is = rw (refused_lines signer place [] (at ∷ []) signature fault (rw is refl)) at first
 
     by_fault : (fault : Option RunFault) → outside_years at ≡ fault → (answer : Result T Halt) → Sends fault (unless_refused fault (link_line signer signature [] at)) b c answer → Sends (refusal_fault whole) text a c answer
     by_fault None is (Ok x) sends = (rw (← decided, is) refl, gains_last a b c (link_line signer signature [] at) text (whole_left is) sends.1)

@@ -1,11 +1,11 @@
 -- How the stream of a job goes as planned.
-use Rattle.std.proofs.Common.{◌≡◌, ℕ, ◌+◌, inl, inr, Bool, true, false, List, [], ◌∷◌, ◌++◌, length, replicate, suc, Option, Some, None, option_map, refl, sym, ap, arith}
+use Rattle.std.proofs.Common.{◌≡◌, ℕ, ◌+◌, Bool, true, false, List, [], ◌++◌, length, replicate, Option, Some, None, refl}
 use Rattle.std.specs.Prelude.{Result, Ok, Err, String, string_bytes, if◌then◌else◌}
 use Rattle.std.specs.Option.{option_or}
 use Rattle.std.specs.declared.alloc.Global.{Global}
 use Rattle.smithy_core.specs.Civil.{is_in_years}
-use Rattle.smithy_core.specs.Instant.{Instant}
-use Rattle.smithy_core.specs.Parts.{Parts}
+use Rattle.smithy_core.specs.Moment.{Instant}
+use Rattle.smithy_core.specs.Message.{Parts}
 use Rattle.smithy_core.specs.declared.request.HttpRequest.{HttpRequest}
 use Rattle.smithy_http.specs.Target.{Target}
 use Rattle.eventstream.specs.Key.{Signer}
@@ -16,13 +16,13 @@ use Rattle.signed_stream.specs.Chain.{first_refusal, refusal_fault, streamed_lin
 use Rattle.signed_stream.specs.Command.{Wanted}
 use Rattle.signed_stream.specs.Halt.{Sends, ended, halted}
 use Rattle.signed_stream.specs.Job.{JobParts, whole_job}
-use Rattle.signed_stream.specs.Plan.{GoesAsPlanned, Plan, TargetSpells, Supplied, TargetRead, accepted, stops, unaccepted, unread}
+use Rattle.signed_stream.specs.Plan.{GoesAsPlanned, Supplied, TargetRead, accepted, stops, unaccepted, unread}
 use Rattle.signed_stream.specs.Sign.{SignsJob, case_fault, request_fault, target_fault}
-use Rattle.signed_stream.specs.Status.{Ending, RunFault, run_fault, invalid_uri, moment_out_of_range, no_memory, refused}
-use Rattle.signed_stream.specs.Stream.{GaveJob, case_plan, job_plan, profile_plan, request_plan, target_plan}
+use Rattle.signed_stream.specs.Status.{Ending, RunFault, run_fault, invalid_uri, moment_out_of_range, refused}
+use Rattle.signed_stream.specs.Stream.{GaveJob, case_plan, job_plan, request_plan, target_plan}
 use Rattle.signed_stream.specs.Written.{head, case_refusal}
 use Rattle.signed_stream.proofs.RunLemmas.{first_moment, goes_no_memory, goes_stopped}
-use Rattle.signed_stream.proofs.SendLemmas.{end_counted, end_of, sends_goes, written_lines}
+use Rattle.signed_stream.proofs.SendLemmas.{end_counted, sends_goes, written_lines}
 use Rattle.signed_stream.specs.declared.halt.Halt.{Halt}
 use Rattle.signed_stream.specs.declared.halt.Halt.TheVariants as halts
 

@@ -1,29 +1,29 @@
 -- A run that is done has streamed, and what is valid is done.
-use Rattle.std.proofs.Common.{◌≡◌, ◌==◌, ℕ, ◌+◌, ◌≤◌, ◌⊎◌, inl, inr, Bool, true, false, List, [], ◌∷◌, Option, Some, None, option_map, nat_lt, length, replicate, refl, sym, ◌∙◌, arith}
+use Rattle.std.proofs.Common.{◌≡◌, ◌==◌, ℕ, ◌+◌, ◌≤◌, ◌⊎◌, inl, inr, Bool, true, false, List, [], ◌∷◌, Option, Some, None, option_map, nat_lt, length, refl, sym, ◌∙◌, arith}
 use Rattle.std.specs.Prelude.{if◌then◌else◌}
 use Rattle.std.specs.Option.{option_or}
 use Rattle.std.proofs.lemmas.Bool.{eq-eqb, eqb-true}
 use Rattle.std.proofs.lemmas.Bool.Decides.{nat_tests}
 use Rattle.smithy_core.specs.Civil.{IsInYears, is_in_years}
-use Rattle.smithy_core.specs.Instant.{Instant}
+use Rattle.smithy_core.specs.Moment.{Instant}
 use Rattle.smithy_core.specs.Outside.{Gains}
-use Rattle.smithy_core.specs.Parts.{Parts}
+use Rattle.smithy_core.specs.Message.{Parts}
 use Rattle.smithy_http.specs.Target.{Target}
 use Rattle.sigv4.specs.Request.{Case}
 use Rattle.sigv4.specs.Refusal.{unfit, unfit_signed_target}
 use Rattle.sigv4.specs.Signed.{signature_of}
 use Rattle.sigv4.specs.declared.error.SigningError.{SigningError}
 use Rattle.signed_stream.specs.Carriers.{GoesForInput}
-use Rattle.signed_stream.specs.Case.{Selected, job_case, profile_giving, request_moment}
+use Rattle.signed_stream.specs.Case.{Selected, job_case, request_moment}
 use Rattle.signed_stream.specs.Chain.{IsChained, Refusal}
 use Rattle.signed_stream.specs.Command.{Command, Wanted, bad_word, command, stream, unbuilt_word}
 use Rattle.signed_stream.specs.Job.{JobParts, Reading, bad_line, job, unbuilt_line, whole_job}
-use Rattle.signed_stream.specs.Plan.{EndsAsPlanned, GoesAsPlanned, TargetSpells, Supplied, TargetRead, accepted, most_input, stops, unaccepted, unless_large, unread, writes}
-use Rattle.signed_stream.specs.Running.{Completes, Gave, IsValid, RunsAsPlanned, Streams, ask, ask_plan, command_ask, ends, has_later_variable, streams}
+use Rattle.signed_stream.specs.Plan.{EndsAsPlanned, GoesAsPlanned, TargetSpells, Supplied, TargetRead, accepted, most_input, stops, unaccepted, unread, writes}
+use Rattle.signed_stream.specs.Running.{Completes, Gave, IsValid, Streams, ask, ask_plan, command_ask, ends, has_later_variable, streams}
 use Rattle.signed_stream.specs.Sign.{case_fault, fault_for, unsigned}
 use Rattle.signed_stream.specs.Status.{Ending, RunFault, done, job_too_large, no_memory, not_built, output_fault, read_fault, refused, moment_out_of_range}
 use Rattle.signed_stream.specs.Stream.{GaveJob, GaveReading, IsStreamable, case_plan, input_plan, job_plan, profile_plan, selected_plan, streamed, target_plan}
-use Rattle.signed_stream.specs.Written.{case_refusal, written_stream, written_before, written_end, written_until}
+use Rattle.signed_stream.specs.Written.{case_refusal, written_stream, written_end, written_until}
 use Rattle.signed_stream.proofs.ChainLemmas.{chained_moments, frames_unrefused, unrefused_frames}
 use Rattle.signed_stream.proofs.TargetLemmas.{reads_one, reads_one_way}
 use Rattle.signed_stream.proofs.YearLemmas.{in_years, years_in}

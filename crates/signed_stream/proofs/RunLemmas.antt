@@ -1,12 +1,12 @@
 -- How a run goes as planned, and what it keeps.
-use Rattle.std.proofs.Common.{◌≡◌, ℕ, suc, ◌+◌, ◌<◌, ◌≤◌, ◌⊎◌, inl, inr, Bool, true, false, nat_lt, List, [], ◌∷◌, length, replicate, Option, Some, None, option_map, refl, ◌∙◌, arith}
+use Rattle.std.proofs.Common.{◌≡◌, ℕ, suc, ◌+◌, ◌<◌, ◌≤◌, inl, inr, Bool, true, false, nat_lt, List, [], ◌∷◌, length, replicate, Option, Some, None, option_map, refl, ◌∙◌, arith}
 use Rattle.std.specs.Prelude.{if◌then◌else◌}
 use Rattle.std.specs.Option.{option_or}
 use Rattle.std.proofs.lemmas.Bool.Decides.{nat_tests}
 use Rattle.smithy_core.specs.Civil.{is_in_years}
-use Rattle.smithy_core.specs.Instant.{Instant}
+use Rattle.smithy_core.specs.Moment.{Instant}
 use Rattle.smithy_core.specs.Outside.{IsAllOf, IsLongerThan, IsRestOf}
-use Rattle.smithy_core.specs.Parts.{Parts}
+use Rattle.smithy_core.specs.Message.{Parts}
 use Rattle.smithy_core.proofs.CutLemmas.{cut_at_start}
 use Rattle.smithy_core.proofs.GainLemmas.{prefix_at_start}
 use Rattle.smithy_http.specs.Target.{Target}
@@ -17,16 +17,16 @@ use Rattle.eventstream.specs.declared.error.ErrorKind.{ErrorKind}
 use Rattle.eventstream.specs.declared.error.ErrorKind.TheVariants as reasons
 use Rattle.sigv4.specs.Request.{Case}
 use Rattle.sigv4.specs.Signed.{signature_of}
-use Rattle.signed_stream.specs.Carriers.{GoesForInput, GoesForJob, IsEarly}
+use Rattle.signed_stream.specs.Carriers.{GoesForInput, GoesForJob}
 use Rattle.signed_stream.specs.Case.{Selected, job_case, request_moment}
 use Rattle.signed_stream.specs.Chain.{Refusal, fault_at, first_refusal, outside_years, refusal_at, unframed_at, unlinked}
 use Rattle.signed_stream.specs.Command.{Wanted}
 use Rattle.signed_stream.specs.Job.{JobParts, Reading, bad_line, job, unbuilt_line, whole_job}
 use Rattle.signed_stream.specs.Plan.{EndsAsPlanned, GainsAsPlanned, GoesAsPlanned, Plan, Supplied, TargetRead, accepted, most_input, stops, unaccepted, unread, writes}
-use Rattle.signed_stream.specs.Running.{Ask, EndsAsAsked, Gave, IfEnds, KeepsOutput, RunsAsPlanned, ask_plan, asks_in_years, ends, streams}
+use Rattle.signed_stream.specs.Running.{Ask, EndsAsAsked, Gave, IfEnds, KeepsOutput, ask_plan, asks_in_years, ends, streams}
 use Rattle.signed_stream.specs.Sign.{case_fault}
 use Rattle.signed_stream.specs.Status.{Ending, RunFault, bad_job, bad_words, done, header_value_too_long, headers_too_long, invalid_header_name, invalid_header_name_length, invalid_header_value, invalid_token_name, invalid_uri, job_too_large, message_too_long, missing_credentials, missing_expires, missing_host, missing_signing_region, moment_out_of_range, no_memory, not_built, output_fault, payload_too_long, read_fault, refused, timestamp_value_too_large}
-use Rattle.signed_stream.specs.Stream.{GaveJob, GaveReading, case_plan, input_plan, job_plan, profile_plan, request_plan, selected_plan, target_plan}
+use Rattle.signed_stream.specs.Stream.{GaveReading, case_plan, input_plan, job_plan, profile_plan, request_plan, target_plan}
 use Rattle.signed_stream.specs.Written.{case_refusal, written_end, written_until}
 
 -- ## As planned

@@ -1,6 +1,6 @@
 -- A run that says how it ended: the end stays, or want of memory takes its place.
 use Rattle.std.proofs.Common.{◌≡◌, ℕ, ◌≤◌, ◌⊎◌, inl, inr, Bool, List, [], Option, Some, None, refl, sym, ◌∙◌}
-use Rattle.smithy_core.specs.Outside.{Rose}
+use Rattle.smithy_core.specs.Outside.{RoseOrStands}
 use Rattle.smithy_core.proofs.GainLemmas.{prefix_at_start, prefix_from_whole}
 use Rattle.signed_stream.specs.Carriers.{GoesForInput}
 use Rattle.signed_stream.specs.Plan.{GainsAsPlanned, GoesAsPlanned, Plan, Supplied, stops, unread, writes}
@@ -58,10 +58,10 @@ said_is end answer told (inr is) reached other = absurd (other (sym reached ∙ 
 
 -- ## The counts
 
-pub said_reads : (end answer : Ending) (before now : ℕ) → IsSaid end answer → before ≤ now → (end ≡ read_fault → Rose before now) → ((end ≡ read_fault → ⊥) → now ≡ before) → CountsReads answer before now
+pub said_reads : (end answer : Ending) (before now : ℕ) → IsSaid end answer → before ≤ now → (end ≡ read_fault → RoseOrStands before now) → ((end ≡ read_fault → ⊥) → now ≡ before) → CountsReads answer before now
 said_reads end answer before now (inl is) grew rose stayed = rw is (by_end end rose stayed)
   where
-    by_end : (end : Ending) → (end ≡ read_fault → Rose before now) → ((end ≡ read_fault → ⊥) → now ≡ before) → CountsReads end before now
+    by_end : (end : Ending) → (end ≡ read_fault → RoseOrStands before now) → ((end ≡ read_fault → ⊥) → now ≡ before) → CountsReads end before now
     by_end read_fault rose stayed = rose refl
     by_end no_memory rose stayed = grew
     by_end done rose stayed = stayed (λ e. cc)
@@ -73,10 +73,10 @@ said_reads end answer before now (inl is) grew rose stayed = rw is (by_end end r
     by_end (not_built place) rose stayed = stayed (λ e. cc)
 said_reads end answer before now (inr is) grew rose stayed = rw is grew
 
-pub said_writes : (end answer : Ending) (before now : ℕ) → IsSaid end answer → before ≤ now → (end ≡ output_fault → Rose before now) → ((end ≡ output_fault → ⊥) → now ≡ before) → CountsWrites answer before now
+pub said_writes : (end answer : Ending) (before now : ℕ) → IsSaid end answer → before ≤ now → (end ≡ output_fault → RoseOrStands before now) → ((end ≡ output_fault → ⊥) → now ≡ before) → CountsWrites answer before now
 said_writes end answer before now (inl is) grew rose stayed = rw is (by_end end rose stayed)
   where
-    by_end : (end : Ending) → (end ≡ output_fault → Rose before now) → ((end ≡ output_fault → ⊥) → now ≡ before) → CountsWrites end before now
+    by_end : (end : Ending) → (end ≡ output_fault → RoseOrStands before now) → ((end ≡ output_fault → ⊥) → now ≡ before) → CountsWrites end before now
     by_end output_fault rose stayed = rose refl
     by_end no_memory rose stayed = grew
     by_end done rose stayed = stayed (λ e. cc)

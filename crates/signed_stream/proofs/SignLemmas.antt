@@ -1,12 +1,11 @@
 -- A request that is signed by what was wanted.
-use Rattle.std.proofs.Common.{◌≡◌, ℕ, ◌⊎◌, inl, inr, Bool, true, false, List, Option, Some, None, option_map, refl, sym, ap}
-use Rattle.std.specs.Prelude.{Result, Ok, Err, String, string_bytes, if◌then◌else◌}
+use Rattle.std.proofs.Common.{◌≡◌, ℕ, inl, inr, Bool, true, false, List, Option, Some, None, option_map, refl}
+use Rattle.std.specs.Prelude.{Ok, Err, string_bytes, if◌then◌else◌}
 use Rattle.std.specs.Borrow.{Bor}
 use Rattle.std.specs.Fn.{Shared}
 use Rattle.std.specs.Option.{option_or}
-use Rattle.std.specs.declared.alloc.Global.{Global}
 use Rattle.smithy_core.specs.Civil.{is_in_years}
-use Rattle.smithy_core.specs.Instant.{Instant}
+use Rattle.smithy_core.specs.Moment.{Instant}
 use Rattle.smithy_core.specs.declared.identity.Identity.{Identity}
 use Rattle.smithy_core.specs.declared.identity.Identity.TheVariants.{Credentials, Token}
 use Rattle.smithy_core.specs.declared.request.HttpRequest.{HttpRequest}
@@ -18,11 +17,10 @@ use Rattle.sigv4.specs.declared.settings.SigningSettings.{SigningSettings}
 use Rattle.aws_auth.specs.Error.{override_error}
 use Rattle.aws_auth.specs.Inputs.{Chosen, chosen, chosen_case, given_config}
 use Rattle.aws_auth.specs.NameOverride.{MayAnswer, NameAnswer}
-use Rattle.aws_auth.specs.Signer.{IsSignedCase, RefusesRequest, SignsByInputs, SignsRequest, SpellsAs, name_in, out_of_years, refusal_before_override, refusal_before_target, signing_refusal, unsigned_target, wrong_identity}
+use Rattle.aws_auth.specs.Signer.{IsSignedCase, SignsByInputs, SpellsAs, name_in, out_of_years, refusal_before_override, refusal_before_target, unsigned_target, wrong_identity}
 use Rattle.aws_auth.specs.declared.error.SigV4SigningError.{SigV4SigningError}
 use Rattle.aws_auth.specs.declared.error.SigV4SigningError.TheVariants as auth
 use Rattle.aws_auth.specs.declared.inputs.SigningInputs.{SigningInputs}
-use Rattle.aws_auth.specs.declared.name_override.OverrideError.{OverrideError}
 use Rattle.aws_auth.specs.declared.name_override.OverrideError.TheVariants as overrides
 use Rattle.aws_auth.specs.declared.options.SigV4OperationSigningConfig.{SigV4OperationSigningConfig}
 use Rattle.aws_auth.specs.declared.signer.Signed.{Signed}
@@ -30,8 +28,8 @@ use Rattle.signed_stream.specs.Case.{request_moment, settings_with}
 use Rattle.signed_stream.specs.Chain.{IsCredentials}
 use Rattle.signed_stream.specs.Command.{Wanted}
 use Rattle.signed_stream.specs.Plan.{TargetSpells, TargetRead, accepted, unaccepted, unread}
-use Rattle.signed_stream.specs.Sign.{GivesName, IsRequestError, SignsJob, TellsError, case_fault, fault_for, identity_case, request_fault, unsigned}
-use Rattle.signed_stream.specs.Status.{RunFault, run_fault, invalid_uri, moment_out_of_range}
+use Rattle.signed_stream.specs.Sign.{GivesName, IsRequestError, SignsJob, TellsError, fault_for, identity_case, request_fault, unsigned}
+use Rattle.signed_stream.specs.Status.{moment_out_of_range}
 use Rattle.signed_stream.proofs.TestLemmas.{IsPartError, IsTestError, unsigned_test}
 use Rattle.signed_stream.specs.declared.halt.Halt.{Halt}
 use Rattle.signed_stream.specs.declared.halt.Halt.TheVariants as halts

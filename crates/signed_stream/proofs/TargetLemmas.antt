@@ -1,13 +1,13 @@
 -- A text spells one target, or none.
-use Rattle.std.proofs.Common.{◌≡◌, ◌==◌, ℕ, inl, inr, not, List, [], length, Option, Some, None, refl, sym, ap, ◌∙◌, subst}
+use Rattle.std.proofs.Common.{◌≡◌, ◌==◌, ℕ, inl, inr, not, List, [], length, Option, refl, sym, ap, ◌∙◌, subst}
 use Rattle.std.specs.Prelude.{if◌then◌else◌, ◌||◌, is_some}
 use Rattle.http_uri.specs.Grammar.{path_of, query_of}
 use Rattle.http_uri.specs.Uri.{Spells, uri_authority, uri_data, uri_scheme}
 use Rattle.http_uri.specs.declared.uri.Uri.{Uri}
 use Rattle.http_uri.proofs.Theorems.{Spells_unique}
-use Rattle.smithy_http.specs.Building.{SpellsNoTarget, SpellsTarget}
+use Rattle.smithy_http.specs.QueryWriter.{SpellsNoTarget, SpellsTarget}
 use Rattle.smithy_http.specs.Target.{IsAuthorityAlone, Target, target_of}
-use Rattle.signed_stream.specs.Plan.{TargetSpells, TargetRead, accepted, unaccepted, unread}
+use Rattle.signed_stream.specs.Plan.{TargetSpells, accepted, unaccepted}
 
 -- the target of a scheme, an authority and a path with its query
 target_with : Option (List ℕ) → Option (List ℕ) → List ℕ → Target

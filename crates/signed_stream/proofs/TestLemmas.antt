@@ -1,13 +1,13 @@
 -- Which errors the tests of a request give.
-use Rattle.std.proofs.Common.{◌≡◌, ℕ, ◌+◌, ◌⊎◌, inl, inr, Bool, true, false, List, [], ◌∷◌, ◌++◌, Option, Some, None, refl}
-use Rattle.std.specs.Prelude.{if◌then◌else◌, not, ◌&&◌, ◌||◌}
+use Rattle.std.proofs.Common.{◌≡◌, ℕ, ◌+◌, ◌⊎◌, inl, inr, Bool, true, false, List, [], ◌∷◌, Option, Some, None, refl}
+use Rattle.std.specs.Prelude.{if◌then◌else◌, not, ◌&&◌}
 use Rattle.std.specs.Option.{option_or}
 use Rattle.smithy_http.specs.Target.{Target}
 use Rattle.sigv4.specs.Canonical.{has_host, signing_parameters, told_payload}
 use Rattle.sigv4.specs.Host.{host_text}
 use Rattle.sigv4.specs.Parameters.{is_asterisk, takes_no_more}
 use Rattle.sigv4.specs.Query.{Pair}
-use Rattle.sigv4.specs.Refusal.{is_name, is_token_name, is_value, unfit, unfit_expiry, unfit_header, unfit_headers, unfit_host, unfit_host_text, unfit_optional, unfit_override, unfit_signed_target, unfit_target, unfit_texts, unfit_token_name, unfit_value, unless}
+use Rattle.sigv4.specs.Refusal.{is_name, is_token_name, is_value, unfit, unfit_expiry, unfit_header, unfit_headers, unfit_host, unfit_host_text, unfit_optional, unfit_override, unfit_signed_target, unfit_texts, unfit_token_name, unfit_value, unless}
 use Rattle.sigv4.specs.Request.{Case}
 use Rattle.sigv4.specs.Settings.{Settings, is_query_form}
 use Rattle.sigv4.specs.Signed.{authorization, parameters}

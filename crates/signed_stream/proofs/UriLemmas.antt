@@ -1,9 +1,9 @@
 -- A run that is refused for its target.
-use Rattle.std.proofs.Common.{◌≡◌, ℕ, ◌⊎◌, inl, inr, Bool, true, false, List, [], ◌∷◌, length, nat_lt, Option, Some, None, option_map, refl, sym}
+use Rattle.std.proofs.Common.{◌≡◌, ℕ, inl, inr, Bool, true, false, List, [], ◌∷◌, length, nat_lt, Option, Some, None, option_map, refl, sym}
 use Rattle.std.specs.Prelude.{if◌then◌else◌}
 use Rattle.smithy_core.specs.Civil.{is_in_years}
-use Rattle.smithy_core.specs.Instant.{Instant}
-use Rattle.smithy_core.specs.Parts.{Parts}
+use Rattle.smithy_core.specs.Moment.{Instant}
+use Rattle.smithy_core.specs.Message.{Parts}
 use Rattle.sigv4.specs.Request.{Case}
 use Rattle.sigv4.specs.Parameters.{takes_no_more}
 use Rattle.sigv4.specs.Signed.{parameters, signature_of}
@@ -17,7 +17,7 @@ use Rattle.signed_stream.specs.Job.{JobParts, Reading, bad_line, job, unbuilt_li
 use Rattle.signed_stream.specs.Plan.{EndsAsPlanned, TargetSpells, Supplied, TargetRead, accepted, most_input, stops, unaccepted, unread}
 use Rattle.signed_stream.specs.Running.{Gave, IfStreams, ask, ask_plan, command_ask, ends, has_later_variable, streams}
 use Rattle.signed_stream.specs.Sign.{case_fault, fault_for, unsigned}
-use Rattle.signed_stream.specs.Status.{Ending, RunFault, done, invalid_uri, job_too_large, moment_out_of_range, no_memory, not_built, output_fault, read_fault, refused}
+use Rattle.signed_stream.specs.Status.{Ending, RunFault, done, invalid_uri, job_too_large, moment_out_of_range, no_memory, not_built, refused}
 use Rattle.signed_stream.specs.Stream.{GaveReading, ReadsUnfitTarget, case_plan, input_plan, job_plan, profile_plan, selected_plan, target_plan}
 use Rattle.signed_stream.specs.Written.{case_refusal, written_end}
 use Rattle.signed_stream.proofs.RunLemmas.{IsOfFrame, RefusesFrames, refuses_frames}

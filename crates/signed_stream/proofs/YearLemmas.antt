@@ -3,7 +3,7 @@ use Rattle.std.proofs.Common.{◌≡◌, true, arith}
 use Rattle.std.proofs.lemmas.Bool.Decides.{nat_tests}
 use Rattle.std.proofs.lemmas.Int.{ints}
 use Rattle.smithy_core.specs.Civil.{IsInYears, is_in_years}
-use Rattle.smithy_core.specs.Instant.{Instant}
+use Rattle.smithy_core.specs.Moment.{Instant}
 
 pub in_years : (t : Instant) → is_in_years t ≡ true → IsInYears t
 in_years t is = grind (arith, ints, nat_tests)

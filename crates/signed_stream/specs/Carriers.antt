@@ -1,8 +1,8 @@
 -- What the functions below `run` promise to one another, and what carries the proofs of its promises. A reader of those needs none of it: they are in
 -- Running, and what they rest on in Plan and Stream.
-use Rattle.std.specs.Prelude.{◌≡◌, ℕ, List, Option, Result, Ok, Err}
-use Rattle.smithy_core.specs.Instant.{Instant}
-use Rattle.smithy_core.specs.Parts.{Parts}
+use Rattle.std.specs.Prelude.{ℕ, List, Option, Result, Ok, Err}
+use Rattle.smithy_core.specs.Moment.{Instant}
+use Rattle.smithy_core.specs.Message.{Parts}
 use Rattle.smithy_http.specs.Target.{Target}
 use Rattle.sigv4.specs.Request.{Case}
 use Rattle.signed_stream.specs.Command.{Wanted}

@@ -1,6 +1,6 @@
 -- The case of a job's request: what is signed, and with what.
 use Rattle.std.specs.Prelude.{ℕ, if◌then◌else◌, List, Option, Some}
-use Rattle.smithy_core.specs.Instant.{Instant}
+use Rattle.smithy_core.specs.Moment.{Instant}
 use Rattle.smithy_http.specs.Target.{Target}
 use Rattle.sigv4.specs.Request.{Case}
 use Rattle.sigv4.specs.Settings.{Settings, default_settings}

@@ -4,8 +4,8 @@ use Rattle.std.specs.List.{flat_map}
 use Rattle.std.specs.Option.{option_or}
 use Rattle.hex.specs.Hex.{encode_lower}
 use Rattle.smithy_core.specs.Civil.{IsInYears, is_in_years}
-use Rattle.smithy_core.specs.Instant.{Instant}
-use Rattle.smithy_core.specs.Parts.{Parts}
+use Rattle.smithy_core.specs.Moment.{Instant}
+use Rattle.smithy_core.specs.Message.{Parts}
 use Rattle.smithy_core.specs.Text.{line}
 use Rattle.smithy_core.specs.declared.identity.Identity.{Identity}
 use Rattle.smithy_core.specs.declared.identity.Identity.TheVariants.{Credentials, Token}

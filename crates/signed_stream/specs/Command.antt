@@ -2,7 +2,7 @@
 use Rattle.std.specs.Prelude.{ℕ, ◌+◌, Bool, true, false, not, if◌then◌else◌, List, [], ◌∷◌, codes, bytes_eq, Option, Some, None, is_some, ℤ}
 use Rattle.std.specs.List.{list_any}
 use Rattle.std.specs.Int.{w64}
-use Rattle.smithy_core.specs.Instant.{Instant}
+use Rattle.smithy_core.specs.Moment.{Instant}
 use Rattle.sigv4.specs.Settings.{is_query}
 use Rattle.aws_auth.specs.Inputs.{location_of}
 use Rattle.aws_auth.specs.Options.{default_options}

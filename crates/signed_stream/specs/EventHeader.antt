@@ -3,10 +3,10 @@ use Rattle.std.specs.Prelude.{ℕ, ◌==◌, true, false, if◌then◌else◌, L
 use Rattle.std.specs.Int.{w8, w16, w32, w64, w128, from_be_bytes}
 use Rattle.std.specs.Result.{result_ok}
 use Rattle.hex.specs.Hex.{decode_of, decode_sized}
-use Rattle.smithy_core.specs.declared.header.Header.{Header}
+use Rattle.smithy_core.specs.Header.{Header}
 use Rattle.smithy_core.specs.declared.header.HeaderValue.{HeaderValue}
 use Rattle.smithy_core.specs.declared.header.HeaderValue.TheVariants.{Bool as Truth, Byte, Int16, Int32, Int64, ByteArray, String as Text, Timestamp, Uuid}
-use Rattle.smithy_core.specs.Instant.{Instant}
+use Rattle.smithy_core.specs.Moment.{Instant}
 use Rattle.signed_stream.specs.Lines.{rest_of, word_of}
 use Rattle.signed_stream.specs.Numbers.{natural_below, number}
 

@@ -3,9 +3,9 @@ use Rattle.std.specs.Prelude.{ℕ, ◌+◌, ◌==◌, Bool, ◌&&◌, ◌||◌, 
 use Rattle.std.specs.Option.{option_to_list}
 use Rattle.std.specs.List.{list_all, list_any}
 use Rattle.std.specs.Str.Lossy.{utf8_valid_len}
-use Rattle.smithy_core.specs.Pairs.{lower}
-use Rattle.smithy_core.specs.Parts.{Parts}
-use Rattle.smithy_core.specs.declared.header.Header.{Header}
+use Rattle.smithy_core.specs.TextPairs.{lower}
+use Rattle.smithy_core.specs.Message.{Parts}
+use Rattle.smithy_core.specs.Header.{Header}
 use Rattle.signed_stream.specs.EventHeader.{hex_bytes, event_header}
 use Rattle.signed_stream.specs.Lines.{job_lines, header_pair, rest_of, word_of}
 use Rattle.signed_stream.specs.Numbers.{is_digit}

@@ -1,8 +1,8 @@
 -- What a run is to do with what the outside gave, and what it means that it goes so.
 use Rattle.std.specs.Prelude.{◌≡◌, ℕ, ◌⊎◌, nat_lt, if◌then◌else◌, List, length, Option}
-use Rattle.smithy_core.specs.Instant.{Instant}
+use Rattle.smithy_core.specs.Moment.{Instant}
 use Rattle.smithy_core.specs.Outside.{Gains, GainsPrefix}
-use Rattle.smithy_http.specs.Building.{SpellsNoTarget}
+use Rattle.smithy_http.specs.QueryWriter.{SpellsNoTarget}
 use Rattle.smithy_http.specs.Target.{Target}
 use Rattle.sigv4.specs.Parameters.{SpellsParts}
 use Rattle.signed_stream.specs.Status.{Ending, done, job_too_large, no_memory, output_fault, read_fault, refused}

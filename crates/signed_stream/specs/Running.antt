@@ -1,8 +1,8 @@
 -- What a run promises.
 use Rattle.std.specs.Prelude.{◌≡◌, ℕ, ◌≤◌, ◌⊎◌, Bool, true, false, ◌||◌, if◌then◌else◌, List, codes, Option, Some, is_some}
 use Rattle.smithy_core.specs.Civil.{is_in_years}
-use Rattle.smithy_core.specs.Outside.{Gains, Rose}
-use Rattle.smithy_core.specs.Pairs.{last_value}
+use Rattle.smithy_core.specs.Outside.{Gains, RoseOrStands}
+use Rattle.smithy_core.specs.TextPairs.{last_value}
 use Rattle.signed_stream.specs.Case.{request_moment}
 use Rattle.signed_stream.specs.Command.{Command, Wanted, bad_word, command, stream, unbuilt_word}
 use Rattle.signed_stream.specs.Job.{job}
@@ -71,13 +71,13 @@ EndsAsAsked (streams wanted) answer = Unit {0}
 
 -- the count of the input's faults: it rose where the input failed, and else stayed; memory may run out after a fault
 abbrev pub CountsReads : Ending → ℕ → ℕ → Type 0
-CountsReads read_fault before now = Rose before now
+CountsReads read_fault before now = RoseOrStands before now
 CountsReads no_memory before now = before ≤ now
 CountsReads answer before now = now ≡ before
 
 -- the count of the output's faults: it rose where the output failed, and else stayed; memory may run out after a fault
 abbrev pub CountsWrites : Ending → ℕ → ℕ → Type 0
-CountsWrites output_fault before now = Rose before now
+CountsWrites output_fault before now = RoseOrStands before now
 CountsWrites no_memory before now = before ≤ now
 CountsWrites answer before now = now ≡ before
 

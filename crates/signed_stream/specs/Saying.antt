@@ -1,7 +1,7 @@
 -- What a run says of its end.
 use Rattle.std.specs.Prelude.{◌≡◌, ℕ, ◌⊎◌, List, [], ◌++◌, codes, Option}
 use Rattle.std.specs.Fmt.{decimal}
-use Rattle.smithy_core.specs.Outside.{Gains, GainsPrefix, GainsProperPrefix, Rose}
+use Rattle.smithy_core.specs.Outside.{Gains, GainsPrefix, GainsProperPrefix, RoseOrStands}
 use Rattle.smithy_core.specs.Text.{line}
 use Rattle.signed_stream.specs.Status.{Ending, done, bad_words, job_too_large, bad_job, read_fault, refused, output_fault, no_memory, not_built, RunFault, missing_credentials, missing_signing_region, moment_out_of_range, invalid_uri, invalid_header_name, invalid_header_value, missing_host, invalid_token_name, missing_expires, invalid_header_name_length, header_value_too_long, timestamp_value_too_large, headers_too_long, payload_too_long, message_too_long}
 
@@ -41,4 +41,4 @@ abbrev pub Says : Ending → Option (List ℕ) → Option (List ℕ) → ℕ →
 Says done before now faults_before faults_now = now ≡ before
 Says no_memory before now faults_before faults_now = (end : Ending) × GainsPrefix before now (ending_line end)
 Says end before now faults_before faults_now =
-    Gains before now (ending_line end) ⊎ (GainsProperPrefix before now (ending_line end) × Rose faults_before faults_now)
+    Gains before now (ending_line end) ⊎ (GainsProperPrefix before now (ending_line end) × RoseOrStands faults_before faults_now)

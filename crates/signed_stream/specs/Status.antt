@@ -1,6 +1,6 @@
 -- How a run ends, as contracts see it: texts are lists of bytes.
 use Rattle.std.specs.Prelude.{ℕ}
-use Rattle.smithy_core.specs.Instant.{Instant}
+use Rattle.smithy_core.specs.Moment.{Instant}
 use Rattle.sigv4.specs.declared.error.ValuePlace.{ValuePlace}
 use Rattle.signed_stream.specs.declared.status.Status.{Status}
 use Rattle.signed_stream.specs.declared.status.Status.TheVariants as statuses

@@ -1,9 +1,9 @@
 -- The command `stream`: what a job asks of a run, and when it can be streamed.
 use Rattle.std.specs.Prelude.{◌≡◌, ℕ, ◌+◌, ◌≤◌, ◌⊎◌, true, if◌then◌else◌, List, [], ◌∷◌, length, replicate, Option, Some, None}
 use Rattle.smithy_core.specs.Civil.{IsInYears, is_in_years}
-use Rattle.smithy_core.specs.Instant.{Instant}
-use Rattle.smithy_core.specs.Parts.{Parts}
-use Rattle.smithy_http.specs.Building.{SpellsNoTarget}
+use Rattle.smithy_core.specs.Moment.{Instant}
+use Rattle.smithy_core.specs.Message.{Parts}
+use Rattle.smithy_http.specs.QueryWriter.{SpellsNoTarget}
 use Rattle.smithy_http.specs.Target.{Target}
 use Rattle.sigv4.specs.Request.{Case}
 use Rattle.sigv4.specs.Parameters.{SpellsParts, takes_no_more}

@@ -1,8 +1,8 @@
 -- The output as lines: the head of the signed request, and its frames in hexadecimal.
 use Rattle.std.specs.Prelude.{ℕ, ◌+◌, ◌==◌, if◌then◌else◌, List, [], ◌++◌, codes, length, Option, Some, None}
 use Rattle.std.specs.List.{flat_map}
-use Rattle.smithy_core.specs.Instant.{Instant}
-use Rattle.smithy_core.specs.Parts.{Parts}
+use Rattle.smithy_core.specs.Moment.{Instant}
+use Rattle.smithy_core.specs.Message.{Parts}
 use Rattle.smithy_core.specs.Text.{line}
 use Rattle.sigv4.specs.Request.{Case}
 use Rattle.sigv4.specs.Signed.{signature_of, signed_headers, signed_target}

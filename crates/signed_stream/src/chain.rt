@@ -1,11 +1,11 @@
 ghost use Rattle.std.specs.Prelude.{◌≡◌, ◌+◌, ◌≤◌, [], None, IfOk, IsErrOf, length, replicate};
 ghost use Rattle.std.specs.String.{string_bytes};
 ghost use Rattle.hex.specs.Hex.{encode_lower};
-ghost use Rattle.smithy_core.specs.Outside.{Rose};
+ghost use Rattle.smithy_core.specs.Outside.{RoseOrStands};
 ghost use Rattle.smithy_core.specs.Text.{line};
 ghost use Rattle.eventstream.specs.Frame.{frame};
 ghost use Rattle.eventstream.specs.Link.{link_signature};
-ghost use Rattle.eventstream.specs.Writing.{IsFrameFault};
+ghost use Rattle.eventstream.specs.Write.{IsFrameFault};
 ghost use Rattle.sigv4.specs.Params.{signer_of};
 ghost use Rattle.signed_stream.specs.Chain.{IsCredentials, fault_at, first_refusal, link_line, outside_years, refusal_fault, streamed_lines, unframed_at, unlinked};
 ghost use Rattle.signed_stream.specs.Halt.{Sends, unless_refused};
@@ -41,7 +41,7 @@ pub fn stream_events<K: ByteSink>(
         let refusal = first_refusal (signer_of params.now) 1 events.now moments (string_bytes seed) in
         Sends (refusal_fault refusal) (streamed_lines (signer_of params.now) events.now moments (string_bytes seed) refusal)
         (K.held sink.old) (K.held sink.new) result }
-    ensures failed { IsErrOf result Halt.OutputFault → Rose (K.faults sink.old) (K.faults sink.new) }
+    ensures failed { IsErrOf result Halt.OutputFault → RoseOrStands (K.faults sink.old) (K.faults sink.new) }
     ensures steady { (IsErrOf result Halt.OutputFault → ⊥) → K.faults sink.new ≡ K.faults sink.old }
 {
     let mut signature = seed;
@@ -69,7 +69,7 @@ fn send_event<K: ByteSink>(
     ensures sends { let fault = unlinked (signer_of params.now) place signature.now event.now params.now.time in
         Sends fault (unless_refused fault (link_line (signer_of params.now) signature.now (frame event.now) params.now.time))
         (K.held sink.old) (K.held sink.new) result }
-    ensures failed { IsErrOf result Halt.OutputFault → Rose (K.faults sink.old) (K.faults sink.new) }
+    ensures failed { IsErrOf result Halt.OutputFault → RoseOrStands (K.faults sink.old) (K.faults sink.new) }
     ensures steady { (IsErrOf result Halt.OutputFault → ⊥) → K.faults sink.new ≡ K.faults sink.old }
 {
     match sign_message(alloc, event, signature, params) {
@@ -99,7 +99,7 @@ fn send_closing<K: ByteSink>(
     ensures count { K.faults sink.old ≤ K.faults sink.new }
     ensures sends { let fault = outside_years params.now.time in
         Sends fault (unless_refused fault (link_line (signer_of params.now) signature.now [] params.now.time)) (K.held sink.old) (K.held sink.new) result }
-    ensures failed { IsErrOf result Halt.OutputFault → Rose (K.faults sink.old) (K.faults sink.new) }
+    ensures failed { IsErrOf result Halt.OutputFault → RoseOrStands (K.faults sink.old) (K.faults sink.new) }
     ensures steady { (IsErrOf result Halt.OutputFault → ⊥) → K.faults sink.new ≡ K.faults sink.old }
 {
     match sign_empty_message(alloc, signature, params) {
@@ -132,7 +132,7 @@ fn write_frame<K: ByteSink>(
     ensures count { K.faults sink.old ≤ K.faults sink.new }
     ensures sends { let fault = unframed_at place message.now in
         Sends fault (unless_refused fault (line (encode_lower (frame message.now)))) (K.held sink.old) (K.held sink.new) result }
-    ensures failed { IsErrOf result Halt.OutputFault → Rose (K.faults sink.old) (K.faults sink.new) }
+    ensures failed { IsErrOf result Halt.OutputFault → RoseOrStands (K.faults sink.old) (K.faults sink.new) }
     ensures steady { (IsErrOf result Halt.OutputFault → ⊥) → K.faults sink.new ≡ K.faults sink.old }
 {
     let mut frame = Vec::new(alloc);
@@ -166,7 +166,7 @@ fn fault_at(place: usize, reason: &ErrorKind) -> StreamFault
 fn write_line<K: ByteSink>(alloc: Global, bytes: &[u8], sink: &mut K) -> Result<(), Halt>
     ensures count { K.faults sink.old ≤ K.faults sink.new }
     ensures sends { Sends None (line (encode_lower bytes.now)) (K.held sink.old) (K.held sink.new) result }
-    ensures failed { IsErrOf result Halt.OutputFault → Rose (K.faults sink.old) (K.faults sink.new) }
+    ensures failed { IsErrOf result Halt.OutputFault → RoseOrStands (K.faults sink.old) (K.faults sink.new) }
     ensures steady { (IsErrOf result Halt.OutputFault → ⊥) → K.faults sink.new ≡ K.faults sink.old }
 {
     let mut text = hex::encode(alloc, bytes)?;
@@ -184,7 +184,7 @@ fn write_line<K: ByteSink>(alloc: Global, bytes: &[u8], sink: &mut K) -> Result<
 pub fn write_text<K: ByteSink>(sink: &mut K, text: &[u8]) -> Result<(), Halt>
     ensures count { K.faults sink.old ≤ K.faults sink.new }
     ensures sends { Sends None text.now (K.held sink.old) (K.held sink.new) result }
-    ensures failed { IsErrOf result Halt.OutputFault → Rose (K.faults sink.old) (K.faults sink.new) }
+    ensures failed { IsErrOf result Halt.OutputFault → RoseOrStands (K.faults sink.old) (K.faults sink.new) }
     ensures steady { (IsErrOf result Halt.OutputFault → ⊥) → K.faults sink.new ≡ K.faults sink.old }
 {
     match write_all(sink, text) {

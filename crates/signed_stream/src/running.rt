@@ -1,6 +1,6 @@
 ghost use Rattle.std.specs.Prelude.{◌≡◌, ◌≤◌, ℕ, List, Some, map, IfErr};
 ghost use Rattle.std.specs.String.{string_bytes};
-ghost use Rattle.smithy_core.specs.Outside.{IsAtEnd, IsRestOf, Rose};
+ghost use Rattle.smithy_core.specs.Outside.{IsAtEnd, IsRestOf, RoseOrStands};
 ghost use Rattle.signed_stream.specs.Carriers.{GoesForInput, IsEarly, ask_told};
 ghost use Rattle.signed_stream.specs.Job.{job};
 ghost use Rattle.signed_stream.specs.Plan.{Supplied};
@@ -85,9 +85,9 @@ fn answer<S: ByteSource, K: ByteSink>(
     ensures planned { (bytes : List ℕ) → S.left input.old ≡ Some bytes
         → GoesForInput (ask (map string_bytes words.now) env.now) bytes (ending_of result) (K.held out.old) (K.held out.new) }
     ensures kept { KeepsOutput (asks_in_years (ask (map string_bytes words.now) env.now)) (ending_of result) (K.held out.old) (K.held out.new) }
-    ensures read_failed { ending_of result ≡ read_fault → Rose (S.faults input.old) (S.faults input.new) }
+    ensures read_failed { ending_of result ≡ read_fault → RoseOrStands (S.faults input.old) (S.faults input.new) }
     ensures read_steady { (ending_of result ≡ read_fault → ⊥) → S.faults input.new ≡ S.faults input.old }
-    ensures output_failed { ending_of result ≡ output_fault → Rose (K.faults out.old) (K.faults out.new) }
+    ensures output_failed { ending_of result ≡ output_fault → RoseOrStands (K.faults out.old) (K.faults out.new) }
     ensures output_steady { (ending_of result ≡ output_fault → ⊥) → K.faults out.new ≡ K.faults out.old }
     ensures untouched { IfEnds (ask (map string_bytes words.now) env.now)
         ((S.left input.new ≡ S.left input.old) × (S.faults input.new ≡ S.faults input.old)

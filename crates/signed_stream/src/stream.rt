@@ -1,6 +1,6 @@
 ghost use Rattle.std.specs.Prelude.{◌≡◌, ◌≤◌, ◌+◌, ◌++◌, ℕ, List, Some, None, IsErrOf, length, replicate};
 ghost use Rattle.std.specs.String.{string_bytes};
-ghost use Rattle.smithy_core.specs.Outside.{IsAtEnd, IsRestOf, Rose};
+ghost use Rattle.smithy_core.specs.Outside.{IsAtEnd, IsRestOf, RoseOrStands};
 ghost use Rattle.sigv4.specs.Params.{signer_of};
 ghost use Rattle.signed_stream.specs.Carriers.{GoesForInput, GoesForJob, GoesForTarget};
 ghost use Rattle.signed_stream.specs.Case.{request_moment};
@@ -42,9 +42,9 @@ pub fn stream_input<S: ByteSource, K: ByteSink>(
     ensures planned { (bytes : List ℕ) → S.left input.old ≡ Some bytes
         → GoesForInput (streams (wanted_of words.entry)) bytes (ending_of result) (K.held out.old) (K.held out.new) }
     ensures kept { KeepsOutput (asks_in_years (streams (wanted_of words.entry))) (ending_of result) (K.held out.old) (K.held out.new) }
-    ensures read_failed { ending_of result ≡ read_fault → Rose (S.faults input.old) (S.faults input.new) }
+    ensures read_failed { ending_of result ≡ read_fault → RoseOrStands (S.faults input.old) (S.faults input.new) }
     ensures read_steady { (ending_of result ≡ read_fault → ⊥) → S.faults input.new ≡ S.faults input.old }
-    ensures output_failed { ending_of result ≡ output_fault → Rose (K.faults out.old) (K.faults out.new) }
+    ensures output_failed { ending_of result ≡ output_fault → RoseOrStands (K.faults out.old) (K.faults out.new) }
     ensures output_steady { (ending_of result ≡ output_fault → ⊥) → K.faults out.new ≡ K.faults out.old }
     ensures outside { (ending_of result ≡ done → IsAtEnd (S.left input.new)) × IsRestOf (S.left input.old) (S.left input.new)
         × (S.faults input.old ≤ S.faults input.new) × (K.faults out.old ≤ K.faults out.new) }
@@ -67,7 +67,7 @@ fn stream_bytes<K: ByteSink>(
     ensures never_bad_words { (place : ℕ) → ending_of result ≡ bad_words place → ⊥ }
     ensures never_read_fault { ending_of result ≡ read_fault → ⊥ }
     ensures planned { GoesForJob (wanted_of words.entry) (job bytes.now) (ending_of result) (K.held out.old) (K.held out.new) }
-    ensures output_failed { ending_of result ≡ output_fault → Rose (K.faults out.old) (K.faults out.new) }
+    ensures output_failed { ending_of result ≡ output_fault → RoseOrStands (K.faults out.old) (K.faults out.new) }
     ensures output_steady { (ending_of result ≡ output_fault → ⊥) → K.faults out.new ≡ K.faults out.old }
     ensures count { K.faults out.old ≤ K.faults out.new }
 {
@@ -84,7 +84,7 @@ fn stream_job<K: ByteSink>(alloc: Global, job: Job, words: StreamWords<'_>, out:
     ensures never_bad_words { (place : ℕ) → ending_of result ≡ bad_words place → ⊥ }
     ensures never_read_fault { ending_of result ≡ read_fault → ⊥ }
     ensures planned { GoesForJob (wanted_of words.entry) (whole_job (job_parts job)) (ending_of result) (K.held out.old) (K.held out.new) }
-    ensures output_failed { ending_of result ≡ output_fault → Rose (K.faults out.old) (K.faults out.new) }
+    ensures output_failed { ending_of result ≡ output_fault → RoseOrStands (K.faults out.old) (K.faults out.new) }
     ensures output_steady { (ending_of result ≡ output_fault → ⊥) → K.faults out.new ≡ K.faults out.old }
     ensures count { K.faults out.old ≤ K.faults out.new }
 {
@@ -137,7 +137,7 @@ fn stream_request<K: ByteSink>(
     ensures planned { let wanted = wanted_of words.entry in
         GoesForTarget (string_bytes request.target) (request_moment wanted wanted.at) (identity_case request identity.now region.now wanted) events.now
         (replicate (length events.now + 1) wanted.at) (ended result) (K.held out.old) (K.held out.new) }
-    ensures failed { IsErrOf result Halt.OutputFault → Rose (K.faults out.old) (K.faults out.new) }
+    ensures failed { IsErrOf result Halt.OutputFault → RoseOrStands (K.faults out.old) (K.faults out.new) }
     ensures steady { (IsErrOf result Halt.OutputFault → ⊥) → K.faults out.new ≡ K.faults out.old }
 {
     let name = words.name;
@@ -166,7 +166,7 @@ fn stream_signed<K: ByteSink>(
         (head (string_bytes request.now.method) (string_bytes request.now.target) request.now.headers
         ++ streamed_lines signer events.now moments (string_bytes signature) refusal)
         (K.held out.old) (K.held out.new) result }
-    ensures failed { IsErrOf result Halt.OutputFault → Rose (K.faults out.old) (K.faults out.new) }
+    ensures failed { IsErrOf result Halt.OutputFault → RoseOrStands (K.faults out.old) (K.faults out.new) }
     ensures steady { (IsErrOf result Halt.OutputFault → ⊥) → K.faults out.new ≡ K.faults out.old }
 {
     let head = head_of(alloc, request)?;

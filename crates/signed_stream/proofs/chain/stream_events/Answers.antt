@@ -1,4 +1,4 @@
-use Rattle.std.proofs.Common.{◌≡◌, [], ◌∷◌, ◌+◌, drop, length, replicate, arith, ◌∙◌}
+use Rattle.std.proofs.Common.{◌≡◌, [], ◌+◌, drop, length, replicate, arith, ◌∙◌}
 use Rattle.std.proofs.Math.ListN.{drop_of_length-le}
 use Rattle.std.proofs.lemmas.Result.{err_from_is_err_and}
 use Rattle.std.specs.Prelude.{string_bytes}
@@ -46,5 +46,5 @@ returns-clause-sends g c =
     let done : drop c.events.event-index c.args.events.now ≡ [] = drop_of_length-le c.args.events.now c.events-test.false in
     let sends = rw c.as_str-2.ensures.value at c.send_closing.ensures.sends in
     rw (← streamed_from-first signer c.args.events.now (replicate (length c.args.events.now + 1) at) (string_bytes c.args.seed))
-    (closing_sent _ _ _ signer c.events.place at [] (string_bytes c.events.signature) _ _ _
+    (closing_sent _ _ _ signer c.events.place at (string_bytes c.events.signature) _ _ _
     (rw done at c.events.invariant.refusal) (rw done at c.events.invariant.gained) sends)

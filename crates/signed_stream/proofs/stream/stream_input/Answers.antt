@@ -1,4 +1,4 @@
-use Rattle.std.proofs.Common.{◌≤◌, length, refl, arith}
+use Rattle.std.proofs.Common.{◌≤◌, length, arith}
 use Rattle.signed_stream.specs.Job.{job}
 use Rattle.signed_stream.specs.Options.{wanted_of}
 use Rattle.signed_stream.specs.Plan.{most_input}

@@ -1,4 +1,4 @@
-use Rattle.std.proofs.Common.{◌≡◌, ap, option_map, refl}
+use Rattle.std.proofs.Common.{ap, option_map, refl}
 use Rattle.std.specs.Prelude.{string_bytes}
 use Rattle.signed_stream.specs.Case.{Selected}
 use Rattle.signed_stream.specs.Draft.{job_parts}
