@@ -1,7 +1,6 @@
 -- The header that tells of the attempts of a request.
-use Rattle.std.proofs.Common.{◌≡◌, ℕ, true, false, List, ◌∷◌, ◌++◌, Option, Some, None, codes, FitsSigned, refl, arith, option_map, option_to_list, append_assoc, unwrap_or}
+use Rattle.std.proofs.Common.{◌≡◌, ℕ, true, false, List, ◌∷◌, ◌++◌, Option, Some, None, codes, refl, arith, option_map, option_to_list, append_assoc, unwrap_or}
 use Rattle.std.specs.Fmt.{decimal}
-use Rattle.std.specs.Int.{w64}
 use Rattle.std.specs.List.{join_by}
 use Rattle.std.proofs.lemmas.List.{append-nil}
 use Rattle.std.proofs.lemmas.Int.{ints}
@@ -28,14 +27,6 @@ stamped_in_years t years = rw (years_test t years) refl
 pub never_stamped : (t : Instant) → (IsInYears t → ⊥) → stamped t ≡ None
 unfolding stamped
 never_stamped t never = rw (years_untest t never) refl
-
-pub not_stamped : (t : Instant) → is_in_years t ≡ false → stamped t ≡ None
-unfolding stamped
-not_stamped t outside = rw outside refl
-
--- a second that doesn't fit lies outside the years
-pub out_of_years : (t : Instant) → (FitsSigned w64 t.secs → ⊥) → is_in_years t ≡ false
-out_of_years t wide = grind (arith, ints)
 
 info_by : (attempt : List ℕ) (ttl : Option (List ℕ)) (retry : Option RetryConfig)
     → join_by (λ part. part) (codes "; ") (option_to_list (option_map (λ text. codes "ttl=" ++ text) ttl)

@@ -1,8 +1,8 @@
 -- The skew between the clocks of a client and a service.
-use Rattle.std.specs.Prelude.{ℕ, ℤ, pos, negsuc, ◌+ℤ◌, ◌-ℤ◌, ◌*ℤ◌, ◌≤ℤ◌, ◌||◌, ◌&&◌, Bool, false, List, Option, Some, None, if◌then◌else◌, codes, int_div, int_le, is_some, option_and_then, unwrap_or}
+use Rattle.std.specs.Prelude.{ℕ, ℤ, pos, ◌+ℤ◌, ◌-ℤ◌, ◌*ℤ◌, ◌||◌, Bool, false, List, Option, Some, None, if◌then◌else◌, codes, int_div, int_le, is_some, option_and_then, unwrap_or}
 use Rattle.std.specs.Int.{int_max}
 use Rattle.httpdate.specs.Date.{parse_secs}
-use Rattle.smithy_core.specs.Moment.{Instant, total_nanos}
+use Rattle.smithy_core.specs.Moment.{Instant, if_i64, total_nanos}
 use Rattle.smithy_core.specs.TextPairs.{first_value}
 use Rattle.smithy_core.specs.declared.response.HttpResponse.{HttpResponse}
 use Rattle.aws_intercept.specs.declared.bag.ConfigBag.{ConfigBag}
@@ -23,10 +23,6 @@ bag_with_time now bag = if is_off bag then bag else record bag { time_sent = Som
 abbrev pub elapsed : Instant → Instant → ℤ
 elapsed sent received = int_max (total_nanos received -ℤ total_nanos sent) (pos 0)
 
--- a number of 64 bits
-abbrev pub if_i64 : ℤ → Option ℤ
-if_i64 n = if int_le (negsuc 9223372036854775807) n && int_le n (pos 9223372036854775807) then Some n else None
-
 -- twice the nanoseconds from the middle of sending and receiving to the service's second
 abbrev pub twice_skew : ℤ → ℤ → ℕ → ℤ
 twice_skew sent elapsed server = pos server *ℤ pos 2000000000 -ℤ (pos 2 *ℤ sent +ℤ elapsed)
@@ -46,10 +42,6 @@ trusted_skew sent elapsed server = if int_le elapsed most_elapsed then if_i64 (s
 -- the skew of a service whose clock showed this second between the two moments
 unfoldable pub skew_at : Instant → Instant → ℕ → Option ℤ
 skew_at sent received server = trusted_skew (total_nanos sent) (elapsed sent received) server
-
--- nanoseconds of a moment
-abbrev pub IsNanos : ℤ → Type 0
-IsNanos n = (negsuc 9999999999999999999999999999 ≤ℤ n) × (n ≤ℤ pos 9999999999999999999999999999)
 
 -- the skew of a response: where the correction is on, the response isn't from a cache, and both moments are known
 abbrev pub measured : ConfigBag → List (List ℕ × List ℕ) → Instant → Option ℤ

@@ -1,20 +1,15 @@
 -- The header that tells of the attempts of a request.
-use Rattle.std.specs.Prelude.{ℕ, ℤ, pos, ◌+ℤ◌, ◌*ℤ◌, List, [], ◌∷◌, ◌++◌, Option, Some, None, if◌then◌else◌, codes, nat_lt, option_and_then, option_map, option_to_list, unsigned_abs, unwrap_or}
+use Rattle.std.specs.Prelude.{ℕ, ℤ, pos, ◌+ℤ◌, ◌*ℤ◌, List, [], ◌∷◌, ◌++◌, Option, Some, None, if◌then◌else◌, codes, nat_lt, option_and_then, option_map, option_to_list, unwrap_or}
 use Rattle.std.specs.Fmt.{decimal}
-use Rattle.std.specs.Int.{int_div_euclid, int_rem_euclid}
 use Rattle.std.specs.List.{join_by}
 use Rattle.smithy_core.specs.Civil.{is_in_years, stamp}
-use Rattle.smithy_core.specs.Moment.{Instant, total_nanos}
+use Rattle.smithy_core.specs.Moment.{Instant, at_nanos, total_nanos}
 use Rattle.smithy_core.specs.declared.client_config.RetryConfig.{RetryConfig}
 use Rattle.aws_intercept.specs.declared.bag.ConfigBag.{ConfigBag}
 
--- the moment so many nanoseconds after 1970-01-01T00:00:00Z
-abbrev pub at_nanos : ℤ → Instant
-at_nanos nanos = record { secs = int_div_euclid nanos (pos 1000000000); nanos = unsigned_abs (int_rem_euclid nanos (pos 1000000000)) }
-
--- a moment shifted by milliseconds and by seconds
-unfoldable pub shifted : Instant → ℤ → ℕ → Instant
-shifted moment millis secs = at_nanos (total_nanos moment +ℤ (pos secs *ℤ pos 1000000000 +ℤ millis *ℤ pos 1000000))
+-- the moment so many milliseconds and seconds later, where its seconds fit 64 bits
+unfoldable pub deadline : Instant → ℤ → ℕ → Option Instant
+deadline moment millis secs = at_nanos (total_nanos moment +ℤ (pos secs *ℤ pos 1000000000 +ℤ millis *ℤ pos 1000000))
 
 -- the stamp of a moment in the years 0 to 9999
 unfoldable pub stamped : Instant → Option (List ℕ)
@@ -26,7 +21,7 @@ awaited bag = if nat_lt (unwrap_or bag.attempts 0) 2 then None else option_and_t
 
 -- the stamp until which the answer is awaited
 abbrev pub ttl : Instant → ConfigBag → Option (List ℕ)
-ttl now bag = option_and_then (λ secs. stamped (shifted now (unwrap_or bag.attempt_skew (pos 0)) secs)) (awaited bag)
+ttl now bag = option_and_then (λ secs. option_and_then stamped (deadline now (unwrap_or bag.attempt_skew (pos 0)) secs)) (awaited bag)
 
 -- what the header tells, in order
 abbrev pub info_parts : Instant → ConfigBag → List (List ℕ)

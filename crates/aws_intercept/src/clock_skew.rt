@@ -1,11 +1,11 @@
 ghost use Rattle.std.specs.Prelude.{◌≡◌, ◌+ℤ◌, ◌-ℤ◌, ◌*ℤ◌, ◌≤ℤ◌, negsuc, codes, option_and_then, pos, unwrap_or};
 ghost use Rattle.std.specs.Int.{int_max};
 ghost use Rattle.httpdate.specs.Date.{parse_secs};
+ghost use Rattle.smithy_core.specs.Moment.{IsNanos};
 ghost use Rattle.smithy_core.specs.TextPairs.{first_value};
-ghost use Rattle.aws_intercept.specs.ClockSkew.{bag_with_kept, bag_with_skew, bag_with_time, is_off, if_i64, measured, most_elapsed, response_with_skew, skew_at, trusted_skew, twice_skew, IsNanos};
+ghost use Rattle.aws_intercept.specs.ClockSkew.{bag_with_kept, bag_with_skew, bag_with_time, is_off, measured, most_elapsed, response_with_skew, skew_at, trusted_skew, twice_skew};
 
 use crate::bag::ConfigBag;
-use crate::nanos::nanos;
 use httpdate::HttpDate;
 use smithy_core::{Headers, HttpResponse, Moment};
 use std::marker::Model;
@@ -155,7 +155,7 @@ fn server_second(headers: &Headers) -> Option<u64>
 fn skew_at(sent: Moment, received: Moment, server: u64) -> Option<i64>
     ensures { result ≡ skew_at sent received server }
 {
-    let (sent, received) = (nanos(sent), nanos(received));
+    let (sent, received) = (sent.as_nanos(), received.as_nanos());
     skew_of(sent, elapsed(sent, received), server)
 }
 
@@ -179,7 +179,7 @@ fn skew_of(sent: i128, elapsed: i128, server: u64) -> Option<i64>
     if elapsed > MOST_ELAPSED {
         return None;
     }
-    as_i64(twice_skew(sent, elapsed, server) / 2_000_000)
+    i64::try_from(twice_skew(sent, elapsed, server) / 2_000_000).ok()
 }
 
 // Twice the nanoseconds from the middle of sending and receiving to the service's second.
@@ -202,11 +202,4 @@ fn twice_middle(sent: i128, elapsed: i128) -> i128
     ensures high { result ≤ℤ pos 99999999999999999999999999999 }
 {
     2 * sent + elapsed
-}
-
-// The number, where it has 64 bits.
-fn as_i64(n: i128) -> Option<i64>
-    ensures { result ≡ if_i64 n }
-{
-    i64::try_from(n).ok()
 }

@@ -16,7 +16,6 @@ mod id_fault;
 mod id_generator;
 mod invocation;
 mod invocation_id;
-mod nanos;
 mod recursion;
 mod request_info;
 mod user_agent;

@@ -1,11 +1,9 @@
-ghost use Rattle.std.specs.Prelude.{◌≡◌, ◌≤ℤ◌, ◌+ℤ◌, ◌*ℤ◌, ◌++◌, false, pos, negsuc, IfOk, MatchOption, OnErr, OnOk, codes, option_map, string_bytes};
-ghost use Rattle.smithy_core.specs.Civil.{is_in_years};
+ghost use Rattle.std.specs.Prelude.{◌≡◌, ◌≤ℤ◌, ◌+ℤ◌, ◌*ℤ◌, ◌++◌, pos, negsuc, IfOk, OnErr, OnOk, codes, option_and_then, option_map, string_bytes};
 ghost use Rattle.smithy_core.specs.Moment.{total_nanos};
 ghost use Rattle.smithy_core.specs.TextPairs.{inserted};
-ghost use Rattle.aws_intercept.specs.RequestInfo.{at_nanos, awaited, info_text, max_end, shifted, stamped, ttl, ttl_front};
+ghost use Rattle.aws_intercept.specs.RequestInfo.{awaited, deadline, info_text, max_end, stamped, ttl, ttl_front};
 
 use crate::bag::ConfigBag;
-use crate::nanos::nanos;
 use smithy_core::{DateTime, HttpRequest, Mem, Moment, RetryConfig, civil};
 use std::alloc::Global;
 
@@ -81,7 +79,7 @@ fn ttl(alloc: Global, now: Moment, bag: &ConfigBag) -> Mem<Option<String>>
     ensures { IfOk result (λ stamp. option_map string_bytes stamp ≡ ttl now bag.now) }
 {
     match awaited(bag) {
-        Some(timeout) => shifted_stamp(alloc, now, bag.attempt_skew.unwrap_or(0), timeout),
+        Some(timeout) => deadline_stamp(alloc, now, bag.attempt_skew.unwrap_or(0), timeout),
         None => Ok(None),
     }
 }
@@ -99,13 +97,12 @@ fn awaited(bag: &ConfigBag) -> Option<u64>
     }
 }
 
-// The stamp of the moment shifted by milliseconds and seconds, where that lies in the years.
-#[tactic(auto, using(crate::proofs::RequestInfoLemmas::not_stamped))]
-fn shifted_stamp(alloc: Global, moment: Moment, millis: i64, secs: u64) -> Mem<Option<String>>
-    ensures { IfOk result (λ stamp. option_map string_bytes stamp ≡ stamped (shifted moment millis secs)) }
+// The stamp of the moment so many milliseconds and seconds later, where that lies in the years.
+fn deadline_stamp(alloc: Global, moment: Moment, millis: i64, secs: u64) -> Mem<Option<String>>
+    ensures { IfOk result (λ stamp. option_map string_bytes stamp ≡ option_and_then stamped (deadline moment millis secs)) }
 {
-    match shifted(moment, millis, secs) {
-        Some(moment) => stamped(alloc, moment),
+    match deadline(moment, millis, secs) {
+        Some(deadline) => stamped(alloc, deadline),
         None => Ok(None),
     }
 }
@@ -121,19 +118,19 @@ fn stamped(alloc: Global, moment: Moment) -> Mem<Option<String>>
     }
 }
 
-// The moment shifted by milliseconds and seconds, where its second fits.
-#[tactic(auto, unfolding(crate::specs::RequestInfo::shifted))]
-fn shifted(moment: Moment, millis: i64, secs: u64) -> Option<Moment>
-    ensures { MatchOption result (is_in_years (shifted moment millis secs) ≡ false) (λ later. later ≡ shifted moment millis secs) }
+// The moment so many milliseconds and seconds later, where its seconds fit 64 bits.
+#[tactic(auto, unfolding(crate::specs::RequestInfo::deadline))]
+fn deadline(moment: Moment, millis: i64, secs: u64) -> Option<Moment>
+    ensures { result ≡ deadline moment millis secs }
 {
-    moment_at(shifted_nanos(moment, millis, secs))
+    DateTime::from_nanos(deadline_nanos(moment, millis, secs))
 }
 
-// The nanoseconds of the shifted moment.
-fn shifted_nanos(moment: Moment, millis: i64, secs: u64) -> i128
+// The nanoseconds of the moment so many milliseconds and seconds later.
+fn deadline_nanos(moment: Moment, millis: i64, secs: u64) -> i128
     ensures { result ≡ total_nanos moment +ℤ (pos secs *ℤ pos 1000000000 +ℤ millis *ℤ pos 1000000) }
 {
-    nanos(moment) + delay_nanos(millis, secs)
+    moment.as_nanos() + delay_nanos(millis, secs)
 }
 
 // The nanoseconds of milliseconds and seconds.
@@ -143,17 +140,4 @@ fn delay_nanos(millis: i64, secs: u64) -> i128
     ensures high { result ≤ℤ pos 99999999999999999999999999999 }
 {
     i128::from(secs) * 1_000_000_000 + i128::from(millis) * 1_000_000
-}
-
-// The moment so many nanoseconds after 1970-01-01T00:00:00Z, where its second fits.
-#[tactic(auto, using(crate::proofs::RequestInfoLemmas::out_of_years))]
-fn moment_at(nanos: i128) -> Option<Moment>
-    ensures { MatchOption result (is_in_years (at_nanos nanos) ≡ false) (λ moment. moment ≡ at_nanos nanos) }
-{
-    let secs = match i64::try_from(nanos.div_euclid(1_000_000_000)) {
-        Ok(secs) => secs,
-        Err(_) => return None,
-    };
-    let rest = nanos.rem_euclid(1_000_000_000) as u32;
-    Some(DateTime::new(secs, rest))
 }

@@ -133,7 +133,7 @@ fn http_date(alloc: Global, civil: Civil, weekday: u8) -> Mem<String>
 fn epoch_seconds(alloc: Global, moment: DateTime) -> Mem<String>
     ensures { IfOk result (λ text. string_bytes text ≡ seconds_of (total_nanos moment)) }
 {
-    let nanos = i128::from(moment.secs()) * 1_000_000_000 + i128::from(moment.subsec_nanos());
+    let nanos = moment.as_nanos();
     let size = nanos.unsigned_abs();
     let sign = sign_of(nanos);
     let whole = (size / 1_000_000_000) as u64;

@@ -1,6 +1,6 @@
-ghost use Rattle.std.specs.Prelude.{◌≡◌, ℕ, ◌<◌, ◌/◌, FitsSigned, MatchResult};
+ghost use Rattle.std.specs.Prelude.{◌≡◌, ℕ, ◌<◌, ◌/◌, ◌+ℤ◌, ◌*ℤ◌, pos, FitsSigned, MatchResult};
 ghost use Rattle.std.specs.Int.{w64};
-ghost use Rattle.smithy_core.specs.Moment.{at_ms, floor_ms};
+ghost use Rattle.smithy_core.specs.Moment.{at_ms, at_nanos, floor_ms, if_i64, shifted, total_nanos, IsNanos};
 
 use std::error::Error;
 use std::fmt;
@@ -95,4 +95,48 @@ impl DateTime {
             Err(_) => Err(TimeOutOfRange),
         }
     }
+
+    /// The nanoseconds since 1970-01-01T00:00:00Z.
+    pub fn as_nanos(self) -> i128
+        ensures value { result ≡ total_nanos self }
+        ensures within { IsNanos result }
+    {
+        i128::from(self.secs) * 1_000_000_000 + i128::from(self.nanos)
+    }
+
+    /// The moment so many nanoseconds after 1970-01-01T00:00:00Z, where its seconds fit `i64`.
+    #[tactic(auto, unfolding(crate::specs::Moment::at_nanos))]
+    pub fn from_nanos(nanos: i128) -> Option<DateTime>
+        ensures { result ≡ at_nanos nanos }
+    {
+        match as_i64(nanos.div_euclid(1_000_000_000)) {
+            Some(secs) => Some(DateTime::new(secs, nanos.rem_euclid(1_000_000_000) as u32)),
+            None => None,
+        }
+    }
+
+    /// The moment so many milliseconds later, or the same where its seconds leave `i64`.
+    #[tactic(auto, unfolding(crate::specs::Moment::shifted))]
+    pub fn shifted(self, millis: i64) -> DateTime
+        ensures { result ≡ shifted self millis }
+    {
+        match DateTime::from_nanos(later_nanos(self, millis)) {
+            Some(later) => later,
+            None => self,
+        }
+    }
+}
+
+// The nanoseconds of the moment so many milliseconds later.
+fn later_nanos(moment: DateTime, millis: i64) -> i128
+    ensures { result ≡ total_nanos moment +ℤ millis *ℤ pos 1000000 }
+{
+    moment.as_nanos() + i128::from(millis) * 1_000_000
+}
+
+// The number, where it fits 64 bits.
+fn as_i64(n: i128) -> Option<i64>
+    ensures { result ≡ if_i64 n }
+{
+    i64::try_from(n).ok()
 }
