@@ -7,7 +7,8 @@ use Rattle.std.proofs.lemmas.List.{length_push}
 use Rattle.std.proofs.Math.Seq.{get_or-append_seam}
 use Rattle.std.proofs.lemmas.List.Elements.{All-from_recursion, All-get_or, All-nil, All-push, All-take, recursion_from_All}
 use Rattle.std.proofs.lemmas.List.Sums.{fold-append, fold_push}
-use Rattle.sigv4.specs.Path.{with_segment, after_slash, ends_open, kept, is_dropped_segment, is_parent_segment, norm, norm_of, segment_texts, segments, slash, closing_slash}
+use Rattle.http_uri.specs.ByteClasses.{slash}
+use Rattle.sigv4.specs.Path.{after_slash, closing_slash, ends_open, is_dropped_segment, is_parent_segment, kept, kept_after, norm, norm_of, segment_texts, segments}
 use Rattle.sigv4.proofs.JoinLemmas.{AllLack, Lacks, join_more, split_joined, split_lacks}
 
 -- the last segment of all
@@ -17,8 +18,8 @@ ends_push ps p =
     ap (λ (last : List ℕ). is_dropped_segment last || is_parent_segment last) (ap (λ (i : ℕ). get_or (ps ++ p ∷ []) i []) at ∙ get_or-append_seam ps p [] [])
 
 -- one more segment
-pub kept_push : (ps : List (List ℕ)) (p : List ℕ) → kept (ps ++ p ∷ []) ≡ with_segment (kept ps) p
-kept_push ps p = fold_push with_segment [] ps p
+pub kept_push : (ps : List (List ℕ)) (p : List ℕ) → kept (ps ++ p ∷ []) ≡ kept_after (kept ps) p
+kept_push ps p = fold_push kept_after [] ps p
 
 -- each segment after a slash
 slashed : (p : List ℕ) (ps : List (List ℕ)) → flat_map after_slash (p ∷ ps) ≡ slash ∷ join_with_byte slash (p ∷ ps)
@@ -42,7 +43,7 @@ some_joined (k ∷ ks) false some = sym (ap (λ (front : List ℕ). front ++ [])
 abbrev IsKept : List ℕ → Type 0
 IsKept segment = (is_dropped_segment segment ≡ false) × (is_parent_segment segment ≡ false) × Lacks slash segment
 
-after_kept : (ks : List (List ℕ)) (p : List ℕ) → All IsKept ks → Lacks slash p → All IsKept (with_segment ks p)
+after_kept : (ks : List (List ℕ)) (p : List ℕ) → All IsKept ks → Lacks slash p → All IsKept (kept_after ks p)
 after_kept ks p all lack = by (is_parent_segment p) refl (is_dropped_segment p) refl
   where
     by : (parent : Bool) → is_parent_segment p ≡ parent → (here : Bool) → is_dropped_segment p ≡ here → All IsKept (cond parent (take (length ks - 1) ks) (cond here ks (ks ++ p ∷ [])))
@@ -50,15 +51,15 @@ after_kept ks p all lack = by (is_parent_segment p) refl (is_dropped_segment p) 
     by false e true f = all
     by false e false f = All-push IsKept ks p all (f, e, lack)
 
-all_kept : (ks ps : List (List ℕ)) → All IsKept ks → AllLack slash ps → All IsKept (fold with_segment ks ps)
+all_kept : (ks ps : List (List ℕ)) → All IsKept ks → AllLack slash ps → All IsKept (fold kept_after ks ps)
 all_kept ks [] all lack = all
-all_kept ks (p ∷ ps) all lack = all_kept (with_segment ks p) ps (after_kept ks p all lack.0) lack.1
+all_kept ks (p ∷ ps) all lack = all_kept (kept_after ks p) ps (after_kept ks p all lack.0) lack.1
 
-kept_again : (ks ps : List (List ℕ)) → AllByRecursion IsKept ps → fold with_segment ks ps ≡ ks ++ ps
+kept_again : (ks ps : List (List ℕ)) → AllByRecursion IsKept ps → fold kept_after ks ps ≡ ks ++ ps
 kept_again ks [] all = sym (append-nil ks)
 kept_again ks (p ∷ ps) all =
-    let one : with_segment ks p ≡ ks ++ p ∷ [] = rw (all.0.1, all.0.0) refl in
-    ap (λ (front : List (List ℕ)). fold with_segment front ps) one ∙ kept_again (ks ++ p ∷ []) ps all.1 ∙ append_assoc ks (p ∷ []) ps
+    let one : kept_after ks p ≡ ks ++ p ∷ [] = rw (all.0.1, all.0.0) refl in
+    ap (λ (front : List (List ℕ)). fold kept_after front ps) one ∙ kept_again (ks ++ p ∷ []) ps all.1 ∙ append_assoc ks (p ∷ []) ps
 
 lacking : (ps : List (List ℕ)) → AllByRecursion IsKept ps → AllLack slash ps
 lacking [] all = tt
@@ -87,7 +88,7 @@ again (k ∷ ks) true all =
     let cut : slice_split (λ b. b == slash) (join_with_byte slash (k ∷ ks) ++ codes "/") ≡ k ∷ (ks ++ [] ∷ []) =
     ap (slice_split (λ b. b == slash)) joined ∙ split_joined slash k (ks ++ [] ∷ []) (lacking_push (k ∷ ks) (lacking (k ∷ ks) all)) in
     let same : kept ([] ∷ k ∷ (ks ++ [] ∷ [])) ≡ k ∷ ks =
-    fold-append with_segment [] (k ∷ ks) ([] ∷ []) ∙ ap (λ (front : List (List ℕ)). with_segment front []) (kept_again [] (k ∷ ks) all) in
+    fold-append kept_after [] (k ∷ ks) ([] ∷ []) ∙ ap (λ (front : List (List ℕ)). kept_after front []) (kept_again [] (k ∷ ks) all) in
     let ended : ends_open ([] ∷ k ∷ (ks ++ [] ∷ [])) ≡ true = ends_push ([] ∷ k ∷ ks) [] in
     ap (λ (rest : List (List ℕ)). norm_of ([] ∷ rest)) cut
     ∙ ap (λ (front : List (List ℕ)). text_of front (ends_open ([] ∷ k ∷ (ks ++ [] ∷ [])))) same

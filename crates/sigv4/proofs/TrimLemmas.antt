@@ -2,7 +2,7 @@
 use Rattle.std.proofs.Common.{◌≡◌, ℕ, Bool, true, false, not, ◌==◌, cond, List, [], ◌∷◌, ◌++◌, length, filter, refl, sym, ap, ◌∙◌, append_assoc, append-nil}
 use Rattle.std.specs.List.{AllByRecursion, join_with_byte, slice_split}
 use Rattle.std.proofs.lemmas.List.Elements.{filter-append, filter_passes, recursion_from_All}
-use Rattle.sigv4.specs.Trim.{before_word, is_word, space, trim_all, words}
+use Rattle.sigv4.specs.Trim.{before_word, is_word, space, trim_all, value_words}
 use Rattle.sigv4.proofs.JoinLemmas.{AllLack, is_none, join_more, split_joined, split_lacks}
 
 -- words are kept
@@ -44,7 +44,7 @@ none_push (first ∷ ws) w = refl
 pub not_first : (parts : List (List ℕ)) (w : List ℕ) → (length w == 0) ≡ false → is_none (filter is_word (parts ++ w ∷ [])) ≡ false
 not_first parts w some = ap is_none (word_more parts w some) ∙ none_push (filter is_word parts) w
 
-again : (ws : List (List ℕ)) → AllLack space ws → AllByRecursion (λ w. is_word w ≡ true) ws → words (join_with_byte space ws) ≡ ws
+again : (ws : List (List ℕ)) → AllLack space ws → AllByRecursion (λ w. is_word w ≡ true) ws → value_words (join_with_byte space ws) ≡ ws
 again [] lack all = refl
 again (w ∷ ws) lack all = ap (filter is_word) (split_joined space w ws lack) ∙ kept_words (w ∷ ws) all
 
@@ -52,4 +52,4 @@ pub trimmed_twice : (text : List ℕ) → trim_all (trim_all text) ≡ trim_all 
 unfolding trim_all
 trimmed_twice text =
     let parts = slice_split (λ b. b == space) text in
-    ap (join_with_byte space) (again (words text) (lack_kept space parts (split_lacks space text)) (recursion_from_All (λ w. is_word w ≡ true) (words text) (filter_passes is_word parts)))
+    ap (join_with_byte space) (again (value_words text) (lack_kept space parts (split_lacks space text)) (recursion_from_All (λ w. is_word w ≡ true) (value_words text) (filter_passes is_word parts)))

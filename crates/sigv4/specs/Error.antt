@@ -1,7 +1,7 @@
 -- What the errors of the layer below become, and what is printed.
 use Rattle.std.specs.Prelude.{◌≡◌, ℕ, List, ◌++◌, codes}
 use Rattle.std.specs.Fmt.{decimal, signed_decimal}
-use Rattle.eventstream.specs.Error.{IsSameKind, error_kind_text as encoding_text}
+use Rattle.eventstream.specs.Error.{IsSameKind, error_kind, error_kind_text as encoding_text}
 use Rattle.eventstream.specs.declared.error.Error.{Error}
 use Rattle.eventstream.specs.declared.error.ErrorKind.{ErrorKind}
 use Rattle.eventstream.specs.declared.error.ErrorKind.TheVariants.{NoMemory as NoRoom}
@@ -19,7 +19,7 @@ encoding_error_for _ error = FailedToEncodeMessage error
 
 -- want of memory stays what it is
 abbrev pub encoding_error : Error → SigningError
-encoding_error error = encoding_error_for error.kind error
+encoding_error error = encoding_error_for (error_kind error) error
 
 -- the error of a target that isn't read
 abbrev pub target_error : UriFault → SigningError
@@ -43,11 +43,11 @@ error_text MissingHost = codes "missing host"
 error_text InvalidTokenName = codes "invalid name of the session token"
 error_text MissingExpires = codes "missing expiry"
 error_text UnsupportedIdentityType = codes "only AWS credentials are supported for signing"
-error_text (FailedToEncodeMessage error) = codes "failed to encode message: " ++ encoding_text error.kind
+error_text (FailedToEncodeMessage error) = codes "failed to encode message: " ++ encoding_text (error_kind error)
 error_text (MomentOutOfRange t) = codes "moment " ++ (signed_decimal t.secs ++ codes " is outside the years 0 to 9999")
 error_text NoMemory = codes "no memory"
 
 -- the errors are the same, and so are the texts of an encoding that failed
 abbrev pub IsSameError : SigningError → SigningError → Type 0
-IsSameError (FailedToEncodeMessage error) (FailedToEncodeMessage copy) = IsSameKind error.kind copy.kind
+IsSameError (FailedToEncodeMessage error) (FailedToEncodeMessage copy) = IsSameKind (error_kind error) (error_kind copy)
 IsSameError error copy = copy ≡ error

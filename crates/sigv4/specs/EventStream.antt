@@ -1,5 +1,5 @@
 -- What signing a message promises.
-use Rattle.std.specs.Prelude.{◌≡◌, ℕ, ◌⊎◌, List, if◌then◌else◌, Option, Some, None, Result, Ok, Err, option_map, string_bytes}
+use Rattle.std.specs.Prelude.{◌≡◌, ℕ, ◌⊎◌, List, if◌then◌else◌, Option, Some, None, Result, Ok, Err, option_map}
 use Rattle.std.specs.Option.{option_or}
 use Rattle.smithy_core.specs.Civil.{is_in_years}
 use Rattle.smithy_core.specs.Moment.{Instant}
@@ -9,7 +9,8 @@ use Rattle.smithy_core.specs.declared.identity.Identity.TheVariants.{Credentials
 use Rattle.eventstream.specs.Frame.{unframed}
 use Rattle.eventstream.specs.Link.{link_message, link_signature}
 use Rattle.eventstream.specs.declared.error.ErrorKind.{ErrorKind}
-use Rattle.sigv4.specs.Params.{signer_of}
+use Rattle.sigv4.specs.Output.{output_signature, signed_output}
+use Rattle.sigv4.specs.Params.{signer_of, v4_time}
 use Rattle.sigv4.specs.declared.error.SigningError.{SigningError}
 use Rattle.sigv4.specs.declared.error.SigningError.TheVariants.{FailedToEncodeMessage, MomentOutOfRange, NoMemory, UnsupportedIdentityType}
 use Rattle.sigv4.specs.declared.output.SigningOutput.{SigningOutput}
@@ -32,6 +33,6 @@ message_refusal message identity t = option_or (option_map failed_encoding (unfr
 abbrev pub Links : {S : Type 0} → Option SigningError → SigningParams S → List ℕ → List ℕ → Result (SigningOutput Parts) SigningError → Type 0
 Links refused params signature bytes (Ok output) =
     (refused ≡ None)
-    × (output.output ≡ link_message (signer_of params) signature bytes params.time)
-    × (string_bytes output.signature ≡ link_signature (signer_of params) signature bytes params.time)
+    × (signed_output output ≡ link_message (signer_of params) signature bytes (v4_time params))
+    × (output_signature output ≡ link_signature (signer_of params) signature bytes (v4_time params))
 Links refused params signature bytes (Err error) = (refused ≡ Some error) ⊎ (error ≡ NoMemory)

@@ -6,6 +6,7 @@ pub mod Error
 pub mod EventStream
 pub mod Host
 pub mod Instructions
+pub mod Output
 pub mod Parameters
 pub mod Params
 pub mod Path

@@ -1,6 +1,9 @@
 -- The parameters of a signature.
-use Rattle.std.specs.Prelude.{◌≡◌, ℕ, List, [], codes, Option, Some, None, Result, Ok, Err, string_bytes}
+use Rattle.std.specs.Prelude.{◌≡◌, ℕ, List, [], codes, Option, Some, None, Result, Ok, Err}
+use Rattle.std.specs.Borrow.{Bor}
 use Rattle.std.specs.Option.{option_or}
+use Rattle.smithy_core.specs.Identity.{secret_access_key}
+use Rattle.smithy_core.specs.Moment.{Instant}
 use Rattle.smithy_core.specs.declared.identity.Identity.{Identity}
 use Rattle.smithy_core.specs.declared.identity.Identity.TheVariants.{Credentials, Token}
 use Rattle.eventstream.specs.Key.{Signer}
@@ -11,12 +14,64 @@ use Rattle.sigv4.specs.declared.params.SigningParams.{SigningParams}
 
 -- the secret of credentials, and nothing of a token
 abbrev pub secret_of : Identity → List ℕ
-secret_of (Credentials credentials) = string_bytes credentials.secret
+secret_of (Credentials credentials) = secret_access_key credentials
 secret_of (Token token) = []
+
+-- the parameters of these parts
+abbrev pub params_of : {S : Type 0} → Bor Identity → Bor (List ℕ) → Bor (List ℕ) → Instant → S → SigningParams S
+params_of identity region name time settings = record { identity = identity; region = region; name = name; time = time; settings = settings }
+
+-- the parameters with other settings
+abbrev pub params_with_settings : {S : Type 0} → SigningParams S → S → SigningParams S
+params_with_settings params settings = record params { settings = settings }
+
+-- the identity of the parameters
+abbrev pub v4_identity : {S : Type 0} → SigningParams S → Identity
+v4_identity params = params.identity.now
+
+-- the region of the parameters
+abbrev pub v4_region : {S : Type 0} → SigningParams S → List ℕ
+v4_region params = params.region.now
+
+-- the service's name of the parameters
+abbrev pub v4_name : {S : Type 0} → SigningParams S → List ℕ
+v4_name params = params.name.now
+
+-- the moment of the parameters
+abbrev pub v4_time : {S : Type 0} → SigningParams S → Instant
+v4_time params = params.time
+
+-- the settings of the parameters
+abbrev pub v4_settings : {S : Type 0} → SigningParams S → S
+v4_settings params = params.settings
 
 -- who signs by the parameters
 abbrev pub signer_of : {S : Type 0} → SigningParams S → Signer
-signer_of params = record { secret = secret_of params.identity.now; region = params.region.now; name = params.name.now }
+signer_of params = record { secret = secret_of (v4_identity params); region = v4_region params; name = v4_name params }
+
+-- a builder without any part
+abbrev pub no_parts : {S : Type 0} → Builder S
+no_parts = record { identity = None; region = None; name = None; time = None; settings = None }
+
+-- a builder with this identity, or without one
+abbrev pub builder_with_identity : {S : Type 0} → Builder S → Option (Bor Identity) → Builder S
+builder_with_identity builder identity = record builder { identity = identity }
+
+-- a builder with this region, or without one
+abbrev pub builder_with_region : {S : Type 0} → Builder S → Option (Bor (List ℕ)) → Builder S
+builder_with_region builder region = record builder { region = region }
+
+-- a builder with this name of the service, or without one
+abbrev pub builder_with_name : {S : Type 0} → Builder S → Option (Bor (List ℕ)) → Builder S
+builder_with_name builder name = record builder { name = name }
+
+-- a builder with this moment, or without one
+abbrev pub builder_with_time : {S : Type 0} → Builder S → Option Instant → Builder S
+builder_with_time builder time = record builder { time = time }
+
+-- a builder with these settings, or without any
+abbrev pub builder_with_settings : {S : Type 0} → Builder S → Option S → Builder S
+builder_with_settings builder settings = record builder { settings = settings }
 
 -- the error, where the part is missing
 abbrev pub unless_given : {A : Type 0} → Option A → BuildError → Option BuildError

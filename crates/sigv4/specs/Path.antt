@@ -2,15 +2,12 @@
 use Rattle.std.specs.Prelude.{ℕ, ◌-◌, Bool, true, ◌||◌, ◌==◌, List, [], ◌∷◌, ◌++◌, codes, length, fold, map, take, slice_index_or, bytes_eq, if◌then◌else◌}
 use Rattle.std.specs.Borrow.{Bor}
 use Rattle.std.specs.List.{join_with_byte, slice_split}
+use Rattle.http_uri.specs.ByteClasses.{slash}
 use Rattle.smithy_http.specs.Escape.{escaped, greedy_set}
 use Rattle.sigv4.specs.declared.modes.PercentEncodingMode.{PercentEncodingMode}
 use Rattle.sigv4.specs.declared.modes.PercentEncodingMode.TheVariants.{Double, Single}
 use Rattle.sigv4.specs.declared.modes.UriPathNormalizationMode.{UriPathNormalizationMode}
 use Rattle.sigv4.specs.declared.modes.UriPathNormalizationMode.TheVariants.{Enabled, Disabled}
-
--- `/`
-abbrev pub slash : ℕ
-slash = 47
 
 -- the segments between the slashes
 abbrev pub segments : List ℕ → List (List ℕ)
@@ -24,14 +21,14 @@ abbrev pub is_parent_segment : List ℕ → Bool
 is_parent_segment segment = bytes_eq segment (codes "..")
 
 -- the kept segments after one more: an empty segment and `.` are dropped, and `..` drops the kept segment before it, if any
-abbrev pub with_segment : List (List ℕ) → List ℕ → List (List ℕ)
-with_segment kept segment =
+abbrev pub kept_after : List (List ℕ) → List ℕ → List (List ℕ)
+kept_after kept segment =
     if is_parent_segment segment then take (length kept - 1) kept
     else if is_dropped_segment segment then kept else kept ++ segment ∷ []
 
 -- the segments that are kept
 abbrev pub kept : List (List ℕ) → List (List ℕ)
-kept segments = fold with_segment [] segments
+kept segments = fold kept_after [] segments
 
 -- the last segment of all is empty, `.` or `..`
 abbrev pub ends_open : List (List ℕ) → Bool

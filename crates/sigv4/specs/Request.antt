@@ -1,6 +1,7 @@
 -- What is signed, and with what: a request and the parameters of its signature.
-use Rattle.std.specs.Prelude.{◌≡◌, ◌⊎◌, ℕ, List, [], Option, Some, None, option_map, Result, Ok, Err, string_bytes}
+use Rattle.std.specs.Prelude.{◌≡◌, ◌⊎◌, ℕ, List, [], Option, Some, None, Result, Ok, Err, string_bytes}
 use Rattle.http_uri.specs.declared.uri.Uri.{Uri}
+use Rattle.smithy_core.specs.Identity.{access_key_id, secret_access_key, session_token}
 use Rattle.smithy_core.specs.Moment.{Instant}
 use Rattle.smithy_core.specs.declared.identity.Credentials.{Credentials as Keys}
 use Rattle.smithy_core.specs.declared.identity.Identity.{Identity}
@@ -10,7 +11,7 @@ use Rattle.smithy_http.specs.QueryWriter.{SpellsNoTarget, SpellsTarget}
 use Rattle.smithy_http.specs.Target.{Target, target_of}
 use Rattle.eventstream.specs.Key.{Signer}
 use Rattle.sigv4.specs.Body.{IsSameBody, body_bytes, payload_text}
-use Rattle.sigv4.specs.Params.{secret_of, signer_of}
+use Rattle.sigv4.specs.Params.{secret_of, signer_of, v4_identity, v4_settings, v4_time}
 use Rattle.sigv4.specs.Settings.{Settings, settings_of}
 use Rattle.sigv4.specs.declared.body.SignableBody.{SignableBody}
 use Rattle.sigv4.specs.declared.error.SigningError.{SigningError}
@@ -21,6 +22,7 @@ use Rattle.sigv4.specs.declared.settings.SigningSettings.{SigningSettings}
 use Rattle.sigv4.specs.declared.signing_params.SigningParams.{SigningParams}
 use Rattle.sigv4.specs.declared.signing_params.SigningParams.TheVariants.{V4}
 
+-- a request to be signed, who signs it, when, and under which settings
 pub record Case : Type 0 where
   pub method : List ℕ
   pub target : Target
@@ -34,21 +36,25 @@ pub record Case : Type 0 where
 
 -- the key id of credentials, and nothing of a token
 abbrev pub key_id_of : Identity → List ℕ
-key_id_of (Credentials credentials) = string_bytes credentials.key_id
+key_id_of (Credentials credentials) = access_key_id credentials
 key_id_of (Token token) = []
 
 -- the session token of credentials that hold one
 abbrev pub token_of : Identity → Option (List ℕ)
-token_of (Credentials credentials) = option_map string_bytes credentials.token
+token_of (Credentials credentials) = session_token credentials
 token_of (Token token) = None
 
 -- who signs
 abbrev pub identity_of : SigningParams → Identity
-identity_of (V4 params) = params.identity.now
+identity_of (V4 params) = v4_identity params
 
 -- the URI that was read of the request's target
 abbrev pub request_uri : SignableRequest → Uri
 request_uri request = request.uri
+
+-- the body of a request
+abbrev pub request_body : SignableRequest → SignableBody
+request_body request = request.body
 
 -- a request, and the parameters of Version 4
 abbrev pub v4_request_case : SignableRequest → V4Params SigningSettings → Case
@@ -57,11 +63,11 @@ v4_request_case request params = record {
   target = target_of request.uri;
   headers = request.headers.now;
   payload = payload_text request.body;
-  settings = settings_of params.settings;
-  key_id = key_id_of params.identity.now;
-  token = token_of params.identity.now;
+  settings = settings_of (v4_settings params);
+  key_id = key_id_of (v4_identity params);
+  token = token_of (v4_identity params);
   signer = signer_of params;
-  at = params.time;
+  at = v4_time params;
 }
 
 -- a request and its parameters
@@ -70,9 +76,9 @@ request_case request (V4 params) = v4_request_case request params
 
 -- what an identity and its credentials have in common
 pub record HasKeys (identity : Identity) (credentials : Keys) : Type 0 where
-  pub key_id : string_bytes credentials.key_id ≡ key_id_of identity
-  pub secret : string_bytes credentials.secret ≡ secret_of identity
-  pub token : option_map string_bytes credentials.token ≡ token_of identity
+  pub key_id : access_key_id credentials ≡ key_id_of identity
+  pub secret : secret_access_key credentials ≡ secret_of identity
+  pub token : session_token credentials ≡ token_of identity
 
 -- the requests have the same method, target and headers, and the same body
 pub record IsSameRequest (request copy : SignableRequest) : Type 0 where

@@ -6,6 +6,7 @@ use Rattle.smithy_core.specs.TextPairs.{text_pairs}
 use Rattle.smithy_core.specs.declared.identity.Identity.{Identity}
 use Rattle.eventstream.specs.Key.{scope}
 use Rattle.sigv4.specs.Canonical.{canonical, credential, joined_names, names, signing_parameters}
+use Rattle.sigv4.specs.Output.{output_signature, signed_output}
 use Rattle.sigv4.specs.Refusal.{request_refusal, unfit}
 use Rattle.sigv4.specs.Request.{Case}
 use Rattle.sigv4.specs.Settings.{is_query_form}
@@ -23,9 +24,9 @@ TellsCanonical identity c (Err error) = (request_refusal identity c ≡ Some err
 
 -- the headers and the parameters that go out, and the signature
 pub record IsSigned (c : Case) (output : SigningOutput SigningInstructions) : Type 0 where
-  pub headers : output.output.headers ≡ instructions c
-  pub params : output.output.params ≡ parameters c
-  pub signature : string_bytes output.signature ≡ signature_of c
+  pub headers : (signed_output output).headers ≡ instructions c
+  pub params : (signed_output output).params ≡ parameters c
+  pub signature : output_signature output ≡ signature_of c
 
 -- with no refusal the case is signed; with one it is the refusal, or want of memory
 abbrev pub Signs : Option SigningError → Case → Result (SigningOutput SigningInstructions) SigningError → Type 0

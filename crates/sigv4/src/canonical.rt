@@ -6,11 +6,10 @@ ghost use Rattle.sigv4.specs.CanonicalHeaders.{header_texts, pair_line};
 ghost use Rattle.sigv4.specs.Path.{canonical_path};
 
 use crate::canonical_headers::push_header_lines;
-use crate::line::push_line;
 use crate::path::canonical_path;
 use crate::request::SignableRequest;
 use crate::settings::SigningSettings;
-use smithy_core::Mem;
+use smithy_core::{Mem, push_text_line};
 use std::alloc::Global;
 use std::collections::BTreeMap;
 
@@ -35,12 +34,12 @@ pub(crate) fn joined_text(
         request.uri.path(),
     )?;
     let mut text = String::with_capacity(alloc, 512)?;
-    push_line(&mut text, request.method)?;
-    push_line(&mut text, path.as_str())?;
-    push_line(&mut text, query)?;
+    push_text_line(&mut text, request.method)?;
+    push_text_line(&mut text, path.as_str())?;
+    push_text_line(&mut text, query)?;
     push_header_lines(&mut text, headers)?;
-    push_line(&mut text, "")?;
-    push_line(&mut text, names)?;
+    push_text_line(&mut text, "")?;
+    push_text_line(&mut text, names)?;
     text.push_str(payload)?;
     Ok(text)
 }

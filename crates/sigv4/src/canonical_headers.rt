@@ -9,11 +9,10 @@ ghost use Rattle.sigv4.specs.Query.{Pair};
 ghost use Rattle.sigv4.specs.Settings.{settings_of};
 ghost use Rattle.sigv4.specs.Trim.{trim_all};
 
-use crate::line::push_line;
 use crate::settings::{PayloadChecksumKind, SessionTokenMode, SignatureLocation, SigningSettings};
 use crate::token_name::{is_lower_case_of, token_header, token_parameter};
 use crate::trim::push_trimmed;
-use smithy_core::{Headers, Mem};
+use smithy_core::{Headers, Mem, push_text_line};
 use std::alloc::Global;
 use std::collections::BTreeMap;
 
@@ -282,5 +281,5 @@ fn push_header_line(text: &mut String, name: &str, value: &str) -> Mem<()>
 {
     text.push_str(name)?;
     text.push_str(":")?;
-    push_line(text, value)
+    push_text_line(text, value)
 }

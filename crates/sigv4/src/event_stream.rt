@@ -8,12 +8,12 @@ ghost use Rattle.smithy_core.specs.Civil.{IsInYears};
 ghost use Rattle.smithy_core.specs.Moment.{floor_secs};
 ghost use Rattle.eventstream.specs.Frame.{frame, spelling};
 ghost use Rattle.eventstream.specs.Link.{date_header, string_to_sign};
-ghost use Rattle.sigv4.specs.Params.{signer_of};
+ghost use Rattle.sigv4.specs.Output.{output_signature, signed_output};
+ghost use Rattle.sigv4.specs.Params.{signer_of, v4_identity, v4_time};
 ghost use Rattle.sigv4.specs.EventStream.{Links, message_refusal, unsignable};
 
 use crate::credentials::credentials_of;
 use crate::error::SigningError;
-use crate::line::push_line;
 use crate::output::SigningOutput;
 use crate::signature::begun_string_to_sign;
 use crate::signing_scope::SigningScope;
@@ -21,7 +21,7 @@ use crate::signing_time::SigningTime;
 use bytes::Bytes;
 use eventstream::{ErrorKind, write_headers_to, write_message_to};
 use mac_core::{hmac_sha256, sha256_hex};
-use smithy_core::{Header, HeaderValue, Mem, Message, Moment, StrBytes};
+use smithy_core::{Header, HeaderValue, Mem, Message, Moment, StrBytes, push_text_line};
 use std::alloc::{AllocError, Global};
 
 /// The parameters of a signed message, which have no settings.
@@ -53,7 +53,7 @@ pub fn sign_message(
     last_signature: &str,
     params: &SigningParams<'_>,
 ) -> Result<SigningOutput<Message>, SigningError>
-    ensures { Links (message_refusal message.now params.now.identity.now params.now.time)
+    ensures { Links (message_refusal message.now (v4_identity params.now) (v4_time params.now))
         params.now last_signature.now (frame message.now) result }
 {
     let mut bytes = Vec::new(alloc);
@@ -72,7 +72,7 @@ pub fn sign_empty_message(
     last_signature: &str,
     params: &SigningParams<'_>,
 ) -> Result<SigningOutput<Message>, SigningError>
-    ensures { Links (unsignable params.now.identity.now params.now.time)
+    ensures { Links (unsignable (v4_identity params.now) (v4_time params.now))
         params.now last_signature.now [] result }
 {
     sign_bytes(alloc, Vec::new(alloc), last_signature, params)
@@ -85,7 +85,7 @@ fn sign_bytes(
     last_signature: &str,
     params: &SigningParams<'_>,
 ) -> Result<SigningOutput<Message>, SigningError>
-    ensures { Links (unsignable params.now.identity.now params.now.time)
+    ensures { Links (unsignable (v4_identity params.now) (v4_time params.now))
         params.now last_signature.now bytes.items result }
 {
     let credentials = credentials_of(params.identity())?;
@@ -108,11 +108,11 @@ fn whole_second(time: Moment) -> Moment
 
 // The message of bytes that were signed with this code, and the code as a signature.
 fn link(alloc: Global, bytes: Vec<u8>, time: Moment, code: &[u8]) -> Mem<SigningOutput<Message>>
-    ensures message { IfOk result (λ output. output.output ≡ record {
+    ensures message { IfOk result (λ output. signed_output output ≡ record {
       headers = record { name = codes ":chunk-signature"; value = HeaderValue.ByteArray code.now } ∷ date_header (floor_secs time) ∷ [];
       payload = bytes.items;
     }) }
-    ensures signature { IfOk result (λ output. string_bytes output.signature ≡ encode_lower code.now) }
+    ensures signature { IfOk result (λ output. output_signature output ≡ encode_lower code.now) }
 {
     let signature = hex::encode(alloc, code)?;
     let mut headers = Vec::with_capacity(alloc, 2)?;
@@ -131,16 +131,16 @@ fn string_to_sign(
     params: &SigningParams<'_>,
     time: &SigningTime,
 ) -> Mem<String>
-    requires in_years { IsInYears params.now.time }
-    requires time { time.now ≡ floor_secs params.now.time }
+    requires in_years { IsInYears (v4_time params.now) }
+    requires time { time.now ≡ floor_secs (v4_time params.now) }
     ensures { IfOk result (λ text. string_bytes text ≡ string_to_sign (signer_of params.now) last_signature.now bytes.now time.now) }
 {
     let scope = SigningScope::new(alloc, time, params.region(), params.name())?;
     let date_digest = date_digest(alloc, params.time())?;
     let digest = sha256_hex(alloc, bytes)?;
     let mut text = begun_string_to_sign(alloc, "AWS4-HMAC-SHA256-PAYLOAD", &scope)?;
-    push_line(&mut text, last_signature)?;
-    push_line(&mut text, date_digest.as_str())?;
+    push_text_line(&mut text, last_signature)?;
+    push_text_line(&mut text, date_digest.as_str())?;
     text.push_str(digest.as_str())?;
     Ok(text)
 }

@@ -26,7 +26,6 @@ mod host;
 mod instructions;
 mod key;
 mod laws;
-mod line;
 mod modes;
 mod output;
 mod parameters;

@@ -1,5 +1,5 @@
 ghost use Rattle.std.specs.Prelude.{◌≡◌, IfOk};
-ghost use Rattle.std.specs.String.{string_bytes};
+ghost use Rattle.sigv4.specs.Output.{output_parts, output_signature, output_with, signed_output};
 
 use smithy_core::Mem;
 
@@ -13,28 +13,28 @@ pub struct SigningOutput<T> {
 impl<T> SigningOutput<T> {
     /// The output and its signature.
     pub fn new(output: T, signature: String) -> SigningOutput<T>
-        ensures { result ≡ record { output = output; signature = signature } }
+        ensures { result ≡ output_with output signature }
     {
         SigningOutput { output, signature }
     }
 
     /// The output.
     pub fn output(&self) -> &T
-        ensures { result.now ≡ self.now.output }
+        ensures { result.now ≡ signed_output self.now }
     {
         &self.output
     }
 
     /// The signature.
     pub fn signature(&self) -> &str
-        ensures { result.now ≡ string_bytes self.now.signature }
+        ensures { result.now ≡ output_signature self.now }
     {
         self.signature.as_str()
     }
 
     /// The output and the signature.
     pub fn into_parts(self) -> (T, String)
-        ensures { result ≡ (self.output, self.signature) }
+        ensures { result ≡ output_parts self }
     {
         (self.output, self.signature)
     }
@@ -43,8 +43,8 @@ impl<T> SigningOutput<T> {
 impl<T: Clone + Drop> SigningOutput<T> {
     /// A copy of the output, with the same signature.
     pub fn try_clone(&self) -> Mem<SigningOutput<T>>
-        ensures output { IfOk result (λ copy. T.is_clone self.now.output copy.output) }
-        ensures signature { IfOk result (λ copy. string_bytes copy.signature ≡ string_bytes self.now.signature) }
+        ensures output { IfOk result (λ copy. T.is_clone (signed_output self.now) (signed_output copy)) }
+        ensures signature { IfOk result (λ copy. output_signature copy ≡ output_signature self.now) }
     {
         Ok(SigningOutput {
             output: self.output.clone()?,

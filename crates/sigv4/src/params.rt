@@ -1,5 +1,5 @@
-ghost use Rattle.std.specs.Prelude.{◌≡◌, Some, None, codes, IfOk};
-ghost use Rattle.sigv4.specs.Params.{BuildsParams, HasSameParts, IsCopied, build_error_text};
+ghost use Rattle.std.specs.Prelude.{◌≡◌, Some, codes, IfOk};
+ghost use Rattle.sigv4.specs.Params.{BuildsParams, HasSameParts, IsCopied, build_error_text, builder_with_identity, builder_with_name, builder_with_region, builder_with_settings, builder_with_time, no_parts, params_of, params_with_settings, v4_identity, v4_name, v4_region, v4_settings, v4_time};
 
 use smithy_core::{Identity, Mem, Moment};
 use std::fmt;
@@ -17,7 +17,7 @@ pub struct SigningParams<'a, S> {
 impl<'a, S> SigningParams<'a, S> {
     /// A builder without any part.
     pub fn builder() -> Builder<'a, S>
-        ensures { result ≡ record { identity = None; region = None; name = None; time = None; settings = None } }
+        ensures { result ≡ no_parts }
     {
         Builder {
             identity: None,
@@ -36,7 +36,7 @@ impl<'a, S> SigningParams<'a, S> {
         time: Moment,
         settings: S,
     ) -> SigningParams<'a, S>
-        ensures { result ≡ record { identity = identity.entry; region = region.entry; name = name.entry; time = time; settings = settings } }
+        ensures { result ≡ params_of identity.entry region.entry name.entry time settings }
     {
         SigningParams {
             identity,
@@ -49,35 +49,35 @@ impl<'a, S> SigningParams<'a, S> {
 
     /// Who signs.
     pub fn identity(&self) -> &'a Identity
-        ensures { result.now ≡ self.now.identity.now }
+        ensures { result.now ≡ v4_identity self.now }
     {
         self.identity
     }
 
     /// The region that the signature is for.
     pub fn region(&self) -> &str
-        ensures { result.now ≡ self.now.region.now }
+        ensures { result.now ≡ v4_region self.now }
     {
         self.region
     }
 
     /// The name of the service that the signature is for.
     pub fn name(&self) -> &str
-        ensures { result.now ≡ self.now.name.now }
+        ensures { result.now ≡ v4_name self.now }
     {
         self.name
     }
 
     /// The moment of the signature.
     pub fn time(&self) -> Moment
-        ensures { result ≡ self.now.time }
+        ensures { result ≡ v4_time self.now }
     {
         self.time
     }
 
     /// The settings.
     pub fn settings(&self) -> &S
-        ensures { result.now ≡ self.now.settings }
+        ensures { result.now ≡ v4_settings self.now }
     {
         &self.settings
     }
@@ -93,7 +93,7 @@ impl<'a, S> SigningParams<'a, S> {
 impl<'a, S: Drop> SigningParams<'a, S> {
     /// These parameters with other settings.
     pub fn with_settings(self, settings: S) -> SigningParams<'a, S>
-        ensures { result ≡ record self.entry { settings = settings } }
+        ensures { result ≡ params_with_settings self.entry settings }
     {
         SigningParams { settings, ..self }
     }
@@ -127,7 +127,7 @@ pub struct Builder<'a, S> {
 impl<'a, S: Drop> Builder<'a, S> {
     /// With this identity.
     pub fn identity(self, identity: &'a Identity) -> Self
-        ensures { result ≡ record self.entry { identity = Some identity.entry } }
+        ensures { result ≡ builder_with_identity self.entry (Some identity.entry) }
     {
         Builder {
             identity: Some(identity),
@@ -137,7 +137,7 @@ impl<'a, S: Drop> Builder<'a, S> {
 
     /// With this region.
     pub fn region(self, region: &'a str) -> Self
-        ensures { result ≡ record self.entry { region = Some region.entry } }
+        ensures { result ≡ builder_with_region self.entry (Some region.entry) }
     {
         Builder {
             region: Some(region),
@@ -147,7 +147,7 @@ impl<'a, S: Drop> Builder<'a, S> {
 
     /// With this name of the service.
     pub fn name(self, name: &'a str) -> Self
-        ensures { result ≡ record self.entry { name = Some name.entry } }
+        ensures { result ≡ builder_with_name self.entry (Some name.entry) }
     {
         Builder {
             name: Some(name),
@@ -157,7 +157,7 @@ impl<'a, S: Drop> Builder<'a, S> {
 
     /// With this moment.
     pub fn time(self, time: Moment) -> Self
-        ensures { result ≡ record self.entry { time = Some time } }
+        ensures { result ≡ builder_with_time self.entry (Some time) }
     {
         Builder {
             time: Some(time),
@@ -167,7 +167,7 @@ impl<'a, S: Drop> Builder<'a, S> {
 
     /// With these settings.
     pub fn settings(self, settings: S) -> Self
-        ensures { result ≡ record self.entry { settings = Some settings } }
+        ensures { result ≡ builder_with_settings self.entry (Some settings) }
     {
         Builder {
             settings: Some(settings),
@@ -178,7 +178,7 @@ impl<'a, S: Drop> Builder<'a, S> {
     /// Gives or takes back the identity.
     pub fn set_identity(&mut self, identity: Option<&'a Identity>) -> &mut Self
         ensures same_builder { result.ghost_name ≡ self.entry.ghost_name }
-        ensures given { result.now ≡ record self.old { identity = identity.entry } }
+        ensures given { result.now ≡ builder_with_identity self.old identity.entry }
     {
         self.identity = identity;
         self
@@ -187,7 +187,7 @@ impl<'a, S: Drop> Builder<'a, S> {
     /// Gives or takes back the region.
     pub fn set_region(&mut self, region: Option<&'a str>) -> &mut Self
         ensures same_builder { result.ghost_name ≡ self.entry.ghost_name }
-        ensures given { result.now ≡ record self.old { region = region.entry } }
+        ensures given { result.now ≡ builder_with_region self.old region.entry }
     {
         self.region = region;
         self
@@ -196,7 +196,7 @@ impl<'a, S: Drop> Builder<'a, S> {
     /// Gives or takes back the name of the service.
     pub fn set_name(&mut self, name: Option<&'a str>) -> &mut Self
         ensures same_builder { result.ghost_name ≡ self.entry.ghost_name }
-        ensures given { result.now ≡ record self.old { name = name.entry } }
+        ensures given { result.now ≡ builder_with_name self.old name.entry }
     {
         self.name = name;
         self
@@ -205,7 +205,7 @@ impl<'a, S: Drop> Builder<'a, S> {
     /// Gives or takes back the moment.
     pub fn set_time(&mut self, time: Option<Moment>) -> &mut Self
         ensures same_builder { result.ghost_name ≡ self.entry.ghost_name }
-        ensures given { result.now ≡ record self.old { time = time } }
+        ensures given { result.now ≡ builder_with_time self.old time }
     {
         self.time = time;
         self
@@ -214,7 +214,7 @@ impl<'a, S: Drop> Builder<'a, S> {
     /// Gives or takes back the settings.
     pub fn set_settings(&mut self, settings: Option<S>) -> &mut Self
         ensures same_builder { result.ghost_name ≡ self.entry.ghost_name }
-        ensures given { result.now ≡ record self.old { settings = settings } }
+        ensures given { result.now ≡ builder_with_settings self.old settings }
     {
         self.settings = settings;
         self

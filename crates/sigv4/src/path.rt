@@ -1,7 +1,8 @@
 ghost use Rattle.std.specs.Prelude.{◌≡◌, ◌++◌, ◌||◌, not, codes, IfOk, OnOk};
 ghost use Rattle.std.specs.List.{flat_map, join_with_byte};
 ghost use Rattle.std.specs.String.{string_bytes};
-ghost use Rattle.sigv4.specs.Path.{with_segment, after_slash, canonical_path, is_dropped_segment, is_parent_segment, norm, segment_texts, slash, closing_slash};
+ghost use Rattle.http_uri.specs.ByteClasses.{slash};
+ghost use Rattle.sigv4.specs.Path.{after_slash, canonical_path, closing_slash, is_dropped_segment, is_parent_segment, kept_after, norm, segment_texts};
 
 use crate::modes::{PercentEncodingMode, UriPathNormalizationMode};
 use smithy_core::Mem;
@@ -23,7 +24,7 @@ pub fn normalize_uri_path(alloc: Global, path: &str) -> Mem<String>
 
 // Keeps the segment, where it names something; `..` drops the kept segment before it. Answers whether the segment was kept.
 fn keep<'a>(kept: &mut Vec<&'a str>, segment: &'a str) -> Mem<bool>
-    ensures kept { OnOk result (segment_texts kept.new.items ≡ with_segment (segment_texts kept.old.items) segment.now) }
+    ensures kept { OnOk result (segment_texts kept.new.items ≡ kept_after (segment_texts kept.old.items) segment.now) }
     ensures answer { IfOk result (λ is_kept. is_kept ≡ not (is_dropped_segment segment.now || is_parent_segment segment.now)) }
 {
     if segment == ".." {

@@ -1,5 +1,5 @@
 ghost use Rattle.std.specs.Prelude.{◌≡◌, IfOk};
-ghost use Rattle.sigv4.specs.Request.{IsMadeOf, IsMadeOfRequest, IsSameRequest, request_uri};
+ghost use Rattle.sigv4.specs.Request.{IsMadeOf, IsMadeOfRequest, IsSameRequest, request_body, request_uri};
 
 use crate::body::SignableBody;
 use crate::error::SigningError;
@@ -80,7 +80,7 @@ impl<'a> SignableRequest<'a> {
 
     /// The body.
     pub fn body(&self) -> &SignableBody<'_>
-        ensures { result.now ≡ self.now.body }
+        ensures { result.now ≡ request_body self.now }
     {
         &self.body
     }

@@ -1,5 +1,6 @@
 ghost use Rattle.std.specs.Prelude.{◌≡◌, true, false, MatchResult};
 ghost use Rattle.smithy_core.specs.Civil.{is_in_years};
+ghost use Rattle.sigv4.specs.Params.{v4_identity, v4_time};
 ghost use Rattle.sigv4.specs.Refusal.{unfit};
 ghost use Rattle.sigv4.specs.Request.{HasKeys, identity_of, request_case, v4_request_case};
 ghost use Rattle.sigv4.specs.RequestSigning.{Signs, SignsCase, TellsCanonical};
@@ -86,8 +87,8 @@ fn sign_at(
     credentials: &Credentials,
     time: &SigningTime,
 ) -> Result<SigningOutput<SigningInstructions>, SigningError>
-    requires time { time.now ≡ params.now.time }
-    requires keys { HasKeys params.now.identity.now credentials.now }
+    requires time { time.now ≡ v4_time params.now }
+    requires keys { HasKeys (v4_identity params.now) credentials.now }
     ensures { Signs (unfit (v4_request_case request.now params.now)) (v4_request_case request.now params.now) result }
 {
     let texts = SigningTexts::new(alloc, request, params, credentials, time)?;

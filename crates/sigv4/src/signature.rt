@@ -6,11 +6,10 @@ ghost use Rattle.smithy_core.specs.Civil.{IsInYears};
 ghost use Rattle.smithy_core.specs.Text.{line};
 ghost use Rattle.sigv4.specs.Signature.{signature, string_to_sign_of};
 
-use crate::line::push_line;
 use crate::signing_scope::SigningScope;
 use crate::signing_time::SigningTime;
 use mac_core::{hmac_sha256, sha256_hex};
-use smithy_core::{Mem, Moment};
+use smithy_core::{Mem, Moment, push_text_line};
 use std::alloc::Global;
 
 /// The signature of a string to sign: its code under the signing key, in lower-case hexadecimal.
@@ -69,8 +68,8 @@ pub(crate) fn begun_string_to_sign(
         ≡ line algorithm.now ++ line (string_bytes scope.now.stamp) ++ line (string_bytes scope.now.scope)) }
 {
     let mut text = String::with_capacity(alloc, 320)?;
-    push_line(&mut text, algorithm)?;
-    push_line(&mut text, scope.stamp.as_str())?;
-    push_line(&mut text, scope.scope.as_str())?;
+    push_text_line(&mut text, algorithm)?;
+    push_text_line(&mut text, scope.stamp.as_str())?;
+    push_text_line(&mut text, scope.scope.as_str())?;
     Ok(text)
 }

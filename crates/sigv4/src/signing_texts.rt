@@ -4,6 +4,7 @@ ghost use Rattle.mac_core.specs.Mac.{mac};
 ghost use Rattle.smithy_core.specs.TextPairs.{AreLower};
 ghost use Rattle.smithy_http.specs.Target.{target_of};
 ghost use Rattle.sigv4.specs.Canonical.{added_host};
+ghost use Rattle.sigv4.specs.Params.{v4_identity, v4_time};
 ghost use Rattle.sigv4.specs.Request.{HasKeys, v4_request_case};
 ghost use Rattle.sigv4.specs.Signature.{string_to_sign_of};
 
@@ -51,8 +52,8 @@ impl SigningTexts {
         credentials: &Credentials,
         time: &SigningTime,
     ) -> Result<SigningTexts, SigningError>
-        requires time { time.now ≡ params.now.time }
-        requires keys { HasKeys params.now.identity.now credentials.now }
+        requires time { time.now ≡ v4_time params.now }
+        requires keys { HasKeys (v4_identity params.now) credentials.now }
         ensures { MakesTexts (v4_request_case request.now params.now) result }
     {
         let settings = params.settings();
@@ -76,8 +77,8 @@ impl SigningTexts {
         time: &SigningTime,
         host: Option<&str>,
     ) -> Mem<SigningTexts>
-        requires time { time.now ≡ params.now.time }
-        requires keys { HasKeys params.now.identity.now credentials.now }
+        requires time { time.now ≡ v4_time params.now }
+        requires keys { HasKeys (v4_identity params.now) credentials.now }
         requires host { option_copied host ≡ added_host (target_of request.now.uri) request.now.headers.now }
         requires lower { AreLower request.now.headers.now }
         ensures { IfOk result (HasTexts (v4_request_case request.now params.now)) }
