@@ -58,14 +58,14 @@ abbrev pub delay_text : Option HttpResponse → Option (List ℕ)
 delay_text response = option_and_then (λ r. first_value r.headers (codes "x-amz-retry-after")) response
 
 -- the text is a number of 64 bits in decimal digits, with a plus before them or not
-abbrev pub IsNumber : List ℕ → Type 0
-IsNumber text = IsNumeral 10 (without_leading_plus text) × (digits_value 10 (without_leading_plus text) < 2 ^ 64)
+abbrev pub IsDelayText : List ℕ → Type 0
+IsDelayText text = IsNumeral 10 (without_leading_plus text) × (digits_value 10 (without_leading_plus text) < 2 ^ 64)
 
 -- the delay is the number that the text writes, or there is none
 abbrev pub IsDelay : Option (List ℕ) → Option ℕ → Type 0
 IsDelay None delay = delay ≡ None
-IsDelay (Some text) None = ¬ (IsNumber text)
-IsDelay (Some text) (Some delay) = IsNumber text × (delay ≡ digits_value 10 (without_leading_plus text))
+IsDelay (Some text) None = ¬ (IsDelayText text)
+IsDelay (Some text) (Some delay) = IsDelayText text × (delay ≡ digits_value 10 (without_leading_plus text))
 
 -- retryable by this kind and this delay, or nothing
 abbrev pub Acts : Option RetryKind → Option (List ℕ) → RetryAction → Type 0

@@ -69,7 +69,7 @@ impl AppName {
         self.text.as_str()
     }
 
-    /// The same name.
+    /// An equal name.
     pub fn try_clone(&self) -> Mem<AppName>
         ensures { IfOk result (λ copy. copy ≡ self.now) }
     {

@@ -13,7 +13,7 @@ pub struct ErrorMetadata {
 }
 
 impl ErrorMetadata {
-    /// The same code and message.
+    /// Metadata with an equal code and an equal message.
     pub fn try_clone(&self) -> Mem<ErrorMetadata>
         ensures code { IfOk result (λ copy. option_map string_bytes copy.code ≡ option_map string_bytes self.now.code) }
         ensures message { IfOk result (λ copy. option_map string_bytes copy.message ≡ option_map string_bytes self.now.message) }

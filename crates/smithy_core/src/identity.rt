@@ -98,7 +98,7 @@ impl From<Credentials> for Identity {
 }
 
 impl Identity {
-    /// The same identity.
+    /// An equal identity.
     pub fn try_clone(&self) -> Mem<Identity>
         ensures { IfOk result (IsSameIdentity self.now) }
     {

@@ -34,7 +34,7 @@ impl Region {
         self.text.as_str()
     }
 
-    /// The same region.
+    /// An equal region.
     pub fn try_clone(&self) -> Mem<Region>
         ensures { IfOk result (λ copy. copy ≡ self.now) }
     {
@@ -75,7 +75,7 @@ impl SigningName {
         self.text.as_str()
     }
 
-    /// The same name.
+    /// An equal name.
     pub fn try_clone(&self) -> Mem<SigningName>
         ensures { IfOk result (λ copy. copy ≡ self.now) }
     {

@@ -16,7 +16,7 @@ pub enum RawMessage {
 }
 
 impl RawMessage {
-    /// The same message, or the same bytes.
+    /// An equal message, or equal bytes.
     pub fn try_clone(&self) -> Mem<RawMessage>
         ensures { IfOk result (λ copy. copy ≡ self.now) }
     {

@@ -53,7 +53,7 @@ impl Calls {
         self.made
     }
 
-    /// The same calls.
+    /// Equal calls.
     pub fn try_clone(&self) -> Mem<Calls>
         ensures { IfOk result (λ copy. copy ≡ self.now) }
     {
