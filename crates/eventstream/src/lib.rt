@@ -9,7 +9,9 @@
 //! will be, [`parse_response_headers`] and the calls that expect a value read headers
 //! (`specs/SizeHint.antt`, `specs/ResponseHeaders.antt`, `specs/Expect.antt`). The definitions of the
 //! signing key and of the chain of signed frames stand here too (`specs/Key.antt`, `specs/Link.antt`),
-//! below all crates that cite them.
+//! below all crates that cite them. What a [`SignMessage`] answers is told before it is asked: messages as
+//! they are, or the links of a chain (`specs/Told.antt`); a [`DeferredSigner`] is told as the signer that it
+//! was handed last. What a [`MarshallMessage`] answers is its own relation.
 #![tactic(auto)]
 
 mod decode;
