@@ -1,2 +1,3 @@
 mod InputsLemmas
+pub mod MessageSignerLemmas
 mod SignerLemmas

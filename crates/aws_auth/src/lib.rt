@@ -2,7 +2,8 @@
 //!
 //! The layer above is promised that [`SigV4Signer::sign_http_request`] makes the signed request of its case and two signers that
 //! go on from its signature, or leaves the request and answers exactly the first test that fails (`specs/Signer.antt`); the
-//! region, the name, the settings, the payload and the moment of the case are chosen as `specs/Inputs.antt` says.
+//! region, the name, the settings, the payload and the moment of the case are chosen as `specs/Inputs.antt` says. The signer of
+//! the messages that follow makes the links of the chain from that signature on (`specs/MessageSigner.antt`).
 #![tactic(auto)]
 
 mod endpoint;

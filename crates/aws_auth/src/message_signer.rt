@@ -1,8 +1,11 @@
-ghost use Rattle.std.specs.Prelude.{◌≡◌, IfOk};
-ghost use Rattle.std.specs.String.{string_bytes};
-ghost use Rattle.aws_auth.specs.MessageSigner.{IsSameSigner};
+ghost use Rattle.std.specs.Prelude.{◌≡◌, IfOk, IfErr, IsSome, Some};
+ghost use Rattle.sigv4.specs.Params.{signer_of};
+ghost use Rattle.aws_auth.specs.MessageSigner.{GoesOnWith, IsSameSigner, message_error, running_signature, signer_from, signer_in};
 
-use smithy_core::{Identity, Mem, Moment, Region, SigningName};
+use eventstream::{SignMessage, SignMessageError};
+use sigv4::event_stream::{SigningParams, sign_empty_message, sign_message};
+use sigv4::{SigningError, SigningOutput};
+use smithy_core::{Identity, Mem, Message, Moment, Region, SigningName};
 use std::fmt;
 
 /// A signer of what follows a signed request, each part over the signature before it: messages, or chunks and trailers.
@@ -26,7 +29,7 @@ impl<S> SigV4MessageSigner<S> {
         time: Moment,
         settings: S,
     ) -> SigV4MessageSigner<S>
-        ensures { result ≡ record { running_signature = running_signature; identity = identity; region = region; name = name; time = time; settings = settings } }
+        ensures { result ≡ signer_from running_signature identity region name time settings }
     {
         SigV4MessageSigner {
             running_signature,
@@ -40,7 +43,7 @@ impl<S> SigV4MessageSigner<S> {
 
     /// The last signature, over which the next one is made.
     pub fn running_signature(&self) -> &str
-        ensures { result.now ≡ string_bytes self.now.running_signature }
+        ensures { result.now ≡ running_signature self.now }
     {
         self.running_signature.as_str()
     }
@@ -59,6 +62,84 @@ impl<S: Clone + Drop> SigV4MessageSigner<S> {
             time: self.time,
             settings: self.settings.clone()?,
         })
+    }
+}
+
+impl SigV4MessageSigner<()> {
+    // The parameters of a message that is signed at a moment.
+    fn params_at(&self, now: Moment) -> SigningParams<'_>
+        ensures identity { result.identity.now ≡ self.now.identity }
+        ensures signer { signer_of result ≡ signer_in self.now }
+        ensures time { result.time ≡ now }
+    {
+        SigningParams::new(
+            &self.identity,
+            self.region.as_str(),
+            self.name.as_str(),
+            now,
+            (),
+        )
+    }
+
+    // The message that was signed, whose signature is the last one then.
+    fn go_on(
+        &mut self,
+        signed: Result<SigningOutput<Message>, SigningError>,
+    ) -> Result<Message, SignMessageError>
+        requires { IfErr signed (λ error. IsSome (message_error error)) }
+        ensures { GoesOnWith signed self.old result self.new }
+    {
+        match signed {
+            Ok(output) => {
+                let (message, signature) = output.into_parts();
+                self.running_signature = signature;
+                Ok(message)
+            }
+            Err(error) => Err(message_error(error)),
+        }
+    }
+}
+
+/// Signs each message at the moment that it is handed, over the last signature, in whose place the new one comes.
+impl SignMessage for SigV4MessageSigner<()> {
+    ghost use Rattle.aws_auth.specs.MessageSigner.{SignsEnd, SignsMessage, told_of};
+
+    ghost told = { told_of };
+
+    ghost signs = { SignsMessage };
+
+    ghost closes = { SignsEnd };
+
+    #[tactic(auto, using(crate::proofs::MessageSignerLemmas::message_refused, crate::proofs::MessageSignerLemmas::message_signed, crate::proofs::MessageSignerLemmas::message_told))]
+    fn sign(&mut self, message: Message, now: Moment) -> Result<Message, SignMessageError> {
+        let alloc = *self.running_signature.allocator();
+        let params = self.params_at(now);
+        let signed = sign_message(alloc, &message, self.running_signature(), &params);
+        self.go_on(signed)
+    }
+
+    #[tactic(auto, using(crate::proofs::MessageSignerLemmas::end_refused, crate::proofs::MessageSignerLemmas::end_signed, crate::proofs::MessageSignerLemmas::end_told))]
+    fn sign_empty(&mut self, now: Moment) -> Option<Result<Message, SignMessageError>> {
+        let alloc = *self.running_signature.allocator();
+        let params = self.params_at(now);
+        let signed = sign_empty_message(alloc, self.running_signature(), &params);
+        Some(self.go_on(signed))
+    }
+}
+
+// The error of signing a message, as the signer's.
+fn message_error(error: SigningError) -> SignMessageError
+    requires { IsSome (message_error error) }
+    ensures { message_error error ≡ Some result }
+{
+    match error {
+        SigningError::FailedToEncodeMessage(error) => {
+            SignMessageError::FailedToEncodeMessage(error)
+        }
+        SigningError::UnsupportedIdentityType => SignMessageError::UnsupportedIdentityType,
+        SigningError::MomentOutOfRange(moment) => SignMessageError::MomentOutOfRange(moment),
+        SigningError::NoMemory => SignMessageError::NoMemory,
+        _ => unreachable!(),
     }
 }
 

@@ -8,6 +8,7 @@ use Rattle.eventstream.specs.declared.decode.StreamEnd.{StreamEnd}
 use Rattle.eventstream.specs.declared.decode.StreamEnd.TheVariants.{Clean, Leftover, Undecoded}
 use Rattle.eventstream.specs.declared.error.ErrorKind.TheVariants.{NoMemory}
 use Rattle.eventstream.specs.declared.error.Error.{Error}
+use Rattle.eventstream.specs.Error.{error_kind}
 use Rattle.eventstream.specs.Read.{announced}
 use Rattle.eventstream.specs.Reading.{First, nothing, leftover, fault, begins, first_of, Begin}
 
@@ -42,7 +43,7 @@ Finishes len (Ok message) kept old prelude new result =
     (result ≡ Ok (Complete message)) × (prelude ≡ None) × (new.bytes ≡ drop len old.bytes)
 Finishes len (Err e) kept old prelude new result =
     (result ≡ Err e)
-    × (((e.kind ≡ NoMemory) × (prelude ≡ kept) × (new ≡ old)) ⊎ ((e.kind ≢ NoMemory) × (prelude ≡ None) × (new.bytes ≡ drop len old.bytes)))
+    × (((error_kind e ≡ NoMemory) × (prelude ≡ kept) × (new ≡ old)) ⊎ ((error_kind e ≢ NoMemory) × (prelude ≡ None) × (new.bytes ≡ drop len old.bytes)))
 
 -- one step of the reading; for want of memory nothing changes
 abbrev pub DecodesFrame : Option (List ℕ) → Segments → Option (List ℕ) → Segments → Result DecodedFrame Error → Type 0
@@ -51,8 +52,8 @@ DecodesFrame kept old prelude new (Ok Incomplete) =
 DecodesFrame kept old prelude new (Ok (Complete message)) =
     (first_of (undecoded_bytes kept old.bytes) ≡ begins message new.bytes) × (prelude ≡ None)
 DecodesFrame kept old prelude new (Err e) =
-    ((first_of (undecoded_bytes kept old.bytes) ≡ fault e.kind) × LeavesFault (undecoded_bytes kept old.bytes) prelude new.bytes)
-    ⊎ ((e.kind ≡ NoMemory) × (prelude ≡ kept) × (new ≡ old))
+    ((first_of (undecoded_bytes kept old.bytes) ≡ fault (error_kind e)) × LeavesFault (undecoded_bytes kept old.bytes) prelude new.bytes)
+    ⊎ ((error_kind e ≡ NoMemory) × (prelude ≡ kept) × (new ≡ old))
 
 -- the messages that a list has gained at its end
 abbrev pub appended_messages : List Parts → List Parts → List Parts
@@ -68,8 +69,8 @@ abbrev pub DecodesAll : List Parts → Option (List ℕ) → Segments → Option
 DecodesAll messages kept old prelude new (Ok _) =
     (rest : List ℕ) × Begin messages (undecoded_bytes kept old.bytes) rest × IsUnfinished (first_of rest) × KeepsBytes rest prelude new.bytes
 DecodesAll messages kept old prelude new (Err e) =
-    ((rest : List ℕ) × Begin messages (undecoded_bytes kept old.bytes) rest × (first_of rest ≡ fault e.kind) × LeavesFault rest prelude new.bytes)
-    ⊎ ((e.kind ≡ NoMemory) × Takes messages kept old prelude new)
+    ((rest : List ℕ) × Begin messages (undecoded_bytes kept old.bytes) rest × (first_of rest ≡ fault (error_kind e)) × LeavesFault rest prelude new.bytes)
+    ⊎ ((error_kind e ≡ NoMemory) × Takes messages kept old prelude new)
 
 -- how a stream ends that begins with this
 abbrev pub end_of : First → StreamEnd

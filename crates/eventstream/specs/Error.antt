@@ -9,6 +9,10 @@ use Rattle.eventstream.specs.declared.error.ErrorKind.TheVariants.{HeadersTooLon
 abbrev pub error_kind : Error → ErrorKind
 error_kind error = error.kind
 
+-- the error of a kind
+abbrev pub error_of : ErrorKind → Error
+error_of kind = record { kind = kind }
+
 -- the message itself is at fault
 abbrev pub is_invalid_message : ErrorKind → Bool
 is_invalid_message HeadersTooLong = true

@@ -10,6 +10,8 @@ pub mod Link
 pub mod Read
 pub mod Reading
 pub mod ResponseHeaders
+pub mod Sign
 pub mod SizeHint
 pub mod Texts
+pub mod Told
 pub mod Write

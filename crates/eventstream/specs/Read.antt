@@ -15,6 +15,7 @@ use Rattle.eventstream.specs.Frame.{least_frame}
 use Rattle.eventstream.specs.Kind.{true_kind, false_kind, byte_kind, int16_kind, int32_kind, int64_kind, byte_array_kind, string_kind, timestamp_kind, uuid_kind}
 use Rattle.eventstream.specs.declared.read.lengths.Lengths.{Lengths}
 use Rattle.eventstream.specs.declared.error.Error.{Error}
+use Rattle.eventstream.specs.Error.{error_kind}
 use Rattle.eventstream.specs.declared.error.ErrorKind.{ErrorKind}
 use Rattle.eventstream.specs.declared.error.ErrorKind.TheVariants.{InvalidHeaderNameLength, InvalidHeaderValue, InvalidHeaderValueType, InvalidHeadersLength, InvalidMessageLength, InvalidUtf8String, MessageChecksumMismatch, NoMemory, PreludeChecksumMismatch}
 
@@ -151,7 +152,7 @@ read bytes = if nat_lt (length bytes) prelude_len then Err InvalidMessageLength 
 
 -- the fault is told, or want of memory
 abbrev pub Fails : {A : Type 0} → Result A ErrorKind → Error → Type 0
-Fails read e = (read ≡ Err e.kind) ⊎ (e.kind ≡ NoMemory)
+Fails read e = (read ≡ Err (error_kind e)) ⊎ (error_kind e ≡ NoMemory)
 
 -- what was read is the answer
 abbrev pub GivesRead : {A : Type 0} → Result A ErrorKind → Result A Error → Type 0

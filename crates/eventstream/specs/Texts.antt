@@ -8,6 +8,7 @@ use Rattle.smithy_core.specs.declared.header.HeaderValue.TheVariants.{Bool as Tr
 use Rattle.eventstream.specs.declared.error.ErrorKind.{ErrorKind}
 use Rattle.eventstream.specs.declared.error.ErrorKind.TheVariants.{NoMemory, Unmarshalling}
 use Rattle.eventstream.specs.declared.error.Error.{Error}
+use Rattle.eventstream.specs.Error.{error_kind}
 
 -- `true` or `false`
 abbrev pub truth_text : Bool → List ℕ
@@ -63,7 +64,7 @@ Refuses (Err text) kind = Tells text kind
 -- what is wanted is answered, as it is seen; where a text stands in its place, the error tells it
 abbrev pub Answers : {A B : Type 0} → (B → A) → Result A (List ℕ) → Result B Error → Type 0
 Answers seen wanted (Ok x) = wanted ≡ Ok (seen x)
-Answers seen wanted (Err e) = Refuses wanted e.kind
+Answers seen wanted (Err e) = Refuses wanted (error_kind e)
 
 -- the error tells the text, and there is one
 abbrev pub RefusesOnly : {A : Type 0} → Result A (List ℕ) → ErrorKind → Type 0
@@ -73,4 +74,4 @@ RefusesOnly (Err text) kind = Tells text kind
 -- what is wanted takes no memory: it is answered wherever it is there, as it is seen; where a text stands in its place, the error tells it
 abbrev pub AnswersAtOnce : {A B : Type 0} → (B → A) → Result A (List ℕ) → Result B Error → Type 0
 AnswersAtOnce seen wanted (Ok x) = wanted ≡ Ok (seen x)
-AnswersAtOnce seen wanted (Err e) = RefusesOnly wanted e.kind
+AnswersAtOnce seen wanted (Err e) = RefusesOnly wanted (error_kind e)

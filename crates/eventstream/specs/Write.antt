@@ -3,11 +3,12 @@ use Rattle.std.specs.Prelude.{◌≡◌, ℕ, ◌⊎◌, List, ◌++◌, Option,
 use Rattle.eventstream.specs.declared.error.ErrorKind.{ErrorKind}
 use Rattle.eventstream.specs.declared.error.ErrorKind.TheVariants.{InvalidHeaderNameLength, HeaderValueTooLong, TimestampValueTooLarge, HeadersTooLong, PayloadTooLong, MessageTooLong, NoMemory}
 use Rattle.eventstream.specs.declared.error.Error.{Error}
+use Rattle.eventstream.specs.Error.{error_kind}
 
 -- with no fault the text is appended; with one nothing is, and the fault is told, or want of memory
 abbrev pub Writes : Option ErrorKind → List ℕ → List ℕ → List ℕ → Result (Unit {0}) Error → Type 0
 Writes fault text old new (Ok _) = (fault ≡ None) × (new ≡ old ++ text)
-Writes fault text old new (Err e) = ((fault ≡ Some e.kind) ⊎ (e.kind ≡ NoMemory)) × (new ≡ old)
+Writes fault text old new (Err e) = ((fault ≡ Some (error_kind e)) ⊎ (error_kind e ≡ NoMemory)) × (new ≡ old)
 
 -- a reason why a message has no frame
 abbrev pub IsFrameFault : ErrorKind → Type 0

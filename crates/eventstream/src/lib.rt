@@ -9,21 +9,28 @@
 //! will be, [`parse_response_headers`] and the calls that expect a value read headers
 //! (`specs/SizeHint.antt`, `specs/ResponseHeaders.antt`, `specs/Expect.antt`). The definitions of the
 //! signing key and of the chain of signed frames stand here too (`specs/Key.antt`, `specs/Link.antt`),
-//! below all crates that cite them.
+//! below all crates that cite them. What a [`SignMessage`] answers is told before it is asked: messages as
+//! they are, or the links of a chain (`specs/Told.antt`); a [`DeferredSigner`] is told as the signer that it
+//! was handed last. What a [`MarshallMessage`] answers is its own relation.
 #![tactic(auto)]
 
 mod decode;
+mod deferred_signer;
 mod error;
 mod expect;
 mod kind;
 mod laws;
+mod marshall;
 mod read;
 mod response_headers;
+mod sign;
+mod sign_error;
 mod size_hint;
 mod texts;
 mod write;
 
 pub use crate::decode::{DecodedFrame, MessageFrameDecoder, StreamEnd};
+pub use crate::deferred_signer::DeferredSigner;
 pub use crate::error::{Error, ErrorKind};
 pub use crate::expect::{
     expect_bool, expect_byte, expect_byte_array, expect_int16, expect_int32, expect_int64,
@@ -33,7 +40,10 @@ pub use crate::laws::{
     first_stays, frame_comes_first, frame_reads_back, frames_read_back, messages_come_first,
     messages_join, no_frame_begins_another, reading_goes_on,
 };
+pub use crate::marshall::{IdentityMarshaller, MarshallMessage};
 pub use crate::read::read_message_from;
 pub use crate::response_headers::{ResponseHeaders, parse_response_headers};
+pub use crate::sign::{NoOpSigner, SignMessage};
+pub use crate::sign_error::SignMessageError;
 pub use crate::size_hint::MessageSizeHint;
 pub use crate::write::{frame_of, write_headers_to, write_message_to};
