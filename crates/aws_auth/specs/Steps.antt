@@ -10,7 +10,7 @@ use Rattle.smithy_core.specs.declared.identity.Identity.{Identity}
 use Rattle.smithy_core.specs.declared.request.HttpRequest.{HttpRequest}
 use Rattle.smithy_http.specs.QueryWriter.{SpellsTarget}
 use Rattle.smithy_http.specs.Target.{Target, target_of}
-use Rattle.sigv4.specs.Params.{signer_of}
+use Rattle.sigv4.specs.Params.{signer_of, v4_identity, v4_name, v4_region, v4_settings, v4_time}
 use Rattle.sigv4.specs.Refusal.{unfit}
 use Rattle.sigv4.specs.Request.{Case, key_id_of, token_of}
 use Rattle.sigv4.specs.RequestSigning.{IsSigned}
@@ -80,11 +80,11 @@ params_case request payload (V4 params) target = record {
   target = target;
   headers = request.headers;
   payload = chosen_text payload request.body;
-  settings = settings_of params.settings;
-  key_id = key_id_of params.identity.now;
-  token = token_of params.identity.now;
+  settings = settings_of (v4_settings params);
+  key_id = key_id_of (v4_identity params);
+  token = token_of (v4_identity params);
   signer = signer_of params;
-  at = params.time;
+  at = v4_time params;
 }
 
 module _ {F : Type 0} (calls : Shared F (Bor SigningSettings × (Bor SigV4OperationSigningConfig × Unit {0})) NameAnswer) where
@@ -104,7 +104,7 @@ Chooses identity inputs now (Err error) = (refusal_before_override identity inpu
 -- these are the parameters
 abbrev pub IsParamsOf : Identity → Option (List ℕ) → Option (List ℕ) → Instant → SigningSettings → SigningParams → Type 0
 IsParamsOf identity region name at settings (V4 params) =
-    (params.identity.now ≡ identity) × (Some params.region.now ≡ region) × (Some params.name.now ≡ name) × (params.time ≡ at) × (params.settings ≡ settings)
+    (v4_identity params ≡ identity) × (Some (v4_region params) ≡ region) × (Some (v4_name params) ≡ name) × (v4_time params ≡ at) × (v4_settings params ≡ settings)
 
 -- the parameters, or the first that is missing or out of the years
 abbrev pub TestsParams : Identity → Option (List ℕ) → Option (List ℕ) → Instant → SigningSettings → Result SigningParams SigV4SigningError → Type 0
@@ -114,9 +114,9 @@ TestsParams identity region name at settings (Err error) = unfit_params region n
 -- the signature, and two signers that go on from it
 abbrev pub IsSignedWith : SigningParams → List ℕ → Signed → Type 0
 IsSignedWith (V4 params) signature signed =
-    (string_bytes signed.signature ≡ signature) × GoesOn params.identity.now signature (signer_of params) params.time signed.message_signer
-    × GoesOn params.identity.now signature (signer_of params) params.time signed.chunk_signer
-    × (settings_of signed.chunk_signer.settings ≡ settings_of params.settings)
+    (string_bytes signed.signature ≡ signature) × GoesOn (v4_identity params) signature (signer_of params) (v4_time params) signed.message_signer
+    × GoesOn (v4_identity params) signature (signer_of params) (v4_time params) signed.chunk_signer
+    × (settings_of signed.chunk_signer.settings ≡ settings_of (v4_settings params))
 
 -- a test of the target of a text fails with this error, and no test before it, or memory ran out
 abbrev pub RefusesTarget : List ℕ → (Target → Case) → SigningError → Type 0

@@ -1,6 +1,6 @@
 ghost use Rattle.std.specs.Prelude.{◌≡◌, None, IfOk, IfSome, OnErr, option_copied, string_bytes};
 ghost use Rattle.sigv4.specs.EventStream.{unsignable};
-ghost use Rattle.sigv4.specs.Params.{signer_of};
+ghost use Rattle.sigv4.specs.Params.{signer_of, v4_identity, v4_time};
 ghost use Rattle.sigv4.specs.Request.{identity_of};
 ghost use Rattle.sigv4.specs.SigningParams.{params_time};
 ghost use Rattle.aws_auth.specs.MessageSigner.{GoesOn};
@@ -190,7 +190,7 @@ fn signer_with<S: Drop>(
     signature: String,
     settings: S,
 ) -> Mem<SigV4MessageSigner<S>>
-    ensures from { IfOk result (GoesOn params.now.identity.now (string_bytes signature) (signer_of params.now) params.now.time) }
+    ensures from { IfOk result (GoesOn (v4_identity params.now) (string_bytes signature) (signer_of params.now) (v4_time params.now)) }
     ensures settings { IfOk result (λ signer. signer.settings ≡ settings) }
 {
     Ok(SigV4MessageSigner::new(

@@ -6,6 +6,7 @@ use Rattle.smithy_core.specs.Moment.{Instant}
 use Rattle.smithy_core.specs.Message.{Parts}
 use Rattle.smithy_core.specs.declared.identity.Identity.{Identity}
 use Rattle.smithy_core.specs.declared.identity.Identity.TheVariants.{Credentials, Token}
+use Rattle.eventstream.specs.Error.{error_of}
 use Rattle.eventstream.specs.Frame.{unframed}
 use Rattle.eventstream.specs.Link.{link_message, link_signature}
 use Rattle.eventstream.specs.declared.error.ErrorKind.{ErrorKind}
@@ -23,7 +24,7 @@ unsignable (Credentials credentials) t = if is_in_years t then None else Some (M
 
 -- the reason why a message has no frame, as an error
 abbrev pub failed_encoding : ErrorKind → SigningError
-failed_encoding kind = FailedToEncodeMessage (record { kind = kind })
+failed_encoding kind = FailedToEncodeMessage (error_of kind)
 
 -- why a message isn't signed: it has no frame, or the identity doesn't sign
 abbrev pub message_refusal : Parts → Identity → Instant → Option SigningError
