@@ -6,7 +6,7 @@ use std::alloc::AllocError;
 use std::fmt;
 
 /// A line outside the grammar of profile files.
-#[derive(Debug, Drop)]
+#[derive(Debug, PartialEq, Eq, Drop)]
 pub struct EnvConfigParseError {
     /// The path of the file, empty where it has none.
     pub path: String,
