@@ -10,16 +10,22 @@ use Rattle.smithy_core.specs.declared.request.HttpRequest.{HttpRequest}
 use Rattle.smithy_http.specs.Target.{Target}
 use Rattle.eventstream.specs.Key.{Signer}
 use Rattle.sigv4.specs.Request.{Case}
-use Rattle.signed_stream.specs.Carriers.{GoesForJob, GoesForTarget}
-use Rattle.signed_stream.specs.Case.{Selected, job_case, request_moment}
+use Rattle.env_config.specs.Files.{Place}
+use Rattle.signed_stream.specs.Carriers.{GoesForJob, GoesForTarget, GoesForTexts}
+use Rattle.signed_stream.specs.Case.{job_case, request_moment}
 use Rattle.signed_stream.specs.Chain.{first_refusal, refusal_fault, streamed_lines}
 use Rattle.signed_stream.specs.Command.{Wanted}
+use Rattle.signed_stream.specs.ProfileOptions.{ProfileWanted}
 use Rattle.signed_stream.specs.Halt.{Sends, ended, halted}
-use Rattle.signed_stream.specs.Job.{JobParts, whole_job}
-use Rattle.signed_stream.specs.Plan.{GoesAsPlanned, Supplied, TargetRead, accepted, stops, unaccepted, unread}
+use Rattle.signed_stream.specs.Job.{JobParts}
+use Rattle.signed_stream.specs.Plan.{FilesRead, GoesAsPlanned, Supplied, TargetRead, accepted, stops, unaccepted, unread}
+use Rattle.signed_stream.specs.ProfileTexts.{ProfileTexts}
+use Rattle.signed_stream.specs.Settings.{Selected}
+use Rattle.signed_stream.specs.Shown.{shown_settings}
 use Rattle.signed_stream.specs.Sign.{SignsJob, case_fault, request_fault, target_fault}
 use Rattle.signed_stream.specs.Status.{Ending, RunFault, run_fault, invalid_uri, moment_out_of_range, refused}
-use Rattle.signed_stream.specs.Stream.{GaveJob, case_plan, job_plan, request_plan, target_plan}
+use Rattle.signed_stream.specs.Sources.{selection, source_places}
+use Rattle.signed_stream.specs.Stream.{GaveJob, case_plan, job_plan, job_texts, request_plan, target_plan}
 use Rattle.signed_stream.specs.Written.{head, case_refusal}
 use Rattle.signed_stream.proofs.RunLemmas.{first_moment, goes_no_memory, goes_stopped}
 use Rattle.signed_stream.proofs.SendLemmas.{end_counted, sends_goes, written_lines}
@@ -78,20 +84,39 @@ signed_goes text method at case events moments new signature before now answer s
 
 -- ## The job
 
--- what the profile of a job gives
-pub record GivesKeys (j : JobParts) (k s r : List ℕ) : Type 0 where
-  pub key_id : j.profile.key_id ≡ Some k
-  pub secret : j.profile.secret ≡ Some s
-  pub region : j.profile.region ≡ Some r
-
-pub job_goes : (wanted : Wanted) (j : JobParts) (selected : Selected) (answer : Ending) (before now : Option (List ℕ))
-    → GivesKeys j selected.key_id selected.secret selected.region → selected.token ≡ j.profile.token
+-- a job that is streamed under what is selected
+pub job_goes : (gave : List Place → FilesRead → Type 0) (env : List (List ℕ × List ℕ)) (wanted : Wanted) (j : JobParts) (files : FilesRead) (selected : Selected) (answer : Ending) (before now : Option (List ℕ))
+    → gave (source_places wanted.profile.files (job_texts j)) files → selection env wanted.profile.service_id files ≡ Ok selected
     → GoesForTarget j.target (request_moment wanted wanted.at) (job_case j wanted selected wanted.at) j.events (replicate (length j.events + 1) wanted.at) answer before now
-    → GoesForJob wanted (whole_job j) answer before now
-job_goes wanted j selected answer before now gives token goes =
-    let given : Supplied = record { texts = []; moments = replicate (length j.events + 2) wanted.at; target = goes.0 } in
-    let gave : GaveJob wanted j given = record { texts = refl; moments = refl; target = goes.1 } in
-    let same : job_plan wanted given (whole_job j)
+    → GoesForJob gave env wanted j answer before now
+job_goes gave env wanted j files selected answer before now loads selects goes =
+    let given : Supplied = record { files = files; moments = replicate (length j.events + 2) wanted.at; target = goes.0 } in
+    let found : GaveJob gave wanted j given = record { files = loads; moments = refl; target = goes.1 } in
+    let same : job_plan env wanted given (Ok j)
     ≡ request_plan j.target (request_moment wanted wanted.at) (job_case j wanted selected wanted.at) j.events (replicate (length j.events + 1) wanted.at) goes.0 =
-    rw (gives.key_id, gives.secret, gives.region, first_moment j.events wanted.at, ← token) refl in
-    (given, gave, rw same goes.2)
+    rw (selects, first_moment j.events wanted.at) refl in
+    (given, found, rw same goes.2)
+
+-- a job for which nothing is selected
+pub job_unselected : (gave : List Place → FilesRead → Type 0) (env : List (List ℕ × List ℕ)) (wanted : Wanted) (j : JobParts) (files : FilesRead) (end : Ending) (held : Option (List ℕ))
+    → gave (source_places wanted.profile.files (job_texts j)) files → selection env wanted.profile.service_id files ≡ Err end → GoesForJob gave env wanted j end held held
+job_unselected gave env wanted j files end held loads selects =
+    let given : Supplied = record { files = files; moments = replicate (length j.events + 2) wanted.at; target = unread } in
+    let found : GaveJob gave wanted j given = record { files = loads; moments = refl; target = tt } in
+    (given, found, rw selects (goes_stopped end held))
+
+-- ## What is shown
+
+-- what the outside gave for profile texts
+abbrev files_given : FilesRead → Supplied
+files_given files = record { files = files; moments = []; target = unread }
+
+pub texts_shown : {T : Type 0} (gave : List Place → FilesRead → Type 0) (env : List (List ℕ × List ℕ)) (wanted : ProfileWanted) (texts : ProfileTexts) (files : FilesRead) (selected : Selected) (answer : Result T Halt) (before now : Option (List ℕ))
+    → gave (source_places wanted.files texts) files → selection env wanted.service_id files ≡ Ok selected → Sends None (shown_settings selected) before now answer
+    → GoesForTexts gave env wanted texts (ended answer) before now
+texts_shown gave env wanted texts files selected answer before now loads selects sends =
+    (files_given files, loads, rw selects (sends_goes None (shown_settings selected) before now answer sends))
+
+pub texts_unselected : (gave : List Place → FilesRead → Type 0) (env : List (List ℕ × List ℕ)) (wanted : ProfileWanted) (texts : ProfileTexts) (files : FilesRead) (end : Ending) (held : Option (List ℕ))
+    → gave (source_places wanted.files texts) files → selection env wanted.service_id files ≡ Err end → GoesForTexts gave env wanted texts end held held
+texts_unselected gave env wanted texts files end held loads selects = (files_given files, loads, rw selects (goes_stopped end held))

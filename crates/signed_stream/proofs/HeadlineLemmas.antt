@@ -1,6 +1,6 @@
 -- A run that is done has streamed, and what is valid is done.
 use Rattle.std.proofs.Common.{◌≡◌, ◌==◌, ℕ, ◌+◌, ◌≤◌, ◌⊎◌, inl, inr, Bool, true, false, List, [], ◌∷◌, Option, Some, None, option_map, nat_lt, length, refl, sym, ◌∙◌, arith}
-use Rattle.std.specs.Prelude.{if◌then◌else◌}
+use Rattle.std.specs.Prelude.{if◌then◌else◌, Result, Ok, Err}
 use Rattle.std.specs.Option.{option_or}
 use Rattle.std.proofs.lemmas.Bool.{eq-eqb, eqb-true}
 use Rattle.std.proofs.lemmas.Bool.Decides.{nat_tests}
@@ -13,16 +13,24 @@ use Rattle.sigv4.specs.Request.{Case}
 use Rattle.sigv4.specs.Refusal.{unfit, unfit_signed_target}
 use Rattle.sigv4.specs.Signed.{signature_of}
 use Rattle.sigv4.specs.declared.error.SigningError.{SigningError}
-use Rattle.signed_stream.specs.Carriers.{GoesForInput}
-use Rattle.signed_stream.specs.Case.{Selected, job_case, request_moment}
+use Rattle.env_config.specs.Files.{Place}
+use Rattle.env_config.specs.Loading.{selected_profile}
+use Rattle.env_config.specs.Sections.{FileText}
+use Rattle.signed_stream.specs.Case.{job_case, request_moment}
 use Rattle.signed_stream.specs.Chain.{IsChained, Refusal}
-use Rattle.signed_stream.specs.Command.{Command, Wanted, bad_word, command, stream, unbuilt_word}
-use Rattle.signed_stream.specs.Job.{JobParts, Reading, bad_line, job, unbuilt_line, whole_job}
-use Rattle.signed_stream.specs.Plan.{EndsAsPlanned, GoesAsPlanned, TargetSpells, Supplied, TargetRead, accepted, most_input, stops, unaccepted, unread, writes}
-use Rattle.signed_stream.specs.Running.{Completes, Gave, IsValid, Streams, ask, ask_plan, command_ask, ends, has_later_variable, streams}
+use Rattle.signed_stream.specs.Command.{Command, Wanted, bad_word, show_settings, stream, unbuilt_word}
+use Rattle.signed_stream.specs.ProfileOptions.{ProfileWanted}
+use Rattle.signed_stream.specs.Job.{JobParts, job}
+use Rattle.signed_stream.specs.Plan.{EndsAsPlanned, FilesRead, GoesAsPlanned, Plan, TargetSpells, Supplied, TargetRead, accepted, loaded, most_input, stops, unaccepted, unloaded, unread, unreadable, writes}
+use Rattle.signed_stream.specs.ProfileTexts.{ProfileTexts, profile_texts}
+use Rattle.signed_stream.specs.Running.{CanBeDone, Completes, HasDone, RunsAsPlanned, command_plan}
+use Rattle.signed_stream.specs.Settings.{Selected, settings}
+use Rattle.signed_stream.specs.ShowSettings.{GaveTexts, IsShowable, settings_plan, shown_plan}
+use Rattle.signed_stream.specs.Shown.{shown_settings}
 use Rattle.signed_stream.specs.Sign.{case_fault, fault_for, unsigned}
-use Rattle.signed_stream.specs.Status.{Ending, RunFault, done, job_too_large, no_memory, not_built, output_fault, read_fault, refused, moment_out_of_range}
-use Rattle.signed_stream.specs.Stream.{GaveJob, GaveReading, IsStreamable, case_plan, input_plan, job_plan, profile_plan, selected_plan, streamed, target_plan}
+use Rattle.signed_stream.specs.Sources.{or_refused, selection, when_selected}
+use Rattle.signed_stream.specs.Status.{Ending, RunFault, done, job_too_large, no_memory, output_fault, read_fault, refused, moment_out_of_range}
+use Rattle.signed_stream.specs.Stream.{GaveJob, GaveReading, IsStreamable, case_plan, job_plan, selected_plan, streamed, target_plan}
 use Rattle.signed_stream.specs.Written.{case_refusal, written_stream, written_end, written_until}
 use Rattle.signed_stream.proofs.ChainLemmas.{chained_moments, frames_unrefused, unrefused_frames}
 use Rattle.signed_stream.proofs.TargetLemmas.{reads_one, reads_one_way}
@@ -87,7 +95,7 @@ done_case text c events moments before now None is goes = by_refusal (case_refus
     by_refusal (Some refusal) is goes = let wrong : refused refusal.fault ≡ done = writes_done _ _ before now goes in cc
     by_refusal None none goes = by_count (length moments == length events + 1) refl none goes
 
--- a job that is done under what its profile gives
+-- a job that is done under what is selected
 record DoneJob (j : JobParts) (wanted : Wanted) (selected : Selected) (given : Supplied) (before now : Option (List ℕ)) : Type 0 where
   first : Instant
   others : List Instant
@@ -113,7 +121,7 @@ done_target j wanted selected given first others before now moments years (accep
     }
 
 done_selected : (j : JobParts) (wanted : Wanted) (selected : Selected) (given : Supplied) (before now : Option (List ℕ)) (moments : List Instant) → given.moments ≡ moments
-    → GoesAsPlanned (selected_plan j wanted selected given.target moments) done before now → DoneJob j wanted selected given before now
+    → GoesAsPlanned (selected_plan j wanted given.target moments selected) done before now → DoneJob j wanted selected given before now
 done_selected j wanted selected given before now [] is goes = absurd (stops_undone _ before now (λ e. cc) goes)
 done_selected j wanted selected given before now (first ∷ others) is goes = by_years (is_in_years (request_moment wanted first)) refl goes
   where
@@ -123,94 +131,115 @@ done_selected j wanted selected given before now (first ∷ others) is goes = by
     by_years true within goes = done_target j wanted selected given first others before now is (in_years (request_moment wanted first) within) given.target refl goes
     by_years false within goes = absurd (stops_undone _ before now (λ e. cc) goes)
 
--- an input that has streamed
-abbrev HasStreamed : Wanted → List ℕ → Supplied → Option (List ℕ) → Option (List ℕ) → Type 0
-HasStreamed wanted bytes given before now = (input : IsStreamable wanted bytes given) × Gains before now (streamed input)
+-- a run that is done has its files, and they select what it goes on with
+record HasSelected (env : List (List ℕ × List ℕ)) (service_id : Option (List ℕ)) (files : FilesRead) (others : Selected → Plan) (before now : Option (List ℕ)) : Type 0 where
+  texts : List FileText
+  selected : Selected
+  all : files ≡ loaded texts
+  settled : settings texts (selected_profile env) env service_id ≡ Ok selected
+  goes : GoesAsPlanned (others selected) done before now
 
-done_profile : (wanted : Wanted) (bytes : List ℕ) (j : JobParts) (given : Supplied) (before now : Option (List ℕ)) (key_id secret region : Option (List ℕ))
-    → length bytes ≤ most_input → job bytes ≡ whole_job j → GaveJob wanted j given
-    → j.profile ≡ record { key_id = key_id; secret = secret; token = j.profile.token; region = region }
-    → GoesAsPlanned (profile_plan j wanted given key_id secret region) done before now → HasStreamed wanted bytes given before now
-done_profile wanted bytes j given before now (Some key_id) (Some secret) (Some region) short spelled gave settled goes =
-    let selected : Selected = record { key_id = key_id; secret = secret; token = j.profile.token; region = region } in
-    let did = done_selected j wanted selected given before now given.moments refl goes in
-    let input : IsStreamable wanted bytes given = record {
+done_files : (env : List (List ℕ × List ℕ)) (service_id : Option (List ℕ)) (files : FilesRead) (others : Selected → Plan) (before now : Option (List ℕ))
+    → GoesAsPlanned (when_selected others (selection env service_id files)) done before now → HasSelected env service_id files others before now
+done_files env service_id unloaded others before now goes = absurd (stops_undone _ before now (λ e. cc) goes)
+done_files env service_id (unreadable path) others before now goes = absurd (stops_undone _ before now (λ e. cc) goes)
+done_files env service_id (loaded texts) others before now goes = by_settings (settings texts (selected_profile env) env service_id) refl goes
+  where
+    by_settings : (outcome : Result Selected RunFault) → settings texts (selected_profile env) env service_id ≡ outcome
+        → GoesAsPlanned (when_selected others (or_refused outcome)) done before now → HasSelected env service_id (loaded texts) others before now
+    by_settings (Ok selected) is goes = record { texts = texts; selected = selected; all = refl; settled = is; goes = goes }
+    by_settings (Err fault) is goes = absurd (stops_undone _ before now (λ e. cc) goes)
+
+-- an input that has streamed
+abbrev HasStreamed : (List Place → FilesRead → Type 0) → List (List ℕ × List ℕ) → Wanted → List ℕ → Supplied → Option (List ℕ) → Option (List ℕ) → Type 0
+HasStreamed gave env wanted bytes given before now = (input : IsStreamable gave env wanted bytes given) × Gains before now (streamed input)
+
+done_reading : (gave : List Place → FilesRead → Type 0) (env : List (List ℕ × List ℕ)) (wanted : Wanted) (bytes : List ℕ) (reading : Result JobParts ℕ) (given : Supplied) (before now : Option (List ℕ))
+    → length bytes ≤ most_input → job bytes ≡ reading → GaveReading gave wanted reading given → GoesAsPlanned (job_plan env wanted given reading) done before now → HasStreamed gave env wanted bytes given before now
+done_reading gave env wanted bytes (Err place) given before now short spelled found goes = absurd (stops_undone _ before now (λ e. cc) goes)
+done_reading gave env wanted bytes (Ok j) given before now short spelled found goes =
+    let has = done_files env wanted.profile.service_id given.files (selected_plan j wanted given.target given.moments) before now goes in
+    let did = done_selected j wanted has.selected given before now given.moments refl has.goes in
+    let input : IsStreamable gave env wanted bytes given = record {
       read = j;
-      selected = selected;
+      texts = has.texts;
+      selected = has.selected;
       first = did.first;
       others = did.others;
       target = did.target;
       short = short;
       spelled = spelled;
-      gave = gave;
+      supplied = found;
+      files = has.all;
       moments = did.moments;
       targets = did.targets;
-      settled = settled;
+      settled = has.settled;
       years = did.years;
       fit = did.case.fit;
       fits = did.case.fits;
       chained = did.case.chained;
     } in
     (input, did.case.gains)
-done_profile wanted bytes j given before now (Some key_id) (Some secret) None short spelled gave settled goes = absurd (stops_undone _ before now (λ e. cc) goes)
-done_profile wanted bytes j given before now (Some key_id) None region short spelled gave settled goes = absurd (stops_undone _ before now (λ e. cc) goes)
-done_profile wanted bytes j given before now None secret region short spelled gave settled goes = absurd (stops_undone _ before now (λ e. cc) goes)
 
-done_reading : (wanted : Wanted) (bytes : List ℕ) (reading : Reading) (given : Supplied) (before now : Option (List ℕ)) → length bytes ≤ most_input → job bytes ≡ reading → GaveReading wanted reading given
-    → GoesAsPlanned (job_plan wanted given reading) done before now → HasStreamed wanted bytes given before now
-done_reading wanted bytes (bad_line place) given before now short spelled gave goes = absurd (stops_undone _ before now (λ e. cc) goes)
-done_reading wanted bytes (unbuilt_line place) given before now short spelled gave goes = absurd (stops_undone _ before now (λ e. cc) goes)
-done_reading wanted bytes (whole_job j) given before now short spelled gave goes =
-    done_profile wanted bytes j given before now j.profile.key_id j.profile.secret j.profile.region short spelled gave refl goes
+-- an input for which is shown what is selected
+abbrev HasShown : (List Place → FilesRead → Type 0) → List (List ℕ × List ℕ) → ProfileWanted → List ℕ → Supplied → Option (List ℕ) → Option (List ℕ) → Type 0
+HasShown gave env wanted bytes given before now = (input : IsShowable gave env wanted bytes given) × Gains before now (shown_settings input.selected)
 
-done_input : (wanted : Wanted) (bytes : List ℕ) (given : Supplied) (before now : Option (List ℕ)) → GaveReading wanted (job bytes) given
-    → GoesAsPlanned (input_plan wanted bytes given) done before now → HasStreamed wanted bytes given before now
-unfolding input_plan
-done_input wanted bytes given before now gave goes = by_length (nat_lt most_input (length bytes)) refl goes
+done_texts : (gave : List Place → FilesRead → Type 0) (env : List (List ℕ × List ℕ)) (wanted : ProfileWanted) (bytes : List ℕ) (reading : Result ProfileTexts ℕ) (given : Supplied) (before now : Option (List ℕ))
+    → length bytes ≤ most_input → profile_texts bytes ≡ reading → GaveTexts gave wanted reading given → GoesAsPlanned (settings_plan env wanted given reading) done before now → HasShown gave env wanted bytes given before now
+done_texts gave env wanted bytes (Err place) given before now short spelled found goes = absurd (stops_undone _ before now (λ e. cc) goes)
+done_texts gave env wanted bytes (Ok texts) given before now short spelled found goes =
+    let has = done_files env wanted.service_id given.files shown_plan before now goes in
+    let input : IsShowable gave env wanted bytes given = record {
+      read = texts;
+      texts = has.texts;
+      selected = has.selected;
+      short = short;
+      spelled = spelled;
+      supplied = found;
+      files = has.all;
+      settled = has.settled;
+    } in
+    (input, has.goes.gains)
+
+-- a run that is done has done what it was asked
+has_done : (gave : List Place → FilesRead → Type 0) (env : List (List ℕ × List ℕ)) (command : Command) (bytes : List ℕ) (given : Supplied) (before now : Option (List ℕ)) → RunsAsPlanned gave env command bytes given done before now
+    → HasDone gave env command bytes given before now
+unfolding command_plan
+has_done gave env (bad_word place) bytes given before now runs = stops_undone _ before now (λ e. cc) runs.goes
+has_done gave env (unbuilt_word place) bytes given before now runs = stops_undone _ before now (λ e. cc) runs.goes
+has_done gave env (stream wanted) bytes given before now runs = by_length (nat_lt most_input (length bytes)) refl runs.goes
   where
     by_length : (large : Bool) → nat_lt most_input (length bytes) ≡ large
-        → GoesAsPlanned (if large then stops job_too_large else job_plan wanted given (job bytes)) done before now → HasStreamed wanted bytes given before now
+        → GoesAsPlanned (if large then stops job_too_large else job_plan env wanted given (job bytes)) done before now → HasStreamed gave env wanted bytes given before now
     by_length true is goes = absurd (stops_undone _ before now (λ e. cc) goes)
-    by_length false is goes = done_reading wanted bytes (job bytes) given before now (grind (arith, nat_tests)) refl gave goes
-
--- a run that is done has streamed what is valid
-pub done_streams : (words : List (List ℕ)) (env : List (List ℕ × List ℕ)) (bytes : List ℕ) (before now : Option (List ℕ)) → GoesForInput (ask words env) bytes done before now → Streams words env bytes before now
-unfolding ask
-done_streams words env bytes before now found = by_command (command words) refl found.1.gave found.1.goes
+    by_length false is goes = done_reading gave env wanted bytes (job bytes) given before now (grind (arith, nat_tests)) refl runs.supplied goes
+has_done gave env (show_settings wanted) bytes given before now runs = by_length (nat_lt most_input (length bytes)) refl runs.goes
   where
-    by_variable : (wanted : Wanted) (later : Bool) → command words ≡ stream wanted → has_later_variable env ≡ later
-        → Gave (if later then ends (not_built 0) else streams wanted) bytes found.0
-        → GoesAsPlanned (ask_plan (if later then ends (not_built 0) else streams wanted) bytes found.0) done before now → Streams words env bytes before now
-    by_variable wanted true asked is gave goes = absurd (stops_undone _ before now (λ e. cc) goes)
-    by_variable wanted false asked is gave goes =
-        let did = done_input wanted bytes found.0 before now gave goes in
-        (found.0, record { wanted = wanted; asked = asked; built = is; input = did.0 }, did.1)
+    by_length : (large : Bool) → nat_lt most_input (length bytes) ≡ large
+        → GoesAsPlanned (if large then stops job_too_large else settings_plan env wanted given (profile_texts bytes)) done before now → HasShown gave env wanted bytes given before now
+    by_length true is goes = absurd (stops_undone _ before now (λ e. cc) goes)
+    by_length false is goes = done_texts gave env wanted bytes (profile_texts bytes) given before now (grind (arith, nat_tests)) refl runs.supplied goes
 
-    by_command : (asked : Command) → command words ≡ asked → Gave (command_ask env asked) bytes found.0
-        → GoesAsPlanned (ask_plan (command_ask env asked) bytes found.0) done before now → Streams words env bytes before now
-    by_command (bad_word place) is gave goes = absurd (stops_undone _ before now (λ e. cc) goes)
-    by_command (unbuilt_word place) is gave goes = absurd (stops_undone _ before now (λ e. cc) goes)
-    by_command (stream wanted) is gave goes = by_variable wanted (has_later_variable env) is refl gave goes
+pub has_done_where : (gave : List Place → FilesRead → Type 0) (env : List (List ℕ × List ℕ)) (command : Command) (bytes : List ℕ) (given : Supplied) (answer : Ending) (before now : Option (List ℕ)) → answer ≡ done
+    → RunsAsPlanned gave env command bytes given answer before now → HasDone gave env command bytes given before now
+has_done_where gave env command bytes given answer before now is runs = has_done gave env command bytes given before now (rw is at runs)
 
--- ## Valid
+-- ## What can be done
 
--- what is valid asks to stream
-valid_asks : (words : List (List ℕ)) (env : List (List ℕ × List ℕ)) (bytes : List ℕ) (given : Supplied) (valid : IsValid words env bytes given) → ask words env ≡ streams valid.wanted
-unfolding ask
-valid_asks words env bytes given valid = rw (valid.asked, valid.built) refl
-
--- the plan of a valid input, for these moments, is that of its target
-valid_plan : (wanted : Wanted) (bytes : List ℕ) (given other : Supplied) (input : IsStreamable wanted bytes given) → other.moments ≡ input.first ∷ input.others
-    → input_plan wanted bytes other ≡ target_plan input.read.target (job_case input.read wanted input.selected input.first) input.read.events input.others other.target
-unfolding input_plan
-valid_plan wanted bytes given other input moments =
+-- the plan of an input that can be streamed, for these files and moments, is that of its target
+streamable_plan : (gave : List Place → FilesRead → Type 0) (env : List (List ℕ × List ℕ)) (wanted : Wanted) (bytes : List ℕ) (given other : Supplied) (input : IsStreamable gave env wanted bytes given)
+    → other.files ≡ loaded input.texts → other.moments ≡ input.first ∷ input.others
+    → command_plan env (stream wanted) bytes other ≡ target_plan input.read.target (job_case input.read wanted input.selected input.first) input.read.events input.others other.target
+unfolding command_plan
+streamable_plan gave env wanted bytes given other input files moments =
     let large : nat_lt most_input (length bytes) ≡ false = (let short = input.short in grind (arith, nat_tests)) in
-    rw (large, input.spelled, input.settled, moments, years_in (request_moment wanted input.first) input.years) refl
+    rw (large, input.spelled, files, input.settled, moments, years_in (request_moment wanted input.first) input.years) refl
 
 -- for its target it is to write all
-valid_target : (wanted : Wanted) (bytes : List ℕ) (given : Supplied) (input : IsStreamable wanted bytes given)
+streamable_target : (gave : List Place → FilesRead → Type 0) (env : List (List ℕ × List ℕ)) (wanted : Wanted) (bytes : List ℕ) (given : Supplied) (input : IsStreamable gave env wanted bytes given)
     → target_plan input.read.target (job_case input.read wanted input.selected input.first) input.read.events input.others (accepted input.target) ≡ writes (streamed input) done
-valid_target wanted bytes given input =
+streamable_target gave env wanted bytes given input =
     let c = job_case input.read wanted input.selected input.first input.target in
     let none = frames_unrefused c.signer 1 input.read.events input.others (signature_of c) input.chained in
     let counted : (length input.others == length input.read.events + 1) ≡ true = eq-eqb _ _ (chained_moments c.signer input.read.events input.others (signature_of c) input.chained) in
@@ -222,27 +251,39 @@ stopped_completes answer (inl is) = inr (inr (inr is))
 stopped_completes answer (inr (inl is)) = inr (inl is)
 stopped_completes answer (inr (inr is)) = inr (inr (inr is))
 
--- a valid input completes, also where the target wasn't read
-completes_input : (wanted : Wanted) (bytes : List ℕ) (given other : Supplied) (answer : Ending) (input : IsStreamable wanted bytes given) → GaveJob wanted input.read other
-    → EndsAsPlanned (input_plan wanted bytes other) answer → Completes answer
-completes_input wanted bytes given other answer input gave goes =
-    by_target other.target gave.target (rw (valid_plan wanted bytes given other input (gave.moments ∙ sym input.gave.moments ∙ input.moments)) at goes)
+-- what can be streamed completes, also where the target wasn't read
+completes_stream : (gave : List Place → FilesRead → Type 0) (env : List (List ℕ × List ℕ)) (wanted : Wanted) (bytes : List ℕ) (given other : Supplied) (answer : Ending) (input : IsStreamable gave env wanted bytes other)
+    → other.files ≡ given.files → GaveJob gave wanted input.read given → EndsAsPlanned (command_plan env (stream wanted) bytes given) answer → Completes answer
+completes_stream gave env wanted bytes given other answer input files found goes =
+    by_target given.target found.target
+    (rw (streamable_plan gave env wanted bytes other given input (sym files ∙ input.files) (found.moments ∙ sym input.supplied.moments ∙ input.moments)) at goes)
   where
     reads : TargetSpells input.read.target (accepted input.target)
-    reads = rw input.targets at input.gave.target
+    reads = rw input.targets at input.supplied.target
 
     by_target : (target : TargetRead) → TargetSpells input.read.target target
         → EndsAsPlanned (target_plan input.read.target (job_case input.read wanted input.selected input.first) input.read.events input.others target) answer → Completes answer
-    by_target unread found goes = stopped_completes answer goes
-    by_target unaccepted found goes = absurd (reads_one_way input.read.target input.target found reads)
-    by_target (accepted target) found goes =
-        let same = reads_one input.read.target target input.target found reads in
-        rw (same, valid_target wanted bytes given input) at goes
+    by_target unread spells goes = stopped_completes answer goes
+    by_target unaccepted spells goes = absurd (reads_one_way input.read.target input.target spells reads)
+    by_target (accepted target) spells goes =
+        let same = reads_one input.read.target target input.target spells reads in
+        rw (same, streamable_target gave env wanted bytes other input) at goes
 
--- what is valid completes
-pub completes : (words : List (List ℕ)) (env : List (List ℕ × List ℕ)) (bytes : List ℕ) (given : Supplied) (answer : Ending) (before now : Option (List ℕ)) → IsValid words env bytes given
-    → GoesForInput (ask words env) bytes answer before now → Completes answer
-completes words env bytes given answer before now valid found =
-    let asks = valid_asks words env bytes given valid in
-    let gave : GaveJob valid.wanted valid.input.read found.0 = rw (asks, valid.input.spelled) at found.1.gave in
-    completes_input valid.wanted bytes given found.0 answer valid.input gave (rw asks at found.1.goes.ends)
+-- what can be shown completes
+completes_shown : (gave : List Place → FilesRead → Type 0) (env : List (List ℕ × List ℕ)) (wanted : ProfileWanted) (bytes : List ℕ) (given other : Supplied) (answer : Ending) (input : IsShowable gave env wanted bytes other)
+    → other.files ≡ given.files → EndsAsPlanned (command_plan env (show_settings wanted) bytes given) answer → Completes answer
+unfolding command_plan
+completes_shown gave env wanted bytes given other answer input files goes =
+    let large : nat_lt most_input (length bytes) ≡ false = (let short = input.short in grind (arith, nat_tests)) in
+    let are : given.files ≡ loaded input.texts = sym files ∙ input.files in
+    rw (large, input.spelled, are, input.settled) at goes
+
+-- what can be done with these files is done
+pub completes : (gave : List Place → FilesRead → Type 0) (env : List (List ℕ × List ℕ)) (command : Command) (bytes : List ℕ) (given other : Supplied) (answer : Ending) (before now : Option (List ℕ))
+    → RunsAsPlanned gave env command bytes given answer before now → other.files ≡ given.files → CanBeDone gave env command bytes other → Completes answer
+completes gave env (bad_word place) bytes given other answer before now runs files can = absurd can
+completes gave env (unbuilt_word place) bytes given other answer before now runs files can = absurd can
+completes gave env (stream wanted) bytes given other answer before now runs files can =
+    let found : GaveJob gave wanted can.read given = rw can.spelled at runs.supplied in
+    completes_stream gave env wanted bytes given other answer can files found runs.goes.ends
+completes gave env (show_settings wanted) bytes given other answer before now runs files can = completes_shown gave env wanted bytes given other answer can files runs.goes.ends

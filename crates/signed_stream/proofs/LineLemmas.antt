@@ -1,6 +1,6 @@
 -- Lines and words, as `split_once` cuts them.
 use Rattle.std.proofs.Common.{◌≡◌, ◌≢◌, get_or, ℕ, ◌+◌, ◌<◌, ◌≤◌, Bool, true, false, ◌&&◌, cond, eqb, not, List, [], ◌∷◌, length, take, drop, zero, suc, refl, sym, ap, ◌∙◌, arith, add-one, option_map}
-use Rattle.std.specs.Prelude.{Option, Some, None, Err, MatchOption}
+use Rattle.std.specs.Prelude.{Option, Some, None, Result, Ok, Err, MatchOption}
 use Rattle.std.specs.Borrow.{Bor}
 use Rattle.std.specs.List.{position_or_len, before_first, after_first}
 use Rattle.std.specs.Str.{IsUtf8}
@@ -9,12 +9,14 @@ use Rattle.std.specs.Str.Lossy.{utf8_valid_len}
 use Rattle.std.proofs.lemmas.Bool.{and_parts, eq-eqb, eqb-true}
 use Rattle.std.proofs.lemmas.Str.{utf8_valid_len-IsUtf8}
 use Rattle.signed_stream.specs.Fault.{placed}
-use Rattle.signed_stream.specs.Job.{Draft, Reading, job, job_line_step, lines_from, no_draft}
-use Rattle.signed_stream.specs.Lines.{job_lines, onto_first_line, header_pair}
+use Rattle.signed_stream.specs.Job.{Draft, JobParts, job_line_step, lines_from}
+use Rattle.signed_stream.specs.Lines.{job_lines, onto_first_line, header_pair, text_lines}
 use Rattle.signed_stream.specs.Draft.{ReadsJob, MovesDraft, texts_of_pair}
+use Rattle.signed_stream.specs.ProfileTexts.{MovesTexts, ProfileTexts, ReadsTexts, texts_from, texts_line_step}
 use Rattle.signed_stream.specs.declared.job.draft.Draft.{Draft as JobDraft}
 use Rattle.signed_stream.specs.declared.job.fault.LineFault.{LineFault}
-use Rattle.signed_stream.specs.declared.job.fault.LineFault.TheVariants.{Bad, NotBuilt, NoMemory}
+use Rattle.signed_stream.specs.declared.job.fault.LineFault.TheVariants.{Bad, NoMemory}
+use Rattle.signed_stream.specs.declared.job.profile_texts.ProfileTexts.{ProfileTexts as HeldTexts}
 
 abbrev is_lf : ℕ → Bool
 is_lf b = eqb b 10
@@ -65,16 +67,25 @@ pub lines_over : (place : ℕ) (draft : Draft) (rest : List ℕ) → length rest
 lines_over place draft rest none = rw (lines_end rest none) refl
 
 -- a line that doesn't move the draft decides
-pub faulty_line : (place : ℕ) (draft : Draft) (line : List ℕ) (lines : List (List ℕ)) (whole : Reading) (now : JobDraft) (fault : LineFault)
+pub faulty_line : (place : ℕ) (draft : Draft) (line : List ℕ) (lines : List (List ℕ)) (whole : Result JobParts ℕ) (now : JobDraft) (fault : LineFault)
     → lines_from place draft (line ∷ lines) ≡ whole → MovesDraft (job_line_step draft line) now (Err fault) → ReadsJob whole (Err (placed place fault))
 faulty_line place draft line lines whole now Bad is step = rw (← is, step) refl
-faulty_line place draft line lines whole now NotBuilt is step = rw (← is, step) refl
 faulty_line place draft line lines whole now NoMemory is step = tt
 
--- a text is read line by line
-pub job_text : (bytes : List ℕ) → IsUtf8 bytes → job bytes ≡ lines_from 1 no_draft (job_lines bytes)
-unfolding job
-job_text bytes is =
+-- where no bytes are left, the lines of texts are over
+pub text_lines_over : (place : ℕ) (texts : ProfileTexts) (rest : List ℕ) → length rest ≡ 0 → texts_from place texts [] ≡ texts_from place texts (job_lines rest)
+text_lines_over place texts rest none = rw (lines_end rest none) refl
+
+-- a line that doesn't move the texts decides
+pub faulty_text_line : (place : ℕ) (texts : ProfileTexts) (line : List ℕ) (lines : List (List ℕ)) (whole : Result ProfileTexts ℕ) (now : HeldTexts) (fault : LineFault)
+    → texts_from place texts (line ∷ lines) ≡ whole → MovesTexts (texts_line_step texts line) now (Err fault) → ReadsTexts whole (Err (placed place fault))
+faulty_text_line place texts line lines whole now Bad is step = rw (← is, step) refl
+faulty_text_line place texts line lines whole now NoMemory is step = tt
+
+-- a text has its lines
+pub lines_of_text : (bytes : List ℕ) → IsUtf8 bytes → text_lines bytes ≡ Ok (job_lines bytes)
+unfolding text_lines
+lines_of_text bytes is =
     let all : eqb (utf8_valid_len bytes) (length bytes) ≡ true = eq-eqb (utf8_valid_len bytes) (length bytes) (utf8_valid_len-IsUtf8 bytes is) in
     rw all refl
 

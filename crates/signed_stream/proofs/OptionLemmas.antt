@@ -1,6 +1,10 @@
--- The first word, and the words after it.
-use Rattle.std.proofs.Common.{◌≡◌, ℕ, ◌<◌, ◌≤◌, List, [], ◌∷◌, length, get_or, drop, map, refl, arith}
+-- The words, and the files that they name.
+use Rattle.std.proofs.Common.{◌≡◌, ℕ, ◌<◌, ◌≤◌, ◌||◌, List, [], ◌∷◌, length, get_or, drop, map, refl, ap, arith}
+use Rattle.std.specs.List.{list_any}
+use Rattle.env_config.specs.declared.source.EnvConfigFileKind.{EnvConfigFileKind}
 use Rattle.signed_stream.specs.Command.{bad_word, command}
+use Rattle.signed_stream.specs.ProfileOptions.{is_same_kind, kind_of, place_of}
+use Rattle.signed_stream.specs.declared.command.profile.NamedFile.{NamedFile}
 
 pub command_empty : {A : Type 0} (text : A → List ℕ) (words : List A) → length words < 1 → command (map text words) ≡ bad_word 1
 unfolding command
@@ -10,3 +14,8 @@ command_empty text (word ∷ words) h = absurd (omega arith)
 pub command_first : {A : Type 0} (text : A → List ℕ) (words : List A) (word : A) → word ≡ get_or words 0 word → 1 ≤ length words → command (map text words) ≡ command (text word ∷ map text (drop 1 words))
 command_first text [] word here h = absurd (omega arith)
 command_first text (first ∷ words) word here h = rw here refl
+
+-- the kinds of named files are those of their places
+pub kind_named : (kind : EnvConfigFileKind) (files : List NamedFile) → list_any (λ place. is_same_kind kind (kind_of place)) (map place_of files) ≡ list_any (λ file. is_same_kind kind file.kind) files
+kind_named kind [] = refl
+kind_named kind (file ∷ files) = ap (λ rest. is_same_kind kind file.kind || rest) (kind_named kind files)

@@ -2,20 +2,21 @@
 use Rattle.std.proofs.Common.{◌≡◌, ℕ, ◌≤◌, ◌⊎◌, inl, inr, Bool, List, [], Option, Some, None, refl, sym, ◌∙◌}
 use Rattle.smithy_core.specs.Outside.{RoseOrStands}
 use Rattle.smithy_core.proofs.GainLemmas.{prefix_at_start, prefix_from_whole}
+use Rattle.env_config.specs.Files.{Place}
 use Rattle.signed_stream.specs.Carriers.{GoesForInput}
-use Rattle.signed_stream.specs.Plan.{GainsAsPlanned, GoesAsPlanned, Plan, Supplied, stops, unread, writes}
-use Rattle.signed_stream.specs.Running.{Ask, CountsReads, CountsWrites, EndsAsAsked, KeepsOutput, RunsAsPlanned, ask_plan, ends, streams}
-use Rattle.signed_stream.specs.Status.{Ending, bad_job, bad_words, done, job_too_large, no_memory, not_built, output_fault, read_fault, refused}
-use Rattle.signed_stream.proofs.RunLemmas.{goes_no_memory}
+use Rattle.signed_stream.specs.Command.{Command}
+use Rattle.signed_stream.specs.Plan.{FilesRead, GainsAsPlanned, GoesAsPlanned, Plan, Supplied, stops, unloaded, unread, writes}
+use Rattle.signed_stream.specs.Running.{CountsReads, CountsWrites, EndsAsAsked, KeepsDisk, KeepsOutput, RunsAsPlanned, command_plan}
+use Rattle.signed_stream.specs.Status.{Ending, RunFault, bad_job, bad_words, could_not_read_file, done, job_too_large, no_memory, not_built, output_fault, read_fault, refused}
+use Rattle.signed_stream.proofs.RunLemmas.{asked_no_memory, goes_no_memory}
 
 -- the answer is the end, or want of memory
 abbrev pub IsSaid : Ending → Ending → Type 0
 IsSaid end answer = (answer ≡ end) ⊎ (answer ≡ no_memory)
 
-pub said_asked : (asked : Ask) (end answer : Ending) → EndsAsAsked asked end → IsSaid end answer → EndsAsAsked asked answer
-said_asked asked end answer fits (inl is) = rw is fits
-said_asked (ends early) end answer fits (inr is) = inr is
-said_asked (streams wanted) end answer fits (inr is) = rw is tt
+pub said_asked : (command : Command) (end answer : Ending) → EndsAsAsked command end → IsSaid end answer → EndsAsAsked command answer
+said_asked command end answer fits (inl is) = rw is fits
+said_asked command end answer fits (inr is) = rw is (asked_no_memory command)
 
 -- what was written before memory ran out is a front of the text
 cut_short : (plan : Plan) (end : Ending) (before now : Option (List ℕ)) → GainsAsPlanned plan end before now → GainsAsPlanned plan no_memory before now
@@ -28,6 +29,7 @@ cut_short (writes text whole) (bad_words place) before now gains = rw gains (pre
 cut_short (writes text whole) job_too_large before now gains = rw gains (prefix_at_start before text)
 cut_short (writes text whole) (bad_job place) before now gains = rw gains (prefix_at_start before text)
 cut_short (writes text whole) read_fault before now gains = rw gains (prefix_at_start before text)
+cut_short (writes text whole) (could_not_read_file path) before now gains = rw gains (prefix_at_start before text)
 cut_short (writes text whole) (not_built place) before now gains = rw gains (prefix_at_start before text)
 
 -- a run whose end is said goes as it did
@@ -36,20 +38,26 @@ said_goes plan end answer before now goes (inl is) = rw is goes
 said_goes plan end answer before now goes (inr is) =
     rw is (record { ends = (goes_no_memory plan before).ends; gains = cut_short plan end before now goes.gains })
 
-pub said_runs : (asked : Ask) (bytes : List ℕ) (end answer : Ending) (before now : Option (List ℕ)) → GoesForInput asked bytes end before now → IsSaid end answer → GoesForInput asked bytes answer before now
-said_runs asked bytes end answer before now found said =
-    (found.0, record { gave = found.1.gave; goes = said_goes (ask_plan asked bytes found.0) end answer before now found.1.goes said })
+pub said_runs : (gave : List Place → FilesRead → Type 0) (env : List (List ℕ × List ℕ)) (command : Command) (bytes : List ℕ) (end answer : Ending) (before now : Option (List ℕ))
+    → GoesForInput gave env command bytes end before now → IsSaid end answer → GoesForInput gave env command bytes answer before now
+said_runs gave env command bytes end answer before now found said =
+    (found.0, record { supplied = found.1.supplied; goes = said_goes (command_plan env command bytes found.0) end answer before now found.1.goes said })
 
 -- what the outside gave, whether or not the input tells its bytes
-pub one_given : (asked : Ask) (left : Option (List ℕ)) (answer : Ending) (before now : Option (List ℕ)) → ((bytes : List ℕ) → left ≡ Some bytes → GoesForInput asked bytes answer before now)
-    → (given : Supplied) × ((bytes : List ℕ) → left ≡ Some bytes → RunsAsPlanned asked bytes given answer before now)
-one_given asked None answer before now runs = (record { texts = []; moments = []; target = unread }, λ bytes told. cc)
-one_given asked (Some all) answer before now runs =
+pub one_given : (gave : List Place → FilesRead → Type 0) (env : List (List ℕ × List ℕ)) (command : Command) (left : Option (List ℕ)) (answer : Ending) (before now : Option (List ℕ))
+    → ((bytes : List ℕ) → left ≡ Some bytes → GoesForInput gave env command bytes answer before now)
+    → (given : Supplied) × ((bytes : List ℕ) → left ≡ Some bytes → RunsAsPlanned gave env command bytes given answer before now)
+one_given gave env command None answer before now runs = (record { files = unloaded; moments = []; target = unread }, λ bytes told. cc)
+one_given gave env command (Some all) answer before now runs =
     let found = runs all refl in (found.0, λ bytes told. let same : all ≡ bytes = cc in rw (← same) found.1)
 
-pub said_keeps : (in_years : Bool) (end answer : Ending) (before now : Option (List ℕ)) → KeepsOutput in_years end before now → IsSaid end answer → KeepsOutput in_years answer before now
-said_keeps in_years end answer before now keeps (inl is) = rw is keeps
-said_keeps in_years end answer before now keeps (inr is) = rw is tt
+pub said_keeps : (late : RunFault → Bool) (end answer : Ending) (before now : Option (List ℕ)) → KeepsOutput late end before now → IsSaid end answer → KeepsOutput late answer before now
+said_keeps late end answer before now keeps (inl is) = rw is keeps
+said_keeps late end answer before now keeps (inr is) = rw is tt
+
+pub said_disk : {D : Type 0} (end answer : Ending) (before now : D) → KeepsDisk end before now → IsSaid end answer → KeepsDisk answer before now
+said_disk end answer before now keeps (inl is) = rw is keeps
+said_disk end answer before now keeps (inr is) = rw is tt
 
 -- an answer other than want of memory is the end itself
 pub said_is : (end answer told : Ending) → IsSaid end answer → answer ≡ told → (told ≡ no_memory → ⊥) → end ≡ told
@@ -70,6 +78,7 @@ said_reads end answer before now (inl is) grew rose stayed = rw is (by_end end r
     by_end (bad_job place) rose stayed = stayed (λ e. cc)
     by_end (refused fault) rose stayed = stayed (λ e. cc)
     by_end output_fault rose stayed = stayed (λ e. cc)
+    by_end (could_not_read_file path) rose stayed = stayed (λ e. cc)
     by_end (not_built place) rose stayed = stayed (λ e. cc)
 said_reads end answer before now (inr is) grew rose stayed = rw is grew
 
@@ -85,5 +94,6 @@ said_writes end answer before now (inl is) grew rose stayed = rw is (by_end end 
     by_end (bad_job place) rose stayed = stayed (λ e. cc)
     by_end read_fault rose stayed = stayed (λ e. cc)
     by_end (refused fault) rose stayed = stayed (λ e. cc)
+    by_end (could_not_read_file path) rose stayed = stayed (λ e. cc)
     by_end (not_built place) rose stayed = stayed (λ e. cc)
 said_writes end answer before now (inr is) grew rose stayed = rw is grew

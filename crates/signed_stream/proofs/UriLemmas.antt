@@ -1,6 +1,6 @@
 -- A run that is refused for its target.
 use Rattle.std.proofs.Common.{◌≡◌, ℕ, inl, inr, Bool, true, false, List, [], ◌∷◌, length, nat_lt, Option, Some, None, option_map, refl, sym}
-use Rattle.std.specs.Prelude.{if◌then◌else◌}
+use Rattle.std.specs.Prelude.{if◌then◌else◌, Result, Ok, Err}
 use Rattle.smithy_core.specs.Civil.{is_in_years}
 use Rattle.smithy_core.specs.Moment.{Instant}
 use Rattle.smithy_core.specs.Message.{Parts}
@@ -9,16 +9,25 @@ use Rattle.sigv4.specs.Parameters.{takes_no_more}
 use Rattle.sigv4.specs.Signed.{parameters, signature_of}
 use Rattle.sigv4.specs.declared.error.SigningError.{SigningError}
 use Rattle.sigv4.specs.declared.error.SigningError.TheVariants as errors
+use Rattle.env_config.specs.Files.{Place}
+use Rattle.env_config.specs.Loading.{selected_profile}
+use Rattle.env_config.specs.Sections.{FaultyLine, FileText, Sections, sections}
 use Rattle.signed_stream.specs.Carriers.{GoesForInput}
-use Rattle.signed_stream.specs.Case.{Selected, job_case, request_moment}
+use Rattle.signed_stream.specs.Case.{job_case, request_moment}
 use Rattle.signed_stream.specs.Chain.{Refusal}
-use Rattle.signed_stream.specs.Command.{Command, Wanted, bad_word, command, stream, unbuilt_word}
-use Rattle.signed_stream.specs.Job.{JobParts, Reading, bad_line, job, unbuilt_line, whole_job}
-use Rattle.signed_stream.specs.Plan.{EndsAsPlanned, TargetSpells, Supplied, TargetRead, accepted, most_input, stops, unaccepted, unread}
-use Rattle.signed_stream.specs.Running.{Gave, IfStreams, ask, ask_plan, command_ask, ends, has_later_variable, streams}
+use Rattle.signed_stream.specs.Command.{Command, bad_word, show_settings, stream, unbuilt_word, Wanted}
+use Rattle.signed_stream.specs.Job.{JobParts, job}
+use Rattle.signed_stream.specs.Plan.{EndsAsPlanned, FilesRead, Plan, TargetSpells, Supplied, TargetRead, accepted, loaded, most_input, stops, unaccepted, unloaded, unread, unreadable, writes}
+use Rattle.signed_stream.specs.Running.{IfStreams, command_plan}
+use Rattle.signed_stream.specs.Settings.{Selected, selected_or_missing, settings, settings_from}
+use Rattle.signed_stream.specs.ShowSettings.{settings_plan, shown_plan}
+use Rattle.signed_stream.specs.ProfileOptions.{ProfileWanted}
+use Rattle.signed_stream.specs.ProfileTexts.{ProfileTexts, profile_texts}
+use Rattle.signed_stream.specs.Shown.{shown_settings}
 use Rattle.signed_stream.specs.Sign.{case_fault, fault_for, unsigned}
-use Rattle.signed_stream.specs.Status.{Ending, RunFault, done, invalid_uri, job_too_large, moment_out_of_range, no_memory, not_built, refused}
-use Rattle.signed_stream.specs.Stream.{GaveReading, ReadsUnfitTarget, case_plan, input_plan, job_plan, profile_plan, selected_plan, target_plan}
+use Rattle.signed_stream.specs.Sources.{or_refused, selection, when_selected}
+use Rattle.signed_stream.specs.Status.{Ending, RunFault, done, invalid_uri, job_too_large, moment_out_of_range, no_memory, refused}
+use Rattle.signed_stream.specs.Stream.{GaveReading, ReadsUnfitTarget, case_plan, job_plan, selected_plan, target_plan}
 use Rattle.signed_stream.specs.Written.{case_refusal, written_end}
 use Rattle.signed_stream.proofs.RunLemmas.{IsOfFrame, RefusesFrames, refuses_frames}
 use Rattle.signed_stream.proofs.TestLemmas.{IsPartError, IsTestError, unsigned_test}
@@ -72,7 +81,7 @@ case_refused text c events moments None is (inr (inr (inr end))) = cc
 
 -- what a job is refused for
 abbrev TargetIsUnfit : Wanted → JobParts → Type 0
-TargetIsUnfit wanted j = ReadsUnfitTarget wanted (whole_job j)
+TargetIsUnfit wanted j = ReadsUnfitTarget wanted (Ok j)
 
 target_refused : (j : JobParts) (wanted : Wanted) (selected : Selected) (first : Instant) (moments : List Instant) (target : TargetRead) → TargetSpells j.target target
     → EndsAsPlanned (target_plan j.target (job_case j wanted selected first) j.events moments target) (refused invalid_uri) → TargetIsUnfit wanted j
@@ -83,7 +92,7 @@ target_refused j wanted selected first moments (accepted target) reads goes =
     inr (target, reads, selected, first, case_refused j.target c j.events moments (case_fault c) refl goes)
 
 selected_refused : (j : JobParts) (wanted : Wanted) (selected : Selected) (target : TargetRead) (moments : List Instant) → TargetSpells j.target target
-    → EndsAsPlanned (selected_plan j wanted selected target moments) (refused invalid_uri) → TargetIsUnfit wanted j
+    → EndsAsPlanned (selected_plan j wanted target moments selected) (refused invalid_uri) → TargetIsUnfit wanted j
 selected_refused j wanted selected target [] reads goes = absurd (other_stop _ (λ e. cc) goes)
 selected_refused j wanted selected target (first ∷ others) reads goes = by_years (is_in_years (request_moment wanted first)) goes
   where
@@ -93,42 +102,71 @@ selected_refused j wanted selected target (first ∷ others) reads goes = by_yea
     by_years true goes = target_refused j wanted selected first others target reads goes
     by_years false goes = absurd (other_stop _ (λ e. cc) goes)
 
-profile_refused : (j : JobParts) (wanted : Wanted) (given : Supplied) (key_id secret region : Option (List ℕ)) → TargetSpells j.target given.target
-    → EndsAsPlanned (profile_plan j wanted given key_id secret region) (refused invalid_uri) → TargetIsUnfit wanted j
-profile_refused j wanted given (Some key_id) (Some secret) (Some region) reads goes =
-    selected_refused j wanted (record { key_id = key_id; secret = secret; token = j.profile.token; region = region }) given.target given.moments reads goes
-profile_refused j wanted given (Some key_id) (Some secret) None reads goes = absurd (other_stop _ (λ e. cc) goes)
-profile_refused j wanted given (Some key_id) None region reads goes = absurd (other_stop _ (λ e. cc) goes)
-profile_refused j wanted given None secret region reads goes = absurd (other_stop _ (λ e. cc) goes)
+-- the faults of what is selected
+abbrev IsOfSettings : RunFault → Type 0
+IsOfSettings fault = fault ≡ invalid_uri → ⊥
+
+settings_refused : (files : List FileText) (profile : List ℕ) (env : List (List ℕ × List ℕ)) (service_id : Option (List ℕ)) (fault : RunFault) → settings files profile env service_id ≡ Err fault → IsOfSettings fault
+unfolding settings
+settings_refused files profile env service_id fault is = by_sections (sections files) is
+  where
+    by_values : (key_id secret token region : Option (List ℕ)) → selected_or_missing profile key_id secret token region ≡ Err fault → IsOfSettings fault
+    by_values (Some key_id) (Some secret) token (Some region) is = cc
+    by_values (Some key_id) (Some secret) token None is = λ e. cc
+    by_values (Some key_id) None token region is = λ e. cc
+    by_values None secret token region is = λ e. cc
+
+    by_sections : (read : Result Sections FaultyLine) → settings_from read profile env service_id ≡ Err fault → IsOfSettings fault
+    by_sections (Ok read) is = by_values _ _ _ _ is
+    by_sections (Err line) is = λ e. cc
+
+-- a job that is refused for its target has its files
+selection_refused : (env : List (List ℕ × List ℕ)) (service_id : Option (List ℕ)) (others : Selected → Plan) (P : Type 0) (files : FilesRead) → ((selected : Selected) → EndsAsPlanned (others selected) (refused invalid_uri) → P)
+    → EndsAsPlanned (when_selected others (selection env service_id files)) (refused invalid_uri) → P
+selection_refused env service_id others P unloaded goes_on goes = absurd (other_stop _ (λ e. cc) goes)
+selection_refused env service_id others P (unreadable path) goes_on goes = absurd (other_stop _ (λ e. cc) goes)
+selection_refused env service_id others P (loaded texts) goes_on goes = by_settings (settings texts (selected_profile env) env service_id) refl goes
+  where
+    by_settings : (outcome : Result Selected RunFault) → settings texts (selected_profile env) env service_id ≡ outcome → EndsAsPlanned (when_selected others (or_refused outcome)) (refused invalid_uri) → P
+    by_settings (Ok selected) is goes = goes_on selected goes
+    by_settings (Err fault) is goes = absurd (other_stop _ (λ e. settings_refused texts (selected_profile env) env service_id fault is cc) goes)
 
 -- a job that is refused for its target
-job_refused : (wanted : Wanted) (given : Supplied) (reading : Reading) → GaveReading wanted reading given → EndsAsPlanned (job_plan wanted given reading) (refused invalid_uri) → ReadsUnfitTarget wanted reading
-job_refused wanted given (bad_line place) gave goes = absurd (other_stop _ (λ e. cc) goes)
-job_refused wanted given (unbuilt_line place) gave goes = absurd (other_stop _ (λ e. cc) goes)
-job_refused wanted given (whole_job j) gave goes = profile_refused j wanted given j.profile.key_id j.profile.secret j.profile.region gave.target goes
+job_refused : (gave : List Place → FilesRead → Type 0) (env : List (List ℕ × List ℕ)) (wanted : Wanted) (given : Supplied) (reading : Result JobParts ℕ) → GaveReading gave wanted reading given
+    → EndsAsPlanned (job_plan env wanted given reading) (refused invalid_uri) → ReadsUnfitTarget wanted reading
+job_refused gave env wanted given (Err place) found goes = absurd (other_stop _ (λ e. cc) goes)
+job_refused gave env wanted given (Ok j) found goes =
+    selection_refused env wanted.profile.service_id (selected_plan j wanted given.target given.moments) (TargetIsUnfit wanted j) given.files
+    (λ selected ends. selected_refused j wanted selected given.target given.moments found.target ends) goes
 
-input_refused : (wanted : Wanted) (bytes : List ℕ) (given : Supplied) → GaveReading wanted (job bytes) given → EndsAsPlanned (input_plan wanted bytes given) (refused invalid_uri) → ReadsUnfitTarget wanted (job bytes)
-unfolding input_plan
-input_refused wanted bytes given gave goes = by_length (nat_lt most_input (length bytes)) goes
+-- what is shown isn't refused for a target
+shown_unrefused : (env : List (List ℕ × List ℕ)) (wanted : ProfileWanted) (given : Supplied) (reading : Result ProfileTexts ℕ) → EndsAsPlanned (settings_plan env wanted given reading) (refused invalid_uri) → ⊥
+shown_unrefused env wanted given (Err place) goes = other_stop _ (λ e. cc) goes
+shown_unrefused env wanted given (Ok texts) goes = selection_refused env wanted.service_id shown_plan ⊥ given.files (λ selected ends. by_end (shown_settings selected) ends) goes
   where
-    by_length : (large : Bool) → EndsAsPlanned (if large then stops job_too_large else job_plan wanted given (job bytes)) (refused invalid_uri) → ReadsUnfitTarget wanted (job bytes)
-    by_length true goes = absurd (other_stop _ (λ e. cc) goes)
-    by_length false goes = job_refused wanted given (job bytes) gave goes
+    by_end : (text : List ℕ) → EndsAsPlanned (writes text done) (refused invalid_uri) → ⊥
+    by_end text (inl is) = cc
+    by_end text (inr (inl is)) = cc
+    by_end text (inr (inr (inl is))) = cc
+    by_end text (inr (inr (inr is))) = cc
 
 -- a run that is refused for its target has read a job whose target isn't accepted, or takes no parameters
-pub run_refused : (words : List (List ℕ)) (env : List (List ℕ × List ℕ)) (bytes : List ℕ) (before now : Option (List ℕ))
-    → GoesForInput (ask words env) bytes (refused invalid_uri) before now → IfStreams (ask words env) (λ wanted. ReadsUnfitTarget wanted (job bytes))
-unfolding ask
-run_refused words env bytes before now found = by_command (command words) found.1.gave found.1.goes.ends
+run_refused : (gave : List Place → FilesRead → Type 0) (env : List (List ℕ × List ℕ)) (command : Command) (bytes : List ℕ) (before now : Option (List ℕ))
+    → GoesForInput gave env command bytes (refused invalid_uri) before now → IfStreams command (λ wanted. ReadsUnfitTarget wanted (job bytes))
+unfolding command_plan
+run_refused gave env (bad_word place) bytes before now found = other_stop _ (λ e. cc) found.1.goes.ends
+run_refused gave env (unbuilt_word place) bytes before now found = other_stop _ (λ e. cc) found.1.goes.ends
+run_refused gave env (stream wanted) bytes before now found = by_length (nat_lt most_input (length bytes)) found.1.goes.ends
   where
-    by_variable : (wanted : Wanted) (later : Bool) → Gave (if later then ends (not_built 0) else streams wanted) bytes found.0
-        → EndsAsPlanned (ask_plan (if later then ends (not_built 0) else streams wanted) bytes found.0) (refused invalid_uri)
-        → IfStreams (if later then ends (not_built 0) else streams wanted) (λ wanted. ReadsUnfitTarget wanted (job bytes))
-    by_variable wanted true gave goes = other_stop _ (λ e. cc) goes
-    by_variable wanted false gave goes = input_refused wanted bytes found.0 gave goes
+    by_length : (large : Bool) → EndsAsPlanned (if large then stops job_too_large else job_plan env wanted found.0 (job bytes)) (refused invalid_uri) → ReadsUnfitTarget wanted (job bytes)
+    by_length true goes = absurd (other_stop _ (λ e. cc) goes)
+    by_length false goes = job_refused gave env wanted found.0 (job bytes) found.1.supplied goes
+run_refused gave env (show_settings wanted) bytes before now found = by_length (nat_lt most_input (length bytes)) found.1.goes.ends
+  where
+    by_length : (large : Bool) → EndsAsPlanned (if large then stops job_too_large else settings_plan env wanted found.0 (profile_texts bytes)) (refused invalid_uri) → ⊥
+    by_length true goes = other_stop _ (λ e. cc) goes
+    by_length false goes = shown_unrefused env wanted found.0 (profile_texts bytes) goes
 
-    by_command : (asked : Command) → Gave (command_ask env asked) bytes found.0 → EndsAsPlanned (ask_plan (command_ask env asked) bytes found.0) (refused invalid_uri)
-        → IfStreams (command_ask env asked) (λ wanted. ReadsUnfitTarget wanted (job bytes))
-    by_command (bad_word place) gave goes = other_stop _ (λ e. cc) goes
-    by_command (unbuilt_word place) gave goes = other_stop _ (λ e. cc) goes
-    by_command (stream wanted) gave goes = by_variable wanted (has_later_variable env) gave goes
+pub run_refused_where : (gave : List Place → FilesRead → Type 0) (env : List (List ℕ × List ℕ)) (command : Command) (bytes : List ℕ) (answer : Ending) (before now : Option (List ℕ)) → answer ≡ refused invalid_uri
+    → GoesForInput gave env command bytes answer before now → IfStreams command (λ wanted. ReadsUnfitTarget wanted (job bytes))
+run_refused_where gave env command bytes answer before now is found = run_refused gave env command bytes before now (rw is at found)

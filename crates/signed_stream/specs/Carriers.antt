@@ -1,42 +1,77 @@
 -- What the functions below `run` promise to one another, and what carries the proofs of its promises. A reader of those needs none of it: they are in
--- Running, and what they rest on in Plan and Stream.
-use Rattle.std.specs.Prelude.{ℕ, List, Option, Result, Ok, Err}
+-- Running, and what they rest on in Plan, Stream and ShowSettings.
+use Rattle.std.specs.Prelude.{◌≡◌, ℕ, List, Option, Result, Ok, Err}
 use Rattle.smithy_core.specs.Moment.{Instant}
 use Rattle.smithy_core.specs.Message.{Parts}
 use Rattle.smithy_http.specs.Target.{Target}
+use Rattle.env_config.specs.Files.{Place}
 use Rattle.sigv4.specs.Request.{Case}
-use Rattle.signed_stream.specs.Command.{Wanted}
-use Rattle.signed_stream.specs.Job.{Reading}
-use Rattle.signed_stream.specs.Options.{wanted_of}
-use Rattle.signed_stream.specs.Plan.{GoesAsPlanned, TargetSpells, Supplied, TargetRead}
-use Rattle.signed_stream.specs.Running.{Ask, RunsAsPlanned, ends, streams}
-use Rattle.signed_stream.specs.Status.{Ending, bad_words, ending_of, not_built}
-use Rattle.signed_stream.specs.Stream.{GaveReading, job_plan, request_plan}
-use Rattle.signed_stream.specs.declared.command.Command.{Command}
-use Rattle.signed_stream.specs.declared.command.Command.TheVariants.{Stream}
+use Rattle.signed_stream.specs.Command.{Command, Wanted}
+use Rattle.signed_stream.specs.ProfileOptions.{ProfileWanted}
+use Rattle.signed_stream.specs.Job.{JobParts}
+use Rattle.signed_stream.specs.Plan.{FilesRead, GoesAsPlanned, TargetSpells, Supplied, TargetRead}
+use Rattle.signed_stream.specs.ProfileTexts.{ProfileTexts}
+use Rattle.signed_stream.specs.Running.{Gave, RunsAsPlanned, read_plan}
+use Rattle.signed_stream.specs.Settings.{Selected, selected_of}
+use Rattle.signed_stream.specs.ShowSettings.{GaveTexts, settings_plan}
+use Rattle.signed_stream.specs.Sources.{selection, source_places}
+use Rattle.signed_stream.specs.Status.{Ending, bad_job, could_not_read_file, done, ending_of, no_memory, output_fault, refused}
+use Rattle.signed_stream.specs.Stream.{GaveJob, job_plan, request_plan}
+use Rattle.signed_stream.specs.declared.settings.Settings.{Settings}
 use Rattle.signed_stream.specs.declared.status.Status.{Status}
-
--- what a reader of words and variables answers
-abbrev pub ask_told : Result Command Status → Ask
-ask_told (Ok (Stream words)) = streams (wanted_of words)
-ask_told (Err status) = ends (ending_of status)
-
--- the ends that words and variables alone can bring
-abbrev pub IsEarly : Ending → Type 0
-IsEarly (bad_words place) = Unit {0}
-IsEarly (not_built place) = Unit {0}
-IsEarly end = ⊥
 
 -- as planned for what the target spells
 abbrev pub GoesForTarget : List ℕ → Instant → (Target → Case) → List Parts → List Instant → Ending → Option (List ℕ) → Option (List ℕ) → Type 0
 GoesForTarget text at case events moments answer before now =
     (target : TargetRead) × TargetSpells text target × GoesAsPlanned (request_plan text at case events moments target) answer before now
 
--- as planned for what the outside gave for a job
-abbrev pub GoesForJob : Wanted → Reading → Ending → Option (List ℕ) → Option (List ℕ) → Type 0
-GoesForJob wanted reading answer before now =
-    (given : Supplied) × GaveReading wanted reading given × GoesAsPlanned (job_plan wanted given reading) answer before now
+-- as planned for what a command reads of these bytes
+abbrev pub GoesForBytes : (List Place → FilesRead → Type 0) → List (List ℕ × List ℕ) → Command → List ℕ → Ending → Option (List ℕ) → Option (List ℕ) → Type 0
+GoesForBytes gave env command bytes answer before now =
+    (given : Supplied) × Gave gave command bytes given × GoesAsPlanned (read_plan env command bytes given) answer before now
 
 -- as planned for what the outside gave for an input
-abbrev pub GoesForInput : Ask → List ℕ → Ending → Option (List ℕ) → Option (List ℕ) → Type 0
-GoesForInput asked bytes answer before now = (given : Supplied) × RunsAsPlanned asked bytes given answer before now
+abbrev pub GoesForInput : (List Place → FilesRead → Type 0) → List (List ℕ × List ℕ) → Command → List ℕ → Ending → Option (List ℕ) → Option (List ℕ) → Type 0
+GoesForInput gave env command bytes answer before now = (given : Supplied) × RunsAsPlanned gave env command bytes given answer before now
+
+-- as planned for a job
+abbrev pub GoesForJob : (List Place → FilesRead → Type 0) → List (List ℕ × List ℕ) → Wanted → JobParts → Ending → Option (List ℕ) → Option (List ℕ) → Type 0
+GoesForJob gave env wanted j answer before now = (given : Supplied) × GaveJob gave wanted j given × GoesAsPlanned (job_plan env wanted given (Ok j)) answer before now
+
+-- as planned for profile texts
+abbrev pub GoesForTexts : (List Place → FilesRead → Type 0) → List (List ℕ × List ℕ) → ProfileWanted → ProfileTexts → Ending → Option (List ℕ) → Option (List ℕ) → Type 0
+GoesForTexts gave env wanted texts answer before now =
+    (given : Supplied) × GaveTexts gave wanted (Ok texts) given × GoesAsPlanned (settings_plan env wanted given (Ok texts)) answer before now
+
+-- the ends once a job or texts were read
+abbrev pub IsAfterTexts : Ending → Type 0
+IsAfterTexts done = Unit {0}
+IsAfterTexts (could_not_read_file path) = Unit {0}
+IsAfterTexts (refused fault) = Unit {0}
+IsAfterTexts output_fault = Unit {0}
+IsAfterTexts no_memory = Unit {0}
+IsAfterTexts end = ⊥
+
+-- the ends once the input was read to its end
+abbrev pub IsAfterInput : Ending → Type 0
+IsAfterInput (bad_job place) = Unit {0}
+IsAfterInput end = IsAfterTexts end
+
+-- ## What is selected
+
+-- the settings are what is selected, or the run ends so
+abbrev pub GivesSelected : Result Selected Ending → Result Settings Status → Type 0
+GivesSelected outcome (Ok settings) = outcome ≡ Ok (selected_of settings)
+GivesSelected outcome (Err status) = outcome ≡ Err (ending_of status)
+
+-- there is what the disk gave for the files that are named and these texts, and what it selects is answered
+abbrev pub Selects : (List Place → FilesRead → Type 0) → List (List ℕ × List ℕ) → ProfileWanted → ProfileTexts → Result Settings Status → Type 0
+Selects gave env wanted texts result =
+    (files : FilesRead) × gave (source_places wanted.files texts) files × GivesSelected (selection env wanted.service_id files) result
+
+-- the ends without anything selected: before the target is read
+abbrev pub IsUnselected : Ending → Type 0
+IsUnselected (could_not_read_file path) = Unit {0}
+IsUnselected (refused fault) = Unit {0}
+IsUnselected no_memory = Unit {0}
+IsUnselected end = ⊥

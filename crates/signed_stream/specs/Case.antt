@@ -1,5 +1,5 @@
 -- The case of a job's request: what is signed, and with what.
-use Rattle.std.specs.Prelude.{ℕ, if◌then◌else◌, List, Option, Some}
+use Rattle.std.specs.Prelude.{ℕ, if◌then◌else◌, List, Option}
 use Rattle.smithy_core.specs.Moment.{Instant}
 use Rattle.smithy_http.specs.Target.{Target}
 use Rattle.sigv4.specs.Request.{Case}
@@ -12,18 +12,8 @@ use Rattle.aws_auth.specs.Inputs.{chosen_text, location_of}
 use Rattle.aws_auth.specs.Moment.{signing_moment}
 use Rattle.aws_auth.specs.declared.options.SigningOptions.{SigningOptions}
 use Rattle.signed_stream.specs.Command.{Wanted}
-use Rattle.signed_stream.specs.Job.{JobParts, ProfileTexts}
-
--- what the profile gives to sign with: a key id, a secret and a region, and the token where there is one
-pub record Selected : Type 0 where
-  pub key_id : List ℕ
-  pub secret : List ℕ
-  pub token : Option (List ℕ)
-  pub region : List ℕ
-
--- the texts of a profile that gives this
-abbrev pub profile_giving : Selected → ProfileTexts
-profile_giving selected = record { key_id = Some selected.key_id; secret = Some selected.secret; token = selected.token; region = Some selected.region }
+use Rattle.signed_stream.specs.Job.{JobParts}
+use Rattle.signed_stream.specs.Settings.{Selected}
 
 -- the default settings, but for what the options say, with this name of the token
 abbrev pub settings_with : SigningOptions → Option (List ℕ) → Settings

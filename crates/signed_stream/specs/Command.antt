@@ -1,5 +1,5 @@
 -- The words of the command line.
-use Rattle.std.specs.Prelude.{ℕ, ◌+◌, Bool, true, false, not, if◌then◌else◌, List, [], ◌∷◌, codes, bytes_eq, Option, Some, None, is_some, ℤ}
+use Rattle.std.specs.Prelude.{ℕ, ◌+◌, Bool, true, false, not, ◌&&◌, if◌then◌else◌, List, [], ◌∷◌, codes, bytes_eq, Option, Some, None, is_some, ℤ}
 use Rattle.std.specs.List.{list_any}
 use Rattle.std.specs.Int.{w64}
 use Rattle.smithy_core.specs.Moment.{Instant}
@@ -10,25 +10,24 @@ use Rattle.aws_auth.specs.declared.options.HttpSignatureType.TheVariants.{HttpRe
 use Rattle.aws_auth.specs.declared.options.SigningOptions.{SigningOptions}
 use Rattle.aws_auth.specs.declared.payload.PayloadSigningOverride.TheVariants.{UnsignedPayload}
 use Rattle.signed_stream.specs.Numbers.{natural_below, number}
+use Rattle.signed_stream.specs.ProfileOptions.{ProfileWanted, nothing_wanted, profile_option, names_file, stands, with_profile_option}
 use Rattle.signed_stream.specs.declared.command.options.Valued.{Valued}
-use Rattle.signed_stream.specs.declared.command.options.Valued.TheVariants.{Name, At, Expires, TokenName, Skew}
-
--- an option of `stream` that isn't built
-abbrev pub is_later_option : List ℕ → Bool
-is_later_option word = list_any (bytes_eq word) (codes "--service-id" ∷ codes "--raw" ∷ codes "--config" ∷ codes "--credentials" ∷ [])
+use Rattle.signed_stream.specs.declared.command.options.Valued.TheVariants.{Name, At, Expires, TokenName, Skew, OfProfile}
+use Rattle.signed_stream.specs.declared.command.profile.ProfileOption.{ProfileOption}
 
 -- a command that isn't built
 abbrev pub is_later_command : List ℕ → Bool
-is_later_command word = list_any (bytes_eq word) (codes "check" ∷ codes "settings" ∷ codes "chunk" ∷ codes "gen" ∷ [])
+is_later_command word = list_any (bytes_eq word) (codes "check" ∷ codes "chunk" ∷ codes "gen" ∷ [])
 
--- what `stream` is asked for: the name of the service, the moment, how to sign, the name of the session token, and by how many milliseconds the
--- service's clock is ahead
+-- what `stream` is asked for: the name of the service, the moment, how to sign, the name of the session token, by how many milliseconds the
+-- service's clock is ahead, and the profile
 pub record Wanted : Type 0 where
   pub name : List ℕ
   pub at : Instant
   pub signing : SigningOptions
   pub token_name : Option (List ℕ)
   pub skew_millis : Option ℤ
+  pub profile : ProfileWanted
 
 -- what the words ask for
 pub data Command : Type 0 where
@@ -38,6 +37,10 @@ pub data Command : Type 0 where
   unbuilt_word : ℕ → Command
   -- to sign and stream the job
   stream : Wanted → Command
+  -- to show what the profile gives
+  show_settings : ProfileWanted → Command
+
+-- ## `stream`
 
 -- what the words so far gave, and the option that waits for its value
 pub record Options : Type 0 where
@@ -46,11 +49,12 @@ pub record Options : Type 0 where
   pub signing : SigningOptions
   pub token_name : Option (List ℕ)
   pub skew_millis : Option ℤ
+  pub profile : ProfileWanted
   pub awaited : Option Valued
 
 -- no options
 abbrev pub no_options : Options
-no_options = record { name = None; at = None; signing = default_options; token_name = None; skew_millis = None; awaited = None }
+no_options = record { name = None; at = None; signing = default_options; token_name = None; skew_millis = None; profile = nothing_wanted; awaited = None }
 
 -- goes on with more words, or ends
 pub data WordTaken : Type 0 where
@@ -70,8 +74,13 @@ take_flag place given word =
     else if bytes_eq word (codes "--single-encode") then once place (not given.signing.double_uri_encode) (record given { signing = record given.signing { double_uri_encode = false } })
     else if bytes_eq word (codes "--no-normalize") then once place (not given.signing.normalize_uri_path) (record given { signing = record given.signing { normalize_uri_path = false } })
     else if bytes_eq word (codes "--unsigned") then once place (is_some given.signing.payload_override) (record given { signing = record given.signing { payload_override = Some UnsignedPayload } })
-    else if is_later_option word then ends (unbuilt_word place)
+    else if bytes_eq word (codes "--raw") then ends (unbuilt_word place)
     else ends (bad_word place)
+
+-- an option of profiles at a place, whose files may repeat, or none of them
+abbrev pub take_profile_option : ℕ → Options → Option ProfileOption → List ℕ → WordTaken
+take_profile_option place given None word = take_flag place given word
+take_profile_option place given (Some option) word = once place (stands given.profile option && not (names_file option)) (record given { awaited = Some (OfProfile option) })
 
 -- the word at a place, where it is an option
 abbrev pub take_option : ℕ → Options → List ℕ → WordTaken
@@ -81,7 +90,7 @@ take_option place given word =
     else if bytes_eq word (codes "--expires") then once place (is_some given.signing.expires_in) (record given { awaited = Some Expires })
     else if bytes_eq word (codes "--token-name") then once place (is_some given.token_name) (record given { awaited = Some TokenName })
     else if bytes_eq word (codes "--skew") then once place (is_some given.skew_millis) (record given { awaited = Some Skew })
-    else take_flag place given word
+    else take_profile_option place given (profile_option word) word
 
 -- the value of `--at` at a place: the seconds of the moment, where the word is a number of 64 bits
 abbrev pub take_moment : ℕ → Options → Option ℤ → WordTaken
@@ -106,6 +115,7 @@ take_word place given (Some At) word = take_moment place given (number w64 word)
 take_word place given (Some Expires) word = take_expiry place given (natural_below 18446744073709551616 word)
 take_word place given (Some TokenName) word = options (record given { token_name = Some word; awaited = None })
 take_word place given (Some Skew) word = take_skew place given (number w64 word)
+take_word place given (Some (OfProfile option)) word = options (record given { profile = with_profile_option given.profile option word; awaited = None })
 
 -- the words are over: the command, or the place after the last word
 abbrev pub command_of : ℕ → Options → Option (List ℕ) → Option Instant → Option Valued → Command
@@ -113,7 +123,7 @@ command_of place given name at (Some option) = bad_word place
 command_of place given None at None = bad_word place
 command_of place given (Some name) None None = unbuilt_word place
 command_of place given (Some name) (Some at) None =
-    stream (record { name = name; at = at; signing = given.signing; token_name = given.token_name; skew_millis = given.skew_millis })
+    stream (record { name = name; at = at; signing = given.signing; token_name = given.token_name; skew_millis = given.skew_millis; profile = given.profile })
 
 -- goes on, where the word didn't end the matter
 abbrev pub after_taken : WordTaken → (Options → Command) → Command
@@ -125,10 +135,49 @@ abbrev pub options_from : ℕ → Options → List (List ℕ) → Command
 options_from place given [] = command_of place given given.name given.at given.awaited
 options_from place given (word ∷ words) = after_taken (take_word place given given.awaited word) (λ more. options_from (place + 1) more words)
 
+-- ## `settings`
+
+-- what the words so far gave, and the option that waits for its value
+pub record ProfileGiven : Type 0 where
+  pub profile : ProfileWanted
+  pub awaited : Option ProfileOption
+
+-- no options
+abbrev pub no_profile_given : ProfileGiven
+no_profile_given = record { profile = nothing_wanted; awaited = None }
+
+-- an option, which stands once
+abbrev pub await_value : ProfileGiven → Option ProfileOption → Option ProfileGiven
+await_value given None = None
+await_value given (Some option) = if stands given.profile option then None else Some (record given { awaited = Some option })
+
+-- a word: the value of the option that waits for one, or else an option; or it is bad
+abbrev pub take_profile_word : ProfileGiven → Option ProfileOption → List ℕ → Option ProfileGiven
+take_profile_word given None word = await_value given (profile_option word)
+take_profile_word given (Some option) word = Some (record { profile = with_profile_option given.profile option word; awaited = None })
+
+-- the words are over: the command, or the place after the last word
+abbrev pub settings_command : ℕ → ProfileWanted → Option ProfileOption → Command
+settings_command place profile None = show_settings profile
+settings_command place profile (Some option) = bad_word place
+
+-- goes on, where the word at a place isn't bad
+abbrev pub after_word : ℕ → (ProfileGiven → Command) → Option ProfileGiven → Command
+after_word place others None = bad_word place
+after_word place others (Some given) = others given
+
+-- the words from a place on, after those that gave this
+abbrev pub settings_from : ℕ → ProfileGiven → List (List ℕ) → Command
+settings_from place given [] = settings_command place given.profile given.awaited
+settings_from place given (word ∷ words) = after_word place (λ more. settings_from (place + 1) more words) (take_profile_word given given.awaited word)
+
+-- ## Commands
+
 -- the command that the words spell, or the place of the first word that is bad or not built
 unfoldable pub command : List (List ℕ) → Command
 command [] = bad_word 1
 command (word ∷ words) =
     if bytes_eq word (codes "stream") then options_from 2 no_options words
+    else if bytes_eq word (codes "settings") then settings_from 2 no_profile_given words
     else if is_later_command word then unbuilt_word 1
     else bad_word 1

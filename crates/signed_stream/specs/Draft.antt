@@ -1,25 +1,16 @@
 -- What the reader of a job promises of its draft and of the job.
 use Rattle.std.specs.Prelude.{◌≡◌, ℕ, List, Result, Ok, Err, Option, Some, None, option_map, string_bytes}
 use Rattle.std.specs.Borrow.{Bor}
-use Rattle.signed_stream.specs.Job.{ProfileTexts, Event, Draft, LineStep, moves_to, bad, unbuilt, JobParts, Reading, whole_job, bad_line, unbuilt_line}
-use Rattle.signed_stream.specs.declared.job.credentials.ProfileKeys.{ProfileKeys}
+use Rattle.signed_stream.specs.Job.{Event, Draft, JobParts}
+use Rattle.signed_stream.specs.Lines.{job_lines}
+use Rattle.signed_stream.specs.ProfileTexts.{texts_of}
 use Rattle.signed_stream.specs.declared.job.event.OpenEvent.{OpenEvent}
 use Rattle.signed_stream.specs.declared.job.draft.Draft.{Draft as JobDraft}
 use Rattle.signed_stream.specs.declared.job.Job.{Job}
 use Rattle.signed_stream.specs.declared.job.fault.JobFault.{JobFault}
-use Rattle.signed_stream.specs.declared.job.fault.JobFault.TheVariants.{BadLine, NotBuilt as JobNotBuilt, NoMemory as JobNoMemory}
+use Rattle.signed_stream.specs.declared.job.fault.JobFault.TheVariants.{BadLine, NoMemory}
 use Rattle.signed_stream.specs.declared.job.fault.LineFault.{LineFault}
-use Rattle.signed_stream.specs.declared.job.fault.LineFault.TheVariants.{Bad, NotBuilt, NoMemory}
-
--- the texts of a profile
-abbrev pub profile_texts : ProfileKeys → ProfileTexts
-profile_texts profile =
-    record {
-      key_id = option_map string_bytes profile.key_id;
-      secret = option_map string_bytes profile.secret;
-      token = option_map string_bytes profile.token;
-      region = option_map string_bytes profile.region;
-    }
+use Rattle.signed_stream.specs.declared.job.fault.LineFault.TheVariants.{Bad, NoMemory as LineNoMemory}
 
 -- the lists of an event
 abbrev pub event_of : OpenEvent → Event
@@ -33,31 +24,22 @@ draft_of draft =
       target = option_map string_bytes draft.target;
       headers = draft.headers;
       body = draft.body;
-      profile = option_map profile_texts draft.profile;
+      profile = texts_of draft.profile;
       events = draft.events.items;
       event = option_map event_of draft.event;
     }
 
 -- a line was taken as the step says, unless memory ran out
-abbrev pub MovesDraft : LineStep → JobDraft → Result (Unit {0}) LineFault → Type 0
-MovesDraft step now (Ok _) = step ≡ moves_to (draft_of now)
-MovesDraft step now (Err Bad) = step ≡ bad
-MovesDraft step now (Err NotBuilt) = step ≡ unbuilt
-MovesDraft step now (Err NoMemory) = Unit {0}
-
--- the profile is the one that the lines give, unless memory ran out
-abbrev pub GivesProfile : Option ProfileTexts → ProfileKeys → Result (Unit {0}) LineFault → Type 0
-GivesProfile profile now (Ok _) = profile ≡ Some (profile_texts now)
-GivesProfile profile now (Err Bad) = ⊥
-GivesProfile profile now (Err NotBuilt) = profile ≡ None
-GivesProfile profile now (Err NoMemory) = Unit {0}
+abbrev pub MovesDraft : Option Draft → JobDraft → Result (Unit {0}) LineFault → Type 0
+MovesDraft step now (Ok _) = step ≡ Some (draft_of now)
+MovesDraft step now (Err Bad) = step ≡ None
+MovesDraft step now (Err LineNoMemory) = Unit {0}
 
 -- what is given is what the text spells, unless memory ran out
 abbrev pub GivesSpelled : {A : Type 0} → Option A → Result A LineFault → Type 0
 GivesSpelled spelled (Ok given) = spelled ≡ Some given
 GivesSpelled spelled (Err Bad) = spelled ≡ None
-GivesSpelled spelled (Err NotBuilt) = ⊥
-GivesSpelled spelled (Err NoMemory) = Unit {0}
+GivesSpelled spelled (Err LineNoMemory) = Unit {0}
 
 -- the texts and lists of a job
 abbrev pub job_parts : Job → JobParts
@@ -66,16 +48,22 @@ job_parts job = record {
   target = string_bytes job.request.target;
   headers = job.request.headers;
   body = job.request.body;
-  profile = profile_texts job.profile;
+  config = option_map string_bytes job.config;
+  credentials = option_map string_bytes job.credentials;
   events = job.events.items;
 }
 
--- the job is the one that is read; or a line at this place is bad or not built; or memory ran out
-abbrev pub ReadsJob : Reading → Result Job JobFault → Type 0
-ReadsJob reading (Ok job) = reading ≡ whole_job (job_parts job)
-ReadsJob reading (Err (BadLine place)) = reading ≡ bad_line place
-ReadsJob reading (Err (JobNotBuilt place)) = reading ≡ unbuilt_line place
-ReadsJob reading (Err JobNoMemory) = Unit {0}
+-- the job is the one that is read; or the line at this place is bad; or memory ran out
+abbrev pub ReadsJob : Result JobParts ℕ → Result Job JobFault → Type 0
+ReadsJob read (Ok job) = read ≡ Ok (job_parts job)
+ReadsJob read (Err (BadLine place)) = read ≡ Err place
+ReadsJob read (Err NoMemory) = Unit {0}
+
+-- the text has these lines, or the line at this place is bad
+abbrev pub TellsText : Result (List (List ℕ)) ℕ → Result (Bor (List ℕ)) JobFault → Type 0
+TellsText lines (Ok text) = lines ≡ Ok (job_lines text.now)
+TellsText lines (Err (BadLine place)) = lines ≡ Err place
+TellsText lines (Err NoMemory) = ⊥
 
 -- the texts of a pair
 abbrev pub texts_of_pair : Option (Bor (List ℕ) × Bor (List ℕ)) → Option (List ℕ × List ℕ)

@@ -11,9 +11,15 @@ pub mod Lines
 pub mod Numbers
 pub mod Options
 pub mod Plan
+pub mod ProfileOptions
+pub mod ProfileTexts
 pub mod Running
 pub mod Saying
+pub mod Settings
+pub mod ShowSettings
+pub mod Shown
 pub mod Sign
+pub mod Sources
 pub mod Status
 pub mod Stream
 pub mod Written

@@ -1,12 +1,16 @@
 -- What the readers of the words answer.
-use Rattle.std.specs.Prelude.{Result, Ok, Err, option_copied}
-use Rattle.signed_stream.specs.Command.{Command, bad_word, unbuilt_word, stream, Options, WordTaken, Wanted, options, ends}
+use Rattle.std.specs.Prelude.{◌≡◌, ℕ, Option, Some, None, Result, Ok, Err}
+use Rattle.std.specs.Option.{option_copied}
+use Rattle.signed_stream.specs.Command.{Command, bad_word, unbuilt_word, stream, show_settings, Options, ProfileGiven, WordTaken, Wanted, options, ends}
+use Rattle.signed_stream.specs.ProfileOptions.{profile_wanted}
 use Rattle.signed_stream.specs.declared.command.Command.{Command as Commanded}
-use Rattle.signed_stream.specs.declared.command.Command.TheVariants.{Stream}
+use Rattle.signed_stream.specs.declared.command.Command.TheVariants.{Stream, Settings}
 use Rattle.signed_stream.specs.declared.command.WordsFault.{WordsFault}
-use Rattle.signed_stream.specs.declared.command.WordsFault.TheVariants.{BadWord, NotBuilt}
+use Rattle.signed_stream.specs.declared.command.WordsFault.TheVariants.{BadWord, NotBuilt, NoMemory}
 use Rattle.signed_stream.specs.declared.command.options.StreamWords.{StreamWords}
 use Rattle.signed_stream.specs.declared.command.options.GivenOptions.{GivenOptions}
+use Rattle.signed_stream.specs.declared.command.profile.GivenProfile.{GivenProfile}
+use Rattle.signed_stream.specs.declared.command.profile.ProfileOptions.{ProfileOptions}
 
 -- what the words ask `stream` for
 abbrev pub wanted_of : StreamWords → Wanted
@@ -16,22 +20,34 @@ wanted_of words = record {
   signing = words.signing;
   token_name = option_copied words.token_name;
   skew_millis = words.skew_millis;
+  profile = profile_wanted words.profile;
 }
 
--- the command that a fault tells
-abbrev pub fault_told : WordsFault → Command
-fault_told (BadWord place) = bad_word place
-fault_told (NotBuilt place) = unbuilt_word place
+-- the command that is asked for
+abbrev pub commanded : Commanded → Command
+commanded (Stream words) = stream (wanted_of words)
+commanded (Settings profile) = show_settings (profile_wanted profile)
 
--- the command of `stream` that an answer tells
-abbrev pub stream_told : Result StreamWords WordsFault → Command
-stream_told (Ok words) = stream (wanted_of words)
-stream_told (Err fault) = fault_told fault
+-- the fault is why the words are no command that is built, unless memory ran out
+abbrev pub TellsWordsFault : Command → WordsFault → Type 0
+TellsWordsFault command (BadWord place) = command ≡ bad_word place
+TellsWordsFault command (NotBuilt place) = command ≡ unbuilt_word place
+TellsWordsFault command NoMemory = Unit {0}
 
--- the command that an answer tells
-abbrev pub command_told : Result Commanded WordsFault → Command
-command_told (Ok (Stream words)) = stream (wanted_of words)
-command_told (Err fault) = fault_told fault
+-- the command is the one that the words spell, or they spell none that is built; or memory ran out
+abbrev pub ReadsWords : Command → Result Commanded WordsFault → Type 0
+ReadsWords command (Ok words) = command ≡ commanded words
+ReadsWords command (Err fault) = TellsWordsFault command fault
+
+-- the words of `stream`, likewise
+abbrev pub ReadsStream : Command → Result StreamWords WordsFault → Type 0
+ReadsStream command (Ok words) = command ≡ stream (wanted_of words)
+ReadsStream command (Err fault) = TellsWordsFault command fault
+
+-- the words of `settings`, likewise
+abbrev pub ReadsProfile : Command → Result ProfileOptions WordsFault → Type 0
+ReadsProfile command (Ok profile) = command ≡ show_settings (profile_wanted profile)
+ReadsProfile command (Err fault) = TellsWordsFault command fault
 
 -- what the words so far gave
 abbrev pub options_of : GivenOptions → Options
@@ -41,10 +57,24 @@ options_of given = record {
   signing = given.signing;
   token_name = option_copied given.token_name;
   skew_millis = given.skew_millis;
+  profile = profile_wanted given.profile;
   awaited = given.awaited;
 }
 
--- the step that an answer tells, with what the words gave after it
-abbrev pub taken_told : Result (Unit {0}) WordsFault → Options → WordTaken
-taken_told (Ok _) given = options given
-taken_told (Err fault) given = ends (fault_told fault)
+-- the word is taken as the step says, or ends the matter; or memory ran out
+abbrev pub Takes : WordTaken → GivenOptions → Result (Unit {0}) WordsFault → Type 0
+Takes taken now (Ok _) = taken ≡ options (options_of now)
+Takes taken now (Err (BadWord place)) = taken ≡ ends (bad_word place)
+Takes taken now (Err (NotBuilt place)) = taken ≡ ends (unbuilt_word place)
+Takes taken now (Err NoMemory) = Unit {0}
+
+-- what the words of `settings` so far gave
+abbrev pub profile_given : GivenProfile → ProfileGiven
+profile_given given = record { profile = profile_wanted given.profile; awaited = given.awaited }
+
+-- the word at a place of `settings` is taken as the step says, or is bad; or memory ran out
+abbrev pub TakesProfile : Option ProfileGiven → ℕ → GivenProfile → Result (Unit {0}) WordsFault → Type 0
+TakesProfile step place now (Ok _) = step ≡ Some (profile_given now)
+TakesProfile step place now (Err (BadWord bad)) = (step ≡ None) × (bad ≡ place)
+TakesProfile step place now (Err (NotBuilt unbuilt)) = ⊥
+TakesProfile step place now (Err NoMemory) = Unit {0}

@@ -5,6 +5,7 @@ use Rattle.smithy_core.specs.Outside.{Gains, GainsPrefix}
 use Rattle.smithy_http.specs.QueryWriter.{SpellsNoTarget}
 use Rattle.smithy_http.specs.Target.{Target}
 use Rattle.sigv4.specs.Parameters.{SpellsParts}
+use Rattle.env_config.specs.Sections.{FileText}
 use Rattle.signed_stream.specs.Status.{Ending, done, job_too_large, no_memory, output_fault, read_fault, refused}
 
 -- ## What the outside gave
@@ -23,10 +24,18 @@ TargetSpells text unread = Unit {0}
 TargetSpells text unaccepted = SpellsNoTarget text
 TargetSpells text (accepted target) = SpellsParts text target
 
+-- what the files give that a run needs
+pub data FilesRead : Type 0 where
+  -- they weren't read to the end
+  unloaded : FilesRead
+  -- their texts, in their order
+  loaded : List FileText → FilesRead
+  -- the first that couldn't be read, by its path
+  unreadable : List ℕ → FilesRead
+
 -- what the outside gave in one call
 pub record Supplied : Type 0 where
-  -- the texts of the profile files, in their order
-  pub texts : List (List ℕ)
+  pub files : FilesRead
   -- the moments in their order: the request's, those of the events, and the closing frame's
   pub moments : List Instant
   pub target : TargetRead

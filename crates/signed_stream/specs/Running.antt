@@ -1,73 +1,66 @@
 -- What a run promises.
-use Rattle.std.specs.Prelude.{◌≡◌, ℕ, ◌≤◌, ◌⊎◌, Bool, true, false, ◌||◌, if◌then◌else◌, List, codes, Option, Some, is_some}
+use Rattle.std.specs.Prelude.{◌≡◌, ℕ, ◌≤◌, ◌⊎◌, Bool, true, false, List, Option, Some}
 use Rattle.smithy_core.specs.Civil.{is_in_years}
 use Rattle.smithy_core.specs.Outside.{Gains, RoseOrStands}
-use Rattle.smithy_core.specs.TextPairs.{last_value}
+use Rattle.env_config.specs.Files.{Place}
 use Rattle.signed_stream.specs.Case.{request_moment}
-use Rattle.signed_stream.specs.Command.{Command, Wanted, bad_word, command, stream, unbuilt_word}
+use Rattle.signed_stream.specs.Command.{Command, Wanted, bad_word, show_settings, stream, unbuilt_word}
 use Rattle.signed_stream.specs.Job.{job}
-use Rattle.signed_stream.specs.Plan.{GoesAsPlanned, Plan, Supplied, stops}
+use Rattle.signed_stream.specs.Plan.{FilesRead, GoesAsPlanned, Plan, Supplied, stops, unless_large, unreadable}
+use Rattle.signed_stream.specs.ProfileTexts.{profile_texts}
 use Rattle.signed_stream.specs.Saying.{Says}
-use Rattle.signed_stream.specs.Status.{Ending, bad_words, done, header_value_too_long, headers_too_long, invalid_header_name_length, message_too_long, moment_out_of_range, no_memory, not_built, output_fault, payload_too_long, read_fault, refused, timestamp_value_too_large}
-use Rattle.signed_stream.specs.Stream.{GaveReading, IsStreamable, input_plan, streamed}
-
--- ## What is asked
-
--- what words and variables alone ask for
-pub data Ask : Type 0 where
-  -- to end so
-  ends : Ending → Ask
-  -- to stream the job that the input spells
-  streams : Wanted → Ask
-
--- the variables that aren't built
-abbrev pub has_later_variable : List (List ℕ × List ℕ) → Bool
-has_later_variable env = is_some (last_value env (codes "AWS_PROFILE")) || is_some (last_value env (codes "AWS_REGION"))
-
--- with a command
-abbrev pub command_ask : List (List ℕ × List ℕ) → Command → Ask
-command_ask env (bad_word place) = ends (bad_words place)
-command_ask env (unbuilt_word place) = ends (not_built place)
-command_ask env (stream wanted) = if has_later_variable env then ends (not_built 0) else streams wanted
-
--- the words, and then the variables
-unfoldable pub ask : List (List ℕ) → List (List ℕ × List ℕ) → Ask
-ask words env = command_ask env (command words)
-
--- where the words or the variables end the run
-abbrev pub IfEnds : Ask → Type 0 → Type 0
-IfEnds (ends end) P = P
-IfEnds (streams wanted) P = Unit {0}
-
--- where they ask to stream, what holds of that
-abbrev pub IfStreams : Ask → (Wanted → Type 0) → Type 0
-IfStreams (ends end) P = ⊥
-IfStreams (streams wanted) P = P wanted
+use Rattle.signed_stream.specs.ShowSettings.{GaveTexts, IsShowable, settings_plan}
+use Rattle.signed_stream.specs.Shown.{shown_settings}
+use Rattle.signed_stream.specs.Status.{Ending, RunFault, bad_job, bad_words, could_not_read_file, done, header_value_too_long, headers_too_long, invalid_header_name_length, job_too_large, message_too_long, moment_out_of_range, no_memory, not_built, output_fault, payload_too_long, read_fault, refused, timestamp_value_too_large}
+use Rattle.signed_stream.specs.Stream.{GaveReading, IsStreamable, job_plan, streamed}
 
 -- ## The plan
 
--- what the outside gave for the input's bytes
-abbrev pub Gave : Ask → List ℕ → Supplied → Type 0
-Gave (ends end) bytes given = Unit {0}
-Gave (streams wanted) bytes given = GaveReading wanted (job bytes) given
+-- what the outside gave for an input's bytes; `gave` tells what the disk gave
+abbrev pub Gave : (List Place → FilesRead → Type 0) → Command → List ℕ → Supplied → Type 0
+Gave gave (bad_word place) bytes given = Unit {0}
+Gave gave (unbuilt_word place) bytes given = Unit {0}
+Gave gave (stream wanted) bytes given = GaveReading gave wanted (job bytes) given
+Gave gave (show_settings wanted) bytes given = GaveTexts gave wanted (profile_texts bytes) given
 
--- what follows from what is asked, for the input's bytes and what the outside gave
-abbrev pub ask_plan : Ask → List ℕ → Supplied → Plan
-ask_plan (ends end) bytes given = stops end
-ask_plan (streams wanted) bytes given = input_plan wanted bytes given
+-- with what a command reads of an input's bytes
+abbrev pub read_plan : List (List ℕ × List ℕ) → Command → List ℕ → Supplied → Plan
+read_plan env (bad_word place) bytes given = stops (bad_words place)
+read_plan env (unbuilt_word place) bytes given = stops (not_built place)
+read_plan env (stream wanted) bytes given = job_plan env wanted given (job bytes)
+read_plan env (show_settings wanted) bytes given = settings_plan env wanted given (profile_texts bytes)
+
+-- what follows from the words, the variables, the input's bytes and what the outside gave; words that are no command end the run before the input is asked
+unfoldable pub command_plan : List (List ℕ × List ℕ) → Command → List ℕ → Supplied → Plan
+command_plan env (bad_word place) bytes given = stops (bad_words place)
+command_plan env (unbuilt_word place) bytes given = stops (not_built place)
+command_plan env command bytes given = unless_large bytes (read_plan env command bytes given)
 
 -- the outside gave this, and the run went as planned for it
-pub record RunsAsPlanned (asked : Ask) (bytes : List ℕ) (given : Supplied) (answer : Ending) (before now : Option (List ℕ)) : Type 0 where
-  pub gave : Gave asked bytes given
-  pub goes : GoesAsPlanned (ask_plan asked bytes given) answer before now
+pub record RunsAsPlanned (gave : List Place → FilesRead → Type 0) (env : List (List ℕ × List ℕ)) (command : Command) (bytes : List ℕ) (given : Supplied) (answer : Ending) (before now : Option (List ℕ)) : Type 0 where
+  pub supplied : Gave gave command bytes given
+  pub goes : GoesAsPlanned (command_plan env command bytes given) answer before now
 
 -- ## The run
 
--- where the words or the variables end the run, it ends so, or for want of memory; no other run ends for a bad word
-abbrev pub EndsAsAsked : Ask → Ending → Type 0
-EndsAsAsked (ends end) answer = (answer ≡ end) ⊎ (answer ≡ no_memory)
-EndsAsAsked (streams wanted) (bad_words place) = ⊥
-EndsAsAsked (streams wanted) answer = Unit {0}
+-- where the words are no command, it ends so, or for want of memory; no other run ends for a word
+abbrev pub EndsAsAsked : Command → Ending → Type 0
+EndsAsAsked (bad_word place) answer = (answer ≡ bad_words place) ⊎ (answer ≡ no_memory)
+EndsAsAsked (unbuilt_word place) answer = (answer ≡ not_built place) ⊎ (answer ≡ no_memory)
+EndsAsAsked command (bad_words place) = ⊥
+EndsAsAsked command (not_built place) = ⊥
+EndsAsAsked command answer = Unit {0}
+
+-- where the words are no command
+abbrev pub UnlessCommand : Command → Type 0 → Type 0
+UnlessCommand (bad_word place) P = P
+UnlessCommand (unbuilt_word place) P = P
+UnlessCommand command P = Unit {0}
+
+-- where they ask to stream, what holds of that
+abbrev pub IfStreams : Command → (Wanted → Type 0) → Type 0
+IfStreams (stream wanted) P = P wanted
+IfStreams command P = ⊥
 
 -- the count of the input's faults: it rose where the input failed, and else stayed; memory may run out after a fault
 abbrev pub CountsReads : Ending → ℕ → ℕ → Type 0
@@ -81,30 +74,68 @@ CountsWrites output_fault before now = RoseOrStands before now
 CountsWrites no_memory before now = before ≤ now
 CountsWrites answer before now = now ≡ before
 
--- whether the moment that is asked for the request lies in the years
-abbrev pub asks_in_years : Ask → Bool
-asks_in_years (ends end) = false
-asks_in_years (streams wanted) = is_in_years (request_moment wanted wanted.at)
+-- the faults that a frame can have, and so an event, after the head was written; the request is refused for its moment where that doesn't lie in the years
+abbrev pub may_be_of_frame : Bool → RunFault → Bool
+may_be_of_frame in_years (moment_out_of_range moment) = in_years
+may_be_of_frame in_years (invalid_header_name_length place) = true
+may_be_of_frame in_years (header_value_too_long place) = true
+may_be_of_frame in_years (timestamp_value_too_large place) = true
+may_be_of_frame in_years (headers_too_long place) = true
+may_be_of_frame in_years (payload_too_long place) = true
+may_be_of_frame in_years (message_too_long place) = true
+may_be_of_frame in_years fault = false
+
+-- whether a command can be refused for the fault after it has written; `stream` alone can
+abbrev pub comes_late : Command → RunFault → Bool
+comes_late (stream wanted) fault = may_be_of_frame (is_in_years (request_moment wanted wanted.at)) fault
+comes_late command fault = false
 
 -- where the test fails
 abbrev pub Unless : Bool → Type 0 → Type 0
 Unless true P = Unit {0}
 Unless false P = P
 
--- the answers that leave the output as it was, whether or not the input tells its bytes: of the refusals those of the profile and of the request, which
--- is refused for its moment where that doesn't lie in the years
-abbrev pub KeepsOutput : Bool → Ending → Option (List ℕ) → Option (List ℕ) → Type 0
-KeepsOutput in_years done before now = Unit {0}
-KeepsOutput in_years (refused (moment_out_of_range moment)) before now = Unless in_years (now ≡ before)
-KeepsOutput in_years (refused (invalid_header_name_length place)) before now = Unit {0}
-KeepsOutput in_years (refused (header_value_too_long place)) before now = Unit {0}
-KeepsOutput in_years (refused (timestamp_value_too_large place)) before now = Unit {0}
-KeepsOutput in_years (refused (headers_too_long place)) before now = Unit {0}
-KeepsOutput in_years (refused (payload_too_long place)) before now = Unit {0}
-KeepsOutput in_years (refused (message_too_long place)) before now = Unit {0}
-KeepsOutput in_years output_fault before now = Unit {0}
-KeepsOutput in_years no_memory before now = Unit {0}
-KeepsOutput in_years answer before now = now ≡ before
+-- the answers that leave the output as it was, whether or not the input tells its bytes: all but where it is done, was cut short, or is refused late
+abbrev pub KeepsOutput : (RunFault → Bool) → Ending → Option (List ℕ) → Option (List ℕ) → Type 0
+KeepsOutput late done before now = Unit {0}
+KeepsOutput late (refused fault) before now = Unless (late fault) (now ≡ before)
+KeepsOutput late output_fault before now = Unit {0}
+KeepsOutput late no_memory before now = Unit {0}
+KeepsOutput late answer before now = now ≡ before
+
+-- the answers that come before the disk is asked
+abbrev pub KeepsDisk : {D : Type 0} → Ending → D → D → Type 0
+KeepsDisk (bad_words place) before now = now ≡ before
+KeepsDisk job_too_large before now = now ≡ before
+KeepsDisk (bad_job place) before now = now ≡ before
+KeepsDisk read_fault before now = now ≡ before
+KeepsDisk (not_built place) before now = now ≡ before
+KeepsDisk answer before now = Unit {0}
+
+-- the file at this path is the first that words name and that couldn't be read
+abbrev pub NamesUnreadable : (List Place → FilesRead → Type 0) → Command → List ℕ → Type 0
+NamesUnreadable gave (stream wanted) path = gave wanted.profile.files (unreadable path)
+NamesUnreadable gave (show_settings wanted) path = gave wanted.files (unreadable path)
+NamesUnreadable gave command path = ⊥
+
+-- ## The headline and completeness
+
+-- What a run that is done has done. The headline: where the words ask to stream, the input can be streamed, and the output gained exactly the head of the
+-- signed request and then the chain of the events.
+abbrev pub HasDone : (List Place → FilesRead → Type 0) → List (List ℕ × List ℕ) → Command → List ℕ → Supplied → Option (List ℕ) → Option (List ℕ) → Type 0
+HasDone gave env (stream wanted) bytes given before now = (input : IsStreamable gave env wanted bytes given) × Gains before now (streamed input)
+HasDone gave env (show_settings wanted) bytes given before now = (input : IsShowable gave env wanted bytes given) × Gains before now (shown_settings input.selected)
+HasDone gave env command bytes given before now = ⊥
+
+-- what can be done with what the outside gave
+abbrev pub CanBeDone : (List Place → FilesRead → Type 0) → List (List ℕ × List ℕ) → Command → List ℕ → Supplied → Type 0
+CanBeDone gave env (stream wanted) bytes given = IsStreamable gave env wanted bytes given
+CanBeDone gave env (show_settings wanted) bytes given = IsShowable gave env wanted bytes given
+CanBeDone gave env command bytes given = ⊥
+
+-- the run is done; a fault of the outside or want of memory may come in between
+abbrev pub Completes : Ending → Type 0
+Completes answer = (answer ≡ done) ⊎ (answer ≡ read_fault) ⊎ (answer ≡ output_fault) ⊎ (answer ≡ no_memory)
 
 -- a sink before a run and after it: what it holds, where it tells, and its count of faults
 pub record SinkChange : Type 0 where
@@ -113,33 +144,23 @@ pub record SinkChange : Type 0 where
   pub faults_before : ℕ
   pub faults_now : ℕ
 
--- How a run went with what the outside gave: the input had this left, whose count of faults was `reads_before` and is `reads_now`.
-pub record Ran (asked : Ask) (left : Option (List ℕ)) (given : Supplied) (answer : Ending) (reads_before reads_now : ℕ) (out err : SinkChange) : Type 0 where
-  -- it ended as words and variables ask
-  pub ended : EndsAsAsked asked answer
+-- How a run went with what the outside gave: `gave` tells what the disk gave, and the input had this left, whose count of faults was `reads_before` and is
+-- `reads_now`.
+pub record Ran (gave : List Place → FilesRead → Type 0) (env : List (List ℕ × List ℕ)) (command : Command) (left : Option (List ℕ)) (given : Supplied) (answer : Ending) (reads_before reads_now : ℕ) (out err : SinkChange) : Type 0 where
+  -- where it is done, the headline
+  pub headline : (bytes : List ℕ) → left ≡ Some bytes → answer ≡ done → HasDone gave env command bytes given out.held_before out.held_now
+  -- what can be done with these files is done
+  pub complete : (bytes : List ℕ) → left ≡ Some bytes → (other : Supplied) → other.files ≡ given.files → CanBeDone gave env command bytes other → Completes answer
+  -- it ended as the words ask
+  pub ended : EndsAsAsked command answer
   -- where the input tells its bytes, it ended and the output gained as planned
-  pub planned : (bytes : List ℕ) → left ≡ Some bytes → RunsAsPlanned asked bytes given answer out.held_before out.held_now
+  pub planned : (bytes : List ℕ) → left ≡ Some bytes → RunsAsPlanned gave env command bytes given answer out.held_before out.held_now
   -- what the output keeps also where it doesn't
-  pub kept : KeepsOutput (asks_in_years asked) answer out.held_before out.held_now
+  pub kept : KeepsOutput (comes_late command) answer out.held_before out.held_now
+  -- a file that couldn't be read is one that the words name
+  pub named : (path : List ℕ) → answer ≡ could_not_read_file path → NamesUnreadable gave command path
   -- what `err` gained
   pub said : Says answer err.held_before err.held_now err.faults_before err.faults_now
   -- which counts rose
   pub reads : CountsReads answer reads_before reads_now
   pub writes : CountsWrites answer out.faults_before out.faults_now
-
--- ## The headline and completeness
-
--- What is asked is valid with what the outside gave: the words ask to stream, the variables are built, and the input can be streamed.
-pub record IsValid (words : List (List ℕ)) (env : List (List ℕ × List ℕ)) (bytes : List ℕ) (given : Supplied) : Type 0 where
-  pub wanted : Wanted
-  pub asked : command words ≡ stream wanted
-  pub built : has_later_variable env ≡ false
-  pub input : IsStreamable wanted bytes given
-
--- The headline: what is asked is valid, and the output gained exactly the head of the signed request and then the chain of the events.
-abbrev pub Streams : List (List ℕ) → List (List ℕ × List ℕ) → List ℕ → Option (List ℕ) → Option (List ℕ) → Type 0
-Streams words env bytes before now = (given : Supplied) × (valid : IsValid words env bytes given) × Gains before now (streamed valid.input)
-
--- the run is done; a fault of the outside or want of memory may come in between
-abbrev pub Completes : Ending → Type 0
-Completes answer = (answer ≡ done) ⊎ (answer ≡ read_fault) ⊎ (answer ≡ output_fault) ⊎ (answer ≡ no_memory)

@@ -3,10 +3,11 @@ use Rattle.std.specs.Prelude.{◌≡◌, ℕ, ◌⊎◌, List, [], ◌++◌, cod
 use Rattle.std.specs.Fmt.{decimal}
 use Rattle.smithy_core.specs.Outside.{Gains, GainsPrefix, GainsProperPrefix, RoseOrStands}
 use Rattle.smithy_core.specs.Text.{line}
-use Rattle.signed_stream.specs.Status.{Ending, done, bad_words, job_too_large, bad_job, read_fault, refused, output_fault, no_memory, not_built, RunFault, missing_credentials, missing_signing_region, moment_out_of_range, invalid_uri, invalid_header_name, invalid_header_value, missing_host, invalid_token_name, missing_expires, invalid_header_name_length, header_value_too_long, timestamp_value_too_large, headers_too_long, payload_too_long, message_too_long}
+use Rattle.signed_stream.specs.Status.{Ending, done, bad_words, job_too_large, bad_job, read_fault, could_not_read_file, refused, output_fault, no_memory, not_built, RunFault, parse_error, missing_credentials, missing_signing_region, moment_out_of_range, invalid_uri, invalid_header_name, invalid_header_value, missing_host, invalid_token_name, missing_expires, invalid_header_name_length, header_value_too_long, timestamp_value_too_large, headers_too_long, payload_too_long, message_too_long}
 
 -- the number and the name of a fault
 abbrev pub fault_text : RunFault → List ℕ
+fault_text (parse_error line) = codes "1 ParseError"
 fault_text missing_credentials = codes "2 MissingCredentials"
 fault_text missing_signing_region = codes "3 MissingSigningRegion"
 fault_text (moment_out_of_range moment) = codes "4 MomentOutOfRange"
@@ -30,6 +31,7 @@ ending_line (bad_words place) = line (codes "bad word " ++ decimal place)
 ending_line job_too_large = line (codes "input over 67108864 bytes")
 ending_line (bad_job place) = line (codes "bad line " ++ decimal place)
 ending_line read_fault = line (codes "read fault")
+ending_line (could_not_read_file path) = line (codes "could not read file " ++ path)
 ending_line (refused fault) = line (codes "refused " ++ fault_text fault)
 ending_line output_fault = line (codes "output fault")
 ending_line no_memory = line (codes "no memory")

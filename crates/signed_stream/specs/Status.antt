@@ -1,7 +1,13 @@
 -- How a run ends, as contracts see it: texts are lists of bytes.
-use Rattle.std.specs.Prelude.{ℕ}
+use Rattle.std.specs.Prelude.{ℕ, List, string_bytes}
 use Rattle.smithy_core.specs.Moment.{Instant}
 use Rattle.sigv4.specs.declared.error.ValuePlace.{ValuePlace}
+use Rattle.env_config.specs.ParseFault.{faulty_line_of}
+use Rattle.env_config.specs.Sections.{FaultyLine}
+use Rattle.env_config.specs.declared.load_fault.EnvConfigFileLoadError.{EnvConfigFileLoadError}
+use Rattle.env_config.specs.declared.load_fault.EnvConfigFileLoadError.TheVariants as loads
+use Rattle.signed_stream.specs.declared.settings.SettingsFault.{SettingsFault}
+use Rattle.signed_stream.specs.declared.settings.SettingsFault.TheVariants as settings
 use Rattle.signed_stream.specs.declared.status.Status.{Status}
 use Rattle.signed_stream.specs.declared.status.Status.TheVariants as statuses
 use Rattle.signed_stream.specs.declared.status.StreamFault.{StreamFault}
@@ -9,6 +15,8 @@ use Rattle.signed_stream.specs.declared.status.StreamFault.TheVariants as faults
 
 -- why a stream is refused
 pub data RunFault : Type 0 where
+  -- this line of a profile file is outside the grammar
+  parse_error : FaultyLine → RunFault
   missing_credentials : RunFault
   missing_signing_region : RunFault
   -- this moment lies outside the years
@@ -37,14 +45,17 @@ pub data Ending : Type 0 where
   -- the line at this place
   bad_job : ℕ → Ending
   read_fault : Ending
+  -- the file at this path
+  could_not_read_file : List ℕ → Ending
   refused : RunFault → Ending
   output_fault : Ending
   no_memory : Ending
-  -- the word or line at this place, or a variable at 0
+  -- the word at this place
   not_built : ℕ → Ending
 
 -- what contracts see of a fault
 abbrev pub run_fault : StreamFault → RunFault
+run_fault (faults.ParseError error) = parse_error (faulty_line_of error)
 run_fault faults.MissingCredentials = missing_credentials
 run_fault faults.MissingSigningRegion = missing_signing_region
 run_fault (faults.MomentOutOfRange moment) = moment_out_of_range moment
@@ -68,10 +79,24 @@ ending_of (statuses.BadWords place) = bad_words place
 ending_of statuses.JobTooLarge = job_too_large
 ending_of (statuses.BadJob place) = bad_job place
 ending_of statuses.ReadFault = read_fault
+ending_of (statuses.CouldNotReadFile path) = could_not_read_file (string_bytes path)
 ending_of (statuses.Refused fault) = refused (run_fault fault)
 ending_of statuses.OutputFault = output_fault
 ending_of statuses.NoMemory = no_memory
 ending_of (statuses.NotBuilt place) = not_built place
+
+-- how a run ends whose files aren't loaded
+abbrev pub load_ending : EnvConfigFileLoadError → Ending
+load_ending (loads.ParseError error) = refused (parse_error (faulty_line_of error))
+load_ending (loads.CouldNotReadFile fault) = could_not_read_file (string_bytes fault.path)
+load_ending loads.NoMemory = no_memory
+
+-- how a run ends whose settings aren't whole
+abbrev pub settings_ending : SettingsFault → Ending
+settings_ending (settings.ParseError error) = refused (parse_error (faulty_line_of error))
+settings_ending settings.MissingCredentials = refused missing_credentials
+settings_ending settings.MissingSigningRegion = refused missing_signing_region
+settings_ending settings.NoMemory = no_memory
 
 -- the number that the process ends with
 abbrev pub exit_code : Ending → ℕ
@@ -80,6 +105,7 @@ exit_code (bad_words place) = 2
 exit_code job_too_large = 3
 exit_code (bad_job place) = 4
 exit_code read_fault = 5
+exit_code (could_not_read_file path) = 6
 exit_code (refused fault) = 7
 exit_code output_fault = 9
 exit_code no_memory = 10

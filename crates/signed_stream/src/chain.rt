@@ -6,7 +6,7 @@ ghost use Rattle.smithy_core.specs.Text.{line};
 ghost use Rattle.eventstream.specs.Frame.{frame};
 ghost use Rattle.eventstream.specs.Link.{link_signature};
 ghost use Rattle.eventstream.specs.Write.{IsFrameFault};
-ghost use Rattle.sigv4.specs.Params.{signer_of};
+ghost use Rattle.sigv4.specs.Params.{signer_of, v4_identity, v4_time};
 ghost use Rattle.signed_stream.specs.Chain.{IsCredentials, fault_at, first_refusal, link_line, outside_years, refusal_fault, streamed_lines, unframed_at, unlinked};
 ghost use Rattle.signed_stream.specs.Halt.{Sends, unless_refused};
 ghost use Rattle.signed_stream.specs.Status.{run_fault};
@@ -35,9 +35,9 @@ pub fn stream_events<K: ByteSink>(
     events: &[Message],
     sink: &mut K,
 ) -> Result<(), Halt>
-    requires { IsCredentials params.now.identity.now }
+    requires { IsCredentials (v4_identity params.now) }
     ensures count { K.faults sink.old ≤ K.faults sink.new }
-    ensures sends { let moments = replicate (length events.now + 1) params.now.time in
+    ensures sends { let moments = replicate (length events.now + 1) (v4_time params.now) in
         let refusal = first_refusal (signer_of params.now) 1 events.now moments (string_bytes seed) in
         Sends (refusal_fault refusal) (streamed_lines (signer_of params.now) events.now moments (string_bytes seed) refusal)
         (K.held sink.old) (K.held sink.new) result }
@@ -63,11 +63,11 @@ fn send_event<K: ByteSink>(
     place: usize,
     sink: &mut K,
 ) -> Result<String, Halt>
-    requires { IsCredentials params.now.identity.now }
+    requires { IsCredentials (v4_identity params.now) }
     ensures count { K.faults sink.old ≤ K.faults sink.new }
-    ensures next { IfOk result (λ next. string_bytes next ≡ link_signature (signer_of params.now) signature.now (frame event.now) params.now.time) }
-    ensures sends { let fault = unlinked (signer_of params.now) place signature.now event.now params.now.time in
-        Sends fault (unless_refused fault (link_line (signer_of params.now) signature.now (frame event.now) params.now.time))
+    ensures next { IfOk result (λ next. string_bytes next ≡ link_signature (signer_of params.now) signature.now (frame event.now) (v4_time params.now)) }
+    ensures sends { let fault = unlinked (signer_of params.now) place signature.now event.now (v4_time params.now) in
+        Sends fault (unless_refused fault (link_line (signer_of params.now) signature.now (frame event.now) (v4_time params.now)))
         (K.held sink.old) (K.held sink.new) result }
     ensures failed { IsErrOf result Halt.OutputFault → RoseOrStands (K.faults sink.old) (K.faults sink.new) }
     ensures steady { (IsErrOf result Halt.OutputFault → ⊥) → K.faults sink.new ≡ K.faults sink.old }
@@ -95,10 +95,10 @@ fn send_closing<K: ByteSink>(
     signature: &str,
     sink: &mut K,
 ) -> Result<(), Halt>
-    requires { IsCredentials params.now.identity.now }
+    requires { IsCredentials (v4_identity params.now) }
     ensures count { K.faults sink.old ≤ K.faults sink.new }
-    ensures sends { let fault = outside_years params.now.time in
-        Sends fault (unless_refused fault (link_line (signer_of params.now) signature.now [] params.now.time)) (K.held sink.old) (K.held sink.new) result }
+    ensures sends { let fault = outside_years (v4_time params.now) in
+        Sends fault (unless_refused fault (link_line (signer_of params.now) signature.now [] (v4_time params.now))) (K.held sink.old) (K.held sink.new) result }
     ensures failed { IsErrOf result Halt.OutputFault → RoseOrStands (K.faults sink.old) (K.faults sink.new) }
     ensures steady { (IsErrOf result Halt.OutputFault → ⊥) → K.faults sink.new ≡ K.faults sink.old }
 {

@@ -1,18 +1,24 @@
-ghost use Rattle.std.specs.Prelude.{◌≡◌, map};
+ghost use Rattle.std.specs.Prelude.{map};
 ghost use Rattle.std.specs.String.{string_bytes};
-ghost use Rattle.signed_stream.specs.Command.{command, no_options, options_from};
-ghost use Rattle.signed_stream.specs.Options.{command_told, stream_told};
+ghost use Rattle.signed_stream.specs.Command.{command, no_options, no_profile_given, options_from, settings_from};
+ghost use Rattle.signed_stream.specs.Options.{ReadsProfile, ReadsStream, ReadsWords};
 
 mod options;
+mod profile;
 
 use crate::command::options::GivenOptions;
 pub use crate::command::options::StreamWords;
+use crate::command::profile::GivenProfile;
+pub use crate::command::profile::{NamedFile, ProfileOptions};
+use std::alloc::{AllocError, Global};
 
 /// A command with its options.
 #[derive(Drop)]
 pub enum Command<'a> {
     /// Streams the job that the input spells.
     Stream(StreamWords<'a>),
+    /// Shows what the profile gives.
+    Settings(ProfileOptions<'a>),
 }
 
 /// Why words spell no command that is built.
@@ -22,6 +28,18 @@ pub enum WordsFault {
     BadWord(usize),
     /// The word at this place is of a form that isn't built.
     NotBuilt(usize),
+    NoMemory,
+}
+
+impl From<AllocError> for WordsFault {
+    ghost use Rattle.std.specs.Prelude.{◌≡◌};
+    ghost use Rattle.signed_stream.specs.declared.command.WordsFault.TheVariants.{NoMemory};
+
+    ghost from_gives = { λ _ fault. fault ≡ NoMemory };
+
+    fn from(_e: AllocError) -> WordsFault {
+        WordsFault::NoMemory
+    }
 }
 
 /// The command that the words spell.
@@ -30,27 +48,38 @@ pub enum WordsFault {
 ///
 /// The place of the first word that is bad or not built.
 #[tactic(auto, using(crate::proofs::OptionLemmas::command_empty, crate::proofs::OptionLemmas::command_first), unfolding(crate::specs::Command::command))]
-pub fn read_words<'a>(words: &'a [String]) -> Result<Command<'a>, WordsFault>
-    ensures { command_told result ≡ command (map string_bytes words.now) }
+pub fn read_words<'a>(alloc: Global, words: &'a [String]) -> Result<Command<'a>, WordsFault>
+    ensures { ReadsWords (command (map string_bytes words.now)) result }
 {
     let [first, rest @ ..] = words else {
         return Err(WordsFault::BadWord(1));
     };
     match first.as_str() {
-        "stream" => match read_options(rest) {
-            Ok(words) => Ok(Command::Stream(words)),
-            Err(fault) => Err(fault),
-        },
-        "check" | "settings" | "chunk" | "gen" => Err(WordsFault::NotBuilt(1)),
+        "stream" => Ok(Command::Stream(read_options(alloc, rest)?)),
+        "settings" => Ok(Command::Settings(read_profile(alloc, rest)?)),
+        "check" | "chunk" | "gen" => Err(WordsFault::NotBuilt(1)),
         _ => Err(WordsFault::BadWord(1)),
     }
 }
 
-// The command that the words after `stream` spell.
-fn read_options<'a>(words: &'a [String]) -> Result<StreamWords<'a>, WordsFault>
-    ensures { stream_told result ≡ options_from 2 no_options (map string_bytes words.now) }
+// What the words after `stream` ask for.
+fn read_options<'a>(alloc: Global, words: &'a [String]) -> Result<StreamWords<'a>, WordsFault>
+    ensures { ReadsStream (options_from 2 no_options (map string_bytes words.now)) result }
 {
-    let mut given = GivenOptions::new();
+    let mut given = GivenOptions::new(alloc);
+    let mut place = 2;
+    for word in words {
+        given.take(place, word.as_str())?;
+        place += 1;
+    }
+    given.finish(place)
+}
+
+// What the words after `settings` ask for.
+fn read_profile<'a>(alloc: Global, words: &'a [String]) -> Result<ProfileOptions<'a>, WordsFault>
+    ensures { ReadsProfile (settings_from 2 no_profile_given (map string_bytes words.now)) result }
+{
+    let mut given = GivenProfile::new(alloc);
     let mut place = 2;
     for word in words {
         given.take(place, word.as_str())?;

@@ -1,46 +1,111 @@
-ghost use Rattle.std.specs.Prelude.{◌≡◌, ◌==◌, ◌+◌, [], count_by};
+ghost use Rattle.std.specs.Prelude.{◌≡◌, ◌==◌, ◌+◌, [], count_by, IfOk, option_map};
+ghost use Rattle.std.specs.String.{string_bytes};
 ghost use Rattle.signed_stream.specs.Job.{job, lines_from, no_draft};
-ghost use Rattle.signed_stream.specs.Lines.{job_lines};
-ghost use Rattle.signed_stream.specs.Draft.{ReadsJob, draft_of};
+ghost use Rattle.signed_stream.specs.Lines.{job_lines, text_lines};
+ghost use Rattle.signed_stream.specs.Draft.{ReadsJob, TellsText, draft_of, job_parts};
+ghost use Rattle.signed_stream.specs.ProfileTexts.{ReadsTexts, no_texts, profile_texts, texts_from};
 
-mod credentials;
 mod draft;
 mod event;
 mod event_header;
 mod fault;
 mod lines;
+mod profile_texts;
 
-pub use crate::job::credentials::ProfileKeys;
 use crate::job::draft::Draft;
 pub use crate::job::fault::JobFault;
 use crate::job::lines::cut_line;
+pub use crate::job::profile_texts::ProfileTexts;
 use bytes::Bytes;
-use smithy_core::{HttpRequest, Message};
+use smithy_core::{HttpRequest, Mem, Message};
 use std::alloc::Global;
 
-/// A job whose credentials are plain.
+/// A job: what is signed and streamed, and what text of profile files goes with it. [`Debug`](std::fmt::Debug) isn't
+/// there, so that no secret is printed.
 #[derive(Drop)]
 pub struct Job {
     /// The request; without a line of its own its body is empty.
     pub request: HttpRequest,
-    /// What the profile gives.
-    pub profile: ProfileKeys,
+    /// The text of a config file, where there is a line of it.
+    pub config: Option<String>,
+    /// The text of a credentials file, where there is a line of it.
+    pub credentials: Option<String>,
     /// The events in order.
     pub events: Vec<Message>,
 }
 
+impl Job {
+    /// An equal job.
+    pub fn try_clone(&self) -> Mem<Job>
+        ensures { IfOk result (λ copy. job_parts copy ≡ job_parts self.now) }
+    {
+        Ok(Job {
+            request: self.request.try_clone()?,
+            config: copied(&self.config)?,
+            credentials: copied(&self.credentials)?,
+            events: copied_events(*self.events.allocator(), self.events.as_slice())?,
+        })
+    }
+}
+
+// The same text, where there is one.
+fn copied(text: &Option<String>) -> Mem<Option<String>>
+    ensures { IfOk result (λ copy. option_map string_bytes copy ≡ option_map string_bytes text.now) }
+{
+    match text {
+        Some(text) => Ok(Some(text.clone()?)),
+        None => Ok(None),
+    }
+}
+
+// Equal events.
+fn copied_events(alloc: Global, events: &[Message]) -> Mem<Vec<Message>>
+    ensures { IfOk result (λ copies. copies.items ≡ events.now) }
+{
+    let mut copies = Vec::new(alloc);
+    for event in events {
+        copies.push(event.try_clone()?)?;
+    }
+    Ok(copies)
+}
+
 /// The job that the bytes spell.
+///
+/// ```rust
+/// let job = read_job(alloc, b"method GET\ntarget /\nevent\npayload 00\n")?;
+/// let events = job.events.len();
+/// ```
 ///
 /// # Errors
 ///
-/// [`JobFault::BadLine`] or [`JobFault::NotBuilt`] at the first line that is bad or of a form that isn't built.
-/// Bytes that aren't UTF-8 are bad at the line of the first bad byte.
+/// [`JobFault::BadLine`] at the first line that is bad. Bytes that aren't UTF-8 are bad at the line of the first bad
+/// byte.
 #[tactic(auto, unfolding(crate::specs::Job::job))]
 pub fn read_job(alloc: Global, bytes: &[u8]) -> Result<Job, JobFault>
     ensures { ReadsJob (job bytes.now) result }
 {
+    read_lines(alloc, text_of(bytes)?)
+}
+
+/// The texts of profile files that the bytes spell, which have nothing else.
+///
+/// # Errors
+///
+/// As those of [`read_job`].
+#[tactic(auto, unfolding(crate::specs::ProfileTexts::profile_texts))]
+pub fn read_profile_texts(alloc: Global, bytes: &[u8]) -> Result<ProfileTexts, JobFault>
+    ensures { ReadsTexts (profile_texts bytes.now) result }
+{
+    read_texts(alloc, text_of(bytes)?)
+}
+
+// The bytes as text.
+#[tactic(auto, unfolding(crate::specs::Lines::text_lines))]
+fn text_of(bytes: &[u8]) -> Result<&str, JobFault>
+    ensures { TellsText (text_lines bytes.now) result }
+{
     match std::str::from_utf8(bytes) {
-        Ok(text) => read_lines(alloc, text),
+        Ok(text) => Ok(text),
         Err(e) => Err(JobFault::BadLine(count_lf(&bytes[..e.valid_up_to()]) + 1)),
     }
 }
@@ -74,18 +139,35 @@ fn into_job(mut draft: Draft, place: usize) -> Result<Job, JobFault>
     ensures { ReadsJob (lines_from place (draft_of draft) []) result }
 {
     draft.close_event()?;
-    match (draft.method, draft.target, draft.profile) {
-        (Some(method), Some(target), Some(profile)) => Ok(Job {
+    match (draft.method, draft.target) {
+        (Some(method), Some(target)) => Ok(Job {
             request: HttpRequest {
                 method,
                 target,
                 headers: draft.headers,
                 body: draft.body.unwrap_or(Bytes::new()),
             },
-            profile,
+            config: draft.profile.config,
+            credentials: draft.profile.credentials,
             events: draft.events,
         }),
-        (Some(_), Some(_), None) => Err(JobFault::NotBuilt(place)),
         _ => Err(JobFault::BadLine(place)),
     }
+}
+
+fn read_texts(alloc: Global, text: &str) -> Result<ProfileTexts, JobFault>
+    ensures { ReadsTexts (texts_from 1 no_texts (job_lines text.now)) result }
+{
+    let mut texts = ProfileTexts::new();
+    let mut place = 1;
+    let mut rest = text;
+    while !rest.is_empty() {
+        let (line, others) = cut_line(rest);
+        if let Err(fault) = texts.take_line(alloc, line) {
+            return Err(fault.at(place));
+        }
+        rest = others;
+        place += 1;
+    }
+    Ok(texts)
 }

@@ -45,6 +45,10 @@ fn line_of(alloc: Global, status: &Status) -> Mem<String>
         Status::JobTooLarge => String::from_str(alloc, "input over 67108864 bytes\n"),
         Status::BadJob(place) => format!(in alloc; "bad line {place}\n"),
         Status::ReadFault => String::from_str(alloc, "read fault\n"),
+        Status::CouldNotReadFile(path) => {
+            let path = path.as_str();
+            format!(in alloc; "could not read file {path}\n")
+        }
         Status::Refused(fault) => refusal_line(alloc, fault),
         Status::OutputFault => String::from_str(alloc, "output fault\n"),
         Status::NoMemory => String::from_str(alloc, "no memory\n"),
@@ -56,6 +60,7 @@ fn refusal_line(alloc: Global, fault: &StreamFault) -> Mem<String>
     ensures { IfOk result (λ line. string_bytes line ≡ ending_line (refused (run_fault fault.now))) }
 {
     let line = match fault {
+        StreamFault::ParseError(_) => "refused 1 ParseError\n",
         StreamFault::MissingCredentials => "refused 2 MissingCredentials\n",
         StreamFault::MissingSigningRegion => "refused 3 MissingSigningRegion\n",
         StreamFault::MomentOutOfRange(_) => "refused 4 MomentOutOfRange\n",

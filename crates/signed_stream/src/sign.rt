@@ -42,6 +42,7 @@ pub fn sign_request(
         signing,
         token_name,
         skew_millis,
+        ..
     } = words;
     let config = SigV4OperationSigningConfig {
         region: Some(Region::new(String::from_str(alloc, region)?)),

@@ -1,11 +1,16 @@
-ghost use Rattle.std.specs.Prelude.{◌≡◌};
+ghost use Rattle.std.specs.Prelude.{◌≡◌, IfOk};
 
+use crate::settings::SettingsFault;
+use env_config::{EnvConfigFileLoadError, EnvConfigParseError};
 use sigv4::ValuePlace;
-use smithy_core::Moment;
+use smithy_core::{Mem, Moment};
+use std::alloc::AllocError;
 
 /// Why a stream was refused.
 #[derive(Debug, PartialEq, Eq, Drop)]
 pub enum StreamFault {
+    /// A line of a profile file is outside the grammar: the first one of the first faulty file.
+    ParseError(EnvConfigParseError),
     /// The selected profile lacks `aws_access_key_id` or `aws_secret_access_key`.
     MissingCredentials,
     /// No place gives a region.
@@ -40,6 +45,38 @@ pub enum StreamFault {
     MessageTooLong(usize),
 }
 
+impl StreamFault {
+    ghost use Rattle.signed_stream.specs.Status.{run_fault};
+
+    /// An equal fault.
+    pub fn try_clone(&self) -> Mem<StreamFault>
+        ensures { IfOk result (λ copy. run_fault copy ≡ run_fault self.now) }
+    {
+        Ok(match self {
+            StreamFault::ParseError(error) => StreamFault::ParseError(error.try_clone()?),
+            StreamFault::MissingCredentials => StreamFault::MissingCredentials,
+            StreamFault::MissingSigningRegion => StreamFault::MissingSigningRegion,
+            StreamFault::MomentOutOfRange(moment) => StreamFault::MomentOutOfRange(*moment),
+            StreamFault::InvalidUri => StreamFault::InvalidUri,
+            StreamFault::InvalidHeaderName(place) => StreamFault::InvalidHeaderName(*place),
+            StreamFault::InvalidHeaderValue(place) => StreamFault::InvalidHeaderValue(*place),
+            StreamFault::MissingHost => StreamFault::MissingHost,
+            StreamFault::InvalidTokenName => StreamFault::InvalidTokenName,
+            StreamFault::MissingExpires => StreamFault::MissingExpires,
+            StreamFault::InvalidHeaderNameLength(place) => {
+                StreamFault::InvalidHeaderNameLength(*place)
+            }
+            StreamFault::HeaderValueTooLong(place) => StreamFault::HeaderValueTooLong(*place),
+            StreamFault::TimestampValueTooLarge(place) => {
+                StreamFault::TimestampValueTooLarge(*place)
+            }
+            StreamFault::HeadersTooLong(place) => StreamFault::HeadersTooLong(*place),
+            StreamFault::PayloadTooLong(place) => StreamFault::PayloadTooLong(*place),
+            StreamFault::MessageTooLong(place) => StreamFault::MessageTooLong(*place),
+        })
+    }
+}
+
 /// How a run ended.
 #[derive(Debug, PartialEq, Eq, Drop)]
 pub enum Status {
@@ -53,14 +90,16 @@ pub enum Status {
     BadJob(usize),
     /// The input failed.
     ReadFault,
-    /// The job can't be streamed; where an event is at fault, the output holds the head and the frames of the events
+    /// The file at this path, which a word names, is absent, or the disk failed.
+    CouldNotReadFile(String),
+    /// The command can't be done; where an event is at fault, the output holds the head and the frames of the events
     /// before it.
     Refused(StreamFault),
     /// The output failed; it holds a front of the text.
     OutputFault,
     /// Memory ran out; the output holds a front of the text.
     NoMemory,
-    /// The word or line at this place is of a form that isn't built; 0 for a variable.
+    /// The word at this place is of a form that isn't built; places count from 1.
     NotBuilt(usize),
 }
 
@@ -77,10 +116,77 @@ impl Status {
             Status::JobTooLarge => 3,
             Status::BadJob(_) => 4,
             Status::ReadFault => 5,
+            Status::CouldNotReadFile(_) => 6,
             Status::Refused(_) => 7,
             Status::OutputFault => 9,
             Status::NoMemory => 10,
             Status::NotBuilt(_) => 11,
+        }
+    }
+
+    /// An equal status.
+    pub fn try_clone(&self) -> Mem<Status>
+        ensures { IfOk result (λ copy. ending_of copy ≡ ending_of self.now) }
+    {
+        Ok(match self {
+            Status::Done => Status::Done,
+            Status::BadWords(place) => Status::BadWords(*place),
+            Status::JobTooLarge => Status::JobTooLarge,
+            Status::BadJob(place) => Status::BadJob(*place),
+            Status::ReadFault => Status::ReadFault,
+            Status::CouldNotReadFile(path) => Status::CouldNotReadFile(path.clone()?),
+            Status::Refused(fault) => Status::Refused(fault.try_clone()?),
+            Status::OutputFault => Status::OutputFault,
+            Status::NoMemory => Status::NoMemory,
+            Status::NotBuilt(place) => Status::NotBuilt(*place),
+        })
+    }
+}
+
+impl From<AllocError> for Status {
+    ghost use Rattle.std.specs.Prelude.{◌≡◌};
+    ghost use Rattle.signed_stream.specs.declared.status.Status.TheVariants.{NoMemory};
+
+    ghost from_gives = { λ _ status. status ≡ NoMemory };
+
+    fn from(_e: AllocError) -> Status {
+        Status::NoMemory
+    }
+}
+
+impl From<EnvConfigFileLoadError> for Status {
+    ghost use Rattle.std.specs.Prelude.{◌≡◌};
+    ghost use Rattle.signed_stream.specs.Status.{ending_of, load_ending};
+
+    ghost from_gives = { λ fault status. ending_of status ≡ load_ending fault };
+
+    fn from(fault: EnvConfigFileLoadError) -> Status {
+        match fault {
+            EnvConfigFileLoadError::ParseError(error) => {
+                Status::Refused(StreamFault::ParseError(error))
+            }
+            EnvConfigFileLoadError::CouldNotReadFile(fault) => {
+                Status::CouldNotReadFile(fault.path)
+            }
+            EnvConfigFileLoadError::NoMemory => Status::NoMemory,
+        }
+    }
+}
+
+impl From<SettingsFault> for Status {
+    ghost use Rattle.std.specs.Prelude.{◌≡◌};
+    ghost use Rattle.signed_stream.specs.Status.{ending_of, settings_ending};
+
+    ghost from_gives = { λ fault status. ending_of status ≡ settings_ending fault };
+
+    fn from(fault: SettingsFault) -> Status {
+        match fault {
+            SettingsFault::ParseError(error) => Status::Refused(StreamFault::ParseError(error)),
+            SettingsFault::MissingCredentials => Status::Refused(StreamFault::MissingCredentials),
+            SettingsFault::MissingSigningRegion => {
+                Status::Refused(StreamFault::MissingSigningRegion)
+            }
+            SettingsFault::NoMemory => Status::NoMemory,
         }
     }
 }

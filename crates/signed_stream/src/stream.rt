@@ -1,125 +1,97 @@
-ghost use Rattle.std.specs.Prelude.{◌≡◌, ◌≤◌, ◌+◌, ◌++◌, ℕ, List, Some, None, IsErrOf, length, replicate};
+ghost use Rattle.std.specs.Prelude.{◌≡◌, ◌≤◌, ◌+◌, ◌++◌, ℕ, List, None, IsErrOf, length, replicate};
 ghost use Rattle.std.specs.String.{string_bytes};
-ghost use Rattle.smithy_core.specs.Outside.{IsAtEnd, IsRestOf, RoseOrStands};
-ghost use Rattle.sigv4.specs.Params.{signer_of};
-ghost use Rattle.signed_stream.specs.Carriers.{GoesForInput, GoesForJob, GoesForTarget};
+ghost use Rattle.smithy_core.specs.Outside.{RoseOrStands};
+ghost use Rattle.sigv4.specs.Params.{signer_of, v4_identity, v4_time};
+ghost use Rattle.signed_stream.specs.Carriers.{GoesForBytes, GoesForJob, GoesForTarget, IsAfterInput, IsAfterTexts};
 ghost use Rattle.signed_stream.specs.Case.{request_moment};
 ghost use Rattle.signed_stream.specs.Chain.{IsCredentials, first_refusal, refusal_fault, streamed_lines};
+ghost use Rattle.signed_stream.specs.Command.{stream};
 ghost use Rattle.signed_stream.specs.Draft.{job_parts};
 ghost use Rattle.signed_stream.specs.Halt.{Sends, ended};
-ghost use Rattle.signed_stream.specs.Job.{job, whole_job};
 ghost use Rattle.signed_stream.specs.Options.{wanted_of};
-ghost use Rattle.signed_stream.specs.Plan.{most_input};
-ghost use Rattle.signed_stream.specs.Running.{KeepsOutput, asks_in_years, streams};
+ghost use Rattle.signed_stream.specs.Running.{KeepsDisk, NamesUnreadable};
 ghost use Rattle.signed_stream.specs.Sign.{identity_case};
-ghost use Rattle.signed_stream.specs.Status.{bad_words, done, ending_of, output_fault, read_fault};
+ghost use Rattle.signed_stream.specs.Sources.{DiskGives};
+ghost use Rattle.signed_stream.specs.Status.{could_not_read_file, ending_of, output_fault};
 ghost use Rattle.signed_stream.specs.Written.{head};
 
 use crate::chain::{stream_events, write_text};
 use crate::command::StreamWords;
 use crate::halt::{Halt, status_of};
-use crate::job::{Job, JobFault, ProfileKeys, read_job};
+use crate::job::{Job, JobFault, ProfileTexts, read_job};
 use crate::sign::sign_request;
-use crate::status::{Status, StreamFault};
+use crate::sources::select;
+use crate::status::Status;
 use crate::written::head_of;
 use sigv4::event_stream::SigningParams;
-use smithy_core::{
-    ByteSink, ByteSource, Credentials, HttpRequest, Identity, Message, ReadFault, read_all,
-};
+use smithy_core::{ByteSink, Disk, Env, HttpRequest, Identity, Message};
 use std::alloc::Global;
 
-/// The most bytes of an input.
-const MOST_INPUT: usize = 67_108_864;
-
-/// Streams the job that the input has, as the words ask.
-pub fn stream_input<S: ByteSource, K: ByteSink>(
-    alloc: Global,
-    words: StreamWords<'_>,
-    input: &mut S,
-    out: &mut K,
-) -> Status
-    ensures never_bad_words { (place : ℕ) → ending_of result ≡ bad_words place → ⊥ }
-    ensures planned { (bytes : List ℕ) → S.left input.old ≡ Some bytes
-        → GoesForInput (streams (wanted_of words.entry)) bytes (ending_of result) (K.held out.old) (K.held out.new) }
-    ensures kept { KeepsOutput (asks_in_years (streams (wanted_of words.entry))) (ending_of result) (K.held out.old) (K.held out.new) }
-    ensures read_failed { ending_of result ≡ read_fault → RoseOrStands (S.faults input.old) (S.faults input.new) }
-    ensures read_steady { (ending_of result ≡ read_fault → ⊥) → S.faults input.new ≡ S.faults input.old }
-    ensures output_failed { ending_of result ≡ output_fault → RoseOrStands (K.faults out.old) (K.faults out.new) }
-    ensures output_steady { (ending_of result ≡ output_fault → ⊥) → K.faults out.new ≡ K.faults out.old }
-    ensures outside { (ending_of result ≡ done → IsAtEnd (S.left input.new)) × IsRestOf (S.left input.old) (S.left input.new)
-        × (S.faults input.old ≤ S.faults input.new) × (K.faults out.old ≤ K.faults out.new) }
-{
-    match read_all(alloc, input, MOST_INPUT) {
-        Ok(bytes) => stream_bytes(alloc, bytes.as_slice(), words, out),
-        Err(ReadFault::Failed) => Status::ReadFault,
-        Err(ReadFault::TooLarge) => Status::JobTooLarge,
-        Err(ReadFault::NoMemory) => Status::NoMemory,
-    }
-}
-
-// Streams the job that the bytes spell.
-fn stream_bytes<K: ByteSink>(
+/// Streams the job that the bytes spell, as the words ask.
+pub fn stream_bytes<D: Disk, K: ByteSink>(
     alloc: Global,
     bytes: &[u8],
     words: StreamWords<'_>,
+    env: &Env,
+    disk: &mut D,
     out: &mut K,
 ) -> Status
-    ensures never_bad_words { (place : ℕ) → ending_of result ≡ bad_words place → ⊥ }
-    ensures never_read_fault { ending_of result ≡ read_fault → ⊥ }
-    ensures planned { GoesForJob (wanted_of words.entry) (job bytes.now) (ending_of result) (K.held out.old) (K.held out.new) }
+    ensures end { IsAfterInput (ending_of result) }
+    ensures planned { GoesForBytes (DiskGives D.answers D.faults (D.files disk.old) env.now disk.old disk.new) env.now (stream (wanted_of words.entry)) bytes.now
+        (ending_of result) (K.held out.old) (K.held out.new) }
+    ensures named { (path : List ℕ) → ending_of result ≡ could_not_read_file path
+        → NamesUnreadable (DiskGives D.answers D.faults (D.files disk.old) env.now disk.old disk.new) (stream (wanted_of words.entry)) path }
+    ensures disk { KeepsDisk (ending_of result) disk.old disk.new }
+    ensures same { D.files disk.new ≡ D.files disk.old }
     ensures output_failed { ending_of result ≡ output_fault → RoseOrStands (K.faults out.old) (K.faults out.new) }
     ensures output_steady { (ending_of result ≡ output_fault → ⊥) → K.faults out.new ≡ K.faults out.old }
-    ensures count { K.faults out.old ≤ K.faults out.new }
+    ensures count { (D.faults disk.old ≤ D.faults disk.new) × (K.faults out.old ≤ K.faults out.new) }
 {
     match read_job(alloc, bytes) {
-        Ok(job) => stream_job(alloc, job, words, out),
+        Ok(job) => stream_job(alloc, job, words, env, disk, out),
         Err(JobFault::BadLine(place)) => Status::BadJob(place),
-        Err(JobFault::NotBuilt(place)) => Status::NotBuilt(place),
         Err(JobFault::NoMemory) => Status::NoMemory,
     }
 }
 
-// Streams a job, under the credentials and the region that its profile gives.
-fn stream_job<K: ByteSink>(alloc: Global, job: Job, words: StreamWords<'_>, out: &mut K) -> Status
-    ensures never_bad_words { (place : ℕ) → ending_of result ≡ bad_words place → ⊥ }
-    ensures never_read_fault { ending_of result ≡ read_fault → ⊥ }
-    ensures planned { GoesForJob (wanted_of words.entry) (whole_job (job_parts job)) (ending_of result) (K.held out.old) (K.held out.new) }
+// Streams a job, under what its texts select with the files that the words name.
+fn stream_job<D: Disk, K: ByteSink>(
+    alloc: Global,
+    job: Job,
+    words: StreamWords<'_>,
+    env: &Env,
+    disk: &mut D,
+    out: &mut K,
+) -> Status
+    ensures end { IsAfterTexts (ending_of result) }
+    ensures planned { GoesForJob (DiskGives D.answers D.faults (D.files disk.old) env.now disk.old disk.new) env.now (wanted_of words.entry) (job_parts job)
+        (ending_of result) (K.held out.old) (K.held out.new) }
+    ensures named { (path : List ℕ) → ending_of result ≡ could_not_read_file path
+        → NamesUnreadable (DiskGives D.answers D.faults (D.files disk.old) env.now disk.old disk.new) (stream (wanted_of words.entry)) path }
+    ensures same { D.files disk.new ≡ D.files disk.old }
     ensures output_failed { ending_of result ≡ output_fault → RoseOrStands (K.faults out.old) (K.faults out.new) }
     ensures output_steady { (ending_of result ≡ output_fault → ⊥) → K.faults out.new ≡ K.faults out.old }
-    ensures count { K.faults out.old ≤ K.faults out.new }
+    ensures count { (D.faults disk.old ≤ D.faults disk.new) × (K.faults out.old ≤ K.faults out.new) }
 {
     let Job {
         request,
-        profile,
+        config,
+        credentials,
         events,
     } = job;
-    let ProfileKeys {
-        key_id,
-        secret,
-        token,
-        region,
-    } = profile;
-    let Some(key_id) = key_id else {
-        return Status::Refused(StreamFault::MissingCredentials);
+    let texts = ProfileTexts {
+        config,
+        credentials,
     };
-    let Some(secret) = secret else {
-        return Status::Refused(StreamFault::MissingCredentials);
-    };
-    let Some(region) = region else {
-        return Status::Refused(StreamFault::MissingSigningRegion);
-    };
-    let credentials = Credentials::new(key_id, secret, token, None);
-    let identity = Identity::Credentials(credentials);
-    let streamed = stream_request(
-        alloc,
-        request,
-        events.as_slice(),
-        &identity,
-        region.as_str(),
-        words,
-        out,
-    );
-    status_of(streamed)
+    match select(alloc, env, disk, &words.profile, texts) {
+        Ok(settings) => {
+            let identity = Identity::Credentials(settings.credentials);
+            let region = settings.region.as_str();
+            let events = events.as_slice();
+            status_of(stream_request(alloc, request, events, &identity, region, words, out))
+        }
+        Err(status) => status,
+    }
 }
 
 // Signs the request, and streams its head and the events.
@@ -157,10 +129,10 @@ fn stream_signed<K: ByteSink>(
     params: &SigningParams<'_>,
     out: &mut K,
 ) -> Result<(), Halt>
-    requires { IsCredentials params.now.identity.now }
+    requires { IsCredentials (v4_identity params.now) }
     ensures count { K.faults out.old ≤ K.faults out.new }
     ensures sends { let signer = signer_of params.now in
-        let moments = replicate (length events.now + 1) params.now.time in
+        let moments = replicate (length events.now + 1) (v4_time params.now) in
         let refusal = first_refusal signer 1 events.now moments (string_bytes signature) in
         Sends (refusal_fault refusal)
         (head (string_bytes request.now.method) (string_bytes request.now.target) request.now.headers

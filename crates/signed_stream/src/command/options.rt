@@ -1,10 +1,9 @@
-ghost use Rattle.std.specs.Prelude.{◌≡◌};
-ghost use Rattle.signed_stream.specs.Command.{is_later_option};
-
 use crate::command::WordsFault;
+use crate::command::profile::{ProfileOption, ProfileOptions};
 use crate::numbers::{parse_i64, parse_u64};
 use aws_auth::{HttpSignatureType, PayloadSigningOverride, SigningOptions};
 use smithy_core::Moment;
+use std::alloc::Global;
 
 /// What `stream` is asked for.
 #[derive(Debug, Drop)]
@@ -19,6 +18,8 @@ pub struct StreamWords<'a> {
     pub token_name: Option<&'a str>,
     /// By how many milliseconds the service's clock is ahead.
     pub skew_millis: Option<i64>,
+    /// What is asked of profiles.
+    pub profile: ProfileOptions<'a>,
 }
 
 /// An option whose value is the next word.
@@ -29,6 +30,7 @@ pub enum Valued {
     Expires,
     TokenName,
     Skew,
+    OfProfile(ProfileOption),
 }
 
 /// What the words so far gave, and the option that waits for its value.
@@ -39,18 +41,20 @@ pub struct GivenOptions<'a> {
     signing: SigningOptions,
     token_name: Option<&'a str>,
     skew_millis: Option<i64>,
+    profile: ProfileOptions<'a>,
     awaited: Option<Valued>,
 }
 
 impl<'a> GivenOptions<'a> {
     ghost use Rattle.std.specs.Prelude.{◌≡◌, None};
     ghost use Rattle.std.specs.Int.{w64};
-    ghost use Rattle.signed_stream.specs.Command.{command_of, no_options, take_expiry, take_flag, take_moment, take_option, take_skew, take_word};
+    ghost use Rattle.signed_stream.specs.Command.{command_of, no_options, take_expiry, take_flag, take_moment, take_option, take_profile_option, take_skew, take_word};
     ghost use Rattle.signed_stream.specs.Numbers.{natural_below, number};
-    ghost use Rattle.signed_stream.specs.Options.{options_of, stream_told, taken_told};
+    ghost use Rattle.signed_stream.specs.Options.{ReadsStream, Takes, options_of};
+    ghost use Rattle.signed_stream.specs.ProfileOptions.{profile_option};
 
     /// No options.
-    pub fn new() -> Self
+    pub fn new(alloc: Global) -> Self
         ensures { options_of result ≡ no_options }
     {
         GivenOptions {
@@ -59,13 +63,14 @@ impl<'a> GivenOptions<'a> {
             signing: SigningOptions::default(),
             token_name: None,
             skew_millis: None,
+            profile: ProfileOptions::new(alloc),
             awaited: None,
         }
     }
 
     /// Takes the word at a place.
     pub fn take(&mut self, place: usize, word: &'a str) -> Result<(), WordsFault>
-        ensures { let given = options_of self.old in taken_told result (options_of self.new) ≡ take_word place given given.awaited word.now }
+        ensures { let given = options_of self.old in Takes (take_word place given given.awaited word.now) self.new result }
     {
         match self.awaited.take() {
             Some(Valued::Name) => {
@@ -79,13 +84,14 @@ impl<'a> GivenOptions<'a> {
             Some(Valued::At) => self.take_moment(place, word),
             Some(Valued::Expires) => self.take_expiry(place, word),
             Some(Valued::Skew) => self.take_skew(place, word),
+            Some(Valued::OfProfile(option)) => Ok(self.profile.take(option, word)?),
             None => self.take_option(place, word),
         }
     }
 
     // Takes the option at a place.
     fn take_option(&mut self, place: usize, word: &str) -> Result<(), WordsFault>
-        ensures { taken_told result (options_of self.new) ≡ take_option place (options_of self.old) word.now }
+        ensures { Takes (take_option place (options_of self.old) word.now) self.new result }
     {
         let (stood, option) = match word {
             "--name" => (self.name.is_some(), Valued::Name),
@@ -93,7 +99,7 @@ impl<'a> GivenOptions<'a> {
             "--expires" => (self.signing.expires_in.is_some(), Valued::Expires),
             "--token-name" => (self.token_name.is_some(), Valued::TokenName),
             "--skew" => (self.skew_millis.is_some(), Valued::Skew),
-            _ => return self.take_flag(place, word),
+            _ => return self.take_profile_option(place, word),
         };
         if stood {
             return Err(WordsFault::BadWord(place));
@@ -102,9 +108,23 @@ impl<'a> GivenOptions<'a> {
         Ok(())
     }
 
+    // Takes the option of profiles at a place; files may repeat.
+    fn take_profile_option(&mut self, place: usize, word: &str) -> Result<(), WordsFault>
+        ensures { Takes (take_profile_option place (options_of self.old) (profile_option word.now) word.now) self.new result }
+    {
+        let Some(option) = ProfileOption::named(word) else {
+            return self.take_flag(place, word);
+        };
+        if self.profile.has(option) && !option.names_file() {
+            return Err(WordsFault::BadWord(place));
+        }
+        self.awaited = Some(Valued::OfProfile(option));
+        Ok(())
+    }
+
     // Takes the option without a value at a place.
     fn take_flag(&mut self, place: usize, word: &str) -> Result<(), WordsFault>
-        ensures { taken_told result (options_of self.new) ≡ take_flag place (options_of self.old) word.now }
+        ensures { Takes (take_flag place (options_of self.old) word.now) self.new result }
     {
         let signing = &mut self.signing;
         match word {
@@ -122,7 +142,7 @@ impl<'a> GivenOptions<'a> {
             "--unsigned" if signing.payload_override.is_none() => {
                 signing.payload_override = Some(PayloadSigningOverride::UnsignedPayload);
             }
-            _ if is_later_option(word) => return Err(WordsFault::NotBuilt(place)),
+            "--raw" => return Err(WordsFault::NotBuilt(place)),
             _ => return Err(WordsFault::BadWord(place)),
         }
         Ok(())
@@ -130,7 +150,7 @@ impl<'a> GivenOptions<'a> {
 
     // Takes the value of `--at` at a place.
     fn take_moment(&mut self, place: usize, word: &str) -> Result<(), WordsFault>
-        ensures { taken_told result (options_of self.new) ≡ take_moment place (options_of self.old) (number w64 word.now) }
+        ensures { Takes (take_moment place (options_of self.old) (number w64 word.now)) self.new result }
     {
         self.awaited = None;
         let Some(secs) = parse_i64(word) else {
@@ -142,7 +162,7 @@ impl<'a> GivenOptions<'a> {
 
     // Takes the value of `--expires` at a place.
     fn take_expiry(&mut self, place: usize, word: &str) -> Result<(), WordsFault>
-        ensures { taken_told result (options_of self.new) ≡ take_expiry place (options_of self.old) (natural_below 18446744073709551616 word.now) }
+        ensures { Takes (take_expiry place (options_of self.old) (natural_below 18446744073709551616 word.now)) self.new result }
     {
         self.awaited = None;
         let Some(seconds) = parse_u64(word) else {
@@ -154,7 +174,7 @@ impl<'a> GivenOptions<'a> {
 
     // Takes the value of `--skew` at a place.
     fn take_skew(&mut self, place: usize, word: &str) -> Result<(), WordsFault>
-        ensures { taken_told result (options_of self.new) ≡ take_skew place (options_of self.old) (number w64 word.now) }
+        ensures { Takes (take_skew place (options_of self.old) (number w64 word.now)) self.new result }
     {
         self.awaited = None;
         let Some(millis) = parse_i64(word) else {
@@ -166,7 +186,7 @@ impl<'a> GivenOptions<'a> {
 
     /// The command, where the place after the last word is reached.
     pub fn finish(self, place: usize) -> Result<StreamWords<'a>, WordsFault>
-        ensures { let given = options_of self.entry in stream_told result ≡ command_of place given given.name given.at given.awaited }
+        ensures { let given = options_of self.entry in ReadsStream (command_of place given given.name given.at given.awaited) result }
     {
         match (self.awaited, self.name, self.at) {
             (None, Some(name), Some(at)) => Ok(StreamWords {
@@ -175,19 +195,10 @@ impl<'a> GivenOptions<'a> {
                 signing: self.signing,
                 token_name: self.token_name,
                 skew_millis: self.skew_millis,
+                profile: self.profile,
             }),
             (None, Some(_), None) => Err(WordsFault::NotBuilt(place)),
             _ => Err(WordsFault::BadWord(place)),
         }
     }
-}
-
-// An option of `stream` that isn't built.
-fn is_later_option(word: &str) -> bool
-    ensures { result ≡ is_later_option word.now }
-{
-    matches!(
-        word,
-        "--service-id" | "--raw" | "--config" | "--credentials"
-    )
 }

@@ -1,28 +1,27 @@
-use crate::job::credentials::ProfileKeys;
 use crate::job::event::OpenEvent;
 use crate::job::event_header::{header_of, hex_bytes};
 use crate::job::fault::LineFault;
 use crate::job::lines::{cut_pair, cut_word};
+use crate::job::profile_texts::ProfileTexts;
 use bytes::Bytes;
 use smithy_core::{Headers, Mem, Message};
 use std::alloc::Global;
 
-/// What the lines so far gave: a profile from the line `credentials [default]` on, the events that are whole, and
-/// the one that is open.
+/// What the lines so far gave: texts of profile files, the events that are whole, and the one that is open.
 #[derive(Drop)]
 pub struct Draft {
     pub method: Option<String>,
     pub target: Option<String>,
     pub headers: Headers,
     pub body: Option<Bytes>,
-    pub profile: Option<ProfileKeys>,
+    pub profile: ProfileTexts,
     pub events: Vec<Message>,
     pub event: Option<OpenEvent>,
 }
 
 impl Draft {
     ghost use Rattle.std.specs.Prelude.{◌≡◌, None, OnOk};
-    ghost use Rattle.signed_stream.specs.Job.{body_step, credentials_step, event_header_step, event_step, events_of, header_step, in_event, job_line_step, method_step, no_draft, payload_step, target_step, word_step};
+    ghost use Rattle.signed_stream.specs.Job.{body_step, event_header_step, event_step, events_of, header_step, in_event, job_line_step, method_step, no_draft, payload_step, target_step, text_step, word_step};
     ghost use Rattle.signed_stream.specs.Draft.{MovesDraft, draft_of};
 
     /// Nothing yet.
@@ -35,7 +34,7 @@ impl Draft {
             target: None,
             headers: Headers::new(alloc),
             body: None,
-            profile: None,
+            profile: ProfileTexts::new(),
             events: Vec::new(alloc),
             event: None,
         }
@@ -67,9 +66,7 @@ impl Draft {
             "target" => self.take_target(alloc, rest),
             "header" => self.take_header(rest),
             "body" => self.take_body(alloc, rest),
-            "config" => Err(LineFault::NotBuilt),
-            "credentials" => self.take_credentials(alloc, rest),
-            _ => Err(LineFault::Bad),
+            _ => self.take_text(alloc, word, rest),
         }
     }
 
@@ -119,19 +116,12 @@ impl Draft {
         Ok(())
     }
 
-    // `credentials TEXT`.
-    #[tactic(auto, unfolding(crate::specs::Draft::draft_of, crate::specs::Job::credentials_step, crate::specs::Job::after_credentials))]
-    fn take_credentials(&mut self, alloc: Global, rest: &str) -> Result<(), LineFault>
-        ensures { MovesDraft (credentials_step (draft_of self.old) rest.now) self.new result }
+    // A line of a profile file's text.
+    #[tactic(auto, unfolding(crate::specs::Draft::draft_of, crate::specs::Job::text_step))]
+    fn take_text(&mut self, alloc: Global, word: &str, rest: &str) -> Result<(), LineFault>
+        ensures { MovesDraft (text_step (draft_of self.old) word.now rest.now) self.new result }
     {
-        match &mut self.profile {
-            Some(profile) => profile.take_property(alloc, rest),
-            None if rest == "[default]" => {
-                self.profile = Some(ProfileKeys::new());
-                Ok(())
-            }
-            None => Err(LineFault::NotBuilt),
-        }
+        self.profile.take_text(alloc, word, rest)
     }
 
     // `event`.

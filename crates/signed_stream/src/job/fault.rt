@@ -2,16 +2,26 @@ ghost use Rattle.std.specs.Prelude.{◌≡◌};
 ghost use Rattle.signed_stream.specs.Fault.{placed};
 
 use std::alloc::{AllocError, AllocFailed};
+use std::fmt;
 
-/// Why bytes aren't a plain job; places count from 1.
+/// Why bytes aren't what an input has to be; places count from 1.
 #[derive(Clone, Copy, Debug, PartialEq, Eq)]
 pub enum JobFault {
     /// The line at this place is bad.
     BadLine(usize),
-    /// The line at this place is of a form that isn't built.
-    NotBuilt(usize),
     NoMemory,
 }
+
+impl fmt::Display for JobFault {
+    fn fmt<W: fmt::Write>(&self, f: &mut fmt::Formatter<W>) -> fmt::Result {
+        match self {
+            JobFault::BadLine(place) => write!(f, "bad line {place}"),
+            JobFault::NoMemory => f.write_str("no memory"),
+        }
+    }
+}
+
+impl std::error::Error for JobFault {}
 
 impl From<AllocError> for JobFault {
     ghost use Rattle.std.specs.Prelude.{◌≡◌};
@@ -28,7 +38,6 @@ impl From<AllocError> for JobFault {
 #[derive(Clone, Copy, Debug, PartialEq, Eq)]
 pub enum LineFault {
     Bad,
-    NotBuilt,
     NoMemory,
 }
 
@@ -39,7 +48,6 @@ impl LineFault {
     {
         match self {
             LineFault::Bad => JobFault::BadLine(place),
-            LineFault::NotBuilt => JobFault::NotBuilt(place),
             LineFault::NoMemory => JobFault::NoMemory,
         }
     }

@@ -1,0 +1,127 @@
+-- The files that a run needs, and what they select.
+use Rattle.std.proofs.Common.{◌≡◌, ℕ, ◌+◌, ◌<◌, inl, inr, Bool, List, [], ◌∷◌, ◌++◌, length, map, take, get_or, Option, Some, None, refl, sym, ap, ◌∙◌, append_assoc, add-one}
+use Rattle.std.proofs.Math.Seq.{take-suc}
+use Rattle.std.proofs.lemmas.List.{map-append}
+use Rattle.std.specs.Prelude.{Result, Ok, Err, string_bytes}
+use Rattle.std.specs.Global.{Vec}
+use Rattle.smithy_core.specs.declared.outside.disk.DiskError.{DiskError}
+use Rattle.env_config.specs.Files.{Place, Usual, added_places, chosen_places, defaults_of, usual_if}
+use Rattle.env_config.specs.Loading.{Loads, StopsAt}
+use Rattle.env_config.specs.Source.{file_of}
+use Rattle.env_config.specs.declared.files.Builder.{Builder}
+use Rattle.env_config.specs.declared.load_fault.EnvConfigFileLoadError.{EnvConfigFileLoadError}
+use Rattle.env_config.specs.declared.load_fault.EnvConfigFileLoadError.TheVariants as loads
+use Rattle.env_config.specs.declared.source.EnvConfigFileKind.{EnvConfigFileKind}
+use Rattle.env_config.specs.declared.source.EnvConfigFileKind.TheVariants.{Config, Credentials}
+use Rattle.env_config.specs.declared.source.Source.{Source}
+use Rattle.signed_stream.specs.Plan.{FilesRead, loaded, unloaded, unreadable}
+use Rattle.signed_stream.specs.ProfileOptions.{place_of}
+use Rattle.signed_stream.specs.ProfileTexts.{ProfileTexts}
+use Rattle.signed_stream.specs.Settings.{GivesSettings, selected_of, settings}
+use Rattle.signed_stream.specs.Sources.{DiskGives, given_place, given_places, or_usual, selection, source_places}
+use Rattle.signed_stream.specs.Status.{could_not_read_file, ending_of, load_ending, settings_ending}
+use Rattle.signed_stream.specs.declared.command.profile.NamedFile.{NamedFile}
+use Rattle.signed_stream.specs.declared.settings.Settings.{Settings}
+use Rattle.signed_stream.specs.declared.settings.SettingsFault.{SettingsFault}
+use Rattle.signed_stream.specs.declared.settings.SettingsFault.TheVariants as faults
+use Rattle.signed_stream.specs.declared.status.Status.{Status}
+
+grows : (a b : Bool × Bool) (first second more : List Place) → second ≡ first ++ more → b ≡ a
+    → usual_if b.0 Config ++ (usual_if b.1 Credentials ++ second) ≡ (usual_if a.0 Config ++ (usual_if a.1 Credentials ++ first)) ++ more
+grows a b first second more added same =
+    rw (added, same, ← append_assoc (usual_if a.1 Credentials) first more, ← append_assoc (usual_if a.0 Config) (usual_if a.1 Credentials ++ first) more) refl
+
+-- the default files stay in front of what is added
+pub chosen_grows : (before now : Builder) (more : List Place) → added_places now ≡ added_places before ++ more → defaults_of now ≡ defaults_of before → chosen_places now ≡ chosen_places before ++ more
+chosen_grows before now more added same = grows (defaults_of before) (defaults_of now) (added_places before) (added_places now) more added same
+
+-- a file that is named comes behind those that were
+pub named_grows : (start : List Place) (before now : Builder) (named : List NamedFile) (i : ℕ) (other : NamedFile) → i < length named
+    → chosen_places before ≡ start ++ map place_of (take i named) → added_places now ≡ added_places before ++ place_of (get_or named i other) ∷ [] → defaults_of now ≡ defaults_of before
+    → chosen_places now ≡ start ++ map place_of (take (i + 1) named)
+named_grows start before now named i other within had added same =
+    let file = get_or named i other in
+    let next : take (i + 1) named ≡ take i named ++ file ∷ [] = rw (add-one i) (take-suc named i other within) in
+    rw (chosen_grows before now (place_of file ∷ []) added same, had, next, map-append place_of (take i named) (file ∷ []), append_assoc start (map place_of (take i named)) (place_of file ∷ [])) refl
+
+-- `answers` is the disk's own relation of one read, `reads` its count of faults, and `tells` what it tells of its files
+module _ {D : Type 0} (answers : D → List ℕ → Result (Vec ℕ) DiskError → D → Type 0) (reads : D → ℕ) (tells : Option (List (List ℕ × List ℕ))) (env : List (List ℕ × List ℕ)) where
+  -- ## A file that couldn't be read
+
+  -- no text that is given
+  given_is_read : (kind : EnvConfigFileKind) (text : Option (List ℕ)) (places : List Place) (before now : D) (path : List ℕ)
+      → ((before now : D) → StopsAt answers reads tells env places before now path → ⊥) → StopsAt answers reads tells env (given_place kind text ++ places) before now path → ⊥
+  given_is_read kind None places before now path others stops = others before now stops
+  given_is_read kind (Some text) places before now path others (inl is) = is
+  given_is_read kind (Some text) places before now path others (inr later) = others later.0 now later.3
+
+  givens_are_read : (texts : ProfileTexts) (before now : D) (path : List ℕ) → StopsAt answers reads tells env (given_places texts) before now path → ⊥
+  givens_are_read texts before now path stops =
+      given_is_read Config texts.config (given_place Credentials texts.credentials) before now path
+      (λ b n last. given_is_read Credentials texts.credentials [] b n path (λ b n none. none) (rw (append_nil (given_place Credentials texts.credentials)) last)) stops
+    where
+      append_nil : (places : List Place) → places ++ [] ≡ places
+      append_nil [] = refl
+      append_nil (place ∷ places) = ap (λ rest. place ∷ rest) (append_nil places)
+
+  -- no default file
+  usual_is_read : (before now : D) (path : List ℕ) → StopsAt answers reads tells env (Usual Config ∷ Usual Credentials ∷ []) before now path → ⊥
+  usual_is_read before now path (inl is) = is
+  usual_is_read before now path (inr later) = by_second later.3
+    where
+      by_second : StopsAt answers reads tells env (Usual Credentials ∷ []) later.0 now path → ⊥
+      by_second (inl is) = is
+      by_second (inr last) = last.3
+
+  stops_in_front : (named others : List Place) (before now : D) (path : List ℕ) → ((before now : D) → StopsAt answers reads tells env others before now path → ⊥)
+      → StopsAt answers reads tells env (named ++ others) before now path → StopsAt answers reads tells env named before now path
+  stops_in_front [] others before now path read stops = read before now stops
+  stops_in_front (place ∷ named) others before now path read (inl is) = inl is
+  stops_in_front (place ∷ named) others before now path read (inr later) = inr (later.0, later.1, later.2, stops_in_front named others later.0 now path read later.3)
+
+  -- it is one that is named
+  pub stops_named : (named : List Place) (texts : ProfileTexts) (before now : D) (path : List ℕ) → StopsAt answers reads tells env (source_places named texts) before now path → StopsAt answers reads tells env named before now path
+  stops_named [] texts before now path stops = by_texts (given_places texts) (λ b n given. givens_are_read texts b n path given) stops
+    where
+      by_texts : (places : List Place) → ((before now : D) → StopsAt answers reads tells env places before now path → ⊥) → StopsAt answers reads tells env (or_usual places) before now path → ⊥
+      by_texts [] read stops = usual_is_read before now path stops
+      by_texts (place ∷ places) read stops = read before now stops
+  stops_named (place ∷ named) texts before now path stops = stops_in_front (place ∷ named) (given_places texts) before now path (λ b n given. givens_are_read texts b n path given) stops
+
+  pub load_names : (named : List Place) (texts : ProfileTexts) (before now : D) (fault : EnvConfigFileLoadError) (status : Status) (path : List ℕ)
+      → Loads answers reads tells env (source_places named texts) before now (Err fault) → ending_of status ≡ load_ending fault → ending_of status ≡ could_not_read_file path → StopsAt answers reads tells env named before now path
+  load_names named texts before now (loads.ParseError error) status path found ends is = absurd found
+  load_names named texts before now (loads.CouldNotReadFile fault) status path found ends is =
+      let same : string_bytes fault.path ≡ path = (let e = sym ends ∙ is in cc) in stops_named named texts before now path (rw same at found)
+  load_names named texts before now loads.NoMemory status path found ends is = let e = sym ends ∙ is in cc
+
+  -- ## What is selected
+
+  -- nothing, where the files aren't loaded
+  pub load_selects : (places : List Place) (service_id : Option (List ℕ)) (before now : D) (fault : EnvConfigFileLoadError) (status : Status)
+      → Loads answers reads tells env places before now (Err fault) → ending_of status ≡ load_ending fault
+      → (files : FilesRead) × DiskGives answers reads tells env before now places files × (selection env service_id files ≡ Err (ending_of status))
+  load_selects places service_id before now (loads.ParseError error) status found ends = absurd found
+  load_selects places service_id before now (loads.CouldNotReadFile fault) status found ends = (unreadable (string_bytes fault.path), found, rw ends refl)
+  load_selects places service_id before now loads.NoMemory status found ends = (unloaded, tt, rw ends refl)
+
+  -- nothing, where the settings aren't whole
+  pub settings_lack : (places : List Place) (service_id : Option (List ℕ)) (before now : D) (source : Source) (fault : SettingsFault) (status : Status)
+      → Loads answers reads tells env places before now (Ok source) → GivesSettings (settings (map file_of source.files.items) (string_bytes source.profile) env service_id) (Err fault)
+      → ending_of status ≡ settings_ending fault → (files : FilesRead) × DiskGives answers reads tells env before now places files × (selection env service_id files ≡ Err (ending_of status))
+  settings_lack places service_id before now source (faults.ParseError error) status found gives ends = (loaded (map file_of source.files.items), found.0, rw (ends, ← found.1, gives) refl)
+  settings_lack places service_id before now source faults.MissingCredentials status found gives ends = (loaded (map file_of source.files.items), found.0, rw (ends, ← found.1, gives) refl)
+  settings_lack places service_id before now source faults.MissingSigningRegion status found gives ends = (loaded (map file_of source.files.items), found.0, rw (ends, ← found.1, gives) refl)
+  settings_lack places service_id before now source faults.NoMemory status found gives ends = (unloaded, tt, rw ends refl)
+
+  pub settings_select : (places : List Place) (service_id : Option (List ℕ)) (before now : D) (source : Source) (given : Settings)
+      → Loads answers reads tells env places before now (Ok source) → settings (map file_of source.files.items) (string_bytes source.profile) env service_id ≡ Ok (selected_of given)
+      → (files : FilesRead) × DiskGives answers reads tells env before now places files × (selection env service_id files ≡ Ok (selected_of given))
+  settings_select places service_id before now source given found gives = (loaded (map file_of source.files.items), found.0, rw (← found.1, gives) refl)
+
+-- the settings' own ends name no file
+pub settings_name_none : (fault : SettingsFault) (path : List ℕ) → settings_ending fault ≡ could_not_read_file path → ⊥
+settings_name_none (faults.ParseError error) path is = cc
+settings_name_none faults.MissingCredentials path is = cc
+settings_name_none faults.MissingSigningRegion path is = cc
+settings_name_none faults.NoMemory path is = cc

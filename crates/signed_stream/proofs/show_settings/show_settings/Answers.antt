@@ -1,0 +1,18 @@
+use Rattle.signed_stream.specs.Command.{show_settings}
+use Rattle.signed_stream.specs.ProfileOptions.{profile_wanted}
+use Rattle.signed_stream.specs.Sources.{DiskGives}
+use Rattle.signed_stream.proofs.RunLemmas.{bytes_no_memory, texts_are_bad, texts_were_read}
+use Rattle.signed_stream.proofs.show_settings.show_settings.Goals as goal
+
+pub returns-clause-planned : goal.returns-clause-planned
+returns-clause-planned g c =
+    bytes_no_memory (DiskGives g.D.Disk.answers g.D.Disk.faults (g.D.Disk.files c.args.disk.now) c.args.env.now c.args.disk.now c.args.disk.now) (λ places. tt) c.args.env.now (show_settings (profile_wanted c.args.options)) c.args.bytes.now (g.K.ByteSink.held c.args.out.now)
+
+pub returns-in-Err-BadLine-clause-planned : goal.returns-in-Err-BadLine-clause-planned
+returns-in-Err-BadLine-clause-planned g c =
+    let read = rw c.in-Err-BadLine.field-0-is at c.in-Err-BadLine.ensures in
+    rw c.in-Err-BadLine.field-0-is (texts_are_bad (DiskGives g.D.Disk.answers g.D.Disk.faults (g.D.Disk.files c.args.disk.now) c.args.env.now c.args.disk.now c.args.disk.now) c.args.env.now (profile_wanted c.args.options) c.args.bytes.now _ (g.K.ByteSink.held c.args.out.now) read)
+
+pub returns-in-Ok-clause-planned : goal.returns-in-Ok-clause-planned
+returns-in-Ok-clause-planned g c =
+    texts_were_read (DiskGives g.D.Disk.answers g.D.Disk.faults (g.D.Disk.files c.args.disk.now) c.args.env.now c.args.disk.now c.show_selected.new.disk) c.args.env.now (profile_wanted c.args.options) c.args.bytes.now _ _ _ _ c.in-Ok.ensures c.show_selected.ensures.planned

@@ -1,0 +1,68 @@
+ghost use Rattle.std.specs.Prelude.{◌≡◌, OnOk, option_map};
+ghost use Rattle.std.specs.String.{string_bytes};
+ghost use Rattle.signed_stream.specs.ProfileTexts.{MovesTexts, no_texts, profile_step, texts_line_step, texts_of, with_line};
+
+use crate::job::fault::LineFault;
+use crate::job::lines::cut_word;
+use smithy_core::Mem;
+use std::alloc::Global;
+
+/// The texts of profile files that an input holds, each from its first line on. [`Debug`](std::fmt::Debug) isn't
+/// there, so that no secret is printed.
+#[derive(Drop)]
+pub struct ProfileTexts {
+    /// The text of a config file.
+    pub config: Option<String>,
+    /// The text of a credentials file.
+    pub credentials: Option<String>,
+}
+
+impl ProfileTexts {
+    /// No texts yet.
+    pub fn new() -> ProfileTexts
+        ensures { texts_of result ≡ no_texts }
+    {
+        ProfileTexts {
+            config: None,
+            credentials: None,
+        }
+    }
+
+    /// A line of an input that has nothing else; an empty one does nothing.
+    #[tactic(auto, unfolding(crate::specs::ProfileTexts::texts_line_step))]
+    pub fn take_line(&mut self, alloc: Global, line: &str) -> Result<(), LineFault>
+        ensures { MovesTexts (texts_line_step (texts_of self.old) line.now) self.new result }
+    {
+        if line.is_empty() {
+            return Ok(());
+        }
+        let (word, rest) = cut_word(line);
+        self.take_text(alloc, word, rest)
+    }
+
+    /// A line of this word and this rest, where the word names a text: the rest is one more line of it.
+    ///
+    /// # Errors
+    ///
+    /// [`LineFault::Bad`] where the word names none.
+    #[tactic(auto, unfolding(crate::specs::ProfileTexts::profile_step))]
+    pub fn take_text(&mut self, alloc: Global, word: &str, rest: &str) -> Result<(), LineFault>
+        ensures { MovesTexts (profile_step (texts_of self.old) word.now rest.now) self.new result }
+    {
+        match word {
+            "config" => Ok(push_line(alloc, &mut self.config, rest)?),
+            "credentials" => Ok(push_line(alloc, &mut self.credentials, rest)?),
+            _ => Err(LineFault::Bad),
+        }
+    }
+}
+
+// Appends a line to the text, which begins with its first one.
+fn push_line(alloc: Global, text: &mut Option<String>, line: &str) -> Mem<()>
+    ensures { OnOk result (option_map string_bytes text.new ≡ with_line (option_map string_bytes text.old) line.now) }
+{
+    let text = text.get_or_insert(String::new(alloc));
+    text.push_str(line)?;
+    text.push('\n')?;
+    Ok(())
+}

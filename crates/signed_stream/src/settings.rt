@@ -1,0 +1,194 @@
+ghost use Rattle.std.specs.Prelude.{◌≡◌, IfOk, map, option_copied, option_map};
+ghost use Rattle.std.specs.String.{string_bytes};
+ghost use Rattle.env_config.specs.EnvConfigValue.{asked_of, chosen_of};
+ghost use Rattle.env_config.specs.Source.{file_of};
+ghost use Rattle.signed_stream.specs.Settings.{GivesSettings, IsSameSettingsFault, asked_region, region_in, selected_of, settings, settings_in};
+
+use env_config::{EnvConfigParseError, EnvConfigSections, EnvConfigValue, ParseFault, Source};
+use smithy_core::{Credentials, Env, Mem, Region};
+use std::alloc::{AllocError, Global};
+use std::fmt;
+
+/// What a profile and the variables give to sign with. [`Debug`](std::fmt::Debug) isn't there, so that no secret is
+/// printed.
+#[derive(Drop)]
+pub struct Settings {
+    /// The name of the selected profile.
+    pub profile: String,
+    /// The region.
+    pub region: Region,
+    /// The key id, the secret and the token of the selected profile.
+    pub credentials: Credentials,
+}
+
+impl Settings {
+    /// Equal settings.
+    pub fn try_clone(&self) -> Mem<Settings>
+        ensures { IfOk result (λ copy. selected_of copy ≡ selected_of self.now) }
+    {
+        Ok(Settings {
+            profile: self.profile.clone()?,
+            region: self.region.try_clone()?,
+            credentials: self.credentials.try_clone()?,
+        })
+    }
+}
+
+/// Why there are no settings.
+#[derive(Debug, PartialEq, Eq, Drop)]
+pub enum SettingsFault {
+    /// A line of a profile file is outside the grammar: the first one of the first faulty file.
+    ParseError(EnvConfigParseError),
+    /// The selected profile lacks `aws_access_key_id` or `aws_secret_access_key`.
+    MissingCredentials,
+    /// No place gives a region.
+    MissingSigningRegion,
+    NoMemory,
+}
+
+impl SettingsFault {
+    /// An equal fault.
+    pub fn try_clone(&self) -> Mem<SettingsFault>
+        ensures { IfOk result (IsSameSettingsFault self.now) }
+    {
+        Ok(match self {
+            SettingsFault::ParseError(error) => SettingsFault::ParseError(error.try_clone()?),
+            SettingsFault::MissingCredentials => SettingsFault::MissingCredentials,
+            SettingsFault::MissingSigningRegion => SettingsFault::MissingSigningRegion,
+            SettingsFault::NoMemory => SettingsFault::NoMemory,
+        })
+    }
+}
+
+impl fmt::Display for SettingsFault {
+    fn fmt<W: fmt::Write>(&self, f: &mut fmt::Formatter<W>) -> fmt::Result {
+        match self {
+            SettingsFault::ParseError(error) => error.fmt(f),
+            SettingsFault::MissingCredentials => f.write_str("missing credentials"),
+            SettingsFault::MissingSigningRegion => f.write_str("missing signing region"),
+            SettingsFault::NoMemory => f.write_str("no memory"),
+        }
+    }
+}
+
+impl std::error::Error for SettingsFault {}
+
+impl From<AllocError> for SettingsFault {
+    ghost use Rattle.std.specs.Prelude.{◌≡◌};
+    ghost use Rattle.signed_stream.specs.declared.settings.SettingsFault.TheVariants.{NoMemory};
+
+    ghost from_gives = { λ _ fault. fault ≡ NoMemory };
+
+    fn from(_e: AllocError) -> SettingsFault {
+        SettingsFault::NoMemory
+    }
+}
+
+impl From<ParseFault> for SettingsFault {
+    ghost use Rattle.std.specs.Prelude.{◌≡◌};
+    ghost use Rattle.signed_stream.specs.Settings.{settings_fault};
+
+    ghost from_gives = { λ fault result. result ≡ settings_fault fault };
+
+    fn from(fault: ParseFault) -> SettingsFault {
+        match fault {
+            ParseFault::Parse(error) => SettingsFault::ParseError(error),
+            ParseFault::NoMemory => SettingsFault::NoMemory,
+        }
+    }
+}
+
+/// The credentials of the source's selected profile, and the region: that of the service's own variable, of the
+/// variable `AWS_REGION`, of the service's own sub-property or of the property `region`, the first that is there. An
+/// empty value counts as given.
+///
+/// ```rust
+/// let source = load(alloc, &env, &mut disk, &files)?;
+/// let settings = read_settings(alloc, &source, &env, None)?;
+/// let region = settings.region.as_str();
+/// ```
+///
+/// # Errors
+///
+/// - [`SettingsFault::ParseError`] with the first line outside the grammar in the first faulty file;
+/// - [`SettingsFault::MissingCredentials`] where the profile has no key id or no secret;
+/// - [`SettingsFault::MissingSigningRegion`] where no place has a region.
+#[tactic(auto, unfolding(crate::specs::Settings::settings))]
+pub fn read_settings(
+    alloc: Global,
+    source: &Source,
+    env: &Env,
+    service_id: Option<&str>,
+) -> Result<Settings, SettingsFault>
+    ensures { GivesSettings (settings (map file_of source.now.files.items) (string_bytes source.now.profile) env.now (option_copied service_id.entry)) result }
+{
+    let sections = EnvConfigSections::parse(alloc, source)?;
+    settings_in(alloc, &sections, env, service_id)
+}
+
+// What the sections give.
+fn settings_in(
+    alloc: Global,
+    sections: &EnvConfigSections,
+    env: &Env,
+    service_id: Option<&str>,
+) -> Result<Settings, SettingsFault>
+    ensures { GivesSettings (settings_in (chosen_of sections.now) env.now (option_copied service_id.entry)) result }
+{
+    let Some(key_id) = sections.get("aws_access_key_id") else {
+        return Err(SettingsFault::MissingCredentials);
+    };
+    let Some(secret) = sections.get("aws_secret_access_key") else {
+        return Err(SettingsFault::MissingCredentials);
+    };
+    let Some(region) = region_in(alloc, sections, env, service_id)? else {
+        return Err(SettingsFault::MissingSigningRegion);
+    };
+    let credentials = Credentials::new(
+        String::from_str(alloc, key_id)?,
+        String::from_str(alloc, secret)?,
+        copied(alloc, sections.get("aws_session_token"))?,
+        None,
+    );
+    Ok(Settings {
+        profile: String::from_str(alloc, sections.selected_profile())?,
+        region: Region::new(region),
+        credentials,
+    })
+}
+
+// The region, the service's own first.
+fn region_in(
+    alloc: Global,
+    sections: &EnvConfigSections,
+    env: &Env,
+    service_id: Option<&str>,
+) -> Mem<Option<String>>
+    ensures { IfOk result (λ region. option_map string_bytes region ≡ region_in (chosen_of sections.now) env.now (option_copied service_id.entry)) }
+{
+    match asked_region(service_id).load(alloc, env, Some(sections))? {
+        Some((region, _)) => Ok(Some(region)),
+        None => Ok(None),
+    }
+}
+
+// What is asked for the region.
+fn asked_region(service_id: Option<&str>) -> EnvConfigValue<'_>
+    ensures { asked_of result ≡ asked_region (option_copied service_id.entry) }
+{
+    let asked = EnvConfigValue::new().env("AWS_REGION").profile("region");
+    match service_id {
+        Some(id) => asked.service_id(id),
+        None => asked,
+    }
+}
+
+// The text, where there is one.
+fn copied(alloc: Global, text: Option<&str>) -> Mem<Option<String>>
+    ensures { IfOk result (λ copy. option_map string_bytes copy ≡ option_copied text.entry) }
+{
+    match text {
+        Some(text) => Ok(Some(String::from_str(alloc, text)?)),
+        None => Ok(None),
+    }
+}
