@@ -1,4 +1,4 @@
--- A chain that is written line by line, up to the first frame that is refused.
+-- A chain that is written frame by frame, up to the first one that is refused.
 use Rattle.std.proofs.Common.{◌≡◌, ℕ, suc, ◌+◌, ◌-◌, ◌<◌, ◌≤◌, Bool, true, false, List, [], ◌∷◌, ◌++◌, Option, Some, None, option_map, length, take, drop, get_or, replicate, refl, sym, ap, ◌∙◌, arith, append-nil, add-one}
 use Rattle.std.specs.Prelude.{Result, Ok, Err, if◌then◌else◌}
 use Rattle.std.specs.Option.{option_or}
@@ -19,7 +19,8 @@ use Rattle.eventstream.proofs.UnframedLemmas.{unframed_fault}
 use Rattle.sigv4.specs.EventStream.{failed_encoding, message_refusal, unsignable}
 use Rattle.sigv4.specs.declared.error.SigningError.{SigningError}
 use Rattle.sigv4.specs.declared.error.SigningError.TheVariants as errors
-use Rattle.signed_stream.specs.Chain.{IsChained, IsCredentials, Refusal, chain_lines, fault_at, first_refusal, frame_lines, lines_before, link_line, outside_years, refusal_at, refusal_fault, streamed_lines, unframed_at, unlinked}
+use Rattle.signed_stream.specs.declared.form.Form.{Form}
+use Rattle.signed_stream.specs.Chain.{IsChained, IsCredentials, Refusal, chain_text, fault_at, first_refusal, frames_text, link_text, outside_years, refusal_at, refusal_fault, streamed_text, text_before, unframed_at, unlinked}
 use Rattle.signed_stream.specs.Halt.{Halts, Sends, unless_refused}
 use Rattle.signed_stream.specs.Status.{RunFault, run_fault, moment_out_of_range}
 use Rattle.signed_stream.proofs.YearLemmas.{in_years, years_in}
@@ -119,90 +120,6 @@ pub ruleset sending = (unframed_fault, line_sent, line_refused, prefix_at_start)
 
 -- ## The chain
 
--- the line of the first event, and then the chain of the others from its signature on
-chain_lines-cons : (signer : Signer) (event : Parts) (events : List Parts) (at : Instant) (moments : List Instant) (signature : List ℕ)
-    → chain_lines signer (event ∷ events) (at ∷ moments) signature
-    ≡ link_line signer signature (frame event) at ++ chain_lines signer events moments (link_signature signer signature (frame event) at)
-unfolding chain_lines link_line
-chain_lines-cons signer event events at moments signature = refl
-
--- with no events there is the closing line alone
-chain_lines-nil : (signer : Signer) (at : Instant) (signature : List ℕ) → chain_lines signer [] (at ∷ []) signature ≡ link_line signer signature [] at
-unfolding chain_lines link_line
-chain_lines-nil signer at signature = append-nil _
-
--- the lines of these events, whose places count from this one on, up to the refused one
-abbrev pub lines_from : Signer → ℕ → List Parts → List Instant → List ℕ → Option Refusal → List ℕ
-lines_from signer place events moments signature None = chain_lines signer events moments signature
-lines_from signer place events moments signature (Some refused) = frame_lines (begun signer events (take (refused.place - place) moments) signature)
-
-abbrev pub streamed_from : Signer → ℕ → List Parts → List Instant → List ℕ → List ℕ
-streamed_from signer place events moments signature = lines_from signer place events moments signature (first_refusal signer place events moments signature)
-
--- all events count from 1
-pub streamed_from-first : (signer : Signer) (events : List Parts) (moments : List Instant) (signature : List ℕ)
-    → streamed_from signer 1 events moments signature ≡ streamed_lines signer events moments signature (first_refusal signer 1 events moments signature)
-unfolding lines_before
-streamed_from-first signer events moments signature = by_refusal (first_refusal signer 1 events moments signature)
-  where
-    by_refusal : (refused : Option Refusal) → lines_from signer 1 events moments signature refused ≡ streamed_lines signer events moments signature refused
-    by_refusal None = refl
-    by_refusal (Some refused) = refl
-
--- what is refused has one of the places
-later : (signer : Signer) (place : ℕ) (events : List Parts) (moments : List Instant) (signature : List ℕ) (refused : Refusal)
-    → first_refusal signer place events moments signature ≡ Some refused → place ≤ refused.place
-later signer place [] [] signature refused is = cc
-later signer place (event ∷ events) [] signature refused is = cc
-later signer place [] (at ∷ moments) signature refused is = by_fault (outside_years at) is
-  where
-    by_fault : (fault : Option RunFault) → option_map (refusal_at place) fault ≡ Some refused → place ≤ refused.place
-    by_fault None is = cc
-    by_fault (Some fault) is = let same : place ≡ refused.place = cc in omega arith
-later signer place (event ∷ events) (at ∷ moments) signature refused is =
-    by_fault (unlinked signer place signature event at) (later signer (place + 1) events moments (link_signature signer signature (frame event) at) refused) is
-  where
-    by_fault : (fault : Option RunFault) → (first_refusal signer (place + 1) events moments (link_signature signer signature (frame event) at) ≡ Some refused → place + 1 ≤ refused.place)
-        → option_or (option_map (refusal_at place) fault) (first_refusal signer (place + 1) events moments (link_signature signer signature (frame event) at)) ≡ Some refused
-        → place ≤ refused.place
-    by_fault None others is = omega (arith, others is)
-    by_fault (Some fault) others is = let same : place ≡ refused.place = cc in omega arith
-
--- the first event is linked: the others decide
-linked_refusal : (signer : Signer) (place : ℕ) (event : Parts) (events : List Parts) (at : Instant) (moments : List Instant) (signature : List ℕ) → unlinked signer place signature event at ≡ None
-    → first_refusal signer place (event ∷ events) (at ∷ moments) signature ≡ first_refusal signer (place + 1) events moments (link_signature signer signature (frame event) at)
-linked_refusal signer place event events at moments signature linked = rw linked refl
-
-linked_lines : (signer : Signer) (place : ℕ) (event : Parts) (events : List Parts) (at : Instant) (moments : List Instant) (signature : List ℕ) → unlinked signer place signature event at ≡ None
-    → streamed_from signer place (event ∷ events) (at ∷ moments) signature
-    ≡ link_line signer signature (frame event) at ++ streamed_from signer (place + 1) events moments (link_signature signer signature (frame event) at)
-unfolding link_line
-linked_lines signer place event events at moments signature linked =
-    ap (lines_from signer place (event ∷ events) (at ∷ moments) signature) (linked_refusal signer place event events at moments signature linked)
-    ∙ by_refusal (first_refusal signer (place + 1) events moments next) (later signer (place + 1) events moments next)
-  where
-    next : List ℕ
-    next = link_signature signer signature (frame event) at
-
-    by_refusal : (others : Option Refusal) → ((refused : Refusal) → others ≡ Some refused → place + 1 ≤ refused.place)
-        → lines_from signer place (event ∷ events) (at ∷ moments) signature others
-        ≡ link_line signer signature (frame event) at ++ lines_from signer (place + 1) events moments (link_signature signer signature (frame event) at) others
-    by_refusal None after = chain_lines-cons signer event events at moments signature
-    by_refusal (Some refused) after =
-        let one_more : refused.place - place ≡ suc (refused.place - (place + 1)) = omega (arith, after refused refl) in rw one_more refl
-
--- the first event isn't linked: it is refused, and nothing is written
-unlinked_refusal : (signer : Signer) (place : ℕ) (event : Parts) (events : List Parts) (at : Instant) (moments : List Instant) (signature : List ℕ) (fault : RunFault)
-    → unlinked signer place signature event at ≡ Some fault → first_refusal signer place (event ∷ events) (at ∷ moments) signature ≡ Some (refusal_at place fault)
-unlinked_refusal signer place event events at moments signature fault is = rw is refl
-
--- what is refused first has no lines before it
-refused_lines : (signer : Signer) (place : ℕ) (events : List Parts) (moments : List Instant) (signature : List ℕ) (fault : RunFault)
-    → first_refusal signer place events moments signature ≡ Some (refusal_at place fault) → streamed_from signer place events moments signature ≡ []
-refused_lines signer place events moments signature fault is =
-    let none : place - place ≡ 0 = omega arith in
-    ap (lines_from signer place events moments signature) is ∙ rw none refl
-
 -- the event at an index, and those after it
 pub event_front : (events : List Parts) (i : ℕ) (event : Parts) → i < length events → event ≡ get_or events i event → drop i events ≡ event ∷ drop (i + 1) events
 event_front events i event within is = drop-cons events i event within ∙ rw (← is, add-one) refl
@@ -211,80 +128,165 @@ event_front events i event within is = drop-cons events i event within ∙ rw (�
 pub moments_front : (event : Parts) (events : List Parts) (at : Instant) → replicate (length (event ∷ events) + 1) at ≡ at ∷ replicate (length events + 1) at
 moments_front event events at = let more : length (event ∷ events) + 1 ≡ suc (length events + 1) = omega arith in rw more refl
 
--- an event was sent: the others are left
-pub event_sent : (a b c : Option (List ℕ)) (signer : Signer) (place : ℕ) (event : Parts) (events : List Parts) (at : Instant) (moments : List Instant) (signature next text : List ℕ) (whole : Option Refusal)
-    → next ≡ link_signature signer signature (frame event) at
-    → first_refusal signer place (event ∷ events) (at ∷ moments) signature ≡ whole
-    → GainsRest a b (streamed_from signer place (event ∷ events) (at ∷ moments) signature) text
-    → (unlinked signer place signature event at ≡ None) × Gains b c (unless_refused (unlinked signer place signature event at) (link_line signer signature (frame event) at))
-    → (first_refusal signer (place + 1) events moments next ≡ whole) × GainsRest a c (streamed_from signer (place + 1) events moments next) text
-event_sent a b c signer place event events at moments signature next text whole is decided first second =
-    let linked = second.0 in
-    let line = link_line signer signature (frame event) at in
-    let others = streamed_from signer (place + 1) events moments (link_signature signer signature (frame event) at) in
-    let wrote : Gains b c line = rw linked at second.1 in
-    let left : GainsRest b c others (streamed_from signer place (event ∷ events) (at ∷ moments) signature) =
-    rw (linked_lines signer place event events at moments signature linked) (gains_front b c line others wrote) in (
-      rw is (sym (linked_refusal signer place event events at moments signature linked) ∙ decided),
-      rw is (gains_join a b c others (streamed_from signer place (event ∷ events) (at ∷ moments) signature) text first left),
-    )
+module _ (form : Form) where
+  -- the line of the first event, and then the chain of the others from its signature on
+  chain_cons : (signer : Signer) (event : Parts) (events : List Parts) (at : Instant) (moments : List Instant) (signature : List ℕ)
+      → chain_text form signer (event ∷ events) (at ∷ moments) signature
+      ≡ link_text form signer signature (frame event) at ++ chain_text form signer events moments (link_signature signer signature (frame event) at)
+  unfolding chain_text link_text
+  chain_cons signer event events at moments signature = refl
 
--- an event wasn't sent: it is refused, or a front of its line was written
-pub event_halted : (a b c : Option (List ℕ)) (signer : Signer) (place : ℕ) (event : Parts) (events : List Parts) (at : Instant) (moments : List Instant) (signature text : List ℕ) (whole : Option Refusal) (halt : Halt)
-    → first_refusal signer place (event ∷ events) (at ∷ moments) signature ≡ whole
-    → GainsRest a b (streamed_from signer place (event ∷ events) (at ∷ moments) signature) text
-    → Halts (unlinked signer place signature event at) (unless_refused (unlinked signer place signature event at) (link_line signer signature (frame event) at)) b c halt
-    → Halts (refusal_fault whole) text a c halt
-event_halted a b c signer place event events at moments signature text whole halt decided first sends =
-    by_fault (unlinked signer place signature event at) halt refl sends
-  where
-    none_left : (fault : RunFault) → unlinked signer place signature event at ≡ Some fault → GainsRest a b [] text
-    none_left fault is = rw (refused_lines signer place (event ∷ events) (at ∷ moments) signature fault (unlinked_refusal signer place event events at moments signature fault is)) at first
+  -- with no events there is the closing line alone
+  chain_nil : (signer : Signer) (at : Instant) (signature : List ℕ) → chain_text form signer [] (at ∷ []) signature ≡ link_text form signer signature [] at
+  unfolding chain_text link_text
+  chain_nil signer at signature = append-nil _
 
-    cut : (fault : Option RunFault) → unlinked signer place signature event at ≡ fault → GainsPrefix b c (unless_refused fault (link_line signer signature (frame event) at)) → GainsPrefix a c text
-    cut None is part =
-        prefix_join a b c (streamed_from signer place (event ∷ events) (at ∷ moments) signature) text first
-        (rw (linked_lines signer place event events at moments signature is) (prefix_within b c (link_line signer signature (frame event) at) _ part))
-    cut (Some fault) is part = prefix_join a b c [] text (none_left fault is) part
+  -- the lines of these events, whose places count from this one on, up to the refused one
+  abbrev pub text_from : Signer → ℕ → List Parts → List Instant → List ℕ → Option Refusal → List ℕ
+  text_from signer place events moments signature None = chain_text form signer events moments signature
+  text_from signer place events moments signature (Some refused) = frames_text form (begun signer events (take (refused.place - place) moments) signature)
 
-    by_fault : (fault : Option RunFault) (halt : Halt) → unlinked signer place signature event at ≡ fault
-        → Halts fault (unless_refused fault (link_line signer signature (frame event) at)) b c halt → Halts (refusal_fault whole) text a c halt
-    by_fault fault OutputFault is sends = cut fault is sends
-    by_fault fault NoMemory is sends = cut fault is sends
-    by_fault None (Refused told) is sends = let wrong : None ≡ Some (run_fault told) = sends.0 in cc
-    by_fault (Some fault) (Refused told) is sends =
-        let same : Some fault ≡ Some (run_fault told) = sends.0 in (
-          rw (← decided, unlinked_refusal signer place event events at moments signature fault is) same,
-          gains_last a b c [] text (none_left fault is) sends.1,
-        )
+  abbrev pub streamed_from : Signer → ℕ → List Parts → List Instant → List ℕ → List ℕ
+  streamed_from signer place events moments signature = text_from signer place events moments signature (first_refusal signer place events moments signature)
 
--- all events were sent: the closing line is left, or refused
-pub closing_sent : {T : Type 0} (a b c : Option (List ℕ)) (signer : Signer) (place : ℕ) (at : Instant) (signature text : List ℕ) (whole : Option Refusal) (answer : Result T Halt)
-    → first_refusal signer place [] (at ∷ []) signature ≡ whole
-    → GainsRest a b (streamed_from signer place [] (at ∷ []) signature) text
-    → Sends (outside_years at) (unless_refused (outside_years at) (link_line signer signature [] at)) b c answer
-    → Sends (refusal_fault whole) text a c answer
-closing_sent {T} a b c signer place at signature text whole answer decided first =
-    by_fault (outside_years at) refl answer
-  where
-    whole_left : outside_years at ≡ None → GainsRest a b (link_line signer signature [] at) text
-    whole_left is =
-        let none : first_refusal signer place [] (at ∷ []) signature ≡ None = rw is refl in
-        rw (ap (lines_from signer place [] (at ∷ []) signature) none ∙ chain_lines-nil signer at signature) at first
+  -- all events count from 1
+  pub streamed_first : (signer : Signer) (events : List Parts) (moments : List Instant) (signature : List ℕ)
+      → streamed_from signer 1 events moments signature ≡ streamed_text form signer events moments signature (first_refusal signer 1 events moments signature)
+  unfolding text_before
+  streamed_first signer events moments signature = by_refusal (first_refusal signer 1 events moments signature)
+    where
+      by_refusal : (refused : Option Refusal) → text_from signer 1 events moments signature refused ≡ streamed_text form signer events moments signature refused
+      by_refusal None = refl
+      by_refusal (Some refused) = refl
 
-    none_left : (fault : RunFault) → outside_years at ≡ Some fault → GainsRest a b [] text
-    none_left fault is = rw (refused_lines signer place [] (at ∷ []) signature fault (rw is refl)) at first
+  -- what is refused has one of the places
+  later : (signer : Signer) (place : ℕ) (events : List Parts) (moments : List Instant) (signature : List ℕ) (refused : Refusal)
+      → first_refusal signer place events moments signature ≡ Some refused → place ≤ refused.place
+  later signer place [] [] signature refused is = cc
+  later signer place (event ∷ events) [] signature refused is = cc
+  later signer place [] (at ∷ moments) signature refused is = by_fault (outside_years at) is
+    where
+      by_fault : (fault : Option RunFault) → option_map (refusal_at place) fault ≡ Some refused → place ≤ refused.place
+      by_fault None is = cc
+      by_fault (Some fault) is = let same : place ≡ refused.place = cc in omega arith
+  later signer place (event ∷ events) (at ∷ moments) signature refused is =
+      by_fault (unlinked signer place signature event at) (later signer (place + 1) events moments (link_signature signer signature (frame event) at) refused) is
+    where
+      by_fault : (fault : Option RunFault) → (first_refusal signer (place + 1) events moments (link_signature signer signature (frame event) at) ≡ Some refused → place + 1 ≤ refused.place)
+          → option_or (option_map (refusal_at place) fault) (first_refusal signer (place + 1) events moments (link_signature signer signature (frame event) at)) ≡ Some refused
+          → place ≤ refused.place
+      by_fault None others is = omega (arith, others is)
+      by_fault (Some fault) others is = let same : place ≡ refused.place = cc in omega arith
 
-    by_fault : (fault : Option RunFault) → outside_years at ≡ fault → (answer : Result T Halt) → Sends fault (unless_refused fault (link_line signer signature [] at)) b c answer → Sends (refusal_fault whole) text a c answer
-    by_fault None is (Ok x) sends = (rw (← decided, is) refl, gains_last a b c (link_line signer signature [] at) text (whole_left is) sends.1)
-    by_fault None is (Err (Refused told)) sends = let wrong : None ≡ Some (run_fault told) = sends.0 in cc
-    by_fault None is (Err OutputFault) sends = prefix_join a b c (link_line signer signature [] at) text (whole_left is) sends
-    by_fault None is (Err NoMemory) sends = prefix_join a b c (link_line signer signature [] at) text (whole_left is) sends
-    by_fault (Some fault) is (Ok x) sends = let wrong : Some fault ≡ None = sends.0 in cc
-    by_fault (Some fault) is (Err (Refused told)) sends =
-        let same : Some fault ≡ Some (run_fault told) = sends.0 in (rw (← decided, is) same, gains_last a b c [] text (none_left fault is) sends.1)
-    by_fault (Some fault) is (Err OutputFault) sends = prefix_join a b c [] text (none_left fault is) sends
-    by_fault (Some fault) is (Err NoMemory) sends = prefix_join a b c [] text (none_left fault is) sends
+  -- the first event is linked: the others decide
+  linked_refusal : (signer : Signer) (place : ℕ) (event : Parts) (events : List Parts) (at : Instant) (moments : List Instant) (signature : List ℕ) → unlinked signer place signature event at ≡ None
+      → first_refusal signer place (event ∷ events) (at ∷ moments) signature ≡ first_refusal signer (place + 1) events moments (link_signature signer signature (frame event) at)
+  linked_refusal signer place event events at moments signature linked = rw linked refl
+
+  linked_text : (signer : Signer) (place : ℕ) (event : Parts) (events : List Parts) (at : Instant) (moments : List Instant) (signature : List ℕ) → unlinked signer place signature event at ≡ None
+      → streamed_from signer place (event ∷ events) (at ∷ moments) signature
+      ≡ link_text form signer signature (frame event) at ++ streamed_from signer (place + 1) events moments (link_signature signer signature (frame event) at)
+  unfolding link_text
+  linked_text signer place event events at moments signature linked =
+      ap (text_from signer place (event ∷ events) (at ∷ moments) signature) (linked_refusal signer place event events at moments signature linked)
+      ∙ by_refusal (first_refusal signer (place + 1) events moments next) (later signer (place + 1) events moments next)
+    where
+      next : List ℕ
+      next = link_signature signer signature (frame event) at
+
+      by_refusal : (others : Option Refusal) → ((refused : Refusal) → others ≡ Some refused → place + 1 ≤ refused.place)
+          → text_from signer place (event ∷ events) (at ∷ moments) signature others
+          ≡ link_text form signer signature (frame event) at ++ text_from signer (place + 1) events moments (link_signature signer signature (frame event) at) others
+      by_refusal None after = chain_cons signer event events at moments signature
+      by_refusal (Some refused) after =
+          let one_more : refused.place - place ≡ suc (refused.place - (place + 1)) = omega (arith, after refused refl) in rw one_more refl
+
+  -- the first event isn't linked: it is refused, and nothing is written
+  unlinked_refusal : (signer : Signer) (place : ℕ) (event : Parts) (events : List Parts) (at : Instant) (moments : List Instant) (signature : List ℕ) (fault : RunFault)
+      → unlinked signer place signature event at ≡ Some fault → first_refusal signer place (event ∷ events) (at ∷ moments) signature ≡ Some (refusal_at place fault)
+  unlinked_refusal signer place event events at moments signature fault is = rw is refl
+
+  -- what is refused first has no lines before it
+  refused_text : (signer : Signer) (place : ℕ) (events : List Parts) (moments : List Instant) (signature : List ℕ) (fault : RunFault)
+      → first_refusal signer place events moments signature ≡ Some (refusal_at place fault) → streamed_from signer place events moments signature ≡ []
+  refused_text signer place events moments signature fault is =
+      let none : place - place ≡ 0 = omega arith in
+      ap (text_from signer place events moments signature) is ∙ rw none refl
+
+  -- an event was sent: the others are left
+  pub event_sent : (a b c : Option (List ℕ)) (signer : Signer) (place : ℕ) (event : Parts) (events : List Parts) (at : Instant) (moments : List Instant) (signature next text : List ℕ) (whole : Option Refusal)
+      → next ≡ link_signature signer signature (frame event) at
+      → first_refusal signer place (event ∷ events) (at ∷ moments) signature ≡ whole
+      → GainsRest a b (streamed_from signer place (event ∷ events) (at ∷ moments) signature) text
+      → (unlinked signer place signature event at ≡ None) × Gains b c (unless_refused (unlinked signer place signature event at) (link_text form signer signature (frame event) at))
+      → (first_refusal signer (place + 1) events moments next ≡ whole) × GainsRest a c (streamed_from signer (place + 1) events moments next) text
+  event_sent a b c signer place event events at moments signature next text whole is decided first second =
+      let linked = second.0 in
+      let line = link_text form signer signature (frame event) at in
+      let others = streamed_from signer (place + 1) events moments (link_signature signer signature (frame event) at) in
+      let wrote : Gains b c line = rw linked at second.1 in
+      let left : GainsRest b c others (streamed_from signer place (event ∷ events) (at ∷ moments) signature) =
+      rw (linked_text signer place event events at moments signature linked) (gains_front b c line others wrote) in (
+        rw is (sym (linked_refusal signer place event events at moments signature linked) ∙ decided),
+        rw is (gains_join a b c others (streamed_from signer place (event ∷ events) (at ∷ moments) signature) text first left),
+      )
+
+  -- an event wasn't sent: it is refused, or a front of its line was written
+  pub event_halted : (a b c : Option (List ℕ)) (signer : Signer) (place : ℕ) (event : Parts) (events : List Parts) (at : Instant) (moments : List Instant) (signature text : List ℕ) (whole : Option Refusal) (halt : Halt)
+      → first_refusal signer place (event ∷ events) (at ∷ moments) signature ≡ whole
+      → GainsRest a b (streamed_from signer place (event ∷ events) (at ∷ moments) signature) text
+      → Halts (unlinked signer place signature event at) (unless_refused (unlinked signer place signature event at) (link_text form signer signature (frame event) at)) b c halt
+      → Halts (refusal_fault whole) text a c halt
+  event_halted a b c signer place event events at moments signature text whole halt decided first sends =
+      by_fault (unlinked signer place signature event at) halt refl sends
+    where
+      none_left : (fault : RunFault) → unlinked signer place signature event at ≡ Some fault → GainsRest a b [] text
+      none_left fault is = rw (refused_text signer place (event ∷ events) (at ∷ moments) signature fault (unlinked_refusal signer place event events at moments signature fault is)) at first
+
+      cut : (fault : Option RunFault) → unlinked signer place signature event at ≡ fault → GainsPrefix b c (unless_refused fault (link_text form signer signature (frame event) at)) → GainsPrefix a c text
+      cut None is part =
+          prefix_join a b c (streamed_from signer place (event ∷ events) (at ∷ moments) signature) text first
+          (rw (linked_text signer place event events at moments signature is) (prefix_within b c (link_text form signer signature (frame event) at) _ part))
+      cut (Some fault) is part = prefix_join a b c [] text (none_left fault is) part
+
+      by_fault : (fault : Option RunFault) (halt : Halt) → unlinked signer place signature event at ≡ fault
+          → Halts fault (unless_refused fault (link_text form signer signature (frame event) at)) b c halt → Halts (refusal_fault whole) text a c halt
+      by_fault fault OutputFault is sends = cut fault is sends
+      by_fault fault NoMemory is sends = cut fault is sends
+      by_fault None (Refused told) is sends = let wrong : None ≡ Some (run_fault told) = sends.0 in cc
+      by_fault (Some fault) (Refused told) is sends =
+          let same : Some fault ≡ Some (run_fault told) = sends.0 in (
+            rw (← decided, unlinked_refusal signer place event events at moments signature fault is) same,
+            gains_last a b c [] text (none_left fault is) sends.1,
+          )
+
+  -- all events were sent: the closing line is left, or refused
+  pub closing_sent : {T : Type 0} (a b c : Option (List ℕ)) (signer : Signer) (place : ℕ) (at : Instant) (signature text : List ℕ) (whole : Option Refusal) (answer : Result T Halt)
+      → first_refusal signer place [] (at ∷ []) signature ≡ whole
+      → GainsRest a b (streamed_from signer place [] (at ∷ []) signature) text
+      → Sends (outside_years at) (unless_refused (outside_years at) (link_text form signer signature [] at)) b c answer
+      → Sends (refusal_fault whole) text a c answer
+  closing_sent {T} a b c signer place at signature text whole answer decided first =
+      by_fault (outside_years at) refl answer
+    where
+      whole_left : outside_years at ≡ None → GainsRest a b (link_text form signer signature [] at) text
+      whole_left is =
+          let none : first_refusal signer place [] (at ∷ []) signature ≡ None = rw is refl in
+          rw (ap (text_from signer place [] (at ∷ []) signature) none ∙ chain_nil signer at signature) at first
+
+      none_left : (fault : RunFault) → outside_years at ≡ Some fault → GainsRest a b [] text
+      none_left fault is = rw (refused_text signer place [] (at ∷ []) signature fault (rw is refl)) at first
+
+      by_fault : (fault : Option RunFault) → outside_years at ≡ fault → (answer : Result T Halt) → Sends fault (unless_refused fault (link_text form signer signature [] at)) b c answer → Sends (refusal_fault whole) text a c answer
+      by_fault None is (Ok x) sends = (rw (← decided, is) refl, gains_last a b c (link_text form signer signature [] at) text (whole_left is) sends.1)
+      by_fault None is (Err (Refused told)) sends = let wrong : None ≡ Some (run_fault told) = sends.0 in cc
+      by_fault None is (Err OutputFault) sends = prefix_join a b c (link_text form signer signature [] at) text (whole_left is) sends
+      by_fault None is (Err NoMemory) sends = prefix_join a b c (link_text form signer signature [] at) text (whole_left is) sends
+      by_fault (Some fault) is (Ok x) sends = let wrong : Some fault ≡ None = sends.0 in cc
+      by_fault (Some fault) is (Err (Refused told)) sends =
+          let same : Some fault ≡ Some (run_fault told) = sends.0 in (rw (← decided, is) same, gains_last a b c [] text (none_left fault is) sends.1)
+      by_fault (Some fault) is (Err OutputFault) sends = prefix_join a b c [] text (none_left fault is) sends
+      by_fault (Some fault) is (Err NoMemory) sends = prefix_join a b c [] text (none_left fault is) sends
 
 -- ## No refusal
 

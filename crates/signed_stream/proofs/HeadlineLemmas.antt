@@ -16,6 +16,7 @@ use Rattle.sigv4.specs.declared.error.SigningError.{SigningError}
 use Rattle.env_config.specs.Files.{Place}
 use Rattle.env_config.specs.Loading.{selected_profile}
 use Rattle.env_config.specs.Sections.{FileText}
+use Rattle.signed_stream.specs.declared.form.Form.{Form}
 use Rattle.signed_stream.specs.Case.{job_case, request_moment}
 use Rattle.signed_stream.specs.Chain.{IsChained, Refusal}
 use Rattle.signed_stream.specs.Command.{Command, Wanted, bad_word, show_settings, stream, unbuilt_word}
@@ -58,11 +59,11 @@ writes_done text end before now goes = by_end goes.ends
     by_end (inr (inr (inr is))) = cc
 
 -- a case that is done
-record DoneCase (text : List ℕ) (c : Case) (events : List Parts) (moments : List Instant) (before now : Option (List ℕ)) : Type 0 where
+record DoneCase (form : Form) (text : List ℕ) (c : Case) (events : List Parts) (moments : List Instant) (before now : Option (List ℕ)) : Type 0 where
   fit : unfit c ≡ None
   fits : unfit_signed_target c ≡ None
   chained : IsChained c.signer events moments (signature_of c)
-  gains : Gains before now (written_stream text c events moments)
+  gains : Gains before now (written_stream form text c events moments)
 
 no_fault : (error : Option SigningError) → option_map fault_for error ≡ None → error ≡ None
 no_fault None none = refl
@@ -72,16 +73,16 @@ none_of : (a b : Option SigningError) → option_or a b ≡ None → (a ≡ None
 none_of None b none = (refl, none)
 none_of (Some error) b none = cc
 
-done_case : (text : List ℕ) (c : Case) (events : List Parts) (moments : List Instant) (before now : Option (List ℕ)) (fault : Option RunFault) → case_fault c ≡ fault
-    → GoesAsPlanned (case_plan text c events moments fault) done before now → DoneCase text c events moments before now
-done_case text c events moments before now (Some fault) is goes = absurd (stops_undone _ before now (λ e. cc) goes)
-done_case text c events moments before now None is goes = by_refusal (case_refusal c events moments) refl goes
+done_case : (form : Form) (text : List ℕ) (c : Case) (events : List Parts) (moments : List Instant) (before now : Option (List ℕ)) (fault : Option RunFault) → case_fault c ≡ fault
+    → GoesAsPlanned (case_plan form text c events moments fault) done before now → DoneCase form text c events moments before now
+done_case form text c events moments before now (Some fault) is goes = absurd (stops_undone _ before now (λ e. cc) goes)
+done_case form text c events moments before now None is goes = by_refusal (case_refusal c events moments) refl goes
   where
     passed : (unfit c ≡ None) × (unfit_signed_target c ≡ None)
     passed = none_of (unfit c) (unfit_signed_target c) (no_fault (unsigned c) is)
 
     by_count : (whole : Bool) → (length moments == length events + 1) ≡ whole → case_refusal c events moments ≡ None
-        → GoesAsPlanned (writes (written_stream text c events moments) (if whole then done else no_memory)) done before now → DoneCase text c events moments before now
+        → GoesAsPlanned (writes (written_stream form text c events moments) (if whole then done else no_memory)) done before now → DoneCase form text c events moments before now
     by_count false counted none goes = let wrong : no_memory ≡ done = writes_done _ _ before now goes in cc
     by_count true counted none goes = record {
       fit = passed.0;
@@ -91,7 +92,7 @@ done_case text c events moments before now None is goes = by_refusal (case_refus
     }
 
     by_refusal : (refusal : Option Refusal) → case_refusal c events moments ≡ refusal
-        → GoesAsPlanned (writes (written_until refusal text c events moments) (written_end refusal events moments)) done before now → DoneCase text c events moments before now
+        → GoesAsPlanned (writes (written_until form refusal text c events moments) (written_end refusal events moments)) done before now → DoneCase form text c events moments before now
     by_refusal (Some refusal) is goes = let wrong : refused refusal.fault ≡ done = writes_done _ _ before now goes in cc
     by_refusal None none goes = by_count (length moments == length events + 1) refl none goes
 
@@ -103,10 +104,10 @@ record DoneJob (j : JobParts) (wanted : Wanted) (selected : Selected) (given : S
   moments : given.moments ≡ first ∷ others
   targets : given.target ≡ accepted target
   years : IsInYears (request_moment wanted first)
-  case : DoneCase j.target (job_case j wanted selected first target) j.events others before now
+  case : DoneCase wanted.form j.target (job_case j wanted selected first target) j.events others before now
 
 done_target : (j : JobParts) (wanted : Wanted) (selected : Selected) (given : Supplied) (first : Instant) (others : List Instant) (before now : Option (List ℕ)) → given.moments ≡ first ∷ others → IsInYears (request_moment wanted first)
-    → (target : TargetRead) → given.target ≡ target → GoesAsPlanned (target_plan j.target (job_case j wanted selected first) j.events others target) done before now → DoneJob j wanted selected given before now
+    → (target : TargetRead) → given.target ≡ target → GoesAsPlanned (target_plan wanted.form j.target (job_case j wanted selected first) j.events others target) done before now → DoneJob j wanted selected given before now
 done_target j wanted selected given first others before now moments years unread is goes = absurd (stops_undone _ before now (λ e. cc) goes)
 done_target j wanted selected given first others before now moments years unaccepted is goes = absurd (stops_undone _ before now (λ e. cc) goes)
 done_target j wanted selected given first others before now moments years (accepted target) is goes =
@@ -117,7 +118,7 @@ done_target j wanted selected given first others before now moments years (accep
       moments = moments;
       targets = is;
       years = years;
-      case = done_case j.target c j.events others before now (case_fault c) refl goes;
+      case = done_case wanted.form j.target c j.events others before now (case_fault c) refl goes;
     }
 
 done_selected : (j : JobParts) (wanted : Wanted) (selected : Selected) (given : Supplied) (before now : Option (List ℕ)) (moments : List Instant) → given.moments ≡ moments
@@ -126,7 +127,7 @@ done_selected j wanted selected given before now [] is goes = absurd (stops_undo
 done_selected j wanted selected given before now (first ∷ others) is goes = by_years (is_in_years (request_moment wanted first)) refl goes
   where
     by_years : (years : Bool) → is_in_years (request_moment wanted first) ≡ years
-        → GoesAsPlanned (if years then target_plan j.target (job_case j wanted selected first) j.events others given.target else stops (refused (moment_out_of_range (request_moment wanted first)))) done before now
+        → GoesAsPlanned (if years then target_plan wanted.form j.target (job_case j wanted selected first) j.events others given.target else stops (refused (moment_out_of_range (request_moment wanted first)))) done before now
         → DoneJob j wanted selected given before now
     by_years true within goes = done_target j wanted selected given first others before now is (in_years (request_moment wanted first) within) given.target refl goes
     by_years false within goes = absurd (stops_undone _ before now (λ e. cc) goes)
@@ -230,7 +231,7 @@ has_done_where gave env command bytes given answer before now is runs = has_done
 -- the plan of an input that can be streamed, for these files and moments, is that of its target
 streamable_plan : (gave : List Place → FilesRead → Type 0) (env : List (List ℕ × List ℕ)) (wanted : Wanted) (bytes : List ℕ) (given other : Supplied) (input : IsStreamable gave env wanted bytes given)
     → other.files ≡ loaded input.texts → other.moments ≡ input.first ∷ input.others
-    → command_plan env (stream wanted) bytes other ≡ target_plan input.read.target (job_case input.read wanted input.selected input.first) input.read.events input.others other.target
+    → command_plan env (stream wanted) bytes other ≡ target_plan wanted.form input.read.target (job_case input.read wanted input.selected input.first) input.read.events input.others other.target
 unfolding command_plan
 streamable_plan gave env wanted bytes given other input files moments =
     let large : nat_lt most_input (length bytes) ≡ false = (let short = input.short in grind (arith, nat_tests)) in
@@ -238,7 +239,7 @@ streamable_plan gave env wanted bytes given other input files moments =
 
 -- for its target it is to write all
 streamable_target : (gave : List Place → FilesRead → Type 0) (env : List (List ℕ × List ℕ)) (wanted : Wanted) (bytes : List ℕ) (given : Supplied) (input : IsStreamable gave env wanted bytes given)
-    → target_plan input.read.target (job_case input.read wanted input.selected input.first) input.read.events input.others (accepted input.target) ≡ writes (streamed input) done
+    → target_plan wanted.form input.read.target (job_case input.read wanted input.selected input.first) input.read.events input.others (accepted input.target) ≡ writes (streamed input) done
 streamable_target gave env wanted bytes given input =
     let c = job_case input.read wanted input.selected input.first input.target in
     let none = frames_unrefused c.signer 1 input.read.events input.others (signature_of c) input.chained in
@@ -262,7 +263,7 @@ completes_stream gave env wanted bytes given other answer input files found goes
     reads = rw input.targets at input.supplied.target
 
     by_target : (target : TargetRead) → TargetSpells input.read.target target
-        → EndsAsPlanned (target_plan input.read.target (job_case input.read wanted input.selected input.first) input.read.events input.others target) answer → Completes answer
+        → EndsAsPlanned (target_plan wanted.form input.read.target (job_case input.read wanted input.selected input.first) input.read.events input.others target) answer → Completes answer
     by_target unread spells goes = stopped_completes answer goes
     by_target unaccepted spells goes = absurd (reads_one_way input.read.target input.target spells reads)
     by_target (accepted target) spells goes =

@@ -18,6 +18,7 @@ use Rattle.eventstream.specs.declared.error.ErrorKind.TheVariants as reasons
 use Rattle.env_config.specs.Files.{Place}
 use Rattle.sigv4.specs.Request.{Case}
 use Rattle.sigv4.specs.Signed.{signature_of}
+use Rattle.signed_stream.specs.declared.form.Form.{Form}
 use Rattle.signed_stream.specs.Carriers.{GoesForBytes, GoesForInput, GoesForJob, GoesForTexts, IsAfterInput}
 use Rattle.signed_stream.specs.Case.{job_case, request_moment}
 use Rattle.signed_stream.specs.Chain.{Refusal, fault_at, first_refusal, outside_years, refusal_at, unframed_at, unlinked}
@@ -168,36 +169,36 @@ keeps_written late text end answer before now keeps goes = by_answer goes.ends g
     by_answer (inr (inr (inr is))) gains = rw is tt
 
 -- an answer as planned keeps the output, but where it is done, tells the fault of a frame or was cut short
-keeps_target : (text : List ℕ) (case : Target → Case) (events : List Parts) (moments : List Instant) (target : TargetRead) (answer : Ending) (before now : Option (List ℕ))
-    → GoesAsPlanned (target_plan text case events moments target) answer before now → KeepsOutput (may_be_of_frame true) answer before now
-keeps_target text case events moments unread answer before now goes = keeps_same (may_be_of_frame true) answer before now goes.gains
-keeps_target text case events moments unaccepted answer before now goes = keeps_same (may_be_of_frame true) answer before now goes.gains
-keeps_target text case events moments (accepted target) answer before now goes = by_fault (case_fault (case target)) goes
+keeps_target : (form : Form) (text : List ℕ) (case : Target → Case) (events : List Parts) (moments : List Instant) (target : TargetRead) (answer : Ending) (before now : Option (List ℕ))
+    → GoesAsPlanned (target_plan form text case events moments target) answer before now → KeepsOutput (may_be_of_frame true) answer before now
+keeps_target form text case events moments unread answer before now goes = keeps_same (may_be_of_frame true) answer before now goes.gains
+keeps_target form text case events moments unaccepted answer before now goes = keeps_same (may_be_of_frame true) answer before now goes.gains
+keeps_target form text case events moments (accepted target) answer before now goes = by_fault (case_fault (case target)) goes
   where
-    by_fault : (fault : Option RunFault) → GoesAsPlanned (case_plan text (case target) events moments fault) answer before now → KeepsOutput (may_be_of_frame true) answer before now
+    by_fault : (fault : Option RunFault) → GoesAsPlanned (case_plan form text (case target) events moments fault) answer before now → KeepsOutput (may_be_of_frame true) answer before now
     by_fault (Some fault) goes = keeps_same (may_be_of_frame true) answer before now goes.gains
     by_fault None goes =
         let c = case target in
         let refusal = case_refusal c events moments in
-        keeps_written (may_be_of_frame true) (written_until refusal text c events moments) (written_end refusal events moments) answer before now
+        keeps_written (may_be_of_frame true) (written_until form refusal text c events moments) (written_end refusal events moments) answer before now
         (keeps_end refusal events moments before now (refuses_frames c.signer 1 events moments (signature_of c))) goes
 
 -- the first moment of a job, and the others
 pub first_moment : (events : List Parts) (t : Instant) → replicate (length events + 2) t ≡ t ∷ replicate (length events + 1) t
 first_moment events t = let more : length events + 2 ≡ suc (length events + 1) = omega arith in rw more refl
 
-keeps_request : (text : List ℕ) (at : Instant) (case : Target → Case) (events : List Parts) (moments : List Instant) (target : TargetRead) (answer : Ending) (before now : Option (List ℕ))
-    → GoesAsPlanned (request_plan text at case events moments target) answer before now → KeepsOutput (may_be_of_frame (is_in_years at)) answer before now
-keeps_request text at case events moments target answer before now goes = by_years (is_in_years at) goes
+keeps_request : (form : Form) (text : List ℕ) (at : Instant) (case : Target → Case) (events : List Parts) (moments : List Instant) (target : TargetRead) (answer : Ending) (before now : Option (List ℕ))
+    → GoesAsPlanned (request_plan form text at case events moments target) answer before now → KeepsOutput (may_be_of_frame (is_in_years at)) answer before now
+keeps_request form text at case events moments target answer before now goes = by_years (is_in_years at) goes
   where
-    by_years : (years : Bool) → GoesAsPlanned (if years then target_plan text case events moments target else stops (refused (moment_out_of_range at))) answer before now → KeepsOutput (may_be_of_frame years) answer before now
-    by_years true goes = keeps_target text case events moments target answer before now goes
+    by_years : (years : Bool) → GoesAsPlanned (if years then target_plan form text case events moments target else stops (refused (moment_out_of_range at))) answer before now → KeepsOutput (may_be_of_frame years) answer before now
+    by_years true goes = keeps_target form text case events moments target answer before now goes
     by_years false goes = keeps_same (may_be_of_frame false) answer before now goes.gains
 
 keeps_selected : (wanted : Wanted) (j : JobParts) (target : TargetRead) (answer : Ending) (before now : Option (List ℕ)) (moments : List Instant) → moments ≡ replicate (length j.events + 2) wanted.at
     → (outcome : Result Selected Ending) → GoesAsPlanned (when_selected (selected_plan j wanted target moments) outcome) answer before now → KeepsOutput (comes_late (stream wanted)) answer before now
 keeps_selected wanted j target answer before now moments are (Ok selected) goes =
-    keeps_request j.target (request_moment wanted wanted.at) (job_case j wanted selected wanted.at) j.events (replicate (length j.events + 1) wanted.at) target answer before now
+    keeps_request wanted.form j.target (request_moment wanted wanted.at) (job_case j wanted selected wanted.at) j.events (replicate (length j.events + 1) wanted.at) target answer before now
     (rw (are, first_moment j.events wanted.at) at goes)
 keeps_selected wanted j target answer before now moments are (Err end) goes = keeps_same (comes_late (stream wanted)) answer before now goes.gains
 

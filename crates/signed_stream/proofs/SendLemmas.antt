@@ -8,7 +8,8 @@ use Rattle.smithy_core.specs.Message.{Parts}
 use Rattle.smithy_core.proofs.GainLemmas.{gains_front, gains_last, prefix_join, prefix_within}
 use Rattle.sigv4.specs.Request.{Case}
 use Rattle.sigv4.specs.Signed.{signature_of}
-use Rattle.signed_stream.specs.Chain.{Refusal, refusal_fault, streamed_lines}
+use Rattle.signed_stream.specs.declared.form.Form.{Form}
+use Rattle.signed_stream.specs.Chain.{Refusal, refusal_fault, streamed_text}
 use Rattle.signed_stream.specs.Halt.{Halts, Sends, ended}
 use Rattle.signed_stream.specs.Plan.{GoesAsPlanned, writes}
 use Rattle.signed_stream.specs.Status.{Ending, RunFault, done, run_fault, refused}
@@ -17,11 +18,11 @@ use Rattle.signed_stream.specs.declared.halt.Halt.{Halt}
 use Rattle.signed_stream.specs.declared.halt.Halt.TheVariants.{Refused, OutputFault, NoMemory}
 
 -- the text that is written is the head, and then the lines that are streamed
-pub written_lines : (refusal : Option Refusal) (target : List ℕ) (c : Case) (events : List Parts) (moments : List Instant)
-    → written_until refusal target c events moments ≡ signed_head target c ++ streamed_lines c.signer events moments (signature_of c) refusal
+pub written_lines : (form : Form) (refusal : Option Refusal) (target : List ℕ) (c : Case) (events : List Parts) (moments : List Instant)
+    → written_until form refusal target c events moments ≡ signed_head form target c ++ streamed_text form c.signer events moments (signature_of c) refusal
 unfolding written_stream written_before
-written_lines None target c events moments = refl
-written_lines (Some refusal) target c events moments = refl
+written_lines form None target c events moments = refl
+written_lines form (Some refusal) target c events moments = refl
 
 -- a back is sent after its front
 pub back_sent : {T : Type 0} (a b c : Option (List ℕ)) (front back : List ℕ) (fault : Option RunFault) (answer : Result T Halt)

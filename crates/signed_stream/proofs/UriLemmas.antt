@@ -12,6 +12,7 @@ use Rattle.sigv4.specs.declared.error.SigningError.TheVariants as errors
 use Rattle.env_config.specs.Files.{Place}
 use Rattle.env_config.specs.Loading.{selected_profile}
 use Rattle.env_config.specs.Sections.{FaultyLine, FileText, Sections, sections}
+use Rattle.signed_stream.specs.declared.form.Form.{Form}
 use Rattle.signed_stream.specs.Carriers.{GoesForInput}
 use Rattle.signed_stream.specs.Case.{job_case, request_moment}
 use Rattle.signed_stream.specs.Chain.{Refusal}
@@ -65,31 +66,31 @@ other_end None events moments of is = by_count _ is
     by_count false is = cc
 
 -- a request whose target is accepted is refused for it where it takes no parameters
-case_refused : (text : List ℕ) (c : Case) (events : List Parts) (moments : List Instant) (fault : Option RunFault) → case_fault c ≡ fault → EndsAsPlanned (case_plan text c events moments fault) (refused invalid_uri)
+case_refused : (form : Form) (text : List ℕ) (c : Case) (events : List Parts) (moments : List Instant) (fault : Option RunFault) → case_fault c ≡ fault → EndsAsPlanned (case_plan form text c events moments fault) (refused invalid_uri)
     → takes_no_more (parameters c) c.target ≡ true
-case_refused text c events moments (Some fault) is (inl end) = by_error (unsigned c) refl (let same : fault ≡ invalid_uri = cc in rw same at is)
+case_refused form text c events moments (Some fault) is (inl end) = by_error (unsigned c) refl (let same : fault ≡ invalid_uri = cc in rw same at is)
   where
     by_error : (error : Option SigningError) → unsigned c ≡ error → option_map fault_for error ≡ Some invalid_uri → takes_no_more (parameters c) c.target ≡ true
     by_error None found is = cc
     by_error (Some error) found is = target_test c error (unsigned_test c error found) cc
-case_refused text c events moments (Some fault) is (inr (inl end)) = cc
-case_refused text c events moments (Some fault) is (inr (inr end)) = cc
-case_refused text c events moments None is (inl end) = absurd (other_end (case_refusal c events moments) events moments (refuses_frames c.signer 1 events moments (signature_of c)) end)
-case_refused text c events moments None is (inr (inl end)) = cc
-case_refused text c events moments None is (inr (inr (inl end))) = cc
-case_refused text c events moments None is (inr (inr (inr end))) = cc
+case_refused form text c events moments (Some fault) is (inr (inl end)) = cc
+case_refused form text c events moments (Some fault) is (inr (inr end)) = cc
+case_refused form text c events moments None is (inl end) = absurd (other_end (case_refusal c events moments) events moments (refuses_frames c.signer 1 events moments (signature_of c)) end)
+case_refused form text c events moments None is (inr (inl end)) = cc
+case_refused form text c events moments None is (inr (inr (inl end))) = cc
+case_refused form text c events moments None is (inr (inr (inr end))) = cc
 
 -- what a job is refused for
 abbrev TargetIsUnfit : Wanted → JobParts → Type 0
 TargetIsUnfit wanted j = ReadsUnfitTarget wanted (Ok j)
 
 target_refused : (j : JobParts) (wanted : Wanted) (selected : Selected) (first : Instant) (moments : List Instant) (target : TargetRead) → TargetSpells j.target target
-    → EndsAsPlanned (target_plan j.target (job_case j wanted selected first) j.events moments target) (refused invalid_uri) → TargetIsUnfit wanted j
+    → EndsAsPlanned (target_plan wanted.form j.target (job_case j wanted selected first) j.events moments target) (refused invalid_uri) → TargetIsUnfit wanted j
 target_refused j wanted selected first moments unread reads goes = absurd (other_stop _ (λ e. cc) goes)
 target_refused j wanted selected first moments unaccepted reads goes = inl reads
 target_refused j wanted selected first moments (accepted target) reads goes =
     let c = job_case j wanted selected first target in
-    inr (target, reads, selected, first, case_refused j.target c j.events moments (case_fault c) refl goes)
+    inr (target, reads, selected, first, case_refused wanted.form j.target c j.events moments (case_fault c) refl goes)
 
 selected_refused : (j : JobParts) (wanted : Wanted) (selected : Selected) (target : TargetRead) (moments : List Instant) → TargetSpells j.target target
     → EndsAsPlanned (selected_plan j wanted target moments selected) (refused invalid_uri) → TargetIsUnfit wanted j
@@ -97,7 +98,7 @@ selected_refused j wanted selected target [] reads goes = absurd (other_stop _ (
 selected_refused j wanted selected target (first ∷ others) reads goes = by_years (is_in_years (request_moment wanted first)) goes
   where
     by_years : (years : Bool)
-        → EndsAsPlanned (if years then target_plan j.target (job_case j wanted selected first) j.events others target else stops (refused (moment_out_of_range (request_moment wanted first)))) (refused invalid_uri)
+        → EndsAsPlanned (if years then target_plan wanted.form j.target (job_case j wanted selected first) j.events others target else stops (refused (moment_out_of_range (request_moment wanted first)))) (refused invalid_uri)
         → TargetIsUnfit wanted j
     by_years true goes = target_refused j wanted selected first others target reads goes
     by_years false goes = absurd (other_stop _ (λ e. cc) goes)

@@ -17,13 +17,14 @@ use Rattle.signed_stream.specs.ShowSettings.{GaveTexts, settings_plan}
 use Rattle.signed_stream.specs.Sources.{selection, source_places}
 use Rattle.signed_stream.specs.Status.{Ending, bad_job, could_not_read_file, done, ending_of, no_memory, output_fault, refused}
 use Rattle.signed_stream.specs.Stream.{GaveJob, job_plan, request_plan}
+use Rattle.signed_stream.specs.declared.form.Form.{Form}
 use Rattle.signed_stream.specs.declared.settings.Settings.{Settings}
 use Rattle.signed_stream.specs.declared.status.Status.{Status}
 
 -- as planned for what the target spells
-abbrev pub GoesForTarget : List ℕ → Instant → (Target → Case) → List Parts → List Instant → Ending → Option (List ℕ) → Option (List ℕ) → Type 0
-GoesForTarget text at case events moments answer before now =
-    (target : TargetRead) × TargetSpells text target × GoesAsPlanned (request_plan text at case events moments target) answer before now
+abbrev pub GoesForTarget : Form → List ℕ → Instant → (Target → Case) → List Parts → List Instant → Ending → Option (List ℕ) → Option (List ℕ) → Type 0
+GoesForTarget form text at case events moments answer before now =
+    (target : TargetRead) × TargetSpells text target × GoesAsPlanned (request_plan form text at case events moments target) answer before now
 
 -- as planned for what a command reads of these bytes
 abbrev pub GoesForBytes : (List Place → FilesRead → Type 0) → List (List ℕ × List ℕ) → Command → List ℕ → Ending → Option (List ℕ) → Option (List ℕ) → Type 0

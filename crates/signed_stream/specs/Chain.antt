@@ -1,4 +1,4 @@
--- The chain of events as lines, and the first event that is refused.
+-- The chain of events as it is written, and the first event that is refused.
 use Rattle.std.specs.Prelude.{◌≡◌, ℕ, ◌+◌, ◌-◌, if◌then◌else◌, List, [], ◌∷◌, take, Option, Some, None, option_map}
 use Rattle.std.specs.List.{flat_map}
 use Rattle.std.specs.Option.{option_or}
@@ -14,6 +14,8 @@ use Rattle.eventstream.specs.Key.{Signer}
 use Rattle.eventstream.specs.Link.{begun, chain, link_message, link_signature}
 use Rattle.eventstream.specs.declared.error.ErrorKind.{ErrorKind}
 use Rattle.eventstream.specs.declared.error.ErrorKind.TheVariants as reasons
+use Rattle.signed_stream.specs.declared.form.Form.{Form}
+use Rattle.signed_stream.specs.declared.form.Form.TheVariants.{Raw, HexLines}
 use Rattle.signed_stream.specs.Status.{RunFault, moment_out_of_range, invalid_header_name_length, header_value_too_long, timestamp_value_too_large, headers_too_long, payload_too_long, message_too_long}
 
 -- the identity can sign: it is credentials
@@ -21,19 +23,24 @@ abbrev pub IsCredentials : Identity → Type 0
 IsCredentials (Credentials credentials) = Unit {0}
 IsCredentials (Token token) = ⊥
 
--- ## Lines
+-- ## Frames
 
--- frames, one a line, in hexadecimal
-abbrev pub frame_lines : List (List ℕ) → List ℕ
-frame_lines frames = flat_map (λ frame. line (encode_lower frame)) frames
+-- a frame: its bytes, or a line of hexadecimal
+unfoldable pub frame_text : Form → List ℕ → List ℕ
+frame_text Raw frame = frame
+frame_text HexLines frame = line (encode_lower frame)
 
--- the line of signed bytes
-unfoldable pub link_line : Signer → List ℕ → List ℕ → Instant → List ℕ
-link_line signer signature bytes at = line (encode_lower (frame (link_message signer signature bytes at)))
+-- frames, one after the other
+abbrev pub frames_text : Form → List (List ℕ) → List ℕ
+frames_text form frames = flat_map (frame_text form) frames
 
--- the lines of the chain of the events at their moments
-unfoldable pub chain_lines : Signer → List Parts → List Instant → List ℕ → List ℕ
-chain_lines signer events moments signature = frame_lines (chain signer events moments signature)
+-- the frame of signed bytes
+unfoldable pub link_text : Form → Signer → List ℕ → List ℕ → Instant → List ℕ
+link_text form signer signature bytes at = frame_text form (frame (link_message signer signature bytes at))
+
+-- the chain of the events at their moments
+unfoldable pub chain_text : Form → Signer → List Parts → List Instant → List ℕ → List ℕ
+chain_text form signer events moments signature = frames_text form (chain signer events moments signature)
 
 -- each frame of the chain is defined, those of the events, of their signed messages and of the closing one; each moment lies in the years, and there
 -- is one more than events
@@ -91,11 +98,11 @@ first_refusal signer place (event ∷ events) (at ∷ moments) signature =
 abbrev pub refusal_fault : Option Refusal → Option RunFault
 refusal_fault refusal = option_map (λ r. r.fault) refusal
 
--- the lines of the frames before the one at a place
-unfoldable pub lines_before : Signer → ℕ → List Parts → List Instant → List ℕ → List ℕ
-lines_before signer place events moments signature = frame_lines (begun signer events (take (place - 1) moments) signature)
+-- the frames before the one at a place
+unfoldable pub text_before : Form → Signer → ℕ → List Parts → List Instant → List ℕ → List ℕ
+text_before form signer place events moments signature = frames_text form (begun signer events (take (place - 1) moments) signature)
 
--- the lines that are streamed: those of the chain, and where a frame is refused those of the frames before it
-abbrev pub streamed_lines : Signer → List Parts → List Instant → List ℕ → Option Refusal → List ℕ
-streamed_lines signer events moments signature None = chain_lines signer events moments signature
-streamed_lines signer events moments signature (Some refusal) = lines_before signer refusal.place events moments signature
+-- what is streamed: the chain, and where a frame is refused the frames before it
+abbrev pub streamed_text : Form → Signer → List Parts → List Instant → List ℕ → Option Refusal → List ℕ
+streamed_text form signer events moments signature None = chain_text form signer events moments signature
+streamed_text form signer events moments signature (Some refusal) = text_before form signer refusal.place events moments signature

@@ -14,19 +14,27 @@ use Rattle.signed_stream.specs.ProfileOptions.{ProfileWanted, nothing_wanted, pr
 use Rattle.signed_stream.specs.declared.command.options.Valued.{Valued}
 use Rattle.signed_stream.specs.declared.command.options.Valued.TheVariants.{Name, At, Expires, TokenName, Skew, OfProfile}
 use Rattle.signed_stream.specs.declared.command.profile.ProfileOption.{ProfileOption}
+use Rattle.signed_stream.specs.declared.form.Form.{Form}
+use Rattle.signed_stream.specs.declared.form.Form.TheVariants.{Raw, HexLines}
+
+-- the frames alone are written
+abbrev pub is_raw : Form → Bool
+is_raw Raw = true
+is_raw HexLines = false
 
 -- a command that isn't built
 abbrev pub is_later_command : List ℕ → Bool
 is_later_command word = list_any (bytes_eq word) (codes "check" ∷ codes "chunk" ∷ codes "gen" ∷ [])
 
 -- what `stream` is asked for: the name of the service, the moment, how to sign, the name of the session token, by how many milliseconds the
--- service's clock is ahead, and the profile
+-- service's clock is ahead, in which form to write, and the profile
 pub record Wanted : Type 0 where
   pub name : List ℕ
   pub at : Instant
   pub signing : SigningOptions
   pub token_name : Option (List ℕ)
   pub skew_millis : Option ℤ
+  pub form : Form
   pub profile : ProfileWanted
 
 -- what the words ask for
@@ -49,12 +57,13 @@ pub record Options : Type 0 where
   pub signing : SigningOptions
   pub token_name : Option (List ℕ)
   pub skew_millis : Option ℤ
+  pub form : Form
   pub profile : ProfileWanted
   pub awaited : Option Valued
 
 -- no options
 abbrev pub no_options : Options
-no_options = record { name = None; at = None; signing = default_options; token_name = None; skew_millis = None; profile = nothing_wanted; awaited = None }
+no_options = record { name = None; at = None; signing = default_options; token_name = None; skew_millis = None; form = HexLines; profile = nothing_wanted; awaited = None }
 
 -- goes on with more words, or ends
 pub data WordTaken : Type 0 where
@@ -74,7 +83,7 @@ take_flag place given word =
     else if bytes_eq word (codes "--single-encode") then once place (not given.signing.double_uri_encode) (record given { signing = record given.signing { double_uri_encode = false } })
     else if bytes_eq word (codes "--no-normalize") then once place (not given.signing.normalize_uri_path) (record given { signing = record given.signing { normalize_uri_path = false } })
     else if bytes_eq word (codes "--unsigned") then once place (is_some given.signing.payload_override) (record given { signing = record given.signing { payload_override = Some UnsignedPayload } })
-    else if bytes_eq word (codes "--raw") then ends (unbuilt_word place)
+    else if bytes_eq word (codes "--raw") then once place (is_raw given.form) (record given { form = Raw })
     else ends (bad_word place)
 
 -- an option of profiles at a place, whose files may repeat, or none of them
@@ -123,7 +132,7 @@ command_of place given name at (Some option) = bad_word place
 command_of place given None at None = bad_word place
 command_of place given (Some name) None None = unbuilt_word place
 command_of place given (Some name) (Some at) None =
-    stream (record { name = name; at = at; signing = given.signing; token_name = given.token_name; skew_millis = given.skew_millis; profile = given.profile })
+    stream (record { name = name; at = at; signing = given.signing; token_name = given.token_name; skew_millis = given.skew_millis; form = given.form; profile = given.profile })
 
 -- goes on, where the word didn't end the matter
 abbrev pub after_taken : WordTaken → (Options → Command) → Command

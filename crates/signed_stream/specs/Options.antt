@@ -20,6 +20,7 @@ wanted_of words = record {
   signing = words.signing;
   token_name = option_copied words.token_name;
   skew_millis = words.skew_millis;
+  form = words.form;
   profile = profile_wanted words.profile;
 }
 
@@ -57,6 +58,7 @@ options_of given = record {
   signing = given.signing;
   token_name = option_copied given.token_name;
   skew_millis = given.skew_millis;
+  form = given.form;
   profile = profile_wanted given.profile;
   awaited = given.awaited;
 }

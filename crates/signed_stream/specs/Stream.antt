@@ -22,6 +22,7 @@ use Rattle.signed_stream.specs.Settings.{Selected, settings}
 use Rattle.signed_stream.specs.Sign.{case_fault}
 use Rattle.signed_stream.specs.Sources.{selection, source_places, when_selected}
 use Rattle.signed_stream.specs.Status.{RunFault, bad_job, invalid_uri, moment_out_of_range, no_memory, refused}
+use Rattle.signed_stream.specs.declared.form.Form.{Form}
 use Rattle.signed_stream.specs.Written.{case_refusal, written_stream, written_end, written_until}
 
 -- ## What the outside gave
@@ -45,26 +46,26 @@ GaveReading gave wanted (Err place) given = Unit {0}
 
 -- with a case, its target's text, its events and their moments: the first test of the request that fails, or else to write all, or what stands before the
 -- first frame that is refused
-abbrev pub case_plan : List ℕ → Case → List Parts → List Instant → Option RunFault → Plan
-case_plan text c events moments (Some fault) = stops (refused fault)
-case_plan text c events moments None =
-    let refusal = case_refusal c events moments in writes (written_until refusal text c events moments) (written_end refusal events moments)
+abbrev pub case_plan : Form → List ℕ → Case → List Parts → List Instant → Option RunFault → Plan
+case_plan form text c events moments (Some fault) = stops (refused fault)
+case_plan form text c events moments None =
+    let refusal = case_refusal c events moments in writes (written_until form refusal text c events moments) (written_end refusal events moments)
 
 -- with what the target spells; it wasn't read where memory ran out before
-abbrev pub target_plan : List ℕ → (Target → Case) → List Parts → List Instant → TargetRead → Plan
-target_plan text case events moments unread = stops no_memory
-target_plan text case events moments unaccepted = stops (refused invalid_uri)
-target_plan text case events moments (accepted target) = case_plan text (case target) events moments (case_fault (case target))
+abbrev pub target_plan : Form → List ℕ → (Target → Case) → List Parts → List Instant → TargetRead → Plan
+target_plan form text case events moments unread = stops no_memory
+target_plan form text case events moments unaccepted = stops (refused invalid_uri)
+target_plan form text case events moments (accepted target) = case_plan form text (case target) events moments (case_fault (case target))
 
 -- with the request's moment, which is tested before the target
-abbrev pub request_plan : List ℕ → Instant → (Target → Case) → List Parts → List Instant → TargetRead → Plan
-request_plan text at case events moments target = if is_in_years at then target_plan text case events moments target else stops (refused (moment_out_of_range at))
+abbrev pub request_plan : Form → List ℕ → Instant → (Target → Case) → List Parts → List Instant → TargetRead → Plan
+request_plan form text at case events moments target = if is_in_years at then target_plan form text case events moments target else stops (refused (moment_out_of_range at))
 
 -- with what is selected, and the moments; none was taken where memory ran out before
 abbrev pub selected_plan : JobParts → Wanted → TargetRead → List Instant → Selected → Plan
 selected_plan j wanted target [] selected = stops no_memory
 selected_plan j wanted target (first ∷ others) selected =
-    request_plan j.target (request_moment wanted first) (job_case j wanted selected first) j.events others target
+    request_plan wanted.form j.target (request_moment wanted first) (job_case j wanted selected first) j.events others target
 
 -- with what was read, under these variables
 abbrev pub job_plan : List (List ℕ × List ℕ) → Wanted → Supplied → Result JobParts ℕ → Plan
@@ -97,7 +98,7 @@ pub record IsStreamable (gave : List Place → FilesRead → Type 0) (env : List
 
 -- the head of the signed request, and then the chain of the events
 abbrev pub streamed : {gave : List Place → FilesRead → Type 0} {env : List (List ℕ × List ℕ)} {wanted : Wanted} {bytes : List ℕ} {given : Supplied} → IsStreamable gave env wanted bytes given → List ℕ
-streamed {wanted = wanted} input = written_stream input.read.target (job_case input.read wanted input.selected input.first input.target) input.read.events input.others
+streamed {wanted = wanted} input = written_stream wanted.form input.read.target (job_case input.read wanted input.selected input.first input.target) input.read.events input.others
 
 -- a job was read whose target isn't accepted, or has an authority without a scheme, or takes no parameters of its signature: it is `*`, or gets too long
 abbrev pub ReadsUnfitTarget : Wanted → Result JobParts ℕ → Type 0

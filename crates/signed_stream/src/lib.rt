@@ -12,6 +12,7 @@
 
 mod chain;
 mod command;
+mod form;
 mod halt;
 mod job;
 mod numbers;
@@ -24,6 +25,7 @@ mod sign;
 mod sources;
 mod status;
 mod stream;
+mod text;
 mod written;
 
 pub use crate::job::{Job, JobFault, read_job};

@@ -28,8 +28,9 @@ const MOST_INPUT: usize = 67_108_864;
 /// request by AWS Signature Version 4, and writes to `out` the head of the signed request and then a chain of event
 /// stream frames: one for each event in order and an empty one last, each signed over the signature before it, the
 /// first over that of the request. All of them have the moment N, but the request where `--skew` shifts it. Options
-/// say how the request is signed: `--query` with `--expires N` makes a presigned one. `settings` writes what was
-/// selected to sign with: profile, region, key id, and whether there is a token.
+/// say how the request is signed: `--query` with `--expires N` makes a presigned one. With `--raw` the frames alone are
+/// written, as bytes, and else lines: the head, and each frame in hexadecimal. `settings` writes what was selected to
+/// sign with: profile, region, key id, and whether there is a token.
 ///
 /// Key id, secret and token are those of the selected profile, which is that of `AWS_PROFILE` or else `default`, and
 /// the region is the service's own variable, `AWS_REGION`, the service's own setting or the profile's, the first that

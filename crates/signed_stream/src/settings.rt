@@ -4,6 +4,7 @@ ghost use Rattle.env_config.specs.EnvConfigValue.{asked_of, chosen_of};
 ghost use Rattle.env_config.specs.Source.{file_of};
 ghost use Rattle.signed_stream.specs.Settings.{GivesSettings, IsSameSettingsFault, asked_region, region_in, selected_of, settings, settings_in};
 
+use crate::text::copied;
 use env_config::{EnvConfigParseError, EnvConfigSections, EnvConfigValue, ParseFault, Source};
 use smithy_core::{Credentials, Env, Mem, Region};
 use std::alloc::{AllocError, Global};
@@ -180,15 +181,5 @@ fn asked_region(service_id: Option<&str>) -> EnvConfigValue<'_>
     match service_id {
         Some(id) => asked.service_id(id),
         None => asked,
-    }
-}
-
-// The text, where there is one.
-fn copied(alloc: Global, text: Option<&str>) -> Mem<Option<String>>
-    ensures { IfOk result (λ copy. option_map string_bytes copy ≡ option_copied text.entry) }
-{
-    match text {
-        Some(text) => Ok(Some(String::from_str(alloc, text)?)),
-        None => Ok(None),
     }
 }

@@ -9,6 +9,7 @@ ghost use Rattle.signed_stream.specs.Sign.{GivesName, IsRequestError, SignsJob, 
 use crate::command::StreamWords;
 use crate::halt::Halt;
 use crate::status::StreamFault;
+use crate::text::copied;
 use aws_auth::{
     OverrideError, SigV4OperationSigningConfig, SigV4SessionTokenNameOverride, SigV4Signer,
     SigV4SigningError, SigningInputs,
@@ -65,16 +66,6 @@ pub fn sign_request(
     match signer.sign_http_request(request, identity, &inputs, at, Some(&name_override)) {
         Ok(signed) => Ok(signed.signature),
         Err(error) => Err(halt_of(&error)),
-    }
-}
-
-// A copy of the text, where there is one.
-fn copied(alloc: Global, text: Option<&str>) -> Mem<Option<String>>
-    ensures { IfOk result (λ copy. option_map string_bytes copy ≡ option_copied text.entry) }
-{
-    match text {
-        Some(text) => Ok(Some(String::from_str(alloc, text)?)),
-        None => Ok(None),
     }
 }
 

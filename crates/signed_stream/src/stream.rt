@@ -4,7 +4,7 @@ ghost use Rattle.smithy_core.specs.Outside.{RoseOrStands};
 ghost use Rattle.sigv4.specs.Params.{signer_of, v4_identity, v4_time};
 ghost use Rattle.signed_stream.specs.Carriers.{GoesForBytes, GoesForJob, GoesForTarget, IsAfterInput, IsAfterTexts};
 ghost use Rattle.signed_stream.specs.Case.{request_moment};
-ghost use Rattle.signed_stream.specs.Chain.{IsCredentials, first_refusal, refusal_fault, streamed_lines};
+ghost use Rattle.signed_stream.specs.Chain.{IsCredentials, first_refusal, refusal_fault, streamed_text};
 ghost use Rattle.signed_stream.specs.Command.{stream};
 ghost use Rattle.signed_stream.specs.Draft.{job_parts};
 ghost use Rattle.signed_stream.specs.Halt.{Sends, ended};
@@ -13,10 +13,11 @@ ghost use Rattle.signed_stream.specs.Running.{KeepsDisk, NamesUnreadable};
 ghost use Rattle.signed_stream.specs.Sign.{identity_case};
 ghost use Rattle.signed_stream.specs.Sources.{DiskGives};
 ghost use Rattle.signed_stream.specs.Status.{could_not_read_file, ending_of, output_fault};
-ghost use Rattle.signed_stream.specs.Written.{head};
+ghost use Rattle.signed_stream.specs.Written.{head_text};
 
 use crate::chain::{stream_events, write_text};
 use crate::command::StreamWords;
+use crate::form::Form;
 use crate::halt::{Halt, status_of};
 use crate::job::{Job, JobFault, ProfileTexts, read_job};
 use crate::sign::sign_request;
@@ -107,26 +108,28 @@ fn stream_request<K: ByteSink>(
     requires { IsCredentials identity.now }
     ensures count { K.faults out.old ≤ K.faults out.new }
     ensures planned { let wanted = wanted_of words.entry in
-        GoesForTarget (string_bytes request.target) (request_moment wanted wanted.at) (identity_case request identity.now region.now wanted) events.now
+        GoesForTarget wanted.form (string_bytes request.target) (request_moment wanted wanted.at) (identity_case request identity.now region.now wanted) events.now
         (replicate (length events.now + 1) wanted.at) (ended result) (K.held out.old) (K.held out.new) }
     ensures failed { IsErrOf result Halt.OutputFault → RoseOrStands (K.faults out.old) (K.faults out.new) }
     ensures steady { (IsErrOf result Halt.OutputFault → ⊥) → K.faults out.new ≡ K.faults out.old }
 {
     let name = words.name;
     let at = words.at;
+    let form = words.form;
     let signature = sign_request(alloc, &mut request, identity, region, words)?;
     let params = SigningParams::new(identity, region, name, at, ());
-    stream_signed(alloc, &request, signature, events, &params, out)
+    stream_signed(alloc, &request, signature, events, &params, form, out)
 }
 
 // Streams the head of a signed request, and the events.
-#[tactic(auto, using(crate::proofs::SendLemmas::sent_after, smithy_core::proofs::GainLemmas::prefix_at_start))]
+#[tactic(auto, using(crate::proofs::SendLemmas::sent_after))]
 fn stream_signed<K: ByteSink>(
     alloc: Global,
     request: &HttpRequest,
     signature: String,
     events: &[Message],
     params: &SigningParams<'_>,
+    form: Form,
     out: &mut K,
 ) -> Result<(), Halt>
     requires { IsCredentials (v4_identity params.now) }
@@ -135,13 +138,34 @@ fn stream_signed<K: ByteSink>(
         let moments = replicate (length events.now + 1) (v4_time params.now) in
         let refusal = first_refusal signer 1 events.now moments (string_bytes signature) in
         Sends (refusal_fault refusal)
-        (head (string_bytes request.now.method) (string_bytes request.now.target) request.now.headers
-        ++ streamed_lines signer events.now moments (string_bytes signature) refusal)
+        (head_text form (string_bytes request.now.method) (string_bytes request.now.target) request.now.headers
+        ++ streamed_text form signer events.now moments (string_bytes signature) refusal)
         (K.held out.old) (K.held out.new) result }
     ensures failed { IsErrOf result Halt.OutputFault → RoseOrStands (K.faults out.old) (K.faults out.new) }
     ensures steady { (IsErrOf result Halt.OutputFault → ⊥) → K.faults out.new ≡ K.faults out.old }
 {
-    let head = head_of(alloc, request)?;
-    write_text(out, head.as_slice())?;
-    stream_events(alloc, params, signature, events, out)
+    write_head(alloc, request, form, out)?;
+    stream_events(alloc, params, signature, events, form, out)
+}
+
+// Writes the head of a request, where the form has one.
+#[tactic(auto, using(smithy_core::proofs::GainLemmas::prefix_at_start, smithy_core::proofs::GainLemmas::gains_nothing))]
+fn write_head<K: ByteSink>(
+    alloc: Global,
+    request: &HttpRequest,
+    form: Form,
+    out: &mut K,
+) -> Result<(), Halt>
+    ensures count { K.faults out.old ≤ K.faults out.new }
+    ensures sends { Sends None (head_text form (string_bytes request.now.method) (string_bytes request.now.target) request.now.headers) (K.held out.old) (K.held out.new) result }
+    ensures failed { IsErrOf result Halt.OutputFault → RoseOrStands (K.faults out.old) (K.faults out.new) }
+    ensures steady { (IsErrOf result Halt.OutputFault → ⊥) → K.faults out.new ≡ K.faults out.old }
+{
+    match form {
+        Form::Raw => Ok(()),
+        Form::HexLines => {
+            let head = head_of(alloc, request)?;
+            write_text(out, head.as_slice())
+        }
+    }
 }

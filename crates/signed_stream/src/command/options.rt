@@ -1,5 +1,6 @@
 use crate::command::WordsFault;
 use crate::command::profile::{ProfileOption, ProfileOptions};
+use crate::form::Form;
 use crate::numbers::{parse_i64, parse_u64};
 use aws_auth::{HttpSignatureType, PayloadSigningOverride, SigningOptions};
 use smithy_core::Moment;
@@ -18,6 +19,8 @@ pub struct StreamWords<'a> {
     pub token_name: Option<&'a str>,
     /// By how many milliseconds the service's clock is ahead.
     pub skew_millis: Option<i64>,
+    /// In which form the output is written.
+    pub form: Form,
     /// What is asked of profiles.
     pub profile: ProfileOptions<'a>,
 }
@@ -41,6 +44,7 @@ pub struct GivenOptions<'a> {
     signing: SigningOptions,
     token_name: Option<&'a str>,
     skew_millis: Option<i64>,
+    form: Form,
     profile: ProfileOptions<'a>,
     awaited: Option<Valued>,
 }
@@ -63,6 +67,7 @@ impl<'a> GivenOptions<'a> {
             signing: SigningOptions::default(),
             token_name: None,
             skew_millis: None,
+            form: Form::HexLines,
             profile: ProfileOptions::new(alloc),
             awaited: None,
         }
@@ -142,7 +147,7 @@ impl<'a> GivenOptions<'a> {
             "--unsigned" if signing.payload_override.is_none() => {
                 signing.payload_override = Some(PayloadSigningOverride::UnsignedPayload);
             }
-            "--raw" => return Err(WordsFault::NotBuilt(place)),
+            "--raw" if self.form == Form::HexLines => self.form = Form::Raw,
             _ => return Err(WordsFault::BadWord(place)),
         }
         Ok(())
@@ -195,6 +200,7 @@ impl<'a> GivenOptions<'a> {
                 signing: self.signing,
                 token_name: self.token_name,
                 skew_millis: self.skew_millis,
+                form: self.form,
                 profile: self.profile,
             }),
             (None, Some(_), None) => Err(WordsFault::NotBuilt(place)),

@@ -3,7 +3,7 @@ use Rattle.std.proofs.Math.ListN.{drop_of_length-le}
 use Rattle.std.proofs.lemmas.Result.{err_from_is_err_and}
 use Rattle.std.specs.Prelude.{string_bytes}
 use Rattle.sigv4.specs.Params.{signer_of}
-use Rattle.signed_stream.proofs.ChainLemmas.{closing_sent, event_front, event_halted, event_sent, moments_front, streamed_from-first}
+use Rattle.signed_stream.proofs.ChainLemmas.{closing_sent, event_front, event_halted, event_sent, moments_front, streamed_first}
 use Rattle.signed_stream.proofs.chain.stream_events.Goals as goal
 
 pub returns-in_err-signature-clause-sends : goal.returns-in_err-signature-clause-sends
@@ -15,8 +15,8 @@ returns-in_err-signature-clause-sends g c =
     let moments = replicate (length events + 1) at in
     let front = event_front c.args.events.now c.events.event-index c.event-item.result c.events-test.true c.event-item.is in
     let sends = rw c.as_str.ensures.value at c.in_err-signature.ensures.sends in
-    rw (← streamed_from-first signer c.args.events.now (replicate (length c.args.events.now + 1) at) (string_bytes c.args.seed), exit.1, exit.2)
-    (event_halted _ _ _ signer c.events.place c.event-item.result events at moments (string_bytes c.events.signature) _ _ _
+    rw (← streamed_first c.args.form signer c.args.events.now (replicate (length c.args.events.now + 1) at) (string_bytes c.args.seed), exit.1, exit.2)
+    (event_halted c.args.form _ _ _ signer c.events.place c.event-item.result events at moments (string_bytes c.events.signature) _ _ _
     (rw (front, moments_front c.event-item.result events at) at c.events.invariant.refusal)
     (rw (front, moments_front c.event-item.result events at) at c.events.invariant.gained) sends)
 
@@ -28,7 +28,7 @@ events-preserved g c =
     let front = event_front c.args.events.now c.events.event-index c.event-item.result c.events-test.true c.event-item.is in
     let next = rw c.as_str.ensures.value at c.in_ok-signature.ensures.next in
     let sends = rw c.as_str.ensures.value at c.in_ok-signature.ensures.sends in
-    let sent = event_sent _ _ _ (signer_of c.args.params.now) c.events.place c.event-item.result events at moments
+    let sent = event_sent c.args.form _ _ _ (signer_of c.args.params.now) c.events.place c.event-item.result events at moments
     (string_bytes c.events.signature) (string_bytes c.in_ok-signature.signature) _ _ next
     (rw (front, moments_front c.event-item.result events at) at c.events.invariant.refusal)
     (rw (front, moments_front c.event-item.result events at) at c.events.invariant.gained) sends in
@@ -45,6 +45,6 @@ returns-clause-sends g c =
     let at = c.args.params.now.time in
     let done : drop c.events.event-index c.args.events.now ≡ [] = drop_of_length-le c.args.events.now c.events-test.false in
     let sends = rw c.as_str-2.ensures.value at c.send_closing.ensures.sends in
-    rw (← streamed_from-first signer c.args.events.now (replicate (length c.args.events.now + 1) at) (string_bytes c.args.seed))
-    (closing_sent _ _ _ signer c.events.place at (string_bytes c.events.signature) _ _ _
+    rw (← streamed_first c.args.form signer c.args.events.now (replicate (length c.args.events.now + 1) at) (string_bytes c.args.seed))
+    (closing_sent c.args.form _ _ _ signer c.events.place at (string_bytes c.events.signature) _ _ _
     (rw done at c.events.invariant.refusal) (rw done at c.events.invariant.gained) sends)

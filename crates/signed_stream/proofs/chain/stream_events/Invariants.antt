@@ -19,6 +19,6 @@ invariant-events g l =
       place : l.place ≡ l.event-index + 1;
       refusal : first_refusal signer l.place events moments (string_bytes l.signature) ≡ first_refusal signer 1 l.events all_moments (string_bytes l.fn.seed);
       gained : GainsRest (sink.held l.fn.sink) (sink.held l.sink)
-          (streamed_from signer l.place events moments (string_bytes l.signature))
-          (streamed_from signer 1 l.events all_moments (string_bytes l.fn.seed));
+          (streamed_from l.form signer l.place events moments (string_bytes l.signature))
+          (streamed_from l.form signer 1 l.events all_moments (string_bytes l.fn.seed));
     }

@@ -14,13 +14,13 @@ returns-in_err-signature-clause-planned g c =
     let exit = err_from_is_err_and c.from_residual.result c.from_residual.ensures.1 in
     let wanted = wanted_of c.args.words in
     rw (exit.1, exit.2)
-    (unsigned_goes (string_bytes c.args.request.target) (request_moment wanted wanted.at) (identity_case c.args.request c.args.identity.now c.args.region.now wanted) c.args.events.now
+    (unsigned_goes wanted.form (string_bytes c.args.request.target) (request_moment wanted wanted.at) (identity_case c.args.request c.args.identity.now c.args.region.now wanted) c.args.events.now
     (replicate (length c.args.events.now + 1) wanted.at) c.sign_request.new.request _ _ c.in_err-signature.ensures.signs)
 
 pub returns-clause-planned : goal.returns-clause-planned
 returns-clause-planned g c =
     let wanted = wanted_of c.args.words in
-    signed_goes (string_bytes c.args.request.target) (string_bytes c.args.request.method) (request_moment wanted wanted.at)
+    signed_goes wanted.form (string_bytes c.args.request.target) (string_bytes c.args.request.method) (request_moment wanted wanted.at)
     (identity_case c.args.request c.args.identity.now c.args.region.now wanted) c.args.events.now (replicate (length c.args.events.now + 1) wanted.at)
     c.sign_request.new.request c.in_ok-signature.signature _ _ c.stream_signed.result c.in_ok-signature.ensures.signs
     (λ target. refl) (ap string_bytes c.sign_request.ensures.method) (length-replicate _ _)
