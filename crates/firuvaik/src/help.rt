@@ -5,28 +5,28 @@ ghost use Rattle.firuvaik.specs.Asked.{text_asked, text_for};
 const HELP: &str = "\
 firuvaik signs a request and streams its events as a chain of signed frames.
 
-usage: firuvaik stream --name NAME --at N [--skew MILLISECONDS] [--omit-token]
-         [--token-name NAME] [--query --expires SECONDS] [--sha256] [--unsigned]
-         [--single-encode] [--no-normalize] | firuvaik --help | --version
+usage: firuvaik stream --name NAME --at N [--raw] [--skew MILLISECONDS]
+         [--omit-token] [--token-name NAME] [--query --expires SECONDS]
+         [--sha256] [--unsigned] [--single-encode] [--no-normalize] PROFILE
+         | firuvaik settings PROFILE | firuvaik --help | firuvaik --version
+  PROFILE: [--service-id ID] [--config PATH] [--credentials PATH]
 
-The first NAME is the service's signing name. N is the moment in seconds since
-1970-01-01T00:00:00Z. Standard input is the job, in these lines, and standard
-output gets the signed head and a line of hexadecimal for each frame.
-
-  method METHOD              once
-  target TARGET              once
-  header NAME: VALUE         any number
-  body HEX                   at most once
-  credentials [default]      once, and then these; the last one of a key counts:
-  credentials KEY = VALUE    aws_access_key_id, aws_secret_access_key,
-                             aws_session_token, region
-  event                      begins an event; the lines above stand before all
-  h NAME KIND VALUE          a header of the event
-  payload HEX                at most once an event
-
+The first NAME is the service's signing name, N the moment in seconds since
+1970-01-01T00:00:00Z. stream prints the signed head and frames, --raw the frames
+alone as bytes, settings what is selected. Input (settings: only TEXT lines):
+  method METHOD, target TARGET     once each
+  header NAME: VALUE               any number
+  body HEX                         at most once
+  config TEXT, credentials TEXT    any number, a line of a profile file each
+  event                            begins an event; the lines above stand before
+  h NAME KIND VALUE                a header of the event
+  payload HEX                      at most once an event
+Profile files: those at each PATH (stream takes many) and then those lines; else
+~/.aws/config and ~/.aws/credentials. AWS_PROFILE and AWS_REGION precede files.
 Exit status, 0 or with its line on standard error; N is a word or line, from 1:
   2 bad word N    3 input over 67108864 bytes    4 bad line N    5 read fault
-  7 refused CODE NAME    9 output fault    10 no memory    11 not built N
+  6 could not read file PATH    7 refused CODE NAME    9 output fault
+  10 no memory    11 not built N
 ";
 
 const VERSION: &str = "firuvaik 0.1.0\n";

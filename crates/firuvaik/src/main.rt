@@ -13,8 +13,9 @@ ghost use Rattle.signed_stream.specs.Status.{bad_words, done, ending_of, exit_co
 mod help;
 
 use signed_stream::{Status, run, say};
-use smithy_core::{ByteSink, CalmDisk, Env, SinkError, StdSink, StdSource, SystemClock, write_all};
+use smithy_core::{ByteSink, Env, HostDisk, SinkError, StdSink, StdSource, SystemClock, write_all};
 use std::alloc::Global;
+use std::fs::Files;
 use std::io::ErrorKind;
 use std::process::ExitCode;
 use std::{env, rt};
@@ -52,8 +53,8 @@ fn words_of<R: rt::Env + Alloc<A = Global>>(rt: &R) -> Result<Vec<String>, Statu
     }
 }
 
-// Prints the text that the words ask for, or signs what standard input gives, and says on `err` how it ended.
-fn answer<R: rt::Clock + Input + Alloc<A = Global>, K: ByteSink, E: ByteSink>(
+// Prints the text that the words ask for, or does what they ask for, and says on `err` how it ended.
+fn answer<R: rt::Clock + rt::Env + Files + Input + Alloc<A = Global>, K: ByteSink, E: ByteSink>(
     rt: &R,
     words: &[String],
     out: &mut K,
@@ -65,33 +66,29 @@ fn answer<R: rt::Clock + Input + Alloc<A = Global>, K: ByteSink, E: ByteSink>(
 {
     match help::text_asked(words) {
         Some(text) => say(rt.alloc(), print_text(text, out), err),
-        None => sign(rt, words, out, err),
+        None => run_on_host(rt, words, out, err),
     }
 }
 
-// Signs what standard input gives.
-fn sign<R: rt::Clock + Input + Alloc<A = Global>, K: ByteSink, E: ByteSink>(
-    rt: &R,
-    words: &[String],
-    out: &mut K,
-    err: &mut E,
-) -> Status
+// Does what the words ask for with the variables, the files, the clock and the input of the system.
+fn run_on_host<
+    R: rt::Clock + rt::Env + Files + Input + Alloc<A = Global>,
+    K: ByteSink,
+    E: ByteSink,
+>(rt: &R, words: &[String], out: &mut K, err: &mut E) -> Status
     ensures counted { CountsWrites (ending_of result) (K.faults out.old) (K.faults out.new) }
     ensures said { Says (ending_of result) (E.held err.old) (E.held err.new) (E.faults err.old) (E.faults err.new) }
 {
     let alloc = rt.alloc();
+    let env = match Env::real(alloc, rt) {
+        Ok(env) => env,
+        Err(_) => return say(alloc, Status::NoMemory, err),
+    };
     let mut input = StdSource::new(rt.reader());
-    let mut disk = CalmDisk::new(Vec::new(alloc));
+    let mut disk = HostDisk::new(alloc, rt);
     let mut clock = SystemClock::new(rt);
     run(
-        alloc,
-        words,
-        &Env::new(alloc),
-        &mut input,
-        &mut disk,
-        &mut clock,
-        out,
-        err,
+        alloc, words, &env, &mut input, &mut disk, &mut clock, out, err,
     )
 }
 

@@ -39,8 +39,8 @@ fn of_kind(alloc: Global, kind: &str, words: &[&str]) -> Mem<String> {
     }
 }
 
-// The text of both, or both.
-fn compared(alloc: Global, first: Mem<String>, copy: Mem<String>) -> Mem<String> {
+/// The text of both, or both.
+pub fn compared(alloc: Global, first: Mem<String>, copy: Mem<String>) -> Mem<String> {
     let (first, copy) = (first?, copy?);
     if first == copy {
         on_one_line(alloc, first.as_str())

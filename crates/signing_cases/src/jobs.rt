@@ -1,7 +1,7 @@
 //! What a run is given, from the words of its line: a line of the job each, but for those that begin with `@`.
 use crate::texts::with_repeats;
 use case_lines::bytes_of_hex;
-use smithy_core::{Env, Mem};
+use smithy_core::{Env, FaultyDisk, Mem};
 use std::alloc::Global;
 
 // A job with one event is these three, one after another.
@@ -34,7 +34,7 @@ fn push_line(alloc: Global, input: &mut Vec<u8>, line: &str) -> Mem<()> {
     match line.split_once(' ').unwrap_or((line, "")) {
         ("@hex", digits) => push_digits(alloc, input, digits),
         ("@text", text) => input.extend_from_slice(text.as_bytes()),
-        ("@env" | "@read" | "@out" | "@err", _) => Ok(()),
+        ("@env" | "@file" | "@digits" | "@read" | "@disk" | "@out" | "@err", _) => Ok(()),
         (word, _) => push_part(alloc, input, word, line),
     }
 }
@@ -70,6 +70,27 @@ pub fn env_of(alloc: Global, lines: &[&str]) -> Mem<Env> {
         }
     }
     Ok(env)
+}
+
+/// The disk, with the files `PATH TEXT` and those of `PATH DIGITS`.
+pub fn disk_of(alloc: Global, lines: &[&str]) -> Mem<FaultyDisk> {
+    let mut files = Vec::new(alloc);
+    for line in lines {
+        push_file(alloc, &mut files, line)?;
+    }
+    Ok(FaultyDisk::new(files, fails_of(alloc, lines, "@disk")?))
+}
+
+fn push_file(alloc: Global, files: &mut Vec<(String, Vec<u8>)>, line: &str) -> Mem<()> {
+    let (key, file) = line.split_once(' ').unwrap_or((line, ""));
+    let (path, content) = file.split_once(' ').unwrap_or((file, ""));
+    let bytes = match key {
+        "@file" => Vec::from_slice(alloc, content.as_bytes())?,
+        "@digits" => bytes_of_hex(alloc, content)?,
+        _ => return Ok(()),
+    };
+    files.push((String::from_str(alloc, path)?, bytes))?;
+    Ok(())
 }
 
 /// The calls that fail on an object of the outside.

@@ -8,6 +8,7 @@ mod escapes;
 mod faults;
 mod headers;
 mod instructions;
+mod job_texts;
 mod jobs;
 mod keys;
 mod merges;
@@ -17,6 +18,7 @@ mod parts;
 mod queries;
 mod requests;
 mod runs;
+mod settings;
 mod signatures;
 mod texts;
 
@@ -67,6 +69,8 @@ fn signing_answer(alloc: Global, call: &str, words: &[&str]) -> Mem<String> {
         "link" | "link_headers" | "closing" => messages::answer(alloc, call, words),
         "copy" => copies::answer(alloc, words),
         "fault" => faults::answer(alloc, words),
+        "read_job" => job_texts::answer(alloc, words),
+        "read_settings" => settings::answer(alloc, words),
         _ => runs::answer(alloc, call, words),
     }
 }

@@ -1,11 +1,11 @@
-use crate::jobs::{env_of, fails_of, input_of};
+use crate::jobs::{disk_of, env_of, fails_of, input_of};
 use crate::texts::{bytes_on_one_line, unknown};
 use bytes::Bytes;
 use case_lines::bytes_of_hex;
 use eventstream::read_message_from;
 use mac_core::sha256_hex;
 use signed_stream::{Status, StreamFault, run};
-use smithy_core::{CalmDisk, FaultySink, FaultySource, FixedClock, Mem, Moment};
+use smithy_core::{FaultySink, FaultySource, FixedClock, Mem, Moment};
 use std::alloc::Global;
 
 /// The answer of a run.
@@ -22,6 +22,7 @@ fn answer_to(alloc: Global, call: &str, command: &str, lines: &[&str]) -> Mem<St
         "run_digest" => digest(alloc, command, lines),
         "run_events" => events(alloc, command, lines),
         "run_refusal" => refusal(alloc, command, lines),
+        "run_status" => status(alloc, command, lines),
         _ => unknown(alloc),
     }
 }
@@ -91,6 +92,16 @@ fn fault_text(alloc: Global, fault: StreamFault) -> Mem<String> {
     format!(in alloc; "{fault:?}")
 }
 
+// How a run ended, and whether a copy of that is equal.
+fn status(alloc: Global, command: &str, lines: &[&str]) -> Mem<String> {
+    let mut out = FaultySink::new(alloc, Vec::new(alloc));
+    let mut err = FaultySink::new(alloc, Vec::new(alloc));
+    let status = ended(alloc, command, lines, &mut out, &mut err)?;
+    let copy = status.try_clone()?;
+    let is_equal = copy == status;
+    format!(in alloc; "{copy:?}, equal: {is_equal}")
+}
+
 // The number that a run ends with, and what `err` holds.
 fn ending(alloc: Global, command: &str, lines: &[&str], out: &mut FaultySink) -> Mem<String> {
     let mut err = FaultySink::new(alloc, fails_of(alloc, lines, "@err")?);
@@ -123,12 +134,13 @@ fn ended(
     let words = words_of(alloc, command)?;
     let mut input = input_source(alloc, lines)?;
     let env = env_of(alloc, lines)?;
+    let mut disk = disk_of(alloc, lines)?;
     Ok(run(
         alloc,
         words.as_slice(),
         &env,
         &mut input,
-        &mut CalmDisk::new(Vec::new(alloc)),
+        &mut disk,
         &mut FixedClock::new(Moment::new(0, 0)),
         out,
         err,
@@ -140,11 +152,11 @@ fn input_source(alloc: Global, lines: &[&str]) -> Mem<FaultySource> {
     Ok(FaultySource::new(input_of(alloc, lines)?, fails))
 }
 
-// The words between single spaces.
+// The words between spaces, each with its own spaces in place of `%20`.
 fn words_of(alloc: Global, command: &str) -> Mem<Vec<String>> {
     let mut words = Vec::new(alloc);
     for word in command.split_whitespace() {
-        words.push(String::from_str(alloc, word)?)?;
+        words.push(word.replace(alloc, "%20", " ")?)?;
     }
     Ok(words)
 }
