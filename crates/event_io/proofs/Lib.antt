@@ -1,0 +1,2 @@
+mod AdapterLemmas
+pub mod ChainLemmas

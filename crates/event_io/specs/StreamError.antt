@@ -1,0 +1,34 @@
+-- What contracts see of an error of a stream: what it was made of, and what it tells.
+use Rattle.std.specs.Prelude.{◌≡◌, Some, None, option_map, string_bytes, unwrap_or}
+use Rattle.smithy_core.specs.declared.error_metadata.ErrorMetadata.{ErrorMetadata}
+use Rattle.event_io.specs.declared.stream_error.MessageStreamError.{MessageStreamError}
+
+-- metadata without code and message
+abbrev pub no_metadata : ErrorMetadata
+no_metadata = record { code = None; message = None }
+
+-- an error of which nothing is told
+abbrev pub unhandled_error : ErrorMetadata → MessageStreamError
+unhandled_error meta = record { source = meta; told = Some no_metadata }
+
+-- an error that tells what it was made of
+abbrev pub generic_error : ErrorMetadata → MessageStreamError
+generic_error meta = record { source = meta; told = None }
+
+-- the metadata that an error was made of
+abbrev pub given_metadata : MessageStreamError → ErrorMetadata
+given_metadata error = error.source
+
+-- the metadata that an error tells
+abbrev pub told_metadata : MessageStreamError → ErrorMetadata
+told_metadata error = unwrap_or error.told error.source
+
+-- the codes and the messages are the same
+pub record IsSameMetadata (meta copy : ErrorMetadata) : Type 0 where
+  pub code : option_map string_bytes copy.code ≡ option_map string_bytes meta.code
+  pub message : option_map string_bytes copy.message ≡ option_map string_bytes meta.message
+
+-- the errors are of the same metadata, and tell the same
+pub record IsSameStreamError (error copy : MessageStreamError) : Type 0 where
+  pub given : IsSameMetadata (given_metadata error) (given_metadata copy)
+  pub told : IsSameMetadata (told_metadata error) (told_metadata copy)

@@ -1,0 +1,21 @@
+//! Event streams over sources: what sends the events of a source as signed frames.
+//!
+//! The layer above is promised that each call of [`MessageStreamAdapter::poll_next`] answers the frame of what the signer
+//! answered for the next item, as its marshaller made it a message, at the one moment that the call took of the clock
+//! (`specs/Adapter.antt`); that the items are taken in order (`specs/EventSource.antt`); that the signer is asked once for the
+//! message that ends the stream; and that each other answer comes only for its cause.
+#![tactic(auto)]
+
+mod adapter;
+mod adapter_fault;
+mod event_source;
+mod initial;
+mod sender;
+mod stream_error;
+
+pub use crate::adapter::{MessageStreamAdapter, Next};
+pub use crate::adapter_fault::AdapterFault;
+pub use crate::event_source::{EventPolled, EventSource, ListEvents};
+pub use crate::initial::{EventOrInitial, EventOrInitialMarshaller};
+pub use crate::sender::EventStreamSender;
+pub use crate::stream_error::MessageStreamError;

@@ -1,0 +1,82 @@
+ghost use Rattle.std.specs.Prelude.{◌≡◌, IfOk};
+ghost use Rattle.event_io.specs.StreamError.{IsSameStreamError, generic_error, given_metadata, told_metadata, unhandled_error};
+
+use smithy_core::{ErrorMetadata, Mem};
+use std::fmt;
+
+/// An error in a stream of messages.
+#[derive(Debug, Drop)]
+pub struct MessageStreamError {
+    source: ErrorMetadata,
+    // In place of the source, where nothing is told of it.
+    told: Option<ErrorMetadata>,
+}
+
+impl MessageStreamError {
+    /// An error that tells nothing of its metadata but as its source.
+    pub fn unhandled(meta: ErrorMetadata) -> MessageStreamError
+        ensures { result ≡ unhandled_error meta }
+    {
+        let empty = ErrorMetadata {
+            code: None,
+            message: None,
+        };
+        MessageStreamError {
+            source: meta,
+            told: Some(empty),
+        }
+    }
+
+    /// An error that tells its metadata.
+    pub fn generic(meta: ErrorMetadata) -> MessageStreamError
+        ensures { result ≡ generic_error meta }
+    {
+        MessageStreamError {
+            source: meta,
+            told: None,
+        }
+    }
+
+    /// The metadata that it was made of.
+    pub fn source(&self) -> &ErrorMetadata
+        ensures { result.now ≡ given_metadata self.now }
+    {
+        &self.source
+    }
+
+    /// The metadata that it tells: none after [`MessageStreamError::unhandled`].
+    pub fn meta(&self) -> &ErrorMetadata
+        ensures { result.now ≡ told_metadata self.now }
+    {
+        match &self.told {
+            Some(told) => told,
+            None => &self.source,
+        }
+    }
+
+    /// An equal error.
+    pub fn try_clone(&self) -> Mem<MessageStreamError>
+        ensures { IfOk result (IsSameStreamError self.now) }
+    {
+        let told = match &self.told {
+            Some(told) => Some(told.try_clone()?),
+            None => None,
+        };
+        Ok(MessageStreamError {
+            source: self.source.try_clone()?,
+            told,
+        })
+    }
+}
+
+impl fmt::Display for MessageStreamError {
+    ghost use Rattle.std.specs.Prelude.{Some, codes};
+
+    ghost output = { λ _. Some (codes "message stream error") };
+
+    fn fmt<W: fmt::Write>(&self, f: &mut fmt::Formatter<W>) -> fmt::Result {
+        f.write_str("message stream error")
+    }
+}
+
+impl std::error::Error for MessageStreamError {}
