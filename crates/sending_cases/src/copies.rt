@@ -1,0 +1,84 @@
+//! What copies show: the same as what they were made of.
+use crate::adapters;
+use crate::errors::{fault_of, sign_error_of, stream_error, stream_error_of};
+use crate::events::{given, item_of, items_of};
+use crate::marshalling::{Telling, event_or_initial, told};
+use crate::parts::{count, unknown};
+use crate::signers::sigv4;
+use crate::signing::sign;
+use bytes::Bytes;
+use case_lines::bytes_of_hex;
+use event_io::{EventOrInitialMarshaller, EventPolled, Next};
+use eventstream::MarshallMessage;
+use smithy_core::Mem;
+use std::alloc::Global;
+
+/// What the copy of a value of this kind shows.
+pub fn answer(alloc: Global, words: &[&str]) -> Mem<String> {
+    match words {
+        ["ListEvents", parts @ ..] => list(alloc, parts),
+        ["AdapterFault", name, rest] => fault(alloc, name, rest),
+        [kind, word] => of_word(alloc, kind, word),
+        _ => unknown(alloc),
+    }
+}
+
+fn of_word(alloc: Global, kind: &str, word: &str) -> Mem<String> {
+    match kind {
+        "Next" => next(alloc, word),
+        "EventPolled" => polled(alloc, word),
+        "EventOrInitial" => event(alloc, word),
+        "EventOrInitialMarshaller" => marshaller(alloc, word),
+        "MessageStreamError" => stream_error(alloc, &stream_error_of(alloc, word)?.try_clone()?),
+        "SignMessageError" => sign_error(alloc, word),
+        "SigV4MessageSigner" => sign(alloc, &mut sigv4(alloc)?.try_clone()?, word),
+        _ => unknown(alloc),
+    }
+}
+
+fn list(alloc: Global, parts: &[&str]) -> Mem<String> {
+    let mut copy = items_of(alloc, parts)?.try_clone()?;
+    given(alloc, &mut copy, count(parts, "polls"))
+}
+
+fn fault(alloc: Global, name: &str, rest: &str) -> Mem<String> {
+    let copy = fault_of(alloc, name, rest)?.try_clone()?;
+    format!(in alloc; "{copy:?}")
+}
+
+fn sign_error(alloc: Global, word: &str) -> Mem<String> {
+    let copy = sign_error_of(alloc, word)?.try_clone()?;
+    format!(in alloc; "{copy:?}")
+}
+
+fn next(alloc: Global, word: &str) -> Mem<String> {
+    let next = match word {
+        "NotYet" => Next::NotYet,
+        "End" => Next::End,
+        digits => Next::Frame(Bytes::from_vec(bytes_of_hex(alloc, digits)?)?),
+    };
+    adapters::told(alloc, &Ok(next.try_clone()?))
+}
+
+fn polled(alloc: Global, word: &str) -> Mem<String> {
+    let polled = match item_of(alloc, word)? {
+        Some(item) => EventPolled::Item(item),
+        None if word == "NotYet" => EventPolled::NotYet,
+        None => EventPolled::End,
+    };
+    let copy = polled.try_clone()?;
+    format!(in alloc; "{copy:?}")
+}
+
+fn event(alloc: Global, word: &str) -> Mem<String> {
+    let copy = event_or_initial(alloc, word)?.try_clone()?;
+    told(
+        alloc,
+        EventOrInitialMarshaller::new(Telling::new(alloc)).marshall(copy),
+    )
+}
+
+fn marshaller(alloc: Global, word: &str) -> Mem<String> {
+    let copy = EventOrInitialMarshaller::new(Telling::new(alloc)).try_clone()?;
+    told(alloc, copy.marshall(event_or_initial(alloc, word)?))
+}
