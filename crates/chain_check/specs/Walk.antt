@@ -24,13 +24,6 @@ use Rattle.chain_check.specs.declared.walk.LinkHeaders.{LinkHeaders}
 use Rattle.chain_check.specs.declared.walk.ChainSigner.{ChainSigner}
 use Rattle.chain_check.specs.declared.walk.CheckedFrame.{CheckedFrame}
 use Rattle.chain_check.specs.declared.walk.SignedAgain.{SignedAgain}
-use Rattle.smithy_core.specs.declared.identity.Identity.{Identity}
-use Rattle.smithy_core.specs.declared.identity.Identity.TheVariants.{Credentials, Token}
-
--- the identity can sign: it is credentials
-abbrev pub IsCredentials : Identity → Type 0
-IsCredentials (Credentials credentials) = Unit {0}
-IsCredentials (Token token) = ⊥
 
 -- ## The tests of a frame
 

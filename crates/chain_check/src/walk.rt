@@ -2,7 +2,8 @@ ghost use Rattle.std.specs.Prelude.{◌≡◌, ◌==◌, ◌<◌, [], length, So
 ghost use Rattle.smithy_core.specs.Civil.{IsInYears};
 ghost use Rattle.sigv4.specs.Output.{signed_output};
 ghost use Rattle.sigv4.specs.Params.{secret_of, signer_of, v4_identity, v4_time};
-ghost use Rattle.chain_check.specs.Walk.{AnswersChain, IsCredentials, IsLink, ReadsEvent, SignsAgain, SignsEvent, TakesFrame, TestsFrame, carried, carried_code, carried_date, carried_parts, chain_events, chain_signer, frame_test, signed_moment};
+ghost use Rattle.smithy_core.specs.Identity.{IsCredentials};
+ghost use Rattle.chain_check.specs.Walk.{AnswersChain, IsLink, ReadsEvent, SignsAgain, SignsEvent, TakesFrame, TestsFrame, carried, carried_code, carried_date, carried_parts, chain_events, chain_signer, frame_test, signed_moment};
 
 use crate::chain_fault::{ChainFault, ChainPart};
 use bytes::Bytes;
@@ -49,6 +50,7 @@ pub fn check_chain(
     checked_by(alloc, bytes, seed, &identity, region, name)
 }
 
+// The walk by the parameters of one signer, made once: they borrow the identity, so it stands in the caller.
 fn checked_by(
     alloc: Global,
     bytes: &[u8],
@@ -273,7 +275,7 @@ fn sign_again(
     sign_inner(alloc, payload, frame, signature, params)
 }
 
-// The same of a payload that isn't empty.
+// The event and the link of a payload that holds an event's frame, and so isn't empty.
 #[tactic(auto, using(crate::proofs::WalkLemmas::inner))]
 fn sign_inner(
     alloc: Global,

@@ -22,7 +22,7 @@ fn load_calm(alloc: Global, words: &[&str]) -> Mem<String> {
     loaded(alloc, files, variables, &mut disk)
 }
 
-// The same where these reads fail.
+// What loading from a disk gives of which these reads fail.
 fn load_faulty(alloc: Global, words: &[&str]) -> Mem<String> {
     let [reads, files, variables, disk] = words else {
         return unknown(alloc);

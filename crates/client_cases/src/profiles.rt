@@ -57,7 +57,7 @@ fn parse(alloc: Global, words: &[&str]) -> Mem<String> {
     told(alloc, &sections_of(alloc, "default", files), keys)
 }
 
-// The same of equal sections.
+// What a copy of the sections tells of the keys.
 fn copy(alloc: Global, words: &[&str]) -> Mem<String> {
     let [keys, files @ ..] = words else {
         return unknown(alloc);
@@ -109,7 +109,7 @@ fn select(alloc: Global, words: &[&str]) -> Mem<String> {
     }
 }
 
-// The same where nothing was parsed.
+// What sections tell of a key where nothing was parsed.
 fn none(alloc: Global, key: &str) -> Mem<String> {
     let sections = EnvConfigSections::new(alloc)?;
     selected(alloc, &sections, key)

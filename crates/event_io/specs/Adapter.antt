@@ -2,7 +2,7 @@
 use Rattle.std.specs.Prelude.{◌≡◌, ℕ, ◌⊎◌, List, [], ◌∷◌, ◌++◌, codes, length, Option, Some, None, Result, Ok, Err}
 use Rattle.std.specs.declared.alloc.Global.{Global}
 use Rattle.smithy_core.specs.Blob.{byte_count}
-use Rattle.smithy_core.specs.Clock.{GainsOne}
+use Rattle.smithy_core.specs.Given.{GivesOne}
 use Rattle.smithy_core.specs.Message.{Parts}
 use Rattle.smithy_core.specs.Moment.{Instant}
 use Rattle.smithy_core.specs.Outside.{RoseOrStands}
@@ -51,7 +51,7 @@ TellsWant result = Unit {0}
 
 -- one moment more, which the clock gave
 abbrev pub TakesMoment : {C : Type 0} → Clock.Ghosts C → C → C → List Instant → List Instant → Instant → Type 0
-TakesMoment clock before now old new t = (new ≡ old ++ t ∷ []) × GainsOne (clock.given before) (clock.given now) t
+TakesMoment clock before now old new t = (new ≡ old ++ t ∷ []) × GivesOne clock before t now
 
 -- no moment more, and the clock isn't asked
 abbrev pub TakesNone : {C : Type 0} → C → C → List Instant → List Instant → Type 0

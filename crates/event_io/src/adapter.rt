@@ -164,7 +164,7 @@ where
         answer
     }
 
-    // The same of an adapter that goes on.
+    // Polls an adapter that goes on, and leaves it open or ended: who calls closes it after want of memory.
     #[tactic(auto, using(crate::proofs::AdapterLemmas::asked, crate::proofs::AdapterLemmas::refused))]
     fn poll_open<C: Clock>(
         &mut self,

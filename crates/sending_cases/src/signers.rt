@@ -83,7 +83,7 @@ pub fn sigv4(alloc: Global) -> Mem<SigV4MessageSigner<()>> {
     sigv4_of(alloc, Identity::Credentials(credentials))
 }
 
-/// The same by a token, which signs nothing.
+/// A signer by a token, which signs nothing.
 pub fn bearer(alloc: Global) -> Mem<SigV4MessageSigner<()>> {
     sigv4_of(alloc, Identity::Token(String::from_str(alloc, "t")?))
 }

@@ -31,7 +31,7 @@ fn steps_of<G: SignMessage + LastSignature>(
     Ok(answers)
 }
 
-// The same, where `wire NAME` hands it another signer.
+// What a deferred signer answers to the steps, of which `wire NAME` hands it another signer.
 fn deferred_steps(alloc: Global, steps: &[&str]) -> Mem<String> {
     let mut signer = DeferredSigner::new();
     let mut answers = String::new(alloc);

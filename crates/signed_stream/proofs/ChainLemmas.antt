@@ -20,7 +20,8 @@ use Rattle.sigv4.specs.EventStream.{failed_encoding, message_refusal, unsignable
 use Rattle.sigv4.specs.declared.error.SigningError.{SigningError}
 use Rattle.sigv4.specs.declared.error.SigningError.TheVariants as errors
 use Rattle.signed_stream.specs.declared.form.Form.{Form}
-use Rattle.signed_stream.specs.Chain.{IsChained, IsCredentials, Refusal, chain_text, fault_at, first_refusal, frames_text, link_text, outside_years, refusal_at, refusal_fault, streamed_text, text_before, unframed_at, unlinked}
+use Rattle.smithy_core.specs.Identity.{IsCredentials}
+use Rattle.signed_stream.specs.Chain.{IsChained, Refusal, chain_text, fault_at, first_refusal, frames_text, link_text, outside_years, refusal_at, refusal_fault, streamed_text, text_before, unframed_at, unlinked}
 use Rattle.signed_stream.specs.Halt.{Halts, Sends, unless_refused}
 use Rattle.signed_stream.specs.Status.{RunFault, run_fault, moment_out_of_range}
 use Rattle.signed_stream.proofs.YearLemmas.{in_years, years_in}

@@ -25,7 +25,7 @@ use Rattle.aws_auth.specs.declared.name_override.OverrideError.TheVariants as ov
 use Rattle.aws_auth.specs.declared.options.SigV4OperationSigningConfig.{SigV4OperationSigningConfig}
 use Rattle.aws_auth.specs.declared.signer.Signed.{Signed}
 use Rattle.signed_stream.specs.Case.{request_moment, settings_with}
-use Rattle.signed_stream.specs.Chain.{IsCredentials}
+use Rattle.smithy_core.specs.Identity.{IsCredentials}
 use Rattle.signed_stream.specs.Command.{Wanted}
 use Rattle.signed_stream.specs.Plan.{TargetSpells, TargetRead, accepted, unaccepted, unread}
 use Rattle.signed_stream.specs.Sign.{GivesName, IsRequestError, SignsJob, TellsError, fault_for, identity_case, request_fault, unsigned}

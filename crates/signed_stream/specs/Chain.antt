@@ -7,8 +7,6 @@ use Rattle.smithy_core.specs.Civil.{IsInYears, is_in_years}
 use Rattle.smithy_core.specs.Moment.{Instant}
 use Rattle.smithy_core.specs.Message.{Parts}
 use Rattle.smithy_core.specs.Text.{line}
-use Rattle.smithy_core.specs.declared.identity.Identity.{Identity}
-use Rattle.smithy_core.specs.declared.identity.Identity.TheVariants.{Credentials, Token}
 use Rattle.eventstream.specs.Frame.{frame, unframed}
 use Rattle.eventstream.specs.Key.{Signer}
 use Rattle.eventstream.specs.Link.{begun, chain, link_message, link_signature}
@@ -17,11 +15,6 @@ use Rattle.eventstream.specs.declared.error.ErrorKind.TheVariants as reasons
 use Rattle.signed_stream.specs.declared.form.Form.{Form}
 use Rattle.signed_stream.specs.declared.form.Form.TheVariants.{Raw, HexLines}
 use Rattle.signed_stream.specs.Status.{RunFault, moment_out_of_range, invalid_header_name_length, header_value_too_long, timestamp_value_too_large, headers_too_long, payload_too_long, message_too_long}
-
--- the identity can sign: it is credentials
-abbrev pub IsCredentials : Identity → Type 0
-IsCredentials (Credentials credentials) = Unit {0}
-IsCredentials (Token token) = ⊥
 
 -- ## Frames
 

@@ -5,7 +5,8 @@ ghost use Rattle.eventstream.specs.Frame.{frame};
 ghost use Rattle.eventstream.specs.Link.{link_signature};
 ghost use Rattle.eventstream.specs.Write.{IsFrameFault};
 ghost use Rattle.sigv4.specs.Params.{signer_of, v4_identity, v4_time};
-ghost use Rattle.signed_stream.specs.Chain.{IsCredentials, fault_at, first_refusal, frame_text, link_text, outside_years, refusal_fault, streamed_text, unframed_at, unlinked};
+ghost use Rattle.smithy_core.specs.Identity.{IsCredentials};
+ghost use Rattle.signed_stream.specs.Chain.{fault_at, first_refusal, frame_text, link_text, outside_years, refusal_fault, streamed_text, unframed_at, unlinked};
 ghost use Rattle.signed_stream.specs.Halt.{Sends, unless_refused};
 ghost use Rattle.signed_stream.specs.Status.{run_fault};
 

@@ -48,7 +48,7 @@ impl Job {
     }
 }
 
-// The same text, where there is one.
+// A copy of the text, where there is one.
 fn copied(text: &Option<String>) -> Mem<Option<String>>
     ensures { IfOk result (λ copy. option_map string_bytes copy ≡ option_map string_bytes text.now) }
 {

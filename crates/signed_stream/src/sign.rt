@@ -1,7 +1,7 @@
 ghost use Rattle.std.specs.Prelude.{◌≡◌, IfOk, option_copied, option_map};
 ghost use Rattle.std.specs.String.{string_bytes};
 ghost use Rattle.signed_stream.specs.Case.{request_moment};
-ghost use Rattle.signed_stream.specs.Chain.{IsCredentials};
+ghost use Rattle.smithy_core.specs.Identity.{IsCredentials};
 ghost use Rattle.signed_stream.specs.Options.{wanted_of};
 ghost use Rattle.signed_stream.specs.Status.{run_fault};
 ghost use Rattle.signed_stream.specs.Sign.{GivesName, IsRequestError, SignsJob, TellsError, fault_for, identity_case};

@@ -27,7 +27,7 @@ fn request_header(alloc: Global, name: &str, value: &str) -> Mem<String> {
     outcome(alloc, answer, &request.headers)
 }
 
-// The same of a response.
+// Sets the header of a response where none of its name is there.
 fn response_header(alloc: Global, name: &str, value: &str) -> Mem<String> {
     let mut response = HttpResponse {
         status: 200,

@@ -48,7 +48,7 @@ fn signed_by(alloc: Global, message: &Message, identity: &Identity, words: &[&st
 
 type Signed = Result<SigningOutput<Message>, SigningError>;
 
-// The same of no message, which ends a stream.
+// Signs no message, which ends a stream.
 fn closing(alloc: Global, words: &[&str]) -> Mem<String> {
     let identity = identity_of(alloc, words)?;
     match closed_by(alloc, &identity, words) {

@@ -3,6 +3,7 @@ pub mod CutLemmas
 pub mod DocumentLemmas
 pub mod FormatLemmas
 pub mod GainLemmas
+pub mod GivenLemmas
 pub mod InstantLemmas
 pub mod LowerLemmas
 pub mod PairLemmas

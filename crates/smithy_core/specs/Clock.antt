@@ -4,11 +4,15 @@ use Rattle.std.specs.List.{slice_index_or}
 use Rattle.smithy_core.specs.Moment.{Instant}
 use Rattle.smithy_core.specs.Calls.{one_more}
 
--- the answer was appended, where the list is told afterwards
+-- the answers were appended, where the list is told afterwards
+abbrev pub GainsMoments : Option (List Instant) → Option (List Instant) → List Instant → Type 0
+GainsMoments before None moments = Unit {0}
+GainsMoments None (Some now) moments = ⊥
+GainsMoments (Some before) (Some now) moments = now ≡ before ++ moments
+
+-- one answer was appended
 abbrev pub GainsOne : Option (List Instant) → Option (List Instant) → Instant → Type 0
-GainsOne before None moment = Unit {0}
-GainsOne None (Some now) moment = ⊥
-GainsOne (Some before) (Some now) moment = now ≡ before ++ moment ∷ []
+GainsOne before now moment = GainsMoments before now (moment ∷ [])
 
 -- the first n answers of a clock over these moments: in order, and then the last again and again
 abbrev pub answers : Instant → List Instant → ℕ → List Instant

@@ -38,3 +38,8 @@ abbrev pub IsSameIdentity : Identity → Identity → Type 0
 IsSameIdentity (OfCredentials credentials) (OfCredentials copy) = IsSameCredentials credentials copy
 IsSameIdentity (Token token) (Token copy) = string_bytes copy ≡ string_bytes token
 IsSameIdentity _ _ = ⊥
+
+-- the identity is credentials, and so has a secret to sign with
+abbrev pub IsCredentials : Identity → Type 0
+IsCredentials (OfCredentials credentials) = Unit {0}
+IsCredentials (Token token) = ⊥

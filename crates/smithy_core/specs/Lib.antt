@@ -8,6 +8,7 @@ pub mod Document
 pub mod Format
 pub mod FramePart
 pub mod FrameSource
+pub mod Given
 pub mod Header
 pub mod HeaderGrammar
 pub mod HeaderValue

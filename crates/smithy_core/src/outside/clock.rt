@@ -5,18 +5,22 @@ use crate::memory::Mem;
 use crate::moment::Moment;
 use std::marker::Model;
 
-/// Gives moments, and can't fail.
+/// Gives moments, and can't fail. `answers` relates a clock before a call, the moment, and the clock after it.
 pub trait Clock {
     ghost use Rattle.std.specs.Prelude.{List, Option};
     ghost use Rattle.smithy_core.specs.Clock.{GainsOne};
     ghost use Rattle.smithy_core.specs.Moment.{Instant};
+
+    // a call, where more is told of it than the first clause below says
+    ghost answers: { Self → Instant → Self → Type 0 } = { λ _ _ _. Unit {0} };
 
     // what it has given, where it is told
     ghost given: { Self → Option (List Instant) };
 
     /// The moment now.
     fn now(&mut self) -> Moment
-        ensures { GainsOne (given self.old) (given self.new) result };
+        ensures gains { GainsOne (given self.old) (given self.new) result }
+        ensures answers { answers self.old result self.new };
 }
 
 /// Gives the listed moments in order, and then the last one again and again.
@@ -70,14 +74,13 @@ impl ListClock {
 }
 
 impl Clock for ListClock {
-    ghost use Rattle.smithy_core.specs.Clock.{GainsOne, GivesNext, given};
+    ghost use Rattle.smithy_core.specs.Clock.{GivesNext, given};
+
+    ghost answers = { GivesNext };
 
     ghost given = { given };
 
-    fn now(&mut self) -> Moment
-        ensures gains { GainsOne (given self.old) (given self.new) result }
-        ensures next { GivesNext self.old result self.new }
-    {
+    fn now(&mut self) -> Moment {
         let calls = self.calls;
         self.calls = calls.saturating_add(1);
         if calls < self.moments.len() as u64 {
@@ -119,15 +122,13 @@ impl FixedClock {
 }
 
 impl Clock for FixedClock {
-    ghost use Rattle.smithy_core.specs.Clock.{GainsOne, GivesNext, given};
+    ghost use Rattle.smithy_core.specs.Clock.{GivesNext, given};
+
+    ghost answers = { GivesNext };
 
     ghost given = { given };
 
-    fn now(&mut self) -> Moment
-        ensures gains { GainsOne (given self.old) (given self.new) result }
-        ensures next { GivesNext self.old result self.new }
-        ensures at { result ≡ self.old.last }
-    {
+    fn now(&mut self) -> Moment {
         self.calls = self.calls.saturating_add(1);
         self.at
     }
