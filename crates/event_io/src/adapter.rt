@@ -234,8 +234,8 @@ fn frame_bytes(alloc: Global, message: &Message) -> Result<Bytes, Error>
     Ok(Bytes::from_vec(bytes)?)
 }
 
-// Asks the clock, once there is room for its answer.
-fn take_moment<C: Clock>(clock: &mut C, moments: &mut Vec<Moment>) -> Mem<Moment>
+/// Asks the clock for a moment, which `moments` gains. Room for it is made first, so want of memory leaves both.
+pub fn take_moment<C: Clock>(clock: &mut C, moments: &mut Vec<Moment>) -> Mem<Moment>
     ensures ok { IfOk result (λ t. TakesMoment C.Clock clock.old clock.new moments.old.items moments.new.items t) }
     ensures err { OnErr result ((clock.new ≡ clock.old) × (moments.new.items ≡ moments.old.items)) }
 {

@@ -13,7 +13,7 @@ mod initial;
 mod sender;
 mod stream_error;
 
-pub use crate::adapter::{MessageStreamAdapter, Next};
+pub use crate::adapter::{MessageStreamAdapter, Next, take_moment};
 pub use crate::adapter_fault::AdapterFault;
 pub use crate::event_source::{EventPolled, EventSource, ListEvents};
 pub use crate::initial::{EventOrInitial, EventOrInitialMarshaller};

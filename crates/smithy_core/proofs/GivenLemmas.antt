@@ -1,8 +1,8 @@
 -- The moments that a clock gave, call by call.
-use Rattle.std.proofs.Common.{◌≡◌, ℕ, List, [], ◌∷◌, ◌++◌, length, replicate, Option, Some, None, refl, sym, ap, subst, ◌∙◌}
+use Rattle.std.proofs.Common.{◌≡◌, List, [], ◌∷◌, ◌++◌, length, replicate, Option, Some, None, refl, sym, ap, subst, ◌∙◌}
 use Rattle.std.proofs.lemmas.List.{append-nil, append_assoc}
 use Rattle.smithy_core.specs.Clock.{ClockState, GainsMoments, GivesNext}
-use Rattle.smithy_core.specs.Given.{GivesEach, GivesOne}
+use Rattle.smithy_core.specs.Given.{Gives, GivesEach, GivesOne}
 use Rattle.smithy_core.specs.Moment.{Instant}
 use Rattle.smithy_core.specs.declared.outside.clock.Clock as Clock
 
@@ -21,10 +21,18 @@ gains_none (Some held) = sym (append-nil held)
 
 module _ {C : Type 0} (clock : Clock.Ghosts C) where
   -- the list of what the clock gave gained the moments of its calls
-  pub given_each : (before now : C) (moments : List Instant) → GivesEach clock before moments now → GainsMoments (clock.given before) (clock.given now) moments
+  given_each : (before now : C) (moments : List Instant) → GivesEach clock before moments now → GainsMoments (clock.given before) (clock.given now) moments
   given_each before now [] is = subst (λ c. GainsMoments (clock.given before) (clock.given c) []) (sym is) (gains_none (clock.given before))
   given_each before now (moment ∷ moments) (next, one, each) =
       joined (clock.given before) (clock.given next) (clock.given now) (moment ∷ []) moments one.1 (given_each next now moments each)
+
+  -- so the clock gave them
+  pub each_given : (before now : C) (moments : List Instant) → GivesEach clock before moments now → Gives clock before moments now
+  each_given before now moments each = (each, given_each before now moments each)
+
+  -- a clock that isn't asked gives none
+  pub given_none : (before : C) → Gives clock before [] before
+  given_none before = (refl, gains_none (clock.given before))
 
   -- one call more
   pub given_more : (before middle now : C) (moments : List Instant) (moment : Instant) → GivesEach clock before moments middle → GivesOne clock middle moment now

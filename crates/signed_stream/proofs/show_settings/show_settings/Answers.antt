@@ -1,18 +1,21 @@
-use Rattle.signed_stream.specs.Command.{show_settings}
 use Rattle.signed_stream.specs.ProfileOptions.{profile_wanted}
+use Rattle.signed_stream.specs.ProfileTexts.{texts_of}
+use Rattle.signed_stream.specs.Settings.{selected_of}
 use Rattle.signed_stream.specs.Sources.{DiskGives}
-use Rattle.signed_stream.proofs.RunLemmas.{bytes_no_memory, texts_are_bad, texts_were_read}
-use Rattle.signed_stream.proofs.show_settings.show_settings.Goals as goal
-
-pub returns-clause-planned : goal.returns-clause-planned
-returns-clause-planned g c =
-    bytes_no_memory (DiskGives g.D.Disk.answers g.D.Disk.faults (g.D.Disk.files c.args.disk.now) c.args.env.now c.args.disk.now c.args.disk.now) (λ places. tt) c.args.env.now (show_settings (profile_wanted c.args.options)) c.args.bytes.now (g.K.ByteSink.held c.args.out.now)
-
-pub returns-in-Err-BadLine-clause-planned : goal.returns-in-Err-BadLine-clause-planned
-returns-in-Err-BadLine-clause-planned g c =
-    let read = rw c.in-Err-BadLine.field-0-is at c.in-Err-BadLine.ensures in
-    rw c.in-Err-BadLine.field-0-is (texts_are_bad (DiskGives g.D.Disk.answers g.D.Disk.faults (g.D.Disk.files c.args.disk.now) c.args.env.now c.args.disk.now c.args.disk.now) c.args.env.now (profile_wanted c.args.options) c.args.bytes.now _ (g.K.ByteSink.held c.args.out.now) read)
+use Rattle.signed_stream.specs.Status.{ending_of}
+use Rattle.signed_stream.proofs.FitLemmas.{texts_shown, texts_unselected}
+use Rattle.signed_stream.proofs.show_settings.show_selected.Goals as goal
 
 pub returns-in-Ok-clause-planned : goal.returns-in-Ok-clause-planned
 returns-in-Ok-clause-planned g c =
-    texts_were_read (DiskGives g.D.Disk.answers g.D.Disk.faults (g.D.Disk.files c.args.disk.now) c.args.env.now c.args.disk.now c.show_selected.new.disk) c.args.env.now (profile_wanted c.args.options) c.args.bytes.now _ _ _ _ c.in-Ok.ensures c.show_selected.ensures.planned
+    let gave = DiskGives g.D.Disk.answers g.D.Disk.faults (g.D.Disk.files c.args.disk.now) c.args.env.now c.args.disk.now c.select.new.disk in
+    let found = c.in-Ok.ensures.selects in
+    rw c.status_of.ensures
+    (texts_shown gave c.args.env.now (profile_wanted c.args.options) (texts_of c.args.texts) found.0 (selected_of c.in-Ok.settings) c.write_settings.result
+    (g.K.ByteSink.held c.args.out.now) (g.K.ByteSink.held c.write_settings.new.out) found.1 found.2 c.write_settings.ensures.sends)
+
+pub returns-clause-planned : goal.returns-clause-planned
+returns-clause-planned g c =
+    let gave = DiskGives g.D.Disk.answers g.D.Disk.faults (g.D.Disk.files c.args.disk.now) c.args.env.now c.args.disk.now c.select.new.disk in
+    let found = c.in-Err.ensures.selects in
+    texts_unselected gave c.args.env.now (profile_wanted c.args.options) (texts_of c.args.texts) found.0 (ending_of c.in-Err.status) (g.K.ByteSink.held c.args.out.now) found.1 found.2
