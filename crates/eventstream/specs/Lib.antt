@@ -15,3 +15,4 @@ pub mod SizeHint
 pub mod Texts
 pub mod Told
 pub mod Write
+pub mod Unmarshall

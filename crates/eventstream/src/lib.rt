@@ -11,7 +11,8 @@
 //! signing key and of the chain of signed frames stand here too (`specs/Key.antt`, `specs/Link.antt`),
 //! below all crates that cite them. What a [`SignMessage`] answers is told before it is asked: messages as
 //! they are, or the links of a chain (`specs/Told.antt`); a [`DeferredSigner`] is told as the signer that it
-//! was handed last. What a [`MarshallMessage`] answers is its own relation.
+//! was handed last. What a [`MarshallMessage`] answers is its own relation, and so is what an
+//! [`UnmarshallMessage`] does.
 #![tactic(auto)]
 
 mod decode;
@@ -27,6 +28,7 @@ mod sign;
 mod sign_error;
 mod size_hint;
 mod texts;
+mod unmarshall;
 mod write;
 
 pub use crate::decode::{DecodedFrame, MessageFrameDecoder, StreamEnd};
@@ -46,4 +48,5 @@ pub use crate::response_headers::{ResponseHeaders, parse_response_headers};
 pub use crate::sign::{NoOpSigner, SignMessage};
 pub use crate::sign_error::SignMessageError;
 pub use crate::size_hint::MessageSizeHint;
+pub use crate::unmarshall::{IdentityUnmarshaller, UnmarshallMessage, UnmarshalledMessage};
 pub use crate::write::{frame_of, write_headers_to, write_message_to};
