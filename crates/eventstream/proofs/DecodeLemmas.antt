@@ -10,9 +10,10 @@ use Rattle.eventstream.specs.declared.decode.DecodedFrame.{DecodedFrame}
 use Rattle.eventstream.specs.declared.error.ErrorKind.{ErrorKind}
 use Rattle.eventstream.specs.declared.error.ErrorKind.TheVariants.{InvalidMessageLength, NoMemory}
 use Rattle.eventstream.specs.declared.error.Error.{Error}
+use Rattle.eventstream.specs.Error.{error_kind}
 use Rattle.eventstream.specs.Read.{read, read_after, announced, Fails, GivesMessage, TakesMessage}
 use Rattle.eventstream.specs.Reading.{fault, begins, as_first, first_of}
-use Rattle.eventstream.specs.Decode.{Finishes, KeepsBytes, IsUnfinished, LeavesFault, DecodesFrame, undecoded_bytes}
+use Rattle.eventstream.specs.Decode.{Finishes, KeepsBytes, IsUnfinished, LeavesFault, DecodesFrame, PeeksMessage, undecoded_bytes}
 use Rattle.eventstream.proofs.FrontLemmas.{announced_joined, first_bad, first_more, first_whole, read_joined}
 
 -- ## The prelude stays
@@ -41,6 +42,18 @@ reads_first bytes n message high whole is = first_whole bytes high whole ∙ ap 
 fails_first : (bytes : List ℕ) (kind : ErrorKind) → 12 ≤ announced bytes → announced bytes ≤ length bytes
     → read (take (announced bytes) bytes) ≡ Err kind → first_of bytes ≡ fault kind
 fails_first bytes kind high whole is = first_whole bytes high whole ∙ ap (as_first bytes) is
+
+-- a frame at the front is read, and stays
+pub peeks_message : (bytes : List ℕ) (len : ℕ) (frame rest : List ℕ) (message : Parts) → len ≡ announced bytes → 12 ≤ len → len ≤ length bytes
+    → frame ≡ take len bytes → TakesMessage (read frame) frame rest (Ok message) → PeeksMessage bytes (Ok (Some (message, len)))
+peeks_message bytes len frame rest message is high whole front reads =
+    (whole, rw is (reads_first bytes (announced frame) message (rw (← is) high) (rw (← is) whole) (rw (← is, ← front) reads.0)))
+
+pub peeks_fault : (bytes : List ℕ) (len : ℕ) (frame rest : List ℕ) (e : Error) → len ≡ announced bytes → 12 ≤ len → len ≤ length bytes
+    → frame ≡ take len bytes → TakesMessage (read frame) frame rest (Err e) → PeeksMessage bytes (Err e)
+peeks_fault bytes len frame rest e is high whole front (inl fails, stays) =
+    inl (fails_first bytes (error_kind e) (rw (← is) high) (rw (← is) whole) (rw (← is, ← front) fails))
+peeks_fault bytes len frame rest e is high whole front (inr full, stays) = inr full
 
 -- the frame is taken, as one step of the reading says
 pub steps_frame : (kept : Option (List ℕ)) (old : Segments) (prelude : Option (List ℕ)) (new : Segments) (len n : ℕ)

@@ -31,6 +31,13 @@ IsUnfinished nothing = Unit {0}
 IsUnfinished (leftover bytes) = Unit {0}
 IsUnfinished first = ⊥
 
+-- the message at the front and how many bytes its frame has, or nothing while there is less than a frame, or the fault in its
+-- place; or want of memory
+abbrev pub PeeksMessage : List ℕ → Result (Option (Parts × ℕ)) Error → Type 0
+PeeksMessage bytes (Ok None) = IsUnfinished (first_of bytes)
+PeeksMessage bytes (Ok (Some found)) = (found.1 ≤ length bytes) × (first_of bytes ≡ begins found.0 (drop found.1 bytes))
+PeeksMessage bytes (Err e) = (first_of bytes ≡ fault (error_kind e)) ⊎ (error_kind e ≡ NoMemory)
+
 -- after a fault the frame is gone, and its prelude forgotten; a prelude that announces less than its own bytes stays
 abbrev pub LeavesFault : List ℕ → Option (List ℕ) → List ℕ → Type 0
 LeavesFault bytes prelude buffer =

@@ -1,4 +1,4 @@
-ghost use Rattle.std.specs.Prelude.{◌≡◌, ℕ, List, ◌+◌, ◌-◌, ◌≤◌, ◌<◌, ◌++◌, length, drop, None, Some, IfOk};
+ghost use Rattle.std.specs.Prelude.{◌≡◌, ℕ, List, ◌+◌, ◌-◌, ◌^◌, ◌≤◌, ◌<◌, ◌++◌, length, drop, None, Some, IfOk};
 ghost use Rattle.eventstream.specs.Decode.{DecodesAll, Finishes, DecodesFrame, appended_messages, end_of, undecoded_bytes, least_len};
 ghost use Rattle.seg_buf.specs.Segments.{prelude_len};
 ghost use Rattle.eventstream.specs.Read.{announced};
@@ -237,11 +237,12 @@ impl MessageFrameDecoder {
     }
 }
 
-// The length that the first four bytes announce.
+/// The length that the first four bytes announce.
 #[tactic(auto, unfolding(crate::specs::Read::big_endian))]
-fn front_announced(buffer: &SegBuf) -> usize
+pub fn front_announced(buffer: &SegBuf) -> usize
     requires { 4 ≤ length buffer.now.bytes }
-    ensures { result ≡ announced buffer.now.bytes }
+    ensures is { result ≡ announced buffer.now.bytes }
+    ensures bound { result < 2 ^ 32 }
 {
     let front = [
         buffer.peek(0),

@@ -22,6 +22,7 @@ mod expect;
 mod kind;
 mod laws;
 mod marshall;
+mod peek;
 mod read;
 mod response_headers;
 mod sign;
@@ -43,6 +44,7 @@ pub use crate::laws::{
     messages_join, no_frame_begins_another, reading_goes_on,
 };
 pub use crate::marshall::{IdentityMarshaller, MarshallMessage};
+pub use crate::peek::peek_message;
 pub use crate::read::read_message_from;
 pub use crate::response_headers::{ResponseHeaders, parse_response_headers};
 pub use crate::sign::{NoOpSigner, SignMessage};

@@ -15,22 +15,22 @@ pub returns-then-total-lt-PRELUDE-clause-step : goal.returns-then-total-lt-PRELU
 returns-then-total-lt-PRELUDE-clause-step c =
     let bytes = c.args.buffer.now.bytes in
     let long : 12 ≤ length bytes = omega (arith, c.remaining.ensures, c.if-remaining-lt-PRELUDE.false) in
-    let low : announced bytes < 12 = omega (arith, c.front_announced-total.ensures, c.if-total-lt-PRELUDE.true) in
+    let low : announced bytes < 12 = omega (arith, c.front_announced-total.ensures.is, c.if-total-lt-PRELUDE.true) in
     rw (c.requires, c.from.ensures, c.take_prelude.ensures.front, c.take_prelude.ensures.rest) (inl (first_bad bytes long low, inl (low, keeps_taken bytes long)))
 
 pub returns-then-remaining-total-clause-step : goal.returns-then-remaining-total-clause-step
 returns-then-remaining-total-clause-step c =
     let bytes = c.args.buffer.now.bytes in
     let long : 12 ≤ length bytes = omega (arith, c.remaining.ensures, c.if-remaining-lt-PRELUDE.false) in
-    let more : length bytes < announced bytes = omega (arith, c.remaining-2.ensures, c.front_announced-total.ensures, c.if-remaining-total.true) in
+    let more : length bytes < announced bytes = omega (arith, c.remaining-2.ensures, c.front_announced-total.ensures.is, c.if-remaining-total.true) in
     rw (c.requires, c.take_prelude-then-remaining-total.ensures.front, c.take_prelude-then-remaining-total.ensures.rest)
     (more_unfinished bytes long more, keeps_taken bytes long)
 
 pub returns-clause-step : goal.returns-clause-step
 returns-clause-step c =
     let bytes = c.args.buffer.now.bytes in
-    let high : 12 ≤ announced bytes = omega (arith, c.front_announced-total.ensures, c.if-total-lt-PRELUDE.false) in
-    let whole : announced bytes ≤ length bytes = omega (arith, c.remaining-2.ensures, c.front_announced-total.ensures, c.if-remaining-total.false) in
+    let high : 12 ≤ announced bytes = omega (arith, c.front_announced-total.ensures.is, c.if-total-lt-PRELUDE.false) in
+    let whole : announced bytes ≤ length bytes = omega (arith, c.remaining-2.ensures, c.front_announced-total.ensures.is, c.if-remaining-total.false) in
     steps_whole c.args.self.now c.args.buffer.now c.finish.new.self c.finish.new.buffer c.front_announced-total.result c.in_ok-frame.frame
-    c.read_message_from-read.new.buffer c.read_message_from-read.result c.finish.result c.requires high whole c.front_announced-total.ensures
+    c.read_message_from-read.new.buffer c.read_message_from-read.result c.finish.result c.requires high whole c.front_announced-total.ensures.is
     c.in_ok-frame.ensures c.read_message_from-read.ensures c.finish.ensures.taken
