@@ -3,5 +3,7 @@ pub mod AdapterFault
 pub mod Chain
 pub mod EventSource
 pub mod Initial
+pub mod Received
+pub mod ResponseFault
 pub mod Sender
 pub mod StreamError

@@ -10,6 +10,8 @@ mod adapter;
 mod adapter_fault;
 mod event_source;
 mod initial;
+mod received;
+mod response_fault;
 mod sender;
 mod stream_error;
 
@@ -17,5 +19,7 @@ pub use crate::adapter::{MessageStreamAdapter, Next, take_moment};
 pub use crate::adapter_fault::AdapterFault;
 pub use crate::event_source::{EventPolled, EventSource, ListEvents};
 pub use crate::initial::{EventOrInitial, EventOrInitialMarshaller};
+pub use crate::received::{InitialMessageType, Received, Tried};
+pub use crate::response_fault::{ReceiverError, ResponseFault};
 pub use crate::sender::EventStreamSender;
 pub use crate::stream_error::MessageStreamError;
