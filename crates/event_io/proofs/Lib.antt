@@ -1,2 +1,3 @@
 mod AdapterLemmas
 pub mod ChainLemmas
+mod ReceiverLemmas

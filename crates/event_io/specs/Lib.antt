@@ -2,8 +2,11 @@ pub mod Adapter
 pub mod AdapterFault
 pub mod Chain
 pub mod EventSource
+pub mod Frames
 pub mod Initial
 pub mod Received
+pub mod Receiver
 pub mod ResponseFault
 pub mod Sender
+pub mod Stop
 pub mod StreamError

@@ -1,5 +1,5 @@
 -- Why a message isn't received: what a fault becomes, and what is printed.
-use Rattle.std.specs.Prelude.{ℕ, List, codes}
+use Rattle.std.specs.Prelude.{ℕ, Bool, true, false, if◌then◌else◌, List, codes}
 use Rattle.smithy_core.specs.declared.raw_message.RawMessage.{RawMessage}
 use Rattle.smithy_core.specs.declared.sdk_error.SdkError.{SdkError}
 use Rattle.smithy_core.specs.declared.sdk_error.SdkError.TheVariants.{NoMemory, ResponseError}
@@ -13,18 +13,21 @@ use Rattle.event_io.specs.declared.response_fault.ResponseFault.TheVariants.{Fra
 abbrev pub ReceiveError : Type 0 → Type 0
 ReceiveError E = SdkError E ResponseFault RawMessage
 
-module _ {E : Type 0} where
-  -- the error of a message that isn't received for a reason
-  abbrev pub response_error_for : ErrorKind → ResponseFault → RawMessage → ReceiveError E
-  response_error_for kinds.NoMemory fault raw = NoMemory
-  response_error_for _ fault raw = ResponseError fault raw
+-- whether an error is want of memory
+abbrev pub is_want_kind : ErrorKind → Bool
+is_want_kind kinds.NoMemory = true
+is_want_kind _ = false
 
-  -- the error of a message that isn't received: want of memory stays what it is
-  abbrev pub response_error : ResponseFault → RawMessage → ReceiveError E
-  response_error (Frame error) raw = response_error_for (error_kind error) (Frame error) raw
-  response_error (UnexpectedEndOfStream end) raw = ResponseError (UnexpectedEndOfStream end) raw
-  response_error (Unmarshall error) raw = response_error_for (error_kind error) (Unmarshall error) raw
-  response_error (Preprocessor error) raw = response_error_for (error_kind error) (Preprocessor error) raw
+-- whether a fault carries want of memory
+abbrev pub is_want : ResponseFault → Bool
+is_want (Frame error) = is_want_kind (error_kind error)
+is_want (UnexpectedEndOfStream end) = false
+is_want (Unmarshall error) = is_want_kind (error_kind error)
+is_want (Preprocessor error) = is_want_kind (error_kind error)
+
+-- the error of a message that isn't received: want of memory stays what it is
+abbrev pub response_error : {E : Type 0} → ResponseFault → RawMessage → ReceiveError E
+response_error fault raw = if is_want fault then NoMemory else ResponseError fault raw
 
 -- the faults are the same, and so are the texts that they carry
 abbrev pub IsSameResponseFault : ResponseFault → ResponseFault → Type 0

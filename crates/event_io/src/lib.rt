@@ -11,8 +11,10 @@ mod adapter_fault;
 mod event_source;
 mod initial;
 mod received;
+mod receiver;
 mod response_fault;
 mod sender;
+mod stop;
 mod stream_error;
 
 pub use crate::adapter::{MessageStreamAdapter, Next, take_moment};
@@ -20,6 +22,7 @@ pub use crate::adapter_fault::AdapterFault;
 pub use crate::event_source::{EventPolled, EventSource, ListEvents};
 pub use crate::initial::{EventOrInitial, EventOrInitialMarshaller};
 pub use crate::received::{InitialMessageType, Received, Tried};
+pub use crate::receiver::Receiver;
 pub use crate::response_fault::{ReceiverError, ResponseFault};
 pub use crate::sender::EventStreamSender;
 pub use crate::stream_error::MessageStreamError;

@@ -1,5 +1,6 @@
 ghost use Rattle.std.specs.Prelude.{◌≡◌, IfOk};
-ghost use Rattle.event_io.specs.ResponseFault.{response_error};
+ghost use Rattle.eventstream.specs.Error.{error_kind};
+ghost use Rattle.event_io.specs.ResponseFault.{is_want_kind, response_error};
 
 use eventstream::{Error, ErrorKind};
 use smithy_core::{Mem, RawMessage, SdkError};
@@ -39,7 +40,19 @@ pub enum ResponseFault {
 pub(crate) type ReceiveError<E> = SdkError<E, ResponseFault, RawMessage>;
 
 impl ResponseFault {
-    ghost use Rattle.event_io.specs.ResponseFault.{IsSameResponseFault};
+    ghost use Rattle.event_io.specs.ResponseFault.{IsSameResponseFault, is_want};
+
+    // Whether it carries want of memory.
+    fn is_want(&self) -> bool
+        ensures { result ≡ is_want self.now }
+    {
+        match self {
+            ResponseFault::Frame(error) => is_want(error),
+            ResponseFault::UnexpectedEndOfStream(_) => false,
+            ResponseFault::Unmarshall(error) => is_want(error),
+            ResponseFault::Preprocessor(error) => is_want(error),
+        }
+    }
 
     /// An equal fault.
     pub fn try_clone(&self) -> Mem<ResponseFault>
@@ -72,20 +85,19 @@ impl fmt::Display for ResponseFault {
 
 impl std::error::Error for ResponseFault {}
 
+/// Whether an error is want of memory.
+pub(crate) fn is_want(error: &Error) -> bool
+    ensures { result ≡ is_want_kind (error_kind error.now) }
+{
+    matches!(error.kind(), ErrorKind::NoMemory)
+}
+
 /// The error of a message that isn't received for a reason. Want of memory stays what it is.
 pub(crate) fn response_error<E>(fault: ResponseFault, raw: RawMessage) -> ReceiveError<E>
     ensures { result ≡ response_error fault raw }
 {
-    let kind = match &fault {
-        ResponseFault::Frame(error) => error.kind(),
-        ResponseFault::Unmarshall(error) => error.kind(),
-        ResponseFault::Preprocessor(error) => error.kind(),
-        ResponseFault::UnexpectedEndOfStream(_) => {
-            return SdkError::ResponseError { source: fault, raw };
-        }
-    };
-    match kind {
-        ErrorKind::NoMemory => SdkError::NoMemory,
-        _ => SdkError::ResponseError { source: fault, raw },
+    if fault.is_want() {
+        return SdkError::NoMemory;
     }
+    SdkError::ResponseError { source: fault, raw }
 }

@@ -1,0 +1,114 @@
+ghost use Rattle.std.specs.Prelude.{◌≡◌, None, Some};
+ghost use Rattle.smithy_core.specs.declared.raw_message.RawMessage.TheVariants.{Invalid};
+ghost use Rattle.event_io.specs.Receiver.{TellsWantOfMemory, recv_stop, tried_stop};
+ghost use Rattle.event_io.specs.ResponseFault.{response_error};
+ghost use Rattle.event_io.specs.Stop.{TellsStop};
+ghost use Rattle.event_io.specs.declared.response_fault.ResponseFault.TheVariants.{Frame};
+
+use crate::received::{Received, Tried};
+use crate::response_fault::{
+    ReceiveError, ReceiverError, ResponseFault, is_want, response_error,
+};
+use bytes::Bytes;
+use eventstream::Error;
+use smithy_core::{Message, RawMessage, SdkError};
+use std::alloc::AllocError;
+
+// A message whose frame is at the front of a buffer, and how many bytes the frame has.
+#[derive(Drop)]
+pub(crate) struct Front {
+    pub(crate) message: Message,
+    pub(crate) len: usize,
+}
+
+// Why there is no message.
+#[derive(Drop)]
+pub(crate) enum Stop {
+    // The stream ended.
+    End,
+    // Nothing has come yet.
+    NotYet,
+    // Too many frames had no data.
+    OutOfTurns,
+    // The source failed.
+    Failed,
+    // Memory ran out.
+    NoMemory,
+    // The bytes are no frame.
+    Faulty(Error),
+    // The stream ended within a frame, after these bytes of it.
+    CutOff(Bytes),
+}
+
+impl Stop {
+    // As an answer of `recv`.
+    pub(crate) fn received<T, E>(self) -> Result<Received<T>, ReceiveError<E>>
+        requires { TellsStop self }
+        ensures stop { recv_stop result ≡ Some self }
+        ensures want { TellsWantOfMemory result }
+    {
+        match self {
+            Stop::End => Ok(Received::End),
+            Stop::NotYet => Ok(Received::NotYet),
+            Stop::OutOfTurns => Ok(Received::OutOfTurns),
+            Stop::Failed => Err(SdkError::DispatchFailure),
+            Stop::NoMemory => Err(SdkError::NoMemory),
+            Stop::Faulty(error) => Err(frame_error(error)),
+            Stop::CutOff(bytes) => Err(SdkError::ResponseError {
+                source: ResponseFault::UnexpectedEndOfStream(ReceiverError),
+                raw: RawMessage::Invalid(Some(bytes)),
+            }),
+        }
+    }
+
+    // As an answer of a call that looks for the first message.
+    pub(crate) fn tried<M, E>(self) -> Result<Tried<M>, ReceiveError<E>>
+        requires { TellsStop self }
+        ensures stop { tried_stop result ≡ Some self }
+        ensures want { TellsWantOfMemory result }
+    {
+        match self {
+            Stop::End => Ok(Tried::End),
+            Stop::NotYet => Ok(Tried::NotYet),
+            Stop::OutOfTurns => Ok(Tried::OutOfTurns),
+            Stop::Failed => Err(SdkError::DispatchFailure),
+            Stop::NoMemory => Err(SdkError::NoMemory),
+            Stop::Faulty(error) => Err(frame_error(error)),
+            Stop::CutOff(bytes) => Err(SdkError::ResponseError {
+                source: ResponseFault::UnexpectedEndOfStream(ReceiverError),
+                raw: RawMessage::Invalid(Some(bytes)),
+            }),
+        }
+    }
+}
+
+impl From<Error> for Stop {
+    ghost use Rattle.event_io.specs.Stop.{stop_of};
+
+    ghost from_gives = { λ error stop. stop ≡ stop_of error };
+
+    fn from(error: Error) -> Stop {
+        if is_want(&error) {
+            Stop::NoMemory
+        } else {
+            Stop::Faulty(error)
+        }
+    }
+}
+
+impl From<AllocError> for Stop {
+    ghost use Rattle.event_io.specs.declared.stop.Stop.TheVariants.{NoMemory};
+
+    ghost from_gives = { λ _ stop. stop ≡ NoMemory };
+
+    fn from(_e: AllocError) -> Stop {
+        Stop::NoMemory
+    }
+}
+
+// The error of bytes that are no frame.
+fn frame_error<E>(error: Error) -> ReceiveError<E>
+    ensures { result ≡ response_error (Frame error) (Invalid None) }
+{
+    response_error(ResponseFault::Frame(error), RawMessage::Invalid(None))
+}
