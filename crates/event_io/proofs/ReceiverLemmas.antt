@@ -1,10 +1,10 @@
 -- How a receiver takes frames, and what the bytes that it has taken hold.
-use Rattle.std.proofs.Common.{◌≡◌, ◌⊎◌, inl, inr, ℕ, zero, suc, ◌+◌, ◌-◌, ◌<◌, ◌≤◌, ◌==◌, Bool, true, false, if◌then◌else◌, List, [], ◌∷◌, ◌++◌, length, take, Option, Some, None, Result, Ok, Err, ap, refl, sym, subst, ◌∙◌, append-nil, append_assoc, length-append, arith}
+use Rattle.std.proofs.Common.{◌≡◌, ◌⊎◌, inl, inr, ℕ, zero, suc, ◌+◌, ◌-◌, ◌<◌, ◌≤◌, ◌==◌, ◌||◌, Bool, true, false, if◌then◌else◌, List, [], ◌∷◌, ◌++◌, length, take, drop, Option, Some, None, Result, Ok, Err, ap, refl, sym, subst, ◌∙◌, append-nil, append_assoc, length-append, arith}
 use Rattle.std.specs.List.{flat_map, sum_by}
 use Rattle.std.proofs.lemmas.Bool.{cases_lt, eqb-false, eqb-true, ne_eqb}
 use Rattle.std.proofs.lemmas.Grind.{flat_map-append}
 use Rattle.std.proofs.lemmas.List.Sums.{sum_by-append}
-use Rattle.smithy_core.specs.FrameSource.{TakesFrame}
+use Rattle.smithy_core.specs.FrameSource.{IsDrained, TakesFrame}
 use Rattle.smithy_core.specs.Message.{Parts}
 use Rattle.smithy_core.specs.Outside.{RoseOrStands}
 use Rattle.smithy_core.specs.declared.outside.frame_part.FramePart.{FramePart}
@@ -12,14 +12,22 @@ use Rattle.smithy_core.specs.declared.outside.frame_source.FrameSource as FrameS
 use Rattle.eventstream.specs.Decode.{IsUnfinished, PeeksMessage}
 use Rattle.eventstream.specs.Error.{error_kind}
 use Rattle.eventstream.specs.Read.{announced, read}
-use Rattle.eventstream.specs.Reading.{nothing, fault, leftover, begins, as_first, first_of}
+use Rattle.eventstream.specs.Reading.{First, nothing, fault, leftover, begins, as_first, first_of, reading}
 use Rattle.eventstream.specs.declared.error.Error.{Error}
 use Rattle.eventstream.specs.declared.error.ErrorKind.{ErrorKind}
 use Rattle.eventstream.proofs.FrontLemmas.{first_bad, first_more, first_whole, short_is}
 use Rattle.event_io.specs.Frames.{TakesFrames, data_in, data_of, idle_count, most_idle, one_if_idle}
-use Rattle.event_io.specs.Receiver.{FindsFront, IsCause, LacksFrame, Pulls, PullsFront, PullsOne, StopsAt, TakesTurns, frames_of, front_stop, taken_bytes}
+use Rattle.event_io.specs.Receiver.{FindsFront, IsCause, LacksFrame, Pulls, PullsFront, PullsOne, Reads, StopsAt, TakesTurns, frames_of, front_stop, taken_bytes}
 use Rattle.event_io.specs.ResponseFault.{is_want_kind}
 use Rattle.event_io.specs.Stop.{TellsStop, stop_of}
+use Rattle.smithy_core.specs.declared.sdk_error.SdkError.TheVariants.{ConstructionFailure, DispatchFailure, NoMemory, ResponseError, ServiceError}
+use Rattle.eventstream.specs.declared.unmarshall.UnmarshallMessage as UnmarshallMessage
+use Rattle.event_io.specs.declared.received.Received.{Received}
+use Rattle.event_io.specs.declared.received.Received.TheVariants as received
+use Rattle.event_io.specs.declared.response_fault.ResponseFault.TheVariants.{Frame, UnexpectedEndOfStream, Unmarshall, Preprocessor}
+use Rattle.event_io.specs.ResponseFault.{ReceiveError}
+use Rattle.event_io.specs.Receiver.{Begins, Cuts, CutsAt, Finds, Receives, Rest, Unmarshals, is_terminated, kept_message, recv_stop, rest_after, rest_of, terminated, terminates, unread, untold}
+use Rattle.eventstream.proofs.ReadingLemmas.{begin_fault, begin_unfinished, fault_stays, first_stays}
 use Rattle.event_io.specs.declared.receiver.Receiver.{Receiver}
 use Rattle.event_io.specs.declared.stop.Front.{Front}
 use Rattle.event_io.specs.declared.stop.Stop.{Stop}
@@ -263,3 +271,174 @@ module _ {F U : Type 0} (source : FrameSource.Ghosts F) where
       by : (idle < most_idle) ⊎ IsUnfinished (first_of (taken_bytes now)) → IsUnfinished (first_of (taken_bytes now))
       by (inl few) = absurd (omega arith)
       by (inr less) = less
+
+  -- ## What a call reads
+
+  -- no message is there
+  pub reads_stop : (said : Parts → Type 0) (old new : Receiver F U) (why : Stop) → PullsFront source old new (Err why) → Reads source (Some why) said old new
+  reads_stop said old new why pulls = record {
+    frames = pulls.frames;
+    taken = pulls.pulls.taken;
+    found = (subst (StopsAt why) pulls.pulls.bytes pulls.found.0, pulls.pulls.bytes);
+    cause = pulls.cause;
+    turns = pulls.turns;
+  }
+
+  -- a message is there, and stays
+  pub reads_want : (said : Parts → Type 0) (old new : Receiver F U) (front : Front) → PullsFront source old new (Ok front) → Reads source (Some stop.NoMemory) said old new
+  reads_want said old new front pulls =
+      record { frames = pulls.frames; taken = pulls.pulls.taken; found = (tt, pulls.pulls.bytes); cause = tt; turns = pulls.turns }
+
+  -- a message is there, and is taken
+  pub reads_message : (said : Parts → Type 0) (old between new : Receiver F U) (front : Front) → PullsFront source old between (Ok front) → said front.message
+      → new.source ≡ between.source → new.buffer.bytes ≡ drop front.len between.buffer.bytes → Reads source None said old new
+  reads_message said old between new front pulls says same left = record {
+    frames = pulls.frames;
+    taken = rw same pulls.pulls.taken;
+    found = (front.message, says, rw (← pulls.pulls.bytes, left) pulls.found.1);
+    cause = tt;
+    turns = pulls.turns;
+  }
+
+
+-- what is said of a message is no reason for none
+pub said_no_stop : {U T E : Type 0} (unmarshaller : UnmarshallMessage.Ghosts U T E) (by : U) (message : Parts) (result : Result (Received T) (ReceiveError E))
+    → Unmarshals unmarshaller by message result → recv_stop result ≡ None
+said_no_stop unmarshaller by message (Ok (received.Event event)) says = refl
+said_no_stop unmarshaller by message (Ok received.End) says = absurd says
+said_no_stop unmarshaller by message (Ok received.NotYet) says = absurd says
+said_no_stop unmarshaller by message (Ok received.OutOfTurns) says = absurd says
+said_no_stop unmarshaller by message (Err (ConstructionFailure refusal)) says = absurd says
+said_no_stop unmarshaller by message (Err DispatchFailure) says = absurd says
+said_no_stop unmarshaller by message (Err NoMemory) says = absurd says
+said_no_stop unmarshaller by message (Err (ServiceError error raw)) says = refl
+said_no_stop unmarshaller by message (Err (ResponseError (Frame error) raw)) says = absurd says
+said_no_stop unmarshaller by message (Err (ResponseError (UnexpectedEndOfStream end) raw)) says = absurd says
+said_no_stop unmarshaller by message (Err (ResponseError (Unmarshall error) raw)) says = refl
+said_no_stop unmarshaller by message (Err (ResponseError (Preprocessor error) raw)) says = absurd says
+
+-- ## What is still to be read
+
+-- the frames that are left end the stream where the reason says so
+abbrev Drains : Stop → Option (List FramePart) → Type 0
+Drains stop.End left = IsDrained left
+Drains (stop.CutOff bytes) left = IsDrained left
+Drains why left = Unit {0}
+
+abbrev DrainsFor : Option Stop → Option (List FramePart) → Type 0
+DrainsFor (Some why) left = Drains why left
+DrainsFor None left = Unit {0}
+
+cause_drains : {F : Type 0} (source : FrameSource.Ghosts F) (why : Option Stop) (before now : F) → IsCause source why before now → DrainsFor why (source.left now)
+cause_drains source (Some stop.End) before now cause = cause
+cause_drains source (Some (stop.CutOff bytes)) before now cause = cause
+cause_drains source (Some stop.NotYet) before now cause = tt
+cause_drains source (Some stop.OutOfTurns) before now cause = tt
+cause_drains source (Some stop.Failed) before now cause = tt
+cause_drains source (Some stop.NoMemory) before now cause = tt
+cause_drains source (Some (stop.Faulty error)) before now cause = tt
+cause_drains source None before now cause = tt
+
+-- the rest as a call leaves it that goes on
+abbrev CutsOpen : Option Stop → (Parts → Type 0) → Rest → Rest → Type 0
+CutsOpen (Some why) said before now = CutsAt why before × (now ≡ before)
+CutsOpen None said before now = (message : Parts) × said message × Begins before message now
+
+untold_cuts : (why : Stop) → CutsAt why untold
+untold_cuts stop.End = tt
+untold_cuts (stop.CutOff bytes) = tt
+untold_cuts stop.NotYet = tt
+untold_cuts stop.OutOfTurns = tt
+untold_cuts stop.Failed = tt
+untold_cuts stop.NoMemory = tt
+untold_cuts (stop.Faulty error) = tt
+
+-- what holds of the bytes that came holds of all
+cuts_at : (why : Stop) (seen : List ℕ) (left : List FramePart) → StopsAt why seen → Drains why (Some left) → CutsAt why (unread (seen ++ data_of left))
+cuts_at stop.End seen left is drained = rw (drained, is) refl
+cuts_at (stop.CutOff bytes) seen left is drained =
+    let same : seen ++ data_of left ≡ seen = rw drained (append-nil seen) in
+    let ends : reading seen ≡ record { messages = []; end = first_of seen } = begin_unfinished [] seen seen refl (subst IsUnfinished (sym is) tt) in
+    rw same (ends ∙ ap (λ (last : First). record { messages = []; end = last }) is)
+cuts_at (stop.Faulty error) seen left is drained =
+    begin_fault [] (seen ++ data_of left) (seen ++ data_of left) (error_kind error) refl (fault_stays seen (error_kind error) (data_of left) is)
+cuts_at stop.NotYet seen left is drained = tt
+cuts_at stop.OutOfTurns seen left is drained = tt
+cuts_at stop.Failed seen left is drained = tt
+cuts_at stop.NoMemory seen left is drained = tt
+
+joined : (bytes : List ℕ) (frames left : List FramePart) → (bytes ++ data_of frames) ++ data_of left ≡ bytes ++ data_of (frames ++ left)
+joined bytes frames left =
+    append_assoc bytes (data_of frames) (data_of left) ∙ ap (λ (more : List ℕ). bytes ++ more) (sym (flat_map-append data_in frames left))
+
+cuts_open : (why : Option Stop) (said : Parts → Type 0) (bytes after : List ℕ) (frames : List FramePart) (before now : Option (List FramePart))
+    → TakesFrames frames before now → Finds why said (bytes ++ data_of frames) after → DrainsFor why now → CutsOpen why said (rest_after bytes before) (rest_after after now)
+cuts_open (Some why) said bytes after frames None now takes found drains = (untold_cuts why, ap (rest_after after) takes)
+cuts_open (Some why) said bytes after frames (Some before) None takes found drains = absurd takes
+cuts_open (Some why) said bytes after frames (Some before) (Some now) takes found drains =
+    let all : (bytes ++ data_of frames) ++ data_of now ≡ bytes ++ data_of before = joined bytes frames now ∙ ap (λ (left : List FramePart). bytes ++ data_of left) (sym takes) in (
+      subst (λ (b : List ℕ). CutsAt why (unread b)) all (cuts_at why (bytes ++ data_of frames) now found.0 drains),
+      ap (λ (b : List ℕ). unread (b ++ data_of now)) found.1 ∙ ap unread all,
+    )
+cuts_open None said bytes after frames None now takes found drains = (found.0, found.1, ap (rest_after after) takes)
+cuts_open None said bytes after frames (Some before) None takes found drains = absurd takes
+cuts_open None said bytes after frames (Some before) (Some now) takes found drains =
+    let all : (bytes ++ data_of frames) ++ data_of now ≡ bytes ++ data_of before = joined bytes frames now ∙ ap (λ (left : List FramePart). bytes ++ data_of left) (sym takes) in (
+      found.0,
+      found.1,
+      subst (λ (b : List ℕ). first_of b ≡ begins found.0 (after ++ data_of now)) all (first_stays (bytes ++ data_of frames) found.0 after (data_of now) found.2),
+    )
+
+cuts_close : (why : Option Stop) (ends over : Bool) (said : Parts → Type 0) (before after : Rest) → CutsOpen why said before after → over ≡ ends
+    → Cuts why ends said before (if over then terminated else after)
+cuts_close (Some why) ends over said before after open_cuts is = (open_cuts.0, rw (is, open_cuts.1) refl)
+cuts_close None ends over said before after open_cuts is = (open_cuts.0, open_cuts.1, after, open_cuts.2, rw is refl)
+
+module _ {F U : Type 0} (source : FrameSource.Ghosts F) where
+  -- what a call read, as it is said of the rest
+  cuts_going : (why : Option Stop) (ends over : Bool) (said : Parts → Type 0) (old between : Receiver F U) → old.over ≡ false → Reads source why said old between → over ≡ ends
+      → Cuts why ends said (rest_of source old) (rest_of source (record between { over = over }))
+  cuts_going why ends over said old between going reads is =
+      let cuts = cuts_close why ends over said (rest_after old.buffer.bytes (source.left old.source)) (rest_after between.buffer.bytes (source.left between.source))
+      (cuts_open why said old.buffer.bytes between.buffer.bytes reads.frames (source.left old.source) (source.left between.source) reads.taken reads.found
+      (cause_drains source why old.source between.source reads.cause)) is in
+      subst
+      (λ (b : Bool). Cuts why ends said (if b then terminated else rest_after old.buffer.bytes (source.left old.source)) (rest_of source (record between { over = over })))
+      (sym going) cuts
+
+  -- nothing more is read
+  cuts_over : (over : Bool) (said : Parts → Type 0) (old between : Receiver F U) → old.over ≡ true → over ≡ true
+      → Cuts (Some stop.End) false said (rest_of source old) (rest_of source (record between { over = over }))
+  cuts_over over said old between terminated_before is = rw (terminated_before, is) (tt, refl)
+
+  module _ {T E : Type 0} (unmarshaller : UnmarshallMessage.Ghosts U T E) where
+    -- a message is handed over, and taken
+    pub reads_said : (result : Result (Received T) (ReceiveError E)) (old between new : Receiver F U) (front : Front) → PullsFront source old between (Ok front)
+        → Unmarshals unmarshaller between.unmarshaller front.message result → new.source ≡ between.source → new.buffer.bytes ≡ drop front.len between.buffer.bytes
+        → Reads source (recv_stop result) (λ message. Unmarshals unmarshaller old.unmarshaller message result) old new
+    reads_said result old between new front pulls says same left =
+        let by : between.unmarshaller ≡ old.unmarshaller = ap (λ (receiver : Receiver F U). receiver.unmarshaller) pulls.pulls.others_stay in
+        let said : Unmarshals unmarshaller old.unmarshaller front.message result = subst (λ (u : U). Unmarshals unmarshaller u front.message result) by says in
+        subst (λ (why : Option Stop). Reads source why (λ message. Unmarshals unmarshaller old.unmarshaller message result) old new)
+        (sym (said_no_stop unmarshaller old.unmarshaller front.message result said))
+        (reads_message source (λ message. Unmarshals unmarshaller old.unmarshaller message result) old between new front pulls said same left)
+
+    -- what `recv` answers without a kept message, as it is said of the rest
+    pub any_cut : (result : Result (Received T) (ReceiveError E)) (old between : Receiver F U) (over : Bool)
+        → Receives source unmarshaller (kept_message old) (is_terminated old) old between result → over ≡ (old.over || terminates result) → kept_message old ≡ None
+        → Cuts (recv_stop result) (terminates result) (λ message. Unmarshals unmarshaller old.unmarshaller message result) (rest_of source old)
+        (rest_of source (record between { over = over }))
+    any_cut result old between over receives is none =
+        by old.over refl (subst (λ (kept : Option Parts). Receives source unmarshaller kept old.over old between result) none receives)
+      where
+        by : (before : Bool) → old.over ≡ before → Receives source unmarshaller None before old between result
+            → Cuts (recv_stop result) (terminates result) (λ message. Unmarshals unmarshaller old.unmarshaller message result) (rest_of source old)
+            (rest_of source (record between { over = over }))
+        by true was (answer, same) =
+            let still : over ≡ true = is ∙ rw was refl in
+            subst
+            (λ (r : Result (Received T) (ReceiveError E)). Cuts (recv_stop r) (terminates r) (λ message. Unmarshals unmarshaller old.unmarshaller message r) (rest_of source old)
+            (rest_of source (record between { over = over })))
+            (sym answer) (cuts_over over (λ message. Unmarshals unmarshaller old.unmarshaller message (Ok received.End)) old between was still)
+        by false was (reads, kept_none) =
+            cuts_going (recv_stop result) (terminates result) over (λ message. Unmarshals unmarshaller old.unmarshaller message result) old between was reads (is ∙ rw was refl)

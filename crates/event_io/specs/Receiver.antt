@@ -60,6 +60,11 @@ terminates (Err (ResponseError (Preprocessor error) raw)) = false
 terminates (Err (ResponseError refusal raw)) = true
 terminates _ = false
 
+-- a fault that is answered isn't want of memory
+abbrev pub TellsWantOfMemory : {A E : Type 0} → Result A (ReceiveError E) → Type 0
+TellsWantOfMemory (Err (ResponseError refusal raw)) = is_want refusal ≡ false
+TellsWantOfMemory result = Unit {0}
+
 -- the bytes at hand hold no message for this reason
 abbrev pub StopsAt : Stop → List ℕ → Type 0
 StopsAt stop.End bytes = bytes ≡ []
@@ -138,12 +143,26 @@ Unmarshals unmarshaller by message (Err (ServiceError error (Decoded raw))) = un
 Unmarshals unmarshaller by message (Err (ResponseError (Unmarshall error) (Decoded raw))) = unmarshaller.answers by message (Err error) × (raw ≡ message)
 Unmarshals unmarshaller by message _ = ⊥
 
--- what is answered of a first message by what the preprocessor answered for it, and what is kept: a message that doesn't begin the stream
+-- the answer of which a message is handed over, and which isn't want of memory; or the message, given back
+abbrev pub Hands : {U T E : Type 0} → UnmarshallMessage.Ghosts U T E → U → Parts → Result (Result (Received T) (ReceiveError E)) Parts → Type 0
+Hands unmarshaller by message (Ok answer) = Unmarshals unmarshaller by message answer × TellsWantOfMemory answer
+Hands unmarshaller by message (Err back) = back ≡ message
+
+-- what is answered of a first message by what the preprocessor answered for it
+abbrev pub TriesMessage : {M E : Type 0} → (Parts → Result (Parts × M) Error → Type 0) → InitialMessageType → Parts → Result (Tried M) (ReceiveError E) → Type 0
+TriesMessage answers kind message (Ok (tried.Initial first beside)) = answers message (Ok (first, beside)) × (is_initial kind first ≡ true)
+TriesMessage {M = M} answers kind message (Ok tried.Other) = (found : Parts × M) × answers message (Ok found) × (is_initial kind found.0 ≡ false)
+TriesMessage answers kind message (Err (ResponseError (Preprocessor error) (Invalid None))) = answers message (Err error)
+TriesMessage answers kind message result = ⊥
+
+-- a message is kept that doesn't begin the stream
+abbrev pub kept_by : {M E : Type 0} → Parts → Result (Tried M) (ReceiveError E) → Option Parts
+kept_by message (Ok tried.Other) = Some message
+kept_by message result = None
+
+-- what is answered of a first message, and what is kept
 abbrev pub Tries : {M E : Type 0} → (Parts → Result (Parts × M) Error → Type 0) → InitialMessageType → Parts → Option Parts → Result (Tried M) (ReceiveError E) → Type 0
-Tries answers kind message kept (Ok (tried.Initial first beside)) = answers message (Ok (first, beside)) × (is_initial kind first ≡ true) × (kept ≡ None)
-Tries {M = M} answers kind message kept (Ok tried.Other) = (found : Parts × M) × answers message (Ok found) × (is_initial kind found.0 ≡ false) × (kept ≡ Some message)
-Tries answers kind message kept (Err (ResponseError (Preprocessor error) (Invalid None))) = answers message (Err error) × (kept ≡ None)
-Tries answers kind message kept result = ⊥
+Tries answers kind message kept result = TriesMessage answers kind message result × (kept ≡ kept_by message result)
 
 -- ## A receiver
 
@@ -230,11 +249,6 @@ module _ {F U : Type 0} where
   TriesFirst source answers kind None true old new result = (result ≡ Ok tried.End) × (new ≡ old)
   TriesFirst source answers kind None false old new result =
       Reads source (tried_stop result) (λ message. Tries answers kind message (kept_message new) result) old new × KeepsNone (tried_stop result) new
-
--- a fault that is answered isn't want of memory
-abbrev pub TellsWantOfMemory : {A E : Type 0} → Result A (ReceiveError E) → Type 0
-TellsWantOfMemory (Err (ResponseError refusal raw)) = is_want refusal ≡ false
-TellsWantOfMemory result = Unit {0}
 
 -- a message is at the front of the bytes, or there is none for this reason, of which want of memory is told as such
 abbrev pub FindsFront : List ℕ → Result Front Stop → Type 0

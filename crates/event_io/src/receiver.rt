@@ -2,14 +2,16 @@ ghost use Rattle.std.specs.Prelude.{◌≡◌, ℕ, ◌^◌, ◌<◌, ◌≤◌,
 ghost use Rattle.smithy_core.specs.Message.{Parts};
 ghost use Rattle.smithy_core.specs.declared.outside.frame_part.FramePart.TheVariants.{Data};
 ghost use Rattle.event_io.specs.Frames.{one_if_idle};
-ghost use Rattle.event_io.specs.Receiver.{IsNew, LacksFrame, PullsFront, PullsOne, taken_bytes};
+ghost use Rattle.event_io.specs.Receiver.{Cuts, Hands, IsNew, LacksFrame, PullsFront, PullsOne, Reads, Receives, ReceivesKept, TellsWantOfMemory, Unmarshals, frames_of, is_terminated, kept_message, recv_stop, rest_of, taken_bytes, terminates, unmarshaller_of};
 ghost use Rattle.event_io.specs.Stop.{IsEnd};
 
 use bytes::Bytes;
+use crate::received::Received;
+use crate::response_fault::{ReceiveError, ResponseFault, is_want};
 use crate::stop::{Front, Stop};
-use eventstream::{UnmarshallMessage, peek_message};
+use eventstream::{UnmarshallMessage, UnmarshalledMessage, peek_message};
 use seg_buf::SegBuf;
-use smithy_core::{FrameSource, Message, Polled};
+use smithy_core::{FrameSource, Message, Polled, RawMessage, SdkError};
 use std::alloc::Global;
 
 /// How many frames without data a call takes at most.
@@ -46,6 +48,112 @@ impl<F, U> Receiver<F, U> {
 }
 
 impl<F: FrameSource, U: UnmarshallMessage> Receiver<F, U> {
+    /// The next event: that of the kept message, where one is kept, or else of the next message of the stream.
+    ///
+    /// # Errors
+    ///
+    /// [`SdkError::ServiceError`] with the error that the service sent, or [`SdkError::ResponseError`]: the unmarshaller
+    /// refused the message, the bytes are no frame, or the stream ended within a frame, after the bytes that are told. After
+    /// these each call answers the end. After [`SdkError::DispatchFailure`], where the source failed, and after
+    /// [`SdkError::NoMemory`] the next call goes on, and nothing is lost.
+    pub fn recv(
+        &mut self,
+    ) -> Result<Received<U::Output>, SdkError<U::Error, ResponseFault, RawMessage>>
+        ensures receives { Receives F.FrameSource U.UnmarshallMessage (kept_message self.old) (is_terminated self.old) self.old self.new result }
+        ensures any_cut { kept_message self.old ≡ None → Cuts (recv_stop result) (terminates result) (λ message. Unmarshals U.UnmarshallMessage (unmarshaller_of self.old) message result)
+            (rest_of F.FrameSource self.old) (rest_of F.FrameSource self.new) }
+        ensures terminated { is_terminated self.new ≡ (is_terminated self.old || terminates result) }
+        ensures unmarshaller { unmarshaller_of self.new ≡ unmarshaller_of self.old }
+        ensures waits { F.FrameSource.waits (frames_of self.old) ≤ F.FrameSource.waits (frames_of self.new) }
+        ensures faults { F.FrameSource.faults (frames_of self.old) ≤ F.FrameSource.faults (frames_of self.new) }
+        ensures want { TellsWantOfMemory result }
+    {
+        let answer = self.receive();
+        self.over |= is_last(&answer);
+        answer
+    }
+
+    // As `recv`, but the receiver isn't terminated: who calls does that.
+    fn receive(&mut self) -> Result<Received<U::Output>, ReceiveError<U::Error>>
+        ensures receives { Receives F.FrameSource U.UnmarshallMessage (kept_message self.old) (is_terminated self.old) self.old self.new result }
+        ensures open { is_terminated self.new ≡ is_terminated self.old }
+        ensures unmarshaller { unmarshaller_of self.new ≡ unmarshaller_of self.old }
+        ensures waits { F.FrameSource.waits (frames_of self.old) ≤ F.FrameSource.waits (frames_of self.new) }
+        ensures faults { F.FrameSource.faults (frames_of self.old) ≤ F.FrameSource.faults (frames_of self.new) }
+        ensures want { TellsWantOfMemory result }
+    {
+        match self.kept.take() {
+            Some(message) => self.receive_kept(message),
+            None if self.over => Ok(Received::End),
+            None => self.receive_next(),
+        }
+    }
+
+    // Hands the message that was kept to the unmarshaller. For want of memory it is kept again.
+    fn receive_kept(&mut self, message: Message) -> Result<Received<U::Output>, ReceiveError<U::Error>>
+        requires { kept_message self.old ≡ None }
+        ensures receives { ReceivesKept U.UnmarshallMessage message self.old self.new result }
+        ensures open { is_terminated self.new ≡ is_terminated self.old }
+        ensures unmarshaller { unmarshaller_of self.new ≡ unmarshaller_of self.old }
+        ensures want { TellsWantOfMemory result }
+    {
+        match self.hand(message) {
+            Ok(answer) => answer,
+            Err(message) => {
+                self.kept = Some(message);
+                Err(SdkError::NoMemory)
+            }
+        }
+    }
+
+    // Hands the next message of the stream to the unmarshaller. For want of memory it stays at the front of the buffer.
+    fn receive_next(&mut self) -> Result<Received<U::Output>, ReceiveError<U::Error>>
+        ensures reads { Reads F.FrameSource (recv_stop result) (λ message. Unmarshals U.UnmarshallMessage (unmarshaller_of self.old) message result) self.old self.new }
+        ensures kept { kept_message self.new ≡ kept_message self.old }
+        ensures open { is_terminated self.new ≡ is_terminated self.old }
+        ensures unmarshaller { unmarshaller_of self.new ≡ unmarshaller_of self.old }
+        ensures waits { F.FrameSource.waits (frames_of self.old) ≤ F.FrameSource.waits (frames_of self.new) }
+        ensures faults { F.FrameSource.faults (frames_of self.old) ≤ F.FrameSource.faults (frames_of self.new) }
+        ensures want { TellsWantOfMemory result }
+    {
+        let Front { message, len } = match self.find() {
+            Ok(front) => front,
+            Err(stop) => return stop.received(),
+        };
+        match self.hand(message) {
+            Ok(answer) => {
+                self.buffer.advance(len);
+                answer
+            }
+            Err(_) => Err(SdkError::NoMemory),
+        }
+    }
+
+    // Hands a message to the unmarshaller, or gives it back for want of memory.
+    fn hand(
+        &self,
+        message: Message,
+    ) -> Result<Result<Received<U::Output>, ReceiveError<U::Error>>, Message>
+        ensures { Hands U.UnmarshallMessage (unmarshaller_of self.now) message result }
+    {
+        match self.unmarshaller.unmarshall(&message) {
+            Ok(UnmarshalledMessage::Event(event)) => Ok(Ok(Received::Event(event))),
+            Ok(UnmarshalledMessage::Error(source)) => Ok(Err(SdkError::ServiceError {
+                source,
+                raw: RawMessage::Decoded(message),
+            })),
+            Err(error) => {
+                if is_want(&error) {
+                    return Err(message);
+                }
+                Ok(Err(SdkError::ResponseError {
+                    source: ResponseFault::Unmarshall(error),
+                    raw: RawMessage::Decoded(message),
+                }))
+            }
+        }
+    }
+
     // Takes a frame of the source, once there is room for it, and tells how many frames without data it took: one or none.
     fn pull(&mut self) -> Result<u32, Stop>
         requires { length (taken_bytes self.old) < 2 ^ 32 }
@@ -92,6 +200,17 @@ impl<F: FrameSource, U: UnmarshallMessage> Receiver<F, U> {
             }
         }
         Err(Stop::OutOfTurns)
+    }
+}
+
+// Whether nothing more is read after this answer.
+fn is_last<A, E>(answer: &Result<A, ReceiveError<E>>) -> bool
+    ensures { result ≡ terminates answer.now }
+{
+    match answer {
+        Err(SdkError::ServiceError { .. }) => true,
+        Err(SdkError::ResponseError { source, .. }) => !matches!(source, ResponseFault::Preprocessor(_)),
+        _ => false,
     }
 }
 
