@@ -1,10 +1,12 @@
 pub mod AgainLemmas
 pub mod CanonicalLemmas
 pub mod CopyLemmas
+pub mod DigestLemmas
 pub mod FitLemmas
 pub mod HeaderLemmas
 pub mod InsertedLemmas
 pub mod JoinLemmas
+pub mod KeyLemmas
 pub mod NameLemmas
 pub mod ParameterLemmas
 pub mod PathLemmas

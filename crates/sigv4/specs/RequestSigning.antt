@@ -1,11 +1,12 @@
 -- What signing a request promises.
-use Rattle.std.specs.Prelude.{◌≡◌, ◌⊎◌, [], if◌then◌else◌, Option, Some, None, Result, Ok, Err, String, string_bytes}
+use Rattle.std.specs.Prelude.{◌≡◌, ◌⊎◌, ℕ, List, [], if◌then◌else◌, Option, Some, None, Result, Ok, Err, String, string_bytes}
 use Rattle.std.specs.declared.alloc.Global.{Global}
 use Rattle.smithy_core.specs.Civil.{stamp}
 use Rattle.smithy_core.specs.TextPairs.{text_pairs}
 use Rattle.smithy_core.specs.declared.identity.Identity.{Identity}
 use Rattle.eventstream.specs.Key.{scope}
 use Rattle.sigv4.specs.Canonical.{canonical, credential, joined_names, names, signing_parameters}
+use Rattle.sigv4.specs.EventStream.{IsKeyOf}
 use Rattle.sigv4.specs.Output.{output_signature, signed_output}
 use Rattle.sigv4.specs.Refusal.{request_refusal, unfit}
 use Rattle.sigv4.specs.Request.{Case}
@@ -15,7 +16,13 @@ use Rattle.sigv4.specs.declared.error.SigningError.{SigningError}
 use Rattle.sigv4.specs.declared.error.SigningError.TheVariants.{NoMemory}
 use Rattle.sigv4.specs.declared.instructions.SigningInstructions.{SigningInstructions}
 use Rattle.sigv4.specs.declared.output.SigningOutput.{SigningOutput}
+use Rattle.sigv4.specs.declared.signing_params.SigningParams.{SigningParams}
+use Rattle.sigv4.specs.declared.signing_params.SigningParams.TheVariants.{V4}
 use Rattle.sigv4.specs.declared.signing_texts.SigningTexts.{SigningTexts}
+
+-- the key is the signing key of the parameters wherever their identity signs at their moment, and elsewhere any
+abbrev pub IsRequestKey : SigningParams → List ℕ → Type 0
+IsRequestKey (V4 params) key = IsKeyOf params key
 
 -- with no refusal the text is the canonical one; with one it is the refusal, or want of memory
 abbrev pub TellsCanonical : Identity → Case → Result (String Global) SigningError → Type 0

@@ -1,27 +1,27 @@
 //! Signed messages of an event stream: each is signed over the signature before it.
 
-ghost use Rattle.std.specs.Prelude.{◌≡◌, [], ◌∷◌, codes, IfOk};
-ghost use Rattle.std.specs.String.{string_bytes};
+ghost use Rattle.std.specs.Prelude.{◌≡◌, ◌⊎◌, [], ◌∷◌, codes, IfOk, None, Some, MatchResult, option_map};
 ghost use Rattle.sha2.specs.Sha256.{sha256};
 ghost use Rattle.hex.specs.Hex.{encode_lower};
 ghost use Rattle.smithy_core.specs.Civil.{IsInYears};
 ghost use Rattle.smithy_core.specs.Moment.{floor_secs};
-ghost use Rattle.eventstream.specs.Frame.{frame, spelling};
+ghost use Rattle.eventstream.specs.Frame.{frame, spelling, unframed};
 ghost use Rattle.eventstream.specs.Link.{date_header, string_to_sign};
 ghost use Rattle.sigv4.specs.Output.{output_signature, signed_output};
 ghost use Rattle.sigv4.specs.Params.{signer_of, v4_identity, v4_time};
-ghost use Rattle.sigv4.specs.EventStream.{Links, message_refusal, unsignable};
+ghost use Rattle.sigv4.specs.EventStream.{IsKeyOf, Links, failed_encoding, message_refusal, unsignable};
 
 use crate::credentials::credentials_of;
+use crate::digest::sha256_digits;
 use crate::error::SigningError;
+use crate::key::signing_key_of;
 use crate::output::SigningOutput;
 use crate::signature::begun_string_to_sign;
-use crate::signing_scope::SigningScope;
 use crate::signing_time::SigningTime;
 use bytes::Bytes;
 use eventstream::{ErrorKind, write_headers_to, write_message_to};
-use mac_core::{hmac_sha256, sha256_hex};
-use smithy_core::{Header, HeaderValue, Mem, Message, Moment, StrBytes, push_text_line};
+use mac_core::hmac_sha256;
+use smithy_core::{Header, HeaderValue, Mem, Message, Moment, StrBytes, push_line};
 use std::alloc::{AllocError, Global};
 
 /// The parameters of a signed message, which have no settings.
@@ -56,9 +56,32 @@ pub fn sign_message(
     ensures { Links (message_refusal message.now (v4_identity params.now) (v4_time params.now))
         params.now last_signature.now (frame message.now) result }
 {
-    let mut bytes = Vec::new(alloc);
-    write_message_to(alloc, message, &mut bytes)?;
-    sign_bytes(alloc, bytes, last_signature, params)
+    let bytes = framed(alloc, message)?;
+    let key = signing_key_of(params)?;
+    sign_bytes_with_key(alloc, bytes, last_signature, params, &key)
+}
+
+/// Signs a message as [`sign_message`] does, under a signing key that is at hand.
+///
+/// Where the identity is credentials and the moment lies in the years 0 to 9999, the key has to be the signing key of the
+/// parameters; elsewhere it may be any. A key holds for the day, and to derive it takes 16 blocks of SHA-256: as many as 1,024
+/// bytes do.
+///
+/// # Errors
+///
+/// Those of [`sign_message`].
+pub fn sign_message_with_key(
+    alloc: Global,
+    message: &Message,
+    last_signature: &str,
+    params: &SigningParams<'_>,
+    key: &[u8; 32],
+) -> Result<SigningOutput<Message>, SigningError>
+    requires { IsKeyOf params.now key.now }
+    ensures { Links (message_refusal message.now (v4_identity params.now) (v4_time params.now))
+        params.now last_signature.now (frame message.now) result }
+{
+    sign_bytes_with_key(alloc, framed(alloc, message)?, last_signature, params, key)
 }
 
 /// Signs no bytes over the signature before them: the message that ends a stream, and the new signature.
@@ -75,28 +98,78 @@ pub fn sign_empty_message(
     ensures { Links (unsignable (v4_identity params.now) (v4_time params.now))
         params.now last_signature.now [] result }
 {
-    sign_bytes(alloc, Vec::new(alloc), last_signature, params)
+    let key = signing_key_of(params)?;
+    sign_bytes_with_key(alloc, Vec::new(alloc), last_signature, params, &key)
 }
 
-#[tactic(auto, unfolding(eventstream::specs::Link::link_message, eventstream::specs::Link::link_signature, eventstream::specs::Link::link_code))]
-fn sign_bytes(
+/// Signs no bytes as [`sign_empty_message`] does, under a signing key that is at hand.
+///
+/// Where the identity is credentials and the moment lies in the years 0 to 9999, the key has to be the signing key of the
+/// parameters; elsewhere it may be any.
+///
+/// # Errors
+///
+/// Those of [`sign_empty_message`].
+pub fn sign_empty_message_with_key(
+    alloc: Global,
+    last_signature: &str,
+    params: &SigningParams<'_>,
+    key: &[u8; 32],
+) -> Result<SigningOutput<Message>, SigningError>
+    requires { IsKeyOf params.now key.now }
+    ensures { Links (unsignable (v4_identity params.now) (v4_time params.now))
+        params.now last_signature.now [] result }
+{
+    sign_bytes_with_key(alloc, Vec::new(alloc), last_signature, params, key)
+}
+
+/// Signs the bytes of a frame over the signature before them, under a signing key that is at hand: a message with these bytes
+/// as its payload, and the new signature. This crate's own.
+///
+/// So signs one who needs to know that there is a frame before a key is derived. The condition on the key is that of
+/// [`sign_message_with_key`].
+///
+/// # Errors
+///
+/// Those of [`sign_empty_message`].
+pub fn sign_bytes_with_key(
     alloc: Global,
     bytes: Vec<u8>,
     last_signature: &str,
     params: &SigningParams<'_>,
+    key: &[u8; 32],
 ) -> Result<SigningOutput<Message>, SigningError>
+    requires { IsKeyOf params.now key.now }
     ensures { Links (unsignable (v4_identity params.now) (v4_time params.now))
         params.now last_signature.now bytes.items result }
 {
-    let credentials = credentials_of(params.identity())?;
-    let time = SigningTime::new(whole_second(params.time())).ok_or(SigningError::MomentOutOfRange(
-        params.time(),
-    ))?;
-    let secret = credentials.secret_access_key();
-    let key = time.signing_key(secret, params.region(), params.name());
+    let time = signing_second(params)?;
     let text = string_to_sign(alloc, bytes.as_slice(), last_signature, params, &time)?;
-    let code = hmac_sha256(key.as_slice(), text.as_bytes());
+    let code = hmac_sha256(key.as_slice(), text.as_slice());
     Ok(link(alloc, bytes, params.time(), code.as_slice())?)
+}
+
+// The frame of a message.
+fn framed(alloc: Global, message: &Message) -> Result<Vec<u8>, SigningError>
+    ensures { MatchResult result
+        (λ bytes. (unframed message.now ≡ None) × (bytes.items ≡ frame message.now))
+        (λ error. (option_map failed_encoding (unframed message.now) ≡ Some error) ⊎ (error ≡ SigningError.NoMemory)) }
+{
+    let mut bytes = Vec::new(alloc);
+    write_message_to(alloc, message, &mut bytes)?;
+    Ok(bytes)
+}
+
+// The whole second of the parameters, or why their identity doesn't sign at their moment.
+fn signing_second(params: &SigningParams<'_>) -> Result<SigningTime, SigningError>
+    ensures { MatchResult result
+        (λ time. (unsignable (v4_identity params.now) (v4_time params.now) ≡ None) × IsInYears (v4_time params.now) × (time ≡ floor_secs (v4_time params.now)))
+        (λ error. unsignable (v4_identity params.now) (v4_time params.now) ≡ Some error) }
+{
+    let _credentials = credentials_of(params.identity())?;
+    SigningTime::new(whole_second(params.time())).ok_or(SigningError::MomentOutOfRange(
+        params.time(),
+    ))
 }
 
 // The moment without its nanoseconds.
@@ -130,31 +203,33 @@ fn string_to_sign(
     last_signature: &str,
     params: &SigningParams<'_>,
     time: &SigningTime,
-) -> Mem<String>
+) -> Mem<Vec<u8>>
     requires in_years { IsInYears (v4_time params.now) }
     requires time { time.now ≡ floor_secs (v4_time params.now) }
-    ensures { IfOk result (λ text. string_bytes text ≡ string_to_sign (signer_of params.now) last_signature.now bytes.now time.now) }
+    ensures { IfOk result (λ text. text.items ≡ string_to_sign (signer_of params.now) last_signature.now bytes.now time.now) }
 {
-    let scope = SigningScope::new(alloc, time, params.region(), params.name())?;
+    let stamp = time.stamp();
+    let scope = time.scope_bytes(alloc, params.region(), params.name())?;
     let date_digest = date_digest(alloc, params.time())?;
-    let digest = sha256_hex(alloc, bytes)?;
-    let mut text = begun_string_to_sign(alloc, "AWS4-HMAC-SHA256-PAYLOAD", &scope)?;
-    push_text_line(&mut text, last_signature)?;
-    push_text_line(&mut text, date_digest.as_str())?;
-    text.push_str(digest.as_str())?;
+    let digest = sha256_digits(bytes);
+    let algorithm = b"AWS4-HMAC-SHA256-PAYLOAD";
+    let mut text = begun_string_to_sign(alloc, algorithm, stamp.as_slice(), scope.as_slice())?;
+    push_line(&mut text, last_signature.as_bytes())?;
+    push_line(&mut text, date_digest.as_slice())?;
+    text.extend_from_slice(digest.as_slice())?;
     Ok(text)
 }
 
 // The digest of the spelling of the header with a moment.
 #[tactic(auto, using(eventstream::proofs::LinkLemmas::date_spelled))]
-fn date_digest(alloc: Global, time: Moment) -> Mem<String>
+fn date_digest(alloc: Global, time: Moment) -> Mem<[u8; 64]>
     requires { IsInYears time }
-    ensures { IfOk result (λ text. string_bytes text ≡ encode_lower (sha256 (spelling (date_header (floor_secs time))))) }
+    ensures { IfOk result (λ digits. digits ≡ encode_lower (sha256 (spelling (date_header (floor_secs time))))) }
 {
     let headers = [date_header(time)];
     let mut spelled = Vec::with_capacity(alloc, 15)?;
     match write_headers_to(alloc, headers.as_slice(), &mut spelled) {
-        Ok(()) => sha256_hex(alloc, spelled.as_slice()),
+        Ok(()) => Ok(sha256_digits(spelled.as_slice())),
         Err(error) => match error.kind() {
             ErrorKind::NoMemory => Err(AllocError),
             _ => unreachable!(),

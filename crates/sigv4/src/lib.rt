@@ -9,8 +9,9 @@
 //! region and a name, and takes no memory, and that [`v4::request_signature`] is the signature of a
 //! canonical text (`specs/Signature.antt`). It is promised that [`event_stream::sign_message`] and
 //! [`event_stream::sign_empty_message`] answer the next link of a chain, or exactly the first reason why
-//! there is none (`specs/EventStream.antt`), and that a builder gives back its parts or names the first that
-//! is missing (`specs/Params.antt`).
+//! there is none (`specs/EventStream.antt`). A key that is at hand needn't be derived anew: [`sign_with_key`],
+//! [`event_stream::sign_message_with_key`] and [`event_stream::sign_empty_message_with_key`] answer the same under it.
+//! A builder gives back its parts or names the first that is missing (`specs/Params.antt`).
 #![tactic(auto)]
 
 mod body;
@@ -18,6 +19,7 @@ mod canonical;
 mod canonical_headers;
 mod canonical_query;
 mod credentials;
+mod digest;
 mod error;
 pub mod event_stream;
 mod grammar;
@@ -57,7 +59,7 @@ pub use crate::modes::{PercentEncodingMode, UriPathNormalizationMode};
 pub use crate::output::SigningOutput;
 pub use crate::path::normalize_uri_path;
 pub use crate::request::SignableRequest;
-pub use crate::request_signing::{canonical_text, sign, sign_request};
+pub use crate::request_signing::{canonical_text, sign, sign_request, sign_with_key};
 pub use crate::settings::{
     PayloadChecksumKind, SessionTokenMode, SignatureLocation, SigningSettings,
 };

@@ -1,22 +1,24 @@
-ghost use Rattle.std.specs.Prelude.{◌≡◌, true, false, MatchResult};
-ghost use Rattle.smithy_core.specs.Civil.{is_in_years};
-ghost use Rattle.sigv4.specs.Params.{v4_identity, v4_time};
+ghost use Rattle.std.specs.Prelude.{◌≡◌};
+ghost use Rattle.eventstream.specs.Key.{signing_key};
+ghost use Rattle.sigv4.specs.EventStream.{IsKeyOf};
+ghost use Rattle.sigv4.specs.Params.{signer_of, v4_identity, v4_time};
 ghost use Rattle.sigv4.specs.Refusal.{unfit};
 ghost use Rattle.sigv4.specs.Request.{HasKeys, identity_of, request_case, v4_request_case};
-ghost use Rattle.sigv4.specs.RequestSigning.{Signs, SignsCase, TellsCanonical};
+ghost use Rattle.sigv4.specs.RequestSigning.{IsRequestKey, Signs, SignsCase, TellsCanonical};
 
 use crate::credentials::credentials_of;
 use crate::error::SigningError;
 use crate::instructions::SigningInstructions;
+use crate::key::signing_key_of;
 use crate::output::SigningOutput;
 use crate::request::SignableRequest;
 use crate::settings::SigningSettings;
 use crate::signed::instructions;
 use crate::signing_params::SigningParams;
 use crate::signing_texts::SigningTexts;
-use crate::signing_time::SigningTime;
+use crate::signing_time::{SigningTime, signing_time};
 use crate::v4;
-use smithy_core::{Credentials, Moment};
+use smithy_core::Credentials;
 use std::alloc::Global;
 
 /// Signs a request: what the signature adds to it, and the signature.
@@ -51,6 +53,39 @@ pub fn sign(
     sign_request(alloc, &request, params)
 }
 
+/// Signs a request as [`sign`] does, under a signing key that is at hand. This crate's own.
+///
+/// Where the identity is credentials and the moment lies in the years 0 to 9999, the key has to be the signing key of the
+/// parameters; elsewhere it may be any. A key holds for the day, so one who signs thousands of requests for others, as a proxy
+/// does, derives it once:
+///
+/// ```rust
+/// let params = v4::SigningParams::new(&identity, "us-east-1", "service", at, settings);
+/// let key = v4::signing_key_of(&params)?;
+/// let params = SigningParams::V4(params);
+/// for request in &mut requests {
+///     let signable = SignableRequest::from_http_request(alloc, request)?;
+///     let (instructions, _) = sign_with_key(alloc, signable, &params, &key)?.into_parts();
+///     instructions.apply_to_request(request)?;
+/// }
+/// ```
+///
+/// # Errors
+///
+/// Those of [`sign`].
+pub fn sign_with_key(
+    alloc: Global,
+    request: SignableRequest<'_>,
+    params: &SigningParams<'_>,
+    key: &[u8; 32],
+) -> Result<SigningOutput<SigningInstructions>, SigningError>
+    requires { IsRequestKey params.now key.now }
+    ensures { SignsCase (identity_of params.now) (request_case request.entry params.now) result }
+{
+    let SigningParams::V4(params) = params;
+    sign_v4(alloc, &request, params, key)
+}
+
 /// Signs a request as [`sign`] does, and leaves it to its caller. This crate's own.
 ///
 /// With it a target is read once where the request itself is to be signed:
@@ -74,9 +109,23 @@ pub fn sign_request(
     ensures { SignsCase (identity_of params.now) (request_case request.now params.now) result }
 {
     let SigningParams::V4(params) = params;
+    let key = signing_key_of(params)?;
+    sign_v4(alloc, request, params, &key)
+}
+
+// The signed request under the signing key of the parameters.
+fn sign_v4(
+    alloc: Global,
+    request: &SignableRequest<'_>,
+    params: &v4::SigningParams<'_, SigningSettings>,
+    key: &[u8; 32],
+) -> Result<SigningOutput<SigningInstructions>, SigningError>
+    requires { IsKeyOf params.now key.now }
+    ensures { SignsCase (v4_identity params.now) (v4_request_case request.now params.now) result }
+{
     let credentials = credentials_of(params.identity())?;
     let time = signing_time(params.time())?;
-    sign_at(alloc, request, params, credentials, &time)
+    sign_at(alloc, request, params, credentials, &time, key)
 }
 
 // The signed request of the credentials at the moment of the parameters.
@@ -86,24 +135,18 @@ fn sign_at(
     params: &v4::SigningParams<'_, SigningSettings>,
     credentials: &Credentials,
     time: &SigningTime,
+    key: &[u8; 32],
 ) -> Result<SigningOutput<SigningInstructions>, SigningError>
     requires time { time.now ≡ v4_time params.now }
     requires keys { HasKeys (v4_identity params.now) credentials.now }
+    requires key { key.now ≡ signing_key (signer_of params.now) (v4_time params.now) }
     ensures { Signs (unfit (v4_request_case request.now params.now)) (v4_request_case request.now params.now) result }
 {
     let texts = SigningTexts::new(alloc, request, params, credentials, time)?;
-    let secret = credentials.secret_access_key();
-    let key = time.signing_key(secret, params.region(), params.name());
     let signature = texts.signature(alloc, key.as_slice())?;
     let token = credentials.session_token();
     let instructions = instructions(alloc, params.settings(), token, texts, signature.as_str())?;
     Ok(SigningOutput::new(instructions, signature))
-}
-
-fn signing_time(time: Moment) -> Result<SigningTime, SigningError>
-    ensures { MatchResult result (λ at. (at ≡ time) × (is_in_years time ≡ true)) (λ error. (error ≡ SigningError.MomentOutOfRange time) × (is_in_years time ≡ false)) }
-{
-    SigningTime::new(time).ok_or(SigningError::MomentOutOfRange(time))
 }
 
 /// The canonical text of a request.

@@ -6,10 +6,11 @@ ghost use Rattle.smithy_core.specs.Civil.{IsInYears};
 ghost use Rattle.smithy_core.specs.Text.{line};
 ghost use Rattle.sigv4.specs.Signature.{signature, string_to_sign_of};
 
+use crate::digest::sha256_digits;
 use crate::signing_scope::SigningScope;
 use crate::signing_time::SigningTime;
-use mac_core::{hmac_sha256, sha256_hex};
-use smithy_core::{Mem, Moment, push_text_line};
+use mac_core::hmac_sha256;
+use smithy_core::{Mem, Moment, push_line};
 use std::alloc::Global;
 
 /// The signature of a string to sign: its code under the signing key, in lower-case hexadecimal.
@@ -52,24 +53,24 @@ pub(crate) fn signature_under(
     ensures { IfOk result (λ text. string_bytes text
         ≡ encode_lower (mac signing_key.now (string_to_sign_of (string_bytes scope.now.stamp) (string_bytes scope.now.scope) canonical_text.now))) }
 {
-    let digest = sha256_hex(alloc, canonical_text)?;
-    let mut text = begun_string_to_sign(alloc, "AWS4-HMAC-SHA256", scope)?;
-    text.push_str(digest.as_str())?;
-    calculate_signature(alloc, signing_key, text.as_bytes())
+    let (stamp, place) = (scope.stamp.as_bytes(), scope.scope.as_bytes());
+    let mut text = begun_string_to_sign(alloc, b"AWS4-HMAC-SHA256", stamp, place)?;
+    text.extend_from_slice(sha256_digits(canonical_text).as_slice())?;
+    calculate_signature(alloc, signing_key, text.as_slice())
 }
 
-/// The lines with which each string to sign begins: the algorithm, the stamp and the scope.
+/// The lines with which each string to sign begins: the algorithm, the stamp and the scope. There is room for the others.
 pub(crate) fn begun_string_to_sign(
     alloc: Global,
-    algorithm: &str,
-    scope: &SigningScope,
-) -> Mem<String>
-    ensures { IfOk result (λ text. string_bytes text
-        ≡ line algorithm.now ++ line (string_bytes scope.now.stamp) ++ line (string_bytes scope.now.scope)) }
+    algorithm: &[u8],
+    stamp: &[u8],
+    scope: &[u8],
+) -> Mem<Vec<u8>>
+    ensures { IfOk result (λ text. text.items ≡ line algorithm.now ++ line stamp.now ++ line scope.now) }
 {
-    let mut text = String::with_capacity(alloc, 320)?;
-    push_text_line(&mut text, algorithm)?;
-    push_text_line(&mut text, scope.stamp.as_str())?;
-    push_text_line(&mut text, scope.scope.as_str())?;
+    let mut text = Vec::with_capacity(alloc, 320)?;
+    push_line(&mut text, algorithm)?;
+    push_line(&mut text, stamp)?;
+    push_line(&mut text, scope)?;
     Ok(text)
 }

@@ -27,7 +27,7 @@ impl SigningScope {
         ensures scope { IfOk result (λ texts. string_bytes texts.scope ≡ scope time.now region.now name.now) }
     {
         Ok(SigningScope {
-            stamp: time.stamp(alloc)?,
+            stamp: time.stamp_text(alloc)?,
             scope: time.scope(alloc, region, name)?,
         })
     }

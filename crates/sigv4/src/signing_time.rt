@@ -1,7 +1,8 @@
-ghost use Rattle.std.specs.Prelude.{◌≡◌, IfOk, MatchOption, string_bytes};
-ghost use Rattle.smithy_core.specs.Civil.{IsInYears, stamp};
+ghost use Rattle.std.specs.Prelude.{◌≡◌, true, false, IfOk, MatchOption, MatchResult, string_bytes};
+ghost use Rattle.smithy_core.specs.Civil.{IsInYears, is_in_years, stamp};
 ghost use Rattle.eventstream.specs.Key.{scope, signing_key};
 
+use crate::error::SigningError;
 use mac_core::{HmacSha256, hmac_sha256};
 use smithy_core::{Civil, Mem, Moment, civil};
 use std::alloc::Global;
@@ -39,7 +40,15 @@ impl SigningTime {
 
     /// `YYYYMMDDTHHMMSSZ`.
     #[tactic(auto, unfolding(smithy_core::specs::Civil::stamp))]
-    pub(crate) fn stamp(&self, alloc: Global) -> Mem<String>
+    pub(crate) fn stamp(&self) -> [u8; 16]
+        ensures { result ≡ stamp self.now }
+    {
+        self.civil.stamp()
+    }
+
+    /// `YYYYMMDDTHHMMSSZ`, as a string.
+    #[tactic(auto, unfolding(smithy_core::specs::Civil::stamp))]
+    pub(crate) fn stamp_text(&self, alloc: Global) -> Mem<String>
         ensures { IfOk result (λ text. string_bytes text ≡ stamp self.now) }
     {
         self.civil.stamp_text(alloc)
@@ -53,8 +62,9 @@ impl SigningTime {
         Ok(String::from_utf8(scope).unwrap())
     }
 
+    /// The date, the region, the name and `aws4_request`, with slashes between them, as bytes.
     #[tactic(auto, unfolding(smithy_core::specs::Civil::date, eventstream::specs::Key::scope))]
-    fn scope_bytes(&self, alloc: Global, region: &str, name: &str) -> Mem<Vec<u8>>
+    pub(crate) fn scope_bytes(&self, alloc: Global, region: &str, name: &str) -> Mem<Vec<u8>>
         ensures { IfOk result (λ text. text.items ≡ scope self.now region.now name.now) }
     {
         let date = self.civil.date();
@@ -81,4 +91,11 @@ impl SigningTime {
         let service_key = hmac_sha256(region_key.as_slice(), name.as_bytes());
         hmac_sha256(service_key.as_slice(), b"aws4_request")
     }
+}
+
+/// The moment with its date and its time of day, or its refusal.
+pub(crate) fn signing_time(time: Moment) -> Result<SigningTime, SigningError>
+    ensures { MatchResult result (λ at. (at ≡ time) × (is_in_years time ≡ true)) (λ error. (error ≡ SigningError.MomentOutOfRange time) × (is_in_years time ≡ false)) }
+{
+    SigningTime::new(time).ok_or(SigningError::MomentOutOfRange(time))
 }

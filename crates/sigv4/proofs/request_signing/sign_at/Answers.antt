@@ -2,7 +2,6 @@ use Rattle.std.proofs.Common.{◌++◌, [], ◌∷◌, ap, ◌∙◌}
 use Rattle.std.specs.Prelude.{codes, if◌then◌else◌}
 use Rattle.hex.specs.Hex.{encode_lower}
 use Rattle.mac_core.specs.Mac.{mac}
-use Rattle.eventstream.specs.Key.{signing_key}
 use Rattle.sigv4.specs.Canonical.{signing_parameters, told_payload, token_pairs, token_parameter}
 use Rattle.sigv4.specs.Request.{v4_request_case}
 use Rattle.sigv4.specs.Settings.{is_query_form, settings_of}
@@ -19,9 +18,7 @@ returns c =
     let given = c.settings.ensures in
     let settings = ap settings_of given in
     let token = c.session_token-token.ensures ∙ c.requires.keys.token in
-    let secret = c.secret_access_key-secret.ensures ∙ c.requires.keys.secret in
-    let key = c.as_slice.ensures ∙ c.signing_key-key.ensures
-    ∙ (λ i. signing_key (record { secret = secret i; region = c.region.ensures i; name = c.name.ensures i }) (c.requires.time i)) in
+    let key = c.as_slice.ensures ∙ c.requires.key in
     let made = c.in_ok-signature.ensures ∙ (λ i. encode_lower (mac (key i) (string_to_sign_of (texts.stamp i) (texts.scope i) (texts.canonical i)))) in
     let signature_text = c.as_str.ensures.value ∙ made in
     let set = settings_of c.args.params.now.settings in
