@@ -1,3 +1,4 @@
 mod InputsLemmas
+mod KeptKeyLemmas
 pub mod MessageSignerLemmas
 mod SignerLemmas

@@ -1,6 +1,7 @@
 pub mod Endpoint
 pub mod Error
 pub mod Inputs
+pub mod KeptKey
 pub mod MessageSigner
 pub mod Moment
 pub mod NameOverride

@@ -1,6 +1,6 @@
 -- What contracts see of the signers that go on from a signature.
-use Rattle.std.specs.Prelude.{◌≡◌, ℕ, ◌⊎◌, List, [], Option, Some, None, Result, Ok, Err, option_map, String, string_bytes}
-use Rattle.std.specs.Option.{option_or}
+use Rattle.std.specs.Prelude.{◌≡◌, ℕ, ◌⊎◌, List, [], Option, Some, None, Result, Ok, Err, option_map, unwrap_or, String, string_bytes}
+use Rattle.std.specs.Option.{option_map_or, option_or}
 use Rattle.std.specs.declared.alloc.Global.{Global}
 use Rattle.smithy_core.specs.Identity.{IsSameIdentity}
 use Rattle.smithy_core.specs.Message.{Parts}
@@ -8,29 +8,59 @@ use Rattle.smithy_core.specs.Moment.{Instant}
 use Rattle.smithy_core.specs.declared.identity.Identity.{Identity}
 use Rattle.smithy_core.specs.declared.identity.Identity.TheVariants.{Credentials, Token}
 use Rattle.eventstream.specs.Frame.{frame, unframed}
-use Rattle.eventstream.specs.Key.{Signer}
+use Rattle.eventstream.specs.Key.{Signer, signing_key}
 use Rattle.eventstream.specs.Link.{link_message, link_signature}
 use Rattle.eventstream.specs.Told.{Told, sealed, untold, encoding_refusal, unsigned_at}
 use Rattle.eventstream.specs.declared.sign_error.SignMessageError.{SignMessageError}
 use Rattle.eventstream.specs.declared.sign_error.SignMessageError.TheVariants as refusals
 use Rattle.sigv4.specs.Params.{secret_of}
-use Rattle.sigv4.specs.declared.error.SigningError.{SigningError}
-use Rattle.sigv4.specs.declared.error.SigningError.TheVariants.{FailedToEncodeMessage, MomentOutOfRange, NoMemory, UnsupportedIdentityType}
-use Rattle.sigv4.specs.declared.output.SigningOutput.{SigningOutput}
-use Rattle.aws_auth.specs.declared.message_signer.SigV4MessageSigner.{SigV4MessageSigner}
+use Rattle.aws_auth.specs.KeptKey.{Kept, kept_at, no_key}
 
--- a signer of these parts
-abbrev pub signer_from : {S : Type 0} → String Global → Identity → List ℕ → List ℕ → Instant → S → SigV4MessageSigner S
-signer_from signature identity region name time settings =
-    record { running_signature = signature; identity = identity; region = region; name = name; time = time; settings = settings }
+-- what a signer signs for, which stays
+pub record SignerParts (S : Type 0) : Type 0 where
+  pub identity : Identity
+  pub region : List ℕ
+  pub name : List ℕ
+  pub time : Instant
+  pub settings : S
+
+-- a signer: the last signature, what it signs for, and the key that it keeps, if any
+pub record SignerState (S : Type 0) : Type 0 where
+  pub running_signature : List ℕ
+  pub parts : SignerParts S
+  pub kept : Option Kept
+
+-- a signer of these parts, which keeps no key yet
+abbrev pub signer_from : {S : Type 0} → String Global → Identity → List ℕ → List ℕ → Instant → S → SignerState S
+signer_from signature identity region name time settings = record {
+  running_signature = string_bytes signature;
+  parts = record { identity = identity; region = region; name = name; time = time; settings = settings };
+  kept = None;
+}
 
 -- the last signature
-abbrev pub running_signature : {S : Type 0} → SigV4MessageSigner S → List ℕ
-running_signature signer = string_bytes signer.running_signature
+abbrev pub running_signature : {S : Type 0} → SignerState S → List ℕ
+running_signature signer = signer.running_signature
 
 -- who signs, and for which region and service
-abbrev pub signer_in : {S : Type 0} → SigV4MessageSigner S → Signer
-signer_in signer = record { secret = secret_of signer.identity; region = signer.region; name = signer.name }
+abbrev pub signer_for : Identity → List ℕ → List ℕ → Signer
+signer_for identity region name = record { secret = secret_of identity; region = region; name = name }
+
+abbrev pub signer_in : {S : Type 0} → SignerState S → Signer
+signer_in signer = signer_for signer.parts.identity signer.parts.region signer.parts.name
+
+-- how many keys were derived
+abbrev pub derivations : {S : Type 0} → SignerState S → ℕ
+derivations signer = option_map_or (λ kept. kept.derivations) signer.kept 0
+
+-- the key that a signer keeps, or else none that was derived for it
+abbrev pub own_key : {S : Type 0} → SignerState S → Kept
+own_key signer = unwrap_or signer.kept (no_key (signer_in signer))
+
+-- the kept key, if any, is that of who signs
+abbrev pub IsOwnKey : Signer → Option Kept → Type 0
+IsOwnKey signer None = Unit {0}
+IsOwnKey signer (Some kept) = kept.signer ≡ signer
 
 -- what is told of a signer of messages, by who signs
 abbrev pub told_by : Identity → List ℕ → Signer → Told
@@ -38,8 +68,8 @@ told_by (Credentials credentials) signature signer = sealed signature signer
 told_by (Token token) signature signer = untold
 
 -- what is told of a signer of messages: credentials sign over the last signature
-abbrev pub told_of : {S : Type 0} → SigV4MessageSigner S → Told
-told_of signer = told_by signer.identity (running_signature signer) (signer_in signer)
+abbrev pub told_of : {S : Type 0} → SignerState S → Told
+told_of signer = told_by signer.parts.identity (running_signature signer) (signer_in signer)
 
 -- why an identity signs nothing at a moment: it has no secret, or the moment lies outside the years
 abbrev pub unsigned_by : Identity → Instant → Option SignMessageError
@@ -50,52 +80,48 @@ unsigned_by (Credentials credentials) t = unsigned_at t
 abbrev pub unsigned_message_by : Identity → Parts → Instant → Option SignMessageError
 unsigned_message_by identity message t = option_or (option_map encoding_refusal (unframed message)) (unsigned_by identity t)
 
--- with no reason against it the answer is the link of the bytes over the last signature, in whose place the new one comes;
--- else it is the reason, or want of memory, and the signer stays
-abbrev pub SignsBytes : {S : Type 0} → Option SignMessageError → SigV4MessageSigner S → List ℕ → Instant → Result Parts SignMessageError → SigV4MessageSigner S → Type 0
+-- with no reason against it the answer is the link of the bytes over the last signature, in whose place the new one comes, and the
+-- moment's key is kept; else it is the reason, or want of memory, and the signature stays
+abbrev pub SignsBytes : {S : Type 0} → Option SignMessageError → SignerState S → List ℕ → Instant → Result Parts SignMessageError → SignerState S → Type 0
 SignsBytes refused old bytes t (Ok answer) new =
     (refused ≡ None)
     × (answer ≡ link_message (signer_in old) (running_signature old) bytes t)
     × (running_signature new ≡ link_signature (signer_in old) (running_signature old) bytes t)
-    × (new ≡ record old { running_signature = new.running_signature })
-SignsBytes refused old bytes t (Err error) new = ((refused ≡ Some error) ⊎ (error ≡ refusals.NoMemory)) × (new ≡ old)
+    × (new.kept ≡ Some (kept_at (own_key old) t))
+    × (new.parts ≡ old.parts)
+SignsBytes refused old bytes t (Err error) new =
+    ((refused ≡ Some error) ⊎ (error ≡ refusals.NoMemory)) × (running_signature new ≡ running_signature old) × (new.parts ≡ old.parts)
 
 -- the signing of a message
-abbrev pub SignsMessage : {S : Type 0} → SigV4MessageSigner S → Parts → Instant → Result Parts SignMessageError → SigV4MessageSigner S → Type 0
-SignsMessage old message t result new = SignsBytes (unsigned_message_by old.identity message t) old (frame message) t result new
+abbrev pub SignsMessage : {S : Type 0} → SignerState S → Parts → Instant → Result Parts SignMessageError → SignerState S → Type 0
+SignsMessage old message t result new = SignsBytes (unsigned_message_by old.parts.identity message t) old (frame message) t result new
 
 -- the signing of the empty message, which there always is
-abbrev pub SignsEnd : {S : Type 0} → SigV4MessageSigner S → Instant → Option (Result Parts SignMessageError) → SigV4MessageSigner S → Type 0
+abbrev pub SignsEnd : {S : Type 0} → SignerState S → Instant → Option (Result Parts SignMessageError) → SignerState S → Type 0
 SignsEnd old t None new = ⊥
-SignsEnd old t (Some result) new = SignsBytes (unsigned_by old.identity t) old [] t result new
+SignsEnd old t (Some result) new = SignsBytes (unsigned_by old.parts.identity t) old [] t result new
 
--- the error of signing a message, as the signer's; there is none for the errors of requests
-abbrev pub message_error : SigningError → Option SignMessageError
-message_error (FailedToEncodeMessage error) = Some (refusals.FailedToEncodeMessage error)
-message_error UnsupportedIdentityType = Some refusals.UnsupportedIdentityType
-message_error (MomentOutOfRange t) = Some (refusals.MomentOutOfRange t)
-message_error NoMemory = Some refusals.NoMemory
-message_error error = None
-
--- what was signed is the answer, and its signature the last one; with an error the signer stays
-abbrev pub GoesOnWith : {S : Type 0} → Result (SigningOutput Parts) SigningError → SigV4MessageSigner S → Result Parts SignMessageError → SigV4MessageSigner S → Type 0
-GoesOnWith (Ok output) old (Ok answer) new = (answer ≡ output.output) × (new ≡ record old { running_signature = output.signature })
-GoesOnWith (Err error) old (Err answer) new = (message_error error ≡ Some answer) × (new ≡ old)
-GoesOnWith signed old result new = ⊥
+-- with no reason against it the answer is the signing key of a moment, which is kept; else it is the reason, or want of memory.
+-- All else stays
+abbrev pub GivesKey : {S : Type 0} → SignerState S → Instant → Result (List ℕ) SignMessageError → SignerState S → Type 0
+GivesKey old t (Ok key) new =
+    (unsigned_by old.parts.identity t ≡ None) × (key ≡ signing_key (signer_in old) t) × (new ≡ record old { kept = Some (kept_at (own_key old) t) })
+GivesKey old t (Err error) new = ((unsigned_by old.parts.identity t ≡ Some error) ⊎ (error ≡ refusals.NoMemory)) × (new ≡ old)
 
 -- the signers are the same, and the settings a copy
-pub record IsSameSigner {S : Type 0} (copies : S → S → Type 0) (signer copy : SigV4MessageSigner S) : Type 0 where
+pub record IsSameSigner {S : Type 0} (copies : S → S → Type 0) (signer copy : SignerState S) : Type 0 where
   pub signature : running_signature copy ≡ running_signature signer
-  pub identity : IsSameIdentity signer.identity copy.identity
-  pub region : copy.region ≡ signer.region
-  pub name : copy.name ≡ signer.name
-  pub time : copy.time ≡ signer.time
-  pub settings : copies signer.settings copy.settings
+  pub identity : IsSameIdentity signer.parts.identity copy.parts.identity
+  pub region : copy.parts.region ≡ signer.parts.region
+  pub name : copy.parts.name ≡ signer.parts.name
+  pub time : copy.parts.time ≡ signer.parts.time
+  pub settings : copies signer.parts.settings copy.parts.settings
+  pub kept : copy.kept ≡ signer.kept
 
 -- a signer that goes on from a signature, for who signs, and the region, the name and the moment of that signature
-pub record GoesOn {S : Type 0} (who : Identity) (first : List ℕ) (scope : Signer) (at : Instant) (signer : SigV4MessageSigner S) : Type 0 where
+pub record GoesOn {S : Type 0} (who : Identity) (first : List ℕ) (scope : Signer) (at : Instant) (signer : SignerState S) : Type 0 where
   pub signature : running_signature signer ≡ first
-  pub identity : IsSameIdentity who signer.identity
-  pub region : signer.region ≡ scope.region
-  pub name : signer.name ≡ scope.name
-  pub time : signer.time ≡ at
+  pub identity : IsSameIdentity who signer.parts.identity
+  pub region : signer.parts.region ≡ scope.region
+  pub name : signer.parts.name ≡ scope.name
+  pub time : signer.parts.time ≡ at

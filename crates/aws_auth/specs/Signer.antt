@@ -92,7 +92,7 @@ pub record IsSignedCase (identity : Identity) (c : Case) (old new : HttpRequest)
   pub signature : string_bytes signed.signature ≡ signature_of c
   pub message_signer : GoesOn identity (signature_of c) c.signer c.at signed.message_signer
   pub chunk_signer : GoesOn identity (signature_of c) c.signer c.at signed.chunk_signer
-  pub chunk_settings : settings_of signed.chunk_signer.settings ≡ c.settings
+  pub chunk_settings : settings_of signed.chunk_signer.parts.settings ≡ c.settings
 
 -- the signatures are the same, and so are the signers that go on
 pub record IsSameSigned (signed copy : Signed) : Type 0 where

@@ -116,7 +116,7 @@ abbrev pub IsSignedWith : SigningParams → List ℕ → Signed → Type 0
 IsSignedWith (V4 params) signature signed =
     (string_bytes signed.signature ≡ signature) × GoesOn (v4_identity params) signature (signer_of params) (v4_time params) signed.message_signer
     × GoesOn (v4_identity params) signature (signer_of params) (v4_time params) signed.chunk_signer
-    × (settings_of signed.chunk_signer.settings ≡ settings_of (v4_settings params))
+    × (settings_of signed.chunk_signer.parts.settings ≡ settings_of (v4_settings params))
 
 -- a test of the target of a text fails with this error, and no test before it, or memory ran out
 abbrev pub RefusesTarget : List ℕ → (Target → Case) → SigningError → Type 0

@@ -9,6 +9,7 @@
 mod endpoint;
 mod error;
 mod inputs;
+mod kept_key;
 mod message_signer;
 mod moment;
 mod name_override;
@@ -21,6 +22,7 @@ mod signer;
 pub use crate::endpoint::EndpointField;
 pub use crate::error::SigV4SigningError;
 pub use crate::inputs::SigningInputs;
+pub use crate::kept_key::KeptKey;
 pub use crate::message_signer::SigV4MessageSigner;
 pub use crate::name_override::{OverrideError, SigV4SessionTokenNameOverride};
 pub use crate::options::{HttpSignatureType, SigV4OperationSigningConfig, SigningOptions};

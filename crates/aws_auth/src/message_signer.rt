@@ -1,14 +1,18 @@
-ghost use Rattle.std.specs.Prelude.{◌≡◌, IfOk, IfErr, IsSome, Some};
-ghost use Rattle.sigv4.specs.Params.{signer_of};
-ghost use Rattle.aws_auth.specs.MessageSigner.{GoesOnWith, IsSameSigner, message_error, running_signature, signer_from, signer_in};
+ghost use Rattle.std.specs.Prelude.{◌≡◌, IfOk, MatchResult, None, OnErr, OnOk, Some};
+ghost use Rattle.sigv4.specs.Params.{secret_of, signer_of, v4_identity, v4_time};
+ghost use Rattle.aws_auth.specs.KeptKey.{no_key};
+ghost use Rattle.aws_auth.specs.MessageSigner.{GivesKey, IsSameSigner, SignsBytes, derivations, own_key, running_signature, signer_from, signer_in, unsigned_by};
 
-use eventstream::{SignMessage, SignMessageError};
-use sigv4::event_stream::{SigningParams, sign_empty_message, sign_message};
-use sigv4::{SigningError, SigningOutput};
-use smithy_core::{Identity, Mem, Message, Moment, Region, SigningName};
+use crate::kept_key::KeptKey;
+use eventstream::{SignMessage, SignMessageError, write_message_to};
+use sigv4::event_stream::{SigningParams, sign_bytes_with_key};
+use smithy_core::{Identity, Mem, Message, Moment, Region, SigningName, civil};
 use std::fmt;
+use std::marker::Model;
 
 /// A signer of what follows a signed request, each part over the signature before it: messages, or chunks and trailers.
+///
+/// Contracts see the last signature, what is signed for, and the key that is kept for the day, if any.
 #[derive(Drop)]
 pub struct SigV4MessageSigner<S> {
     running_signature: String,
@@ -17,6 +21,28 @@ pub struct SigV4MessageSigner<S> {
     name: SigningName,
     time: Moment,
     settings: S,
+    kept: Option<KeptKey>,
+}
+
+impl<S> Model for SigV4MessageSigner<S> {
+    ghost use Rattle.std.specs.Prelude.{string_bytes};
+    ghost use Rattle.aws_auth.specs.MessageSigner.{IsOwnKey, SignerState, signer_for};
+
+    ghost Value = { SignerState S };
+
+    ghost view = { λ signer. record {
+      running_signature = string_bytes signer.running_signature;
+      parts = record {
+        identity = signer.identity;
+        region = signer.region;
+        name = signer.name;
+        time = signer.time;
+        settings = signer.settings;
+      };
+      kept = signer.kept;
+    } };
+
+    ghost invariant = { λ signer. IsOwnKey (signer_for signer.identity signer.region signer.name) signer.kept };
 }
 
 impl<S> SigV4MessageSigner<S> {
@@ -38,6 +64,7 @@ impl<S> SigV4MessageSigner<S> {
             name,
             time,
             settings,
+            kept: None,
         }
     }
 
@@ -47,10 +74,20 @@ impl<S> SigV4MessageSigner<S> {
     {
         self.running_signature.as_str()
     }
+
+    /// How many signing keys were derived: 0 while no key is kept.
+    pub fn derivations(&self) -> u64
+        ensures { result ≡ derivations self.now }
+    {
+        match &self.kept {
+            Some(kept) => kept.derivations(),
+            None => 0,
+        }
+    }
 }
 
 impl<S: Clone + Drop> SigV4MessageSigner<S> {
-    /// A signer that goes on from the same signature, with a copy of the settings.
+    /// A signer that goes on from the same signature with the same key, and a copy of the settings.
     pub fn try_clone(&self) -> Mem<SigV4MessageSigner<S>>
         ensures { IfOk result (IsSameSigner S.is_clone self.now) }
     {
@@ -61,6 +98,7 @@ impl<S: Clone + Drop> SigV4MessageSigner<S> {
             name: self.name.try_clone()?,
             time: self.time,
             settings: self.settings.clone()?,
+            kept: kept_copy(&self.kept)?,
         })
     }
 }
@@ -68,9 +106,9 @@ impl<S: Clone + Drop> SigV4MessageSigner<S> {
 impl SigV4MessageSigner<()> {
     // The parameters of a message that is signed at a moment.
     fn params_at(&self, now: Moment) -> SigningParams<'_>
-        ensures identity { result.identity.now ≡ self.now.identity }
+        ensures identity { v4_identity result ≡ self.now.parts.identity }
         ensures signer { signer_of result ≡ signer_in self.now }
-        ensures time { result.time ≡ now }
+        ensures time { v4_time result ≡ now }
     {
         SigningParams::new(
             &self.identity,
@@ -81,26 +119,78 @@ impl SigV4MessageSigner<()> {
         )
     }
 
-    // The message that was signed, whose signature is the last one then.
-    fn go_on(
-        &mut self,
-        signed: Result<SigningOutput<Message>, SigningError>,
-    ) -> Result<Message, SignMessageError>
-        requires { IfErr signed (λ error. IsSome (message_error error)) }
-        ensures { GoesOnWith signed self.old result self.new }
+    // The message of the bytes, whose signature is the last one then.
+    fn sign_bytes(&mut self, bytes: Vec<u8>, now: Moment) -> Result<Message, SignMessageError>
+        ensures { SignsBytes (unsigned_by self.old.parts.identity now) self.old bytes.items now result self.new }
     {
-        match signed {
-            Ok(output) => {
-                let (message, signature) = output.into_parts();
+        let key = self.key_at(now)?;
+        let alloc = *self.running_signature.allocator();
+        let params = self.params_at(now);
+        // With a key there is no refusal, so that an error is want of memory.
+        match sign_bytes_with_key(alloc, bytes, self.running_signature(), &params, &key) {
+            Ok(signed) => {
+                let (message, signature) = signed.into_parts();
                 self.running_signature = signature;
                 Ok(message)
             }
-            Err(error) => Err(message_error(error)),
+            Err(_) => Err(SignMessageError::NoMemory),
         }
+    }
+
+    // The signing key of a moment, which is kept for its day.
+    fn key_at(&mut self, now: Moment) -> Result<[u8; 32], SignMessageError>
+        ensures { GivesKey self.old now result self.new }
+    {
+        self.test_at(now)?;
+        let mut kept = self.take_key()?;
+        let key = kept.key(now);
+        self.kept = Some(kept);
+        Ok(key)
+    }
+
+    // Tests that the identity signs at a moment.
+    fn test_at(&self, now: Moment) -> Result<(), SignMessageError>
+        ensures { MatchResult result
+            (λ _. unsigned_by self.now.parts.identity now ≡ None)
+            (λ error. unsigned_by self.now.parts.identity now ≡ Some error) }
+    {
+        match self.identity {
+            Identity::Token(_) => Err(SignMessageError::UnsupportedIdentityType),
+            Identity::Credentials(_) => match civil(now) {
+                Some(_) => Ok(()),
+                None => Err(SignMessageError::MomentOutOfRange(now)),
+            },
+        }
+    }
+
+    // The key that is kept, which is taken out, or else a new one.
+    fn take_key(&mut self) -> Mem<KeptKey>
+        ensures ok { IfOk result (λ kept. kept ≡ own_key self.old) }
+        ensures own { IfOk result (λ kept. kept.signer ≡ signer_in self.old) }
+        ensures taken { OnOk result (self.new ≡ record self.old { kept = None }) }
+        ensures err { OnErr result (self.new ≡ self.old) }
+    {
+        match self.kept.take() {
+            Some(kept) => Ok(kept),
+            None => self.new_key(),
+        }
+    }
+
+    // A key of who signs, not derived yet.
+    fn new_key(&self) -> Mem<KeptKey>
+        ensures { IfOk result (λ kept. kept ≡ no_key (signer_in self.now)) }
+    {
+        let alloc = *self.running_signature.allocator();
+        Ok(KeptKey::new(
+            String::from_str(alloc, secret_of(&self.identity))?,
+            String::from_str(alloc, self.region.as_str())?,
+            String::from_str(alloc, self.name.as_str())?,
+        ))
     }
 }
 
-/// Signs each message at the moment that it is handed, over the last signature, in whose place the new one comes.
+/// Signs each message at the moment that it is handed, over the last signature, in whose place the new one comes. The signing
+/// key is derived once for messages of one day: when there is something to sign for the first time on that day.
 impl SignMessage for SigV4MessageSigner<()> {
     ghost use Rattle.aws_auth.specs.MessageSigner.{SignsEnd, SignsMessage, told_of};
 
@@ -110,36 +200,37 @@ impl SignMessage for SigV4MessageSigner<()> {
 
     ghost closes = { SignsEnd };
 
-    #[tactic(auto, using(crate::proofs::MessageSignerLemmas::message_refused, crate::proofs::MessageSignerLemmas::message_signed, crate::proofs::MessageSignerLemmas::message_told))]
+    #[tactic(auto, using(crate::proofs::MessageSignerLemmas::message_told))]
     fn sign(&mut self, message: Message, now: Moment) -> Result<Message, SignMessageError> {
         let alloc = *self.running_signature.allocator();
-        let params = self.params_at(now);
-        let signed = sign_message(alloc, &message, self.running_signature(), &params);
-        self.go_on(signed)
+        let mut bytes = Vec::new(alloc);
+        write_message_to(alloc, &message, &mut bytes)?;
+        self.sign_bytes(bytes, now)
     }
 
-    #[tactic(auto, using(crate::proofs::MessageSignerLemmas::end_refused, crate::proofs::MessageSignerLemmas::end_signed, crate::proofs::MessageSignerLemmas::end_told))]
+    #[tactic(auto, using(crate::proofs::MessageSignerLemmas::end_told))]
     fn sign_empty(&mut self, now: Moment) -> Option<Result<Message, SignMessageError>> {
         let alloc = *self.running_signature.allocator();
-        let params = self.params_at(now);
-        let signed = sign_empty_message(alloc, self.running_signature(), &params);
-        Some(self.go_on(signed))
+        Some(self.sign_bytes(Vec::new(alloc), now))
     }
 }
 
-// The error of signing a message, as the signer's.
-fn message_error(error: SigningError) -> SignMessageError
-    requires { IsSome (message_error error) }
-    ensures { message_error error ≡ Some result }
+fn kept_copy(kept: &Option<KeptKey>) -> Mem<Option<KeptKey>>
+    ensures { IfOk result (λ copy. copy ≡ kept.now) }
 {
-    match error {
-        SigningError::FailedToEncodeMessage(error) => {
-            SignMessageError::FailedToEncodeMessage(error)
-        }
-        SigningError::UnsupportedIdentityType => SignMessageError::UnsupportedIdentityType,
-        SigningError::MomentOutOfRange(moment) => SignMessageError::MomentOutOfRange(moment),
-        SigningError::NoMemory => SignMessageError::NoMemory,
-        _ => unreachable!(),
+    Ok(match kept {
+        Some(key) => Some(key.try_clone()?),
+        None => None,
+    })
+}
+
+// The secret of credentials, and nothing of a token.
+fn secret_of(identity: &Identity) -> &str
+    ensures { result.now ≡ secret_of identity.now }
+{
+    match identity {
+        Identity::Credentials(credentials) => credentials.secret_access_key(),
+        Identity::Token(_) => "",
     }
 }
 

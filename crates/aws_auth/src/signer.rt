@@ -191,7 +191,7 @@ fn signer_with<S: Drop>(
     settings: S,
 ) -> Mem<SigV4MessageSigner<S>>
     ensures from { IfOk result (GoesOn (v4_identity params.now) (string_bytes signature) (signer_of params.now) (v4_time params.now)) }
-    ensures settings { IfOk result (λ signer. signer.settings ≡ settings) }
+    ensures settings { IfOk result (λ signer. signer.parts.settings ≡ settings) }
 {
     Ok(SigV4MessageSigner::new(
         signature,
