@@ -8,7 +8,7 @@ use Rattle.std.specs.List.{AllByRecursion}
 use Rattle.std.specs.Map.{remove_entry}
 use Rattle.env_config.specs.declared.source.EnvConfigFileKind.{EnvConfigFileKind}
 use Rattle.env_config.specs.Line.{is_blank, is_skipped, profile_lines, property_of, section_name}
-use Rattle.env_config.specs.Raw.{Last, Open, State, after_line, begun_property, continued_or, last_step, profile_line_step, properties_of, raw, raw_from, section_step, start, within_section}
+use Rattle.env_config.specs.Raw.{Keeps, Last, Open, State, after_line, begun_property, continued_or, last_step, profile_line_step, properties_of, put_property, put_section, raw, raw_from, section_step, start, within_section}
 use Rattle.env_config.specs.Sections.{Sections, heading_of, with_names, with_raw}
 use Rattle.env_config.specs.Texts.{IsApart, Named, by_text, put, put_named, text_cmp, value_under}
 use Rattle.env_config.proofs.LaterLemmas.{at_put}
@@ -71,53 +71,56 @@ put_sound {X} named name value is = by (is_some (value_under named.values name))
 
 -- ## Lines
 
+section_put_sound : (keeps : Keeps) (sections : Named (List (List ℕ × List ℕ))) (name : List ℕ) (properties : List (List ℕ × List ℕ)) → IsSound sections → IsSound (put_section keeps sections name properties)
+section_put_sound keeps sections name properties is = either IsSound (keeps.section name) (put_named sections name properties) sections (put_sound sections name properties is) is
+
 abbrev IsSoundState : State → Type 0
 IsSoundState state = IsSound state.sections
 
-section_sound : (state : State) (name : Option (List ℕ)) → IsSoundState state → OfOk IsSoundState (section_step state name)
-section_sound state None is = tt
-section_sound state (Some name) is = put_sound state.sections name (properties_of state.sections name) is
+section_sound : (keeps : Keeps) (state : State) (name : Option (List ℕ)) → IsSoundState state → OfOk IsSoundState (section_step keeps state name)
+section_sound keeps state None is = tt
+section_sound keeps state (Some name) is = section_put_sound keeps state.sections name (properties_of state.sections name) is
 
-last_sound : (state : State) (name : List ℕ) (step : Result Last (List ℕ)) → IsSoundState state → OfOk IsSoundState (last_step state name step)
-last_sound state name (Err message) is = tt
-last_sound state name (Ok last) is = put_sound state.sections name (put (properties_of state.sections name) last.key last.value) is
+last_sound : (keeps : Keeps) (state : State) (name : List ℕ) (step : Result Last (List ℕ)) → IsSoundState state → OfOk IsSoundState (last_step keeps state name step)
+last_sound keeps state name (Err message) is = tt
+last_sound keeps state name (Ok last) is = section_put_sound keeps state.sections name (put_property keeps (properties_of state.sections name) last) is
 
-within_sound : (state : State) (at : Option Open) (step : Open → Result Last (List ℕ)) → IsSoundState state → OfOk IsSoundState (within_section state at step)
-within_sound state None step is = tt
-within_sound state (Some at) step is = last_sound state at.name (step at) is
+within_sound : (keeps : Keeps) (state : State) (at : Option Open) (step : Open → Result Last (List ℕ)) → IsSoundState state → OfOk IsSoundState (within_section keeps state at step)
+within_sound keeps state None step is = tt
+within_sound keeps state (Some at) step is = last_sound keeps state at.name (step at) is
 
-line_sound : (state : State) (line : List ℕ) → IsSoundState state → OfOk IsSoundState (profile_line_step state line)
+line_sound : (keeps : Keeps) (state : State) (line : List ℕ) → IsSoundState state → OfOk IsSoundState (profile_line_step keeps state line)
 unfolding profile_line_step
-line_sound state line is =
+line_sound keeps state line is =
     let P : Result State (List ℕ) → Type 0 = OfOk IsSoundState in
-    let more = within_section state state.open_section (λ at. continued_or at.last line) in
-    let new = within_section state state.open_section (λ _. begun_property (property_of line)) in
+    let more = within_section keeps state state.open_section (λ at. continued_or at.last line) in
+    let new = within_section keeps state state.open_section (λ _. begun_property (property_of line)) in
     let later = cond (is_blank (slice_index line 0)) more new in
-    let marked = cond (nat_eq (slice_index line 0) 91) (section_step state (section_name line)) later in
+    let marked = cond (nat_eq (slice_index line 0) 91) (section_step keeps state (section_name line)) later in
     either P (is_skipped line) (Ok state) marked is
-    (either P (nat_eq (slice_index line 0) 91) (section_step state (section_name line)) later (section_sound state (section_name line) is)
+    (either P (nat_eq (slice_index line 0) 91) (section_step keeps state (section_name line)) later (section_sound keeps state (section_name line) is)
     (either P (is_blank (slice_index line 0)) more new
-    (within_sound state state.open_section (λ at. continued_or at.last line) is)
-    (within_sound state state.open_section (λ _. begun_property (property_of line)) is)))
+    (within_sound keeps state state.open_section (λ at. continued_or at.last line) is)
+    (within_sound keeps state state.open_section (λ _. begun_property (property_of line)) is)))
 
 abbrev IsSoundRead : Named (List (List ℕ × List ℕ)) → Type 0
 IsSoundRead read = IsSound read
 
-lines_sound : (number : ℕ) (state : State) (lines : List (List ℕ)) → IsSoundState state → OfOk IsSoundRead (raw_from number state lines)
-lines_sound number state [] is = is
-lines_sound number state (line ∷ lines) is = by (profile_line_step state line) (line_sound state line is) (λ next sound. lines_sound (number + 1) next lines sound)
+lines_sound : (keeps : Keeps) (number : ℕ) (state : State) (lines : List (List ℕ)) → IsSoundState state → OfOk IsSoundRead (raw_from keeps number state lines)
+lines_sound keeps number state [] is = is
+lines_sound keeps number state (line ∷ lines) is = by (profile_line_step keeps state line) (line_sound keeps state line is) (λ next sound. lines_sound keeps (number + 1) next lines sound)
   where
-    by : (step : Result State (List ℕ)) → OfOk IsSoundState step → ((next : State) → IsSoundState next → OfOk IsSoundRead (raw_from (number + 1) next lines))
-        → OfOk IsSoundRead (after_line number (λ next. raw_from (number + 1) next lines) step)
+    by : (step : Result State (List ℕ)) → OfOk IsSoundState step → ((next : State) → IsSoundState next → OfOk IsSoundRead (raw_from keeps (number + 1) next lines))
+        → OfOk IsSoundRead (after_line number (λ next. raw_from keeps (number + 1) next lines) step)
     by (Ok next) sound more = more next sound
     by (Err message) sound more = tt
 
-raw_sound : (text : List ℕ) → OfOk IsSoundRead (raw text)
+raw_sound : (keeps : Keeps) (text : List ℕ) → OfOk IsSoundRead (raw keeps text)
 unfolding raw
-raw_sound text = lines_sound 1 start (profile_lines text) (record { apart = tt; has = tt })
+raw_sound keeps text = lines_sound keeps 1 start (profile_lines text) (record { apart = tt; has = tt })
 
-pub read_apart : (text : List ℕ) (read : Named (List (List ℕ × List ℕ))) → raw text ≡ Ok read → IsApart read.names
-read_apart text read is = (subst (OfOk IsSoundRead) is (raw_sound text)).apart
+pub read_apart : (keeps : Keeps) (text : List ℕ) (read : Named (List (List ℕ × List ℕ))) → raw keeps text ≡ Ok read → IsApart read.names
+read_apart keeps text read is = (subst (OfOk IsSoundRead) is (raw_sound keeps text)).apart
 
 -- ## Taking
 
@@ -138,7 +141,7 @@ others_stay {X} (e ∷ es) name other apart = by (is_eq (text_cmp name (string_b
 pub removed_others : {X : Type 0} (es now : List (String Global × X)) (name : List ℕ) → now ≡ without name es → (other : List ℕ) → is_eq (text_cmp other name) ≡ false → value_under (by_text now) other ≡ value_under (by_text es) other
 removed_others {X} es now name is other apart = ap (λ (ds : List (String Global × X)). value_under (by_text ds) other) is ∙ others_stay es name other apart
 
-all_of : {X : Type 0} (P Q : X → Type 0) → ((x : X) → P x → Q x) → (xs : List X) → AllByRecursion P xs → AllByRecursion Q xs
+pub all_of : {X : Type 0} (P Q : X → Type 0) → ((x : X) → P x → Q x) → (xs : List X) → AllByRecursion P xs → AllByRecursion Q xs
 all_of P Q more [] all = tt
 all_of P Q more (x ∷ xs) all = (more x all.0, all_of P Q more xs all.1)
 

@@ -11,7 +11,7 @@ use Rattle.std.specs.List.{after_first, before_first, position_or_len, slice_spl
 use Rattle.env_config.specs.declared.source.EnvConfigFileKind.{EnvConfigFileKind}
 use Rattle.env_config.specs.Laws.{value_in}
 use Rattle.env_config.specs.Line.{is_equals, trimmed}
-use Rattle.env_config.specs.Raw.{properties_of, raw}
+use Rattle.env_config.specs.Raw.{everything, properties_of, raw}
 use Rattle.env_config.specs.Sections.{FileText, Key, Section, Sections, after_file, files_from, has_profile_default, heading_of, is_identifier, is_taken_from, key_cmp, merged_into, no_sections, put_at_key, put_identifiers, put_others, put_sub, put_subs, section_properties, sections, value_at_key, with_file, with_names, with_raw, with_section}
 use Rattle.env_config.specs.Texts.{Named, put, text_cmp, value_under}
 use Rattle.env_config.proofs.LowerLemmas.{tied_same}
@@ -32,7 +32,7 @@ or_cond : {X : Type 0} (b : Bool) (v : X) (x y u : Option X) → x ≡ option_or
 or_cond true v x y u is = refl
 or_cond false v x y u is = is
 
-both : {X Y : Type 0} (P : X → Y → Type 0) (b : Bool) (x y : X) (v w : Y) → P x v → P y w → P (cond b x y) (cond b v w)
+pub both : {X Y : Type 0} (P : X → Y → Type 0) (b : Bool) (x y : X) (v w : Y) → P x v → P y w → P (cond b x y) (cond b v w)
 both P true x y v w here there = here
 both P false x y v w here there = there
 
@@ -91,7 +91,7 @@ identifiers_above es ds us (pair ∷ pairs) above =
 abbrev AboveIn : Named Section → Named Section → Named Section → Type 0
 AboveIn s t u = (name key : List ℕ) → value_in s name key ≡ option_or (value_in t name key) (value_in u name key)
 
-held : (section : Option Section) (key : List ℕ) → value_under (section_properties section) key ≡ option_and_then (λ (s : Section). value_under s.properties key) section
+pub held : (section : Option Section) (key : List ℕ) → value_under (section_properties section) key ≡ option_and_then (λ (s : Section). value_under s.properties key) section
 held None key = refl
 held (Some section) key = refl
 
@@ -132,7 +132,7 @@ merged_above s t u n pairs above name key = by (is_eq (text_cmp name n)) refl
 
 -- ## Sub-properties
 
-key_total : IsTotalOrder key_cmp
+pub key_total : IsTotalOrder key_cmp
 key_total =
     then_total (on_total (λ (k : Key). k.section_key) nat_list_cmp_total)
     (then_total (on_total (λ (k : Key). k.section_name) nat_list_cmp_total)
@@ -201,26 +201,26 @@ ok_same : {X E : Type 0} (r : Result X E) (x y : X) → r ≡ Ok x → r ≡ Ok 
 ok_same r x y one other = cc
 
 -- files go on where the files before them end
-files_go_on : (s before : Sections) (files more : List FileText) → files_from s files ≡ Ok before → files_from s (files ++ more) ≡ files_from before more
-files_go_on s before [] more is = ap (λ (x : Sections). files_from x more) (ok_same (files_from s []) s before refl is)
-files_go_on s before (file ∷ files) more is = by (raw file.contents) (λ next over. files_go_on next before files more over) is
+files_go_on : (s before : Sections) (files more : List FileText) → files_from everything s files ≡ Ok before → files_from everything s (files ++ more) ≡ files_from everything before more
+files_go_on s before [] more is = ap (λ (x : Sections). files_from everything x more) (ok_same (files_from everything s []) s before refl is)
+files_go_on s before (file ∷ files) more is = by (raw everything file.contents) (λ next over. files_go_on next before files more over) is
   where
-    by : (read : Result (Named (List (List ℕ × List ℕ))) (ℕ × List ℕ)) → ((next : Sections) → files_from next files ≡ Ok before → files_from next (files ++ more) ≡ files_from before more)
-        → after_file file (λ read. files_from (with_file s file.kind read) files) read ≡ Ok before → after_file file (λ read. files_from (with_file s file.kind read) (files ++ more)) read ≡ files_from before more
+    by : (read : Result (Named (List (List ℕ × List ℕ))) (ℕ × List ℕ)) → ((next : Sections) → files_from everything next files ≡ Ok before → files_from everything next (files ++ more) ≡ files_from everything before more)
+        → after_file file (λ read. files_from everything (with_file s file.kind read) files) read ≡ Ok before → after_file file (λ read. files_from everything (with_file s file.kind read) (files ++ more)) read ≡ files_from everything before more
     by (Ok read) goes_on is = goes_on (with_file s file.kind read) is
     by (Err fault) goes_on is = absurd cc
 
 last_above : (file : FileText) (before alone after : Sections) (read : Result (Named (List (List ℕ × List ℕ))) (ℕ × List ℕ))
-    → after_file file (λ read. files_from (with_file before file.kind read) []) read ≡ Ok after → after_file file (λ read. files_from (with_file no_sections file.kind read) []) read ≡ Ok alone → AboveAll after alone before
+    → after_file file (λ read. files_from everything (with_file before file.kind read) []) read ≡ Ok after → after_file file (λ read. files_from everything (with_file no_sections file.kind read) []) read ≡ Ok alone → AboveAll after alone before
 last_above file before alone after (Ok read) after_is alone_is =
-    subst₂ (λ (x y : Sections). AboveAll x y before) (ok_same (files_from (with_file before file.kind read) []) (with_file before file.kind read) after refl after_is) (ok_same (files_from (with_file no_sections file.kind read) []) (with_file no_sections file.kind read) alone refl alone_is)
+    subst₂ (λ (x y : Sections). AboveAll x y before) (ok_same (files_from everything (with_file before file.kind read) []) (with_file before file.kind read) after refl after_is) (ok_same (files_from everything (with_file no_sections file.kind read) []) (with_file no_sections file.kind read) alone refl alone_is)
     (file_above before no_sections before file.kind read (record { profiles = λ name key. refl; sessions = λ name key. refl; others = λ key. refl }))
 last_above file before alone after (Err fault) after_is alone_is = absurd cc
 
 later : (files : List FileText) (file : FileText) (before alone after : Sections) → sections files ≡ Ok before → sections (file ∷ []) ≡ Ok alone → sections (files ++ file ∷ []) ≡ Ok after → AboveAll after alone before
 unfolding sections
 later files file before alone after before_is alone_is after_is =
-    last_above file before alone after (raw file.contents) (sym (files_go_on no_sections before files (file ∷ []) before_is) ∙ after_is) alone_is
+    last_above file before alone after (raw everything file.contents) (sym (files_go_on no_sections before files (file ∷ []) before_is) ∙ after_is) alone_is
 
 -- ## The law
 

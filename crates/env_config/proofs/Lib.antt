@@ -13,3 +13,4 @@ pub mod LowerLemmas
 pub mod KeyedLemmas
 pub mod ApartLemmas
 pub mod ParseLemmas
+pub mod NarrowLemmas

@@ -12,7 +12,7 @@ use Rattle.env_config.specs.declared.line.PropertyFault.TheVariants.{NoEquals, N
 use Rattle.env_config.specs.declared.source.EnvConfigFileKind.{EnvConfigFileKind}
 use Rattle.env_config.specs.Laws.{value_in}
 use Rattle.env_config.specs.Line.{is_blank, is_skipped, profile_lines, property_of, section_name}
-use Rattle.env_config.specs.Raw.{Last, Open, State, after_line, begun_property, continued, continued_or, grown, last_step, profile_line_step, opened, properties_of, raw, raw_from, section_step, start, sub_checked, within_section}
+use Rattle.env_config.specs.Raw.{everything, Last, Open, State, after_line, begun_property, continued, continued_or, grown, last_step, profile_line_step, opened, properties_of, raw, raw_from, section_step, start, sub_checked, within_section}
 use Rattle.env_config.specs.Sections.{FileText, Section, Sections, after_file, files_from, has_profile_default, heading_of, is_identifier, is_taken_from, merged_into, no_sections, put_identifiers, put_others, section_properties, sections, with_file, with_names, with_raw, with_section}
 use Rattle.env_config.specs.Texts.{EachValue, Named, put, text_cmp, value_under}
 
@@ -21,7 +21,7 @@ use Rattle.env_config.specs.Texts.{EachValue, Named, put, text_cmp, value_under}
 abbrev pub IsLower : List ℕ → Type 0
 IsLower key = lower key ≡ key
 
-lower_lower : (text : List ℕ) → IsLower (lower text)
+pub lower_lower : (text : List ℕ) → IsLower (lower text)
 lower_lower [] = refl
 lower_lower (b ∷ text) = ap₂ (λ (c : ℕ) (cs : List ℕ). c ∷ cs) (lowercase-lowercase b) (lower_lower text)
 
@@ -93,17 +93,17 @@ or_none (Some pairs) is = is
 properties_lower : (sections : Named (List (List ℕ × List ℕ))) (name : List ℕ) → EachValue LowerKeys sections.values → LowerKeys (properties_of sections name)
 properties_lower sections name each = or_none (value_under sections.values name) (value_each LowerKeys sections.values name each)
 
-opened_lower : (state : State) (name : List ℕ) → LowerState state → LowerState (opened state name)
+opened_lower : (state : State) (name : List ℕ) → LowerState state → LowerState (opened everything state name)
 opened_lower state name is = record {
   each = put_each LowerKeys state.sections.values name (properties_of state.sections name) is.each (properties_lower state.sections name is.each);
   at = tt;
 }
 
-section_lower : (state : State) (name : Option (List ℕ)) → LowerState state → OfOk LowerState (section_step state name)
+section_lower : (state : State) (name : Option (List ℕ)) → LowerState state → OfOk LowerState (section_step everything state name)
 section_lower state None is = tt
 section_lower state (Some name) is = opened_lower state name is
 
-last_lower : (state : State) (name : List ℕ) (step : Result Last (List ℕ)) → LowerState state → OfOk (λ (last : Last). IsLower last.key) step → OfOk LowerState (last_step state name step)
+last_lower : (state : State) (name : List ℕ) (step : Result Last (List ℕ)) → LowerState state → OfOk (λ (last : Last). IsLower last.key) step → OfOk LowerState (last_step everything state name step)
 last_lower state name (Err message) is low = tt
 last_lower state name (Ok last) is low =
     let properties = properties_of state.sections name in
@@ -113,7 +113,7 @@ last_lower state name (Ok last) is low =
     }
 
 within_lower : (state : State) (at : Option Open) (step : Open → Result Last (List ℕ)) → LowerState state → OfSome (λ (at : Open). OfSome (λ (last : Last). IsLower last.key) at.last) at
-    → ((at : Open) → OfSome (λ (last : Last). IsLower last.key) at.last → OfOk (λ (last : Last). IsLower last.key) (step at)) → OfOk LowerState (within_section state at step)
+    → ((at : Open) → OfSome (λ (last : Last). IsLower last.key) at.last → OfOk (λ (last : Last). IsLower last.key) (step at)) → OfOk LowerState (within_section everything state at step)
 within_lower state None step is low steps = tt
 within_lower state (Some at) step is low steps = last_lower state at.name (step at) is (steps at low)
 
@@ -133,31 +133,31 @@ continued_lower None line low = tt
 continued_lower (Some last) line low =
     either (OfOk (λ (last : Last). IsLower last.key)) last.is_parent (sub_checked (property_of line) (grown last line)) (Ok (grown last line)) (checked_lower (property_of line) (grown last line) low) low
 
-line_lower : (state : State) (line : List ℕ) → LowerState state → OfOk LowerState (profile_line_step state line)
+line_lower : (state : State) (line : List ℕ) → LowerState state → OfOk LowerState (profile_line_step everything state line)
 unfolding profile_line_step
 line_lower state line is =
     let P : Result State (List ℕ) → Type 0 = OfOk LowerState in
-    let more = within_section state state.open_section (λ at. continued_or at.last line) in
-    let new = within_section state state.open_section (λ _. begun_property (property_of line)) in
+    let more = within_section everything state state.open_section (λ at. continued_or at.last line) in
+    let new = within_section everything state state.open_section (λ _. begun_property (property_of line)) in
     let later = cond (is_blank (slice_index line 0)) more new in
-    let marked = cond (nat_eq (slice_index line 0) 91) (section_step state (section_name line)) later in
+    let marked = cond (nat_eq (slice_index line 0) 91) (section_step everything state (section_name line)) later in
     either P (is_skipped line) (Ok state) marked is
-    (either P (nat_eq (slice_index line 0) 91) (section_step state (section_name line)) later (section_lower state (section_name line) is)
+    (either P (nat_eq (slice_index line 0) 91) (section_step everything state (section_name line)) later (section_lower state (section_name line) is)
     (either P (is_blank (slice_index line 0)) more new
     (within_lower state state.open_section (λ at. continued_or at.last line) is is.at (λ at low. continued_lower at.last line low))
     (within_lower state state.open_section (λ _. begun_property (property_of line)) is is.at (λ at low. begun_lower (property_of line)))))
 
-lines_lower : (number : ℕ) (state : State) (lines : List (List ℕ)) → LowerState state → OfOk (λ (read : Named (List (List ℕ × List ℕ))). EachValue LowerKeys read.values) (raw_from number state lines)
+lines_lower : (number : ℕ) (state : State) (lines : List (List ℕ)) → LowerState state → OfOk (λ (read : Named (List (List ℕ × List ℕ))). EachValue LowerKeys read.values) (raw_from everything number state lines)
 lines_lower number state [] is = is.each
-lines_lower number state (line ∷ lines) is = by (profile_line_step state line) (line_lower state line is) (λ next low. lines_lower (number + 1) next lines low)
+lines_lower number state (line ∷ lines) is = by (profile_line_step everything state line) (line_lower state line is) (λ next low. lines_lower (number + 1) next lines low)
   where
     by : (step : Result State (List ℕ)) → OfOk LowerState step
-        → ((next : State) → LowerState next → OfOk (λ (read : Named (List (List ℕ × List ℕ))). EachValue LowerKeys read.values) (raw_from (number + 1) next lines))
-        → OfOk (λ (read : Named (List (List ℕ × List ℕ))). EachValue LowerKeys read.values) (after_line number (λ next. raw_from (number + 1) next lines) step)
+        → ((next : State) → LowerState next → OfOk (λ (read : Named (List (List ℕ × List ℕ))). EachValue LowerKeys read.values) (raw_from everything (number + 1) next lines))
+        → OfOk (λ (read : Named (List (List ℕ × List ℕ))). EachValue LowerKeys read.values) (after_line number (λ next. raw_from everything (number + 1) next lines) step)
     by (Ok next) low more = more next low
     by (Err message) low more = tt
 
-raw_lower : (text : List ℕ) → OfOk (λ (read : Named (List (List ℕ × List ℕ))). EachValue LowerKeys read.values) (raw text)
+raw_lower : (text : List ℕ) → OfOk (λ (read : Named (List (List ℕ × List ℕ))). EachValue LowerKeys read.values) (raw everything text)
 unfolding raw
 raw_lower text = lines_lower 1 start (profile_lines text) (record { each = tt; at = tt })
 
@@ -213,12 +213,12 @@ file_lower : (sections : Sections) (kind : EnvConfigFileKind) (file : Named (Lis
 unfolding with_file
 file_lower sections kind file is low = names_lower sections kind (has_profile_default file.names) file file.names is low
 
-files_lower : (sections : Sections) (files : List FileText) → LowerMerged sections → OfOk LowerMerged (files_from sections files)
+files_lower : (sections : Sections) (files : List FileText) → LowerMerged sections → OfOk LowerMerged (files_from everything sections files)
 files_lower sections [] is = is
-files_lower sections (file ∷ files) is = by (raw file.contents) (raw_lower file.contents) (λ next low. files_lower next files low)
+files_lower sections (file ∷ files) is = by (raw everything file.contents) (raw_lower file.contents) (λ next low. files_lower next files low)
   where
     by : (read : Result (Named (List (List ℕ × List ℕ))) (ℕ × List ℕ)) → OfOk (λ (read : Named (List (List ℕ × List ℕ))). EachValue LowerKeys read.values) read
-        → ((next : Sections) → LowerMerged next → OfOk LowerMerged (files_from next files)) → OfOk LowerMerged (after_file file (λ read. files_from (with_file sections file.kind read) files) read)
+        → ((next : Sections) → LowerMerged next → OfOk LowerMerged (files_from everything next files)) → OfOk LowerMerged (after_file file (λ read. files_from everything (with_file sections file.kind read) files) read)
     by (Ok read) low more = more (with_file sections file.kind read) (file_lower sections file.kind read is low)
     by (Err fault) low more = tt
 

@@ -3,6 +3,7 @@ use Rattle.std.proofs.Common.{◌≡◌, ◌∙◌, ℕ, ◌+◌, ◌<◌, List,
 use Rattle.std.specs.Prelude.{Result, Err}
 use Rattle.std.proofs.Math.Seq.{drop-cons}
 use Rattle.env_config.specs.EnvConfigSections.{MergesText, ParsesSections}
+use Rattle.env_config.specs.Raw.{Keeps}
 use Rattle.env_config.specs.Sections.{FaultyLine, FileText, Sections, files_from}
 use Rattle.env_config.specs.Source.{file_of}
 use Rattle.env_config.specs.declared.parse_fault.ParseFault.{ParseFault}
@@ -17,7 +18,7 @@ files_front items read i item same within is =
     subst P same (ap (map file_of) front)
 
 -- the fault of a file is that of all files
-pub file_refused : (profile : List ℕ) (before now : Sections) (file : FileText) (files : List FileText) (read : Result Sections FaultyLine) (fault : ParseFault)
-    → files_from before (file ∷ files) ≡ read → MergesText before file now (Err fault) → ParsesSections read profile (Err fault)
-file_refused profile before now file files read (Parse error) is merges = sym is ∙ merges (λ next. files_from next files)
-file_refused profile before now file files read NoMemory is merges = tt
+pub file_refused : (keeps : Keeps) (profile : List ℕ) (before now : Sections) (file : FileText) (files : List FileText) (read : Result Sections FaultyLine) (fault : ParseFault)
+    → files_from keeps before (file ∷ files) ≡ read → MergesText keeps before file now (Err fault) → ParsesSections read profile (Err fault)
+file_refused keeps profile before now file files read (Parse error) is merges = sym is ∙ merges (λ next. files_from keeps next files)
+file_refused keeps profile before now file files read NoMemory is merges = tt

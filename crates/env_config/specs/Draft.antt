@@ -6,8 +6,8 @@ use Rattle.env_config.specs.declared.line.PropertyFault.{PropertyFault}
 use Rattle.env_config.specs.declared.draft.LastProperty.{LastProperty}
 use Rattle.env_config.specs.declared.draft.OpenSection.{OpenSection}
 use Rattle.env_config.specs.declared.draft.Draft.{Draft}
-use Rattle.env_config.specs.Texts.{Named, put, put_named}
-use Rattle.env_config.specs.Raw.{Last, Open, State, sub_checked}
+use Rattle.env_config.specs.Texts.{Named}
+use Rattle.env_config.specs.Raw.{Keeps, Last, Open, State, put_property, put_section, sub_checked}
 
 abbrev pub last_of : LastProperty → Last
 last_of last = record { key = string_bytes last.key; value = string_bytes last.value; is_parent = last.is_parent }
@@ -16,37 +16,37 @@ abbrev pub open_of : OpenSection → Open
 open_of at = record { name = string_bytes at.name; last = option_map last_of at.last }
 
 -- the last property stands among the others
-abbrev pub with_open_last : List (List ℕ × List ℕ) → Option Last → List (List ℕ × List ℕ)
-with_open_last properties None = properties
-with_open_last properties (Some last) = put properties last.key last.value
+abbrev pub with_open_last : Keeps → List (List ℕ × List ℕ) → Option Last → List (List ℕ × List ℕ)
+with_open_last keeps properties None = properties
+with_open_last keeps properties (Some last) = put_property keeps properties last
 
--- the properties of the open section
-abbrev pub all_properties : OpenSection → List (List ℕ × List ℕ)
-all_properties at = with_open_last at.properties (option_map last_of at.last)
+-- the properties of the open section that are kept
+abbrev pub all_properties : Keeps → OpenSection → List (List ℕ × List ℕ)
+all_properties keeps at = with_open_last keeps at.properties (option_map last_of at.last)
 
 -- the open section stands among the others
-abbrev pub with_open : Named (List (List ℕ × List ℕ)) → Option OpenSection → Named (List (List ℕ × List ℕ))
-with_open sections None = sections
-with_open sections (Some at) = put_named sections (string_bytes at.name) (all_properties at)
+abbrev pub with_open : Keeps → Named (List (List ℕ × List ℕ)) → Option OpenSection → Named (List (List ℕ × List ℕ))
+with_open keeps sections None = sections
+with_open keeps sections (Some at) = put_section keeps sections (string_bytes at.name) (all_properties keeps at)
 
-unfoldable pub state_of : Draft → State
-state_of draft = record { sections = with_open draft.sections draft.at; open_section = option_map open_of draft.at }
+unfoldable pub state_of : Keeps → Draft → State
+state_of keeps draft = record { sections = with_open keeps draft.sections draft.at; open_section = option_map open_of draft.at }
 
 -- the open section with its properties
 pub record FilledSection : Type 0 where
   pub at : Open
   pub properties : List (List ℕ × List ℕ)
 
-abbrev pub filled_section : OpenSection → FilledSection
-filled_section at = record { at = open_of at; properties = all_properties at }
+abbrev pub filled_section : Keeps → OpenSection → FilledSection
+filled_section keeps at = record { at = open_of at; properties = all_properties keeps at }
 
 -- the section with its new last property, or the message
-abbrev pub with_new_last : FilledSection → Result Last (List ℕ) → Result FilledSection (List ℕ)
-with_new_last section (Ok last) = Ok (record {
+abbrev pub with_new_last : Keeps → FilledSection → Result Last (List ℕ) → Result FilledSection (List ℕ)
+with_new_last keeps section (Ok last) = Ok (record {
   at = record { name = section.at.name; last = Some last };
-  properties = put section.properties last.key last.value;
+  properties = put_property keeps section.properties last;
 })
-with_new_last section (Err message) = Err message
+with_new_last keeps section (Err message) = Err message
 
 -- the property that was read, or the message
 abbrev pub MakesLast : Result Last (List ℕ) → Result LastProperty LineFault → Type 0

@@ -9,7 +9,7 @@ use Rattle.env_config.specs.declared.sections.EnvConfigSections.{EnvConfigSectio
 use Rattle.env_config.specs.ParseFault.{faulty_line_of}
 use Rattle.env_config.specs.Profile.{profile_section, session_section}
 use Rattle.env_config.specs.Properties.{others_of}
-use Rattle.env_config.specs.Raw.{raw}
+use Rattle.env_config.specs.Raw.{Keeps, raw}
 use Rattle.env_config.specs.Section.{IsKeyedSection, IsSameSection, section_of}
 use Rattle.env_config.specs.Sections.{FaultyLine, FileText, Sections, after_file, with_file}
 use Rattle.env_config.specs.Texts.{CopiedUnder, EachValue, named_as}
@@ -46,11 +46,11 @@ HasCopies sections copy =
 
 -- ## Answers
 
--- the file's text is merged, whatever the files after it add, or its first faulty line is told
-abbrev pub MergesText : Sections → FileText → Sections → Result (Unit {0}) ParseFault → Type 0
-MergesText before file now (Ok _) = (others : Sections → Result Sections FaultyLine) → after_file file (λ read. others (with_file before file.kind read)) (raw file.contents) ≡ others now
-MergesText before file now (Err (Parse error)) = (others : Sections → Result Sections FaultyLine) → after_file file (λ read. others (with_file before file.kind read)) (raw file.contents) ≡ Err (faulty_line_of error)
-MergesText before file now (Err NoMemory) = Unit {0}
+-- what is kept of the file's text is merged, whatever the files after it add, or its first faulty line is told
+abbrev pub MergesText : Keeps → Sections → FileText → Sections → Result (Unit {0}) ParseFault → Type 0
+MergesText keeps before file now (Ok _) = (others : Sections → Result Sections FaultyLine) → after_file file (λ read. others (with_file before file.kind read)) (raw keeps file.contents) ≡ others now
+MergesText keeps before file now (Err (Parse error)) = (others : Sections → Result Sections FaultyLine) → after_file file (λ read. others (with_file before file.kind read)) (raw keeps file.contents) ≡ Err (faulty_line_of error)
+MergesText keeps before file now (Err NoMemory) = Unit {0}
 
 -- the fault of a file's line
 abbrev pub TellsLine : FileText → ℕ → List ℕ → ParseFault → Type 0

@@ -5,6 +5,7 @@ pub mod Fault
 pub mod Files
 pub mod Heading
 pub mod Home
+pub mod Kept
 pub mod Laws
 pub mod Line
 pub mod LoadFault

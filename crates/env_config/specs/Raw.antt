@@ -1,5 +1,5 @@
--- The raw sections of a profile file: each line moves a state on, or is refused with a message.
-use Rattle.std.specs.Prelude.{◌≡◌, ℕ, ◌+◌, ◌==◌, Bool, List, [], ◌∷◌, ◌++◌, length, codes, slice_index, Option, Some, None, unwrap_or, Result, Ok, Err, if◌then◌else◌}
+-- The raw sections of a profile file, as far as they are kept: each line moves a state on, or is refused with a message.
+use Rattle.std.specs.Prelude.{◌≡◌, ℕ, ◌+◌, ◌==◌, Bool, true, List, [], ◌∷◌, ◌++◌, length, codes, slice_index, Option, Some, None, unwrap_or, Result, Ok, Err, if◌then◌else◌}
 use Rattle.smithy_core.specs.TextPairs.{lower}
 use Rattle.env_config.specs.declared.fault.RawFault.{RawFault}
 use Rattle.env_config.specs.declared.fault.RawFault.TheVariants as faults
@@ -27,6 +27,24 @@ pub record State : Type 0 where
 abbrev pub start : State
 start = record { sections = nothing_named; open_section = None }
 
+-- ## What is kept
+
+-- which sections are kept, by the texts between their brackets, and which properties, by their keys
+pub record Keeps : Type 0 where
+  pub section : List ℕ → Bool
+  pub key : List ℕ → Bool
+
+abbrev pub everything : Keeps
+everything = record { section = λ _. true; key = λ _. true }
+
+-- the section stands among the others, if it is kept
+abbrev pub put_section : Keeps → Named (List (List ℕ × List ℕ)) → List ℕ → List (List ℕ × List ℕ) → Named (List (List ℕ × List ℕ))
+put_section keeps sections name properties = if keeps.section name then put_named sections name properties else sections
+
+-- the property stands among the others, in place of the key's value before, if it is kept
+abbrev pub put_property : Keeps → List (List ℕ × List ℕ) → Last → List (List ℕ × List ℕ)
+put_property keeps properties last = if keeps.key last.key then put properties last.key last.value else properties
+
 -- the properties of a section so far
 abbrev pub properties_of : Named (List (List ℕ × List ℕ)) → List ℕ → List (List ℕ × List ℕ)
 properties_of sections name = unwrap_or (value_under sections.values name) []
@@ -34,22 +52,22 @@ properties_of sections name = unwrap_or (value_under sections.values name) []
 -- ## Section lines
 
 -- the section is opened, or gone on with
-abbrev pub opened : State → List ℕ → State
-opened state name = record {
-  sections = put_named state.sections name (properties_of state.sections name);
+abbrev pub opened : Keeps → State → List ℕ → State
+opened keeps state name = record {
+  sections = put_section keeps state.sections name (properties_of state.sections name);
   open_section = Some (record { name = name; last = None });
 }
 
-abbrev pub section_step : State → Option (List ℕ) → Result State (List ℕ)
-section_step state None = Err (codes "Profile definition must end with ']'")
-section_step state (Some name) = Ok (opened state name)
+abbrev pub section_step : Keeps → State → Option (List ℕ) → Result State (List ℕ)
+section_step keeps state None = Err (codes "Profile definition must end with ']'")
+section_step keeps state (Some name) = Ok (opened keeps state name)
 
 -- ## Property lines
 
--- the property stands in the open section, in place of the key's value before
-abbrev pub with_last : State → List ℕ → Last → State
-with_last state name last = record {
-  sections = put_named state.sections name (put (properties_of state.sections name) last.key last.value);
+-- the property stands in the open section
+abbrev pub with_last : Keeps → State → List ℕ → Last → State
+with_last keeps state name last = record {
+  sections = put_section keeps state.sections name (put_property keeps (properties_of state.sections name) last);
   open_section = Some (record { name = name; last = Some last });
 }
 
@@ -81,22 +99,22 @@ continued_or (Some last) line = continued last line
 -- ## Lines
 
 -- the last property of the section that is open, or the message
-abbrev pub last_step : State → List ℕ → Result Last (List ℕ) → Result State (List ℕ)
-last_step state name (Ok last) = Ok (with_last state name last)
-last_step state name (Err message) = Err message
+abbrev pub last_step : Keeps → State → List ℕ → Result Last (List ℕ) → Result State (List ℕ)
+last_step keeps state name (Ok last) = Ok (with_last keeps state name last)
+last_step keeps state name (Err message) = Err message
 
 -- a property and a continuation need a section
-abbrev pub within_section : State → Option Open → (Open → Result Last (List ℕ)) → Result State (List ℕ)
-within_section state None step = Err (codes "Expected a profile definition")
-within_section state (Some at) step = last_step state at.name (step at)
+abbrev pub within_section : Keeps → State → Option Open → (Open → Result Last (List ℕ)) → Result State (List ℕ)
+within_section keeps state None step = Err (codes "Expected a profile definition")
+within_section keeps state (Some at) step = last_step keeps state at.name (step at)
 
 -- what a line of the file does
-unfoldable pub profile_line_step : State → List ℕ → Result State (List ℕ)
-profile_line_step state line =
+unfoldable pub profile_line_step : Keeps → State → List ℕ → Result State (List ℕ)
+profile_line_step keeps state line =
     if is_skipped line then Ok state
-    else if slice_index line 0 == opening_bracket then section_step state (section_name line)
-    else if is_blank (slice_index line 0) then within_section state state.open_section (λ at. continued_or at.last line)
-    else within_section state state.open_section (λ _. begun_property (property_of line))
+    else if slice_index line 0 == opening_bracket then section_step keeps state (section_name line)
+    else if is_blank (slice_index line 0) then within_section keeps state state.open_section (λ at. continued_or at.last line)
+    else within_section keeps state state.open_section (λ _. begun_property (property_of line))
 
 -- goes on where the line was taken, or tells its number and message
 abbrev pub after_line : ℕ → (State → Result (Named (List (List ℕ × List ℕ))) (ℕ × List ℕ)) → Result State (List ℕ) → Result (Named (List (List ℕ × List ℕ))) (ℕ × List ℕ)
@@ -104,13 +122,13 @@ after_line number others (Ok state) = others state
 after_line number others (Err message) = Err (number, message)
 
 -- what the lines from a number on give, after those that gave the state
-abbrev pub raw_from : ℕ → State → List (List ℕ) → Result (Named (List (List ℕ × List ℕ))) (ℕ × List ℕ)
-raw_from number state [] = Ok state.sections
-raw_from number state (line ∷ lines) = after_line number (λ next. raw_from (number + 1) next lines) (profile_line_step state line)
+abbrev pub raw_from : Keeps → ℕ → State → List (List ℕ) → Result (Named (List (List ℕ × List ℕ))) (ℕ × List ℕ)
+raw_from keeps number state [] = Ok state.sections
+raw_from keeps number state (line ∷ lines) = after_line number (λ next. raw_from keeps (number + 1) next lines) (profile_line_step keeps state line)
 
--- the raw sections of a text, or the number of its first faulty line and the message
-unfoldable pub raw : List ℕ → Result (Named (List (List ℕ × List ℕ))) (ℕ × List ℕ)
-raw text = raw_from 1 start (profile_lines text)
+-- the raw sections of a text that are kept, or the number of its first faulty line and the message
+unfoldable pub raw : Keeps → List ℕ → Result (Named (List (List ℕ × List ℕ))) (ℕ × List ℕ)
+raw keeps text = raw_from keeps 1 start (profile_lines text)
 
 -- the raw sections, or the number and the message of the first faulty line; want of memory says nothing
 abbrev pub ReadsRaw : Result (Named (List (List ℕ × List ℕ))) (ℕ × List ℕ) → Result (Named (List (List ℕ × List ℕ))) RawFault → Type 0

@@ -10,7 +10,7 @@ use Rattle.std.specs.Map.{lookup}
 use Rattle.env_config.specs.declared.source.EnvConfigFileKind.{EnvConfigFileKind}
 use Rattle.env_config.specs.declared.source.EnvConfigFileKind.TheVariants.{Config, Credentials}
 use Rattle.env_config.specs.Line.{is_blank, is_equals, line_feed, trimmed}
-use Rattle.env_config.specs.Raw.{properties_of, raw}
+use Rattle.env_config.specs.Raw.{Keeps, everything, properties_of, raw}
 use Rattle.env_config.specs.Texts.{Named, nothing_named, put, put_named, text_cmp, value_under}
 
 -- ## Names
@@ -168,10 +168,10 @@ after_file file others (Ok sections) = others sections
 after_file file others (Err fault) = Err (record { path = unwrap_or file.path []; line_number = fault.0; message = fault.1 })
 
 -- what the files to come add to the sections
-abbrev pub files_from : Sections → List FileText → Result Sections FaultyLine
-files_from sections [] = Ok sections
-files_from sections (file ∷ files) = after_file file (λ read. files_from (with_file sections file.kind read) files) (raw file.contents)
+abbrev pub files_from : Keeps → Sections → List FileText → Result Sections FaultyLine
+files_from keeps sections [] = Ok sections
+files_from keeps sections (file ∷ files) = after_file file (λ read. files_from keeps (with_file sections file.kind read) files) (raw keeps file.contents)
 
 -- the merged sections of the files, or the first faulty line of the first faulty file
 unfoldable pub sections : List FileText → Result Sections FaultyLine
-sections files = files_from no_sections files
+sections files = files_from everything no_sections files

@@ -1,11 +1,13 @@
 ghost use Rattle.std.specs.Prelude.{◌≡◌, None, OnOk, IfOk};
 ghost use Rattle.std.specs.String.{string_bytes};
+ghost use Rattle.env_config.specs.Kept.{keeps_of};
 ghost use Rattle.env_config.specs.Draft.{TakesStep, MakesLast, TestsSubProperty, all_properties, last_of, open_of, filled_section, state_of, with_new_last};
 ghost use Rattle.env_config.specs.Line.{property_of, section_name};
-ghost use Rattle.env_config.specs.Raw.{begun_property, continued, continued_or, profile_line_step, opened, section_step, start, within_section};
+ghost use Rattle.env_config.specs.Raw.{Keeps, begun_property, continued, continued_or, profile_line_step, opened, properties_of, put_property, put_section, section_step, start, within_section};
 
 use crate::by_name::ByName;
 use crate::fault::LineFault;
+use crate::kept::Kept;
 use crate::line::{PropertyFault, cut_property, is_skipped, section_name, trim};
 use crate::texts::Texts;
 use smithy_core::Mem;
@@ -38,7 +40,7 @@ impl Draft {
     /// No lines yet.
     #[tactic(auto, unfolding(crate::specs::Draft::state_of))]
     pub fn new(alloc: Global) -> Draft
-        ensures { state_of result ≡ start }
+        ensures { (keeps : Keeps) → state_of keeps result ≡ start }
     {
         Draft {
             sections: ByName::new(alloc),
@@ -46,86 +48,113 @@ impl Draft {
         }
     }
 
-    /// Takes a line.
+    /// Takes a line, and keeps what is to be kept of the section and of the property that it ends.
     ///
     /// # Errors
     ///
     /// [`LineFault::Bad`] where the line is outside the grammar. Nothing is said of the draft then.
     #[tactic(auto, unfolding(crate::specs::Raw::profile_line_step))]
-    pub fn take_line(&mut self, alloc: Global, line: &str) -> Result<(), LineFault>
-        ensures { TakesStep (profile_line_step (state_of self.old) line.now) (state_of self.new) result }
+    pub fn take_line(&mut self, alloc: Global, kept: &Kept<'_>, line: &str) -> Result<(), LineFault>
+        ensures { TakesStep (profile_line_step (keeps_of kept.now) (state_of (keeps_of kept.now) self.old) line.now) (state_of (keeps_of kept.now) self.new) result }
     {
         if is_skipped(line) {
             return Ok(());
         }
         if line.starts_with('[') {
-            return self.open_section(alloc, line);
+            return self.open_section(alloc, kept, line);
         }
         if line.starts_with(' ') || line.starts_with('\t') {
             return self.continue_property(line);
         }
-        self.begin_property(alloc, line)
+        self.begin_property(alloc, kept, line)
     }
 
     /// The sections, where the lines are over.
     #[tactic(auto, unfolding(crate::specs::Draft::state_of))]
-    pub fn into_sections(mut self) -> Mem<ByName<Texts>>
-        ensures { IfOk result (λ sections. sections ≡ (state_of self).sections) }
+    pub fn into_sections(mut self, kept: &Kept<'_>) -> Mem<ByName<Texts>>
+        ensures { IfOk result (λ sections. sections ≡ (state_of (keeps_of kept.now) self).sections) }
     {
-        self.close()?;
+        self.close(kept)?;
         Ok(self.sections)
     }
 
-    // The section that is open stands among the others.
+    // The section that is open stands among the others, if it is kept.
     #[tactic(auto, unfolding(crate::specs::Draft::state_of))]
-    fn close(&mut self) -> Mem<()>
-        ensures sections { OnOk result (self.new.sections ≡ (state_of self.old).sections) }
+    fn close(&mut self, kept: &Kept<'_>) -> Mem<()>
+        ensures sections { OnOk result (self.new.sections ≡ (state_of (keeps_of kept.now) self.old).sections) }
         ensures closed { OnOk result (self.new.at ≡ None) }
     {
-        if let Some(at) = self.at.take() {
-            let (name, properties) = at.into_parts()?;
-            self.sections.replace(name.as_str(), properties)?;
+        match self.at.take() {
+            Some(at) => self.put_section(kept, at),
+            None => Ok(()),
         }
+    }
+
+    fn put_section(&mut self, kept: &Kept<'_>, at: OpenSection) -> Mem<()>
+        ensures sections { OnOk result (self.new.sections ≡ put_section (keeps_of kept.now) self.old.sections (string_bytes at.name) (all_properties (keeps_of kept.now) at)) }
+        ensures at { self.new.at ≡ self.old.at }
+    {
+        if !kept.has_section(at.name.as_str()) {
+            return Ok(());
+        }
+        let (name, properties) = at.into_parts(kept)?;
+        self.sections.replace(name.as_str(), properties)?;
         Ok(())
     }
 
-    fn open_section(&mut self, alloc: Global, line: &str) -> Result<(), LineFault>
-        ensures { TakesStep (section_step (state_of self.old) (section_name line.now)) (state_of self.new) result }
+    fn open_section(&mut self, alloc: Global, kept: &Kept<'_>, line: &str) -> Result<(), LineFault>
+        ensures { TakesStep (section_step (keeps_of kept.now) (state_of (keeps_of kept.now) self.old) (section_name line.now)) (state_of (keeps_of kept.now) self.new) result }
     {
         match section_name(line) {
-            Some(name) => Ok(self.open(alloc, name)?),
+            Some(name) => Ok(self.open(alloc, kept, name)?),
             None => Err(LineFault::Bad("Profile definition must end with ']'")),
         }
     }
 
     // The section is opened, or gone on with.
     #[tactic(auto, unfolding(crate::specs::Draft::state_of))]
-    fn open(&mut self, alloc: Global, name: &str) -> Mem<()>
-        ensures { OnOk result (state_of self.new ≡ opened (state_of self.old) name.now) }
+    fn open(&mut self, alloc: Global, kept: &Kept<'_>, name: &str) -> Mem<()>
+        ensures { OnOk result (state_of (keeps_of kept.now) self.new ≡ opened (keeps_of kept.now) (state_of (keeps_of kept.now) self.old) name.now) }
     {
-        self.close()?;
-        let before = self.sections.take(name, Texts::new(alloc))?;
+        self.close(kept)?;
+        let properties = self.take_properties(alloc, kept, name)?;
         self.at = Some(OpenSection {
             name: String::from_str(alloc, name)?,
-            properties: before.unwrap_or(Texts::new(alloc)),
+            properties,
             last: None,
         });
         Ok(())
     }
 
+    // The properties of the section, to go on with; none where it isn't kept.
+    fn take_properties(&mut self, alloc: Global, kept: &Kept<'_>, name: &str) -> Mem<Texts>
+        ensures { IfOk result (λ properties. put_section (keeps_of kept.now) self.new.sections name.now properties ≡ put_section (keeps_of kept.now) self.old.sections name.now (properties_of self.old.sections name.now)) }
+    {
+        if !kept.has_section(name) {
+            return Ok(Texts::new(alloc));
+        }
+        let before = self.sections.take(name, Texts::new(alloc))?;
+        Ok(before.unwrap_or(Texts::new(alloc)))
+    }
+
     #[tactic(auto, unfolding(crate::specs::Draft::state_of))]
-    fn begin_property(&mut self, alloc: Global, line: &str) -> Result<(), LineFault>
-        ensures { TakesStep (within_section (state_of self.old) (state_of self.old).open_section (λ _. begun_property (property_of line.now))) (state_of self.new) result }
+    fn begin_property(
+        &mut self,
+        alloc: Global,
+        kept: &Kept<'_>,
+        line: &str,
+    ) -> Result<(), LineFault>
+        ensures { TakesStep (within_section (keeps_of kept.now) (state_of (keeps_of kept.now) self.old) (state_of (keeps_of kept.now) self.old).open_section (λ _. begun_property (property_of line.now))) (state_of (keeps_of kept.now) self.new) result }
     {
         match &mut self.at {
-            Some(at) => at.begin_property(alloc, line),
+            Some(at) => at.begin_property(alloc, kept, line),
             None => Err(LineFault::Bad("Expected a profile definition")),
         }
     }
 
     #[tactic(auto, unfolding(crate::specs::Draft::state_of))]
     fn continue_property(&mut self, line: &str) -> Result<(), LineFault>
-        ensures { TakesStep (within_section (state_of self.old) (state_of self.old).open_section (λ at. continued_or at.last line.now)) (state_of self.new) result }
+        ensures { (keeps : Keeps) → TakesStep (within_section keeps (state_of keeps self.old) (state_of keeps self.old).open_section (λ at. continued_or at.last line.now)) (state_of keeps self.new) result }
     {
         match &mut self.at {
             Some(at) => at.continue_property(line),
@@ -135,38 +164,43 @@ impl Draft {
 }
 
 impl OpenSection {
-    // The last property stands among the others.
-    fn put_last(&mut self) -> Mem<()>
-        ensures properties { OnOk result (self.new.properties ≡ all_properties self.old) }
+    // The last property stands among the others, if it is kept.
+    fn put_last(&mut self, kept: &Kept<'_>) -> Mem<()>
+        ensures properties { OnOk result (self.new.properties ≡ all_properties (keeps_of kept.now) self.old) }
         ensures none { OnOk result (self.new.last ≡ None) }
         ensures name { string_bytes self.new.name ≡ string_bytes self.old.name }
     {
-        if let Some(last) = self.last.take() {
-            self.properties.put(last.key, last.value)?;
+        match self.last.take() {
+            Some(last) => last.put_into(kept, &mut self.properties),
+            None => Ok(()),
         }
-        Ok(())
     }
 
     // The name, and all properties.
-    fn into_parts(mut self) -> Mem<(String, Texts)>
+    fn into_parts(mut self, kept: &Kept<'_>) -> Mem<(String, Texts)>
         ensures name { IfOk result (λ parts. string_bytes parts.0 ≡ string_bytes self.name) }
-        ensures properties { IfOk result (λ parts. parts.1 ≡ all_properties self) }
+        ensures properties { IfOk result (λ parts. parts.1 ≡ all_properties (keeps_of kept.now) self) }
     {
-        self.put_last()?;
+        self.put_last(kept)?;
         Ok((self.name, self.properties))
     }
 
-    fn begin_property(&mut self, alloc: Global, line: &str) -> Result<(), LineFault>
-        ensures { TakesStep (with_new_last (filled_section self.old) (begun_property (property_of line.now))) (filled_section self.new) result }
+    fn begin_property(
+        &mut self,
+        alloc: Global,
+        kept: &Kept<'_>,
+        line: &str,
+    ) -> Result<(), LineFault>
+        ensures { TakesStep (with_new_last (keeps_of kept.now) (filled_section (keeps_of kept.now) self.old) (begun_property (property_of line.now))) (filled_section (keeps_of kept.now) self.new) result }
     {
         let last = LastProperty::read(alloc, line)?;
-        self.put_last()?;
+        self.put_last(kept)?;
         self.last = Some(last);
         Ok(())
     }
 
     fn continue_property(&mut self, line: &str) -> Result<(), LineFault>
-        ensures { TakesStep (with_new_last (filled_section self.old) (continued_or (open_of self.old).last line.now)) (filled_section self.new) result }
+        ensures { (keeps : Keeps) → TakesStep (with_new_last keeps (filled_section keeps self.old) (continued_or (open_of self.old).last line.now)) (filled_section keeps self.new) result }
     {
         match &mut self.last {
             Some(last) => last.go_on(line),
@@ -191,6 +225,16 @@ impl LastProperty {
             )),
             Err(PropertyFault::NoName) => Err(LineFault::Bad("Property did not have a name")),
         }
+    }
+
+    // The property stands among these, if it is kept.
+    fn put_into(self, kept: &Kept<'_>, properties: &mut Texts) -> Mem<()>
+        ensures { OnOk result (properties.new ≡ put_property (keeps_of kept.now) properties.old (last_of self)) }
+    {
+        if kept.has_key(self.key.as_str()) {
+            properties.put(self.key, self.value)?;
+        }
+        Ok(())
     }
 
     // The value goes on with the line.

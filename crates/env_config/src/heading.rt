@@ -33,8 +33,8 @@ impl<'a> Heading<'a> {
         }
     }
 
-    // Whether it is `[profile default]`.
-    fn is_profile_default(&self) -> bool
+    /// Whether it is `[profile default]`.
+    pub fn is_profile_default(&self) -> bool
         ensures { result ≡ is_profile_default (heading_seen self.now).prefix (heading_seen self.now).name }
     {
         match self.prefix {

@@ -8,6 +8,7 @@ mod fault;
 mod files;
 mod heading;
 mod home;
+mod kept;
 mod laws;
 mod line;
 mod load_fault;

@@ -1,22 +1,24 @@
 ghost use Rattle.std.specs.Prelude.{IfOk};
+ghost use Rattle.env_config.specs.Kept.{keeps_of};
 ghost use Rattle.env_config.specs.Raw.{raw, ReadsRaw};
 ghost use Rattle.env_config.specs.Texts.{IsApart};
 
 use crate::by_name::ByName;
 use crate::draft::Draft;
 use crate::fault::RawFault;
+use crate::kept::Kept;
 use crate::line::cut_line;
 use crate::texts::Texts;
 use std::alloc::Global;
 
-/// The raw sections of a profile text: each a map from keys to values, under the text between its brackets.
+/// The raw sections of a profile text that are kept: each a map from keys to values, under the text between its brackets.
 ///
 /// # Errors
 ///
 /// [`RawFault::Line`] with the number of the first line outside the grammar, and the message.
 #[tactic(auto, unfolding(crate::specs::Raw::raw))]
-pub fn read_raw(alloc: Global, text: &str) -> Result<ByName<Texts>, RawFault>
-    ensures reads { ReadsRaw (raw text.now) result }
+pub fn read_raw(alloc: Global, kept: &Kept<'_>, text: &str) -> Result<ByName<Texts>, RawFault>
+    ensures reads { ReadsRaw (raw (keeps_of kept.now) text.now) result }
     ensures apart { IfOk result (λ sections. IsApart sections.names) }
 {
     let mut draft = Draft::new(alloc);
@@ -24,13 +26,13 @@ pub fn read_raw(alloc: Global, text: &str) -> Result<ByName<Texts>, RawFault>
     let mut rest = text;
     while !rest.is_empty() {
         let (line, others) = cut_line(rest);
-        if let Err(fault) = draft.take_line(alloc, line) {
+        if let Err(fault) = draft.take_line(alloc, kept, line) {
             return Err(fault.at(number));
         }
         rest = others;
         number += 1;
     }
-    match draft.into_sections() {
+    match draft.into_sections(kept) {
         Ok(sections) => Ok(sections),
         Err(_) => Err(RawFault::NoMemory),
     }

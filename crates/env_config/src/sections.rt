@@ -2,7 +2,8 @@ ghost use Rattle.std.specs.Prelude.{◌≡◌, ◌==◌, ℕ, List, [], false, I
 ghost use Rattle.std.specs.Ordering.{is_eq};
 ghost use Rattle.std.specs.String.{string_bytes};
 ghost use Rattle.env_config.specs.Heading.{heading_seen};
-ghost use Rattle.env_config.specs.Sections.{heading_of, no_sections, sections, with_file, with_raw, with_section};
+ghost use Rattle.env_config.specs.Kept.{keeps_of};
+ghost use Rattle.env_config.specs.Sections.{files_from, heading_of, no_sections, sections, with_file, with_raw, with_section};
 ghost use Rattle.env_config.specs.Texts.{IsApart, by_text, text_cmp, value_under};
 ghost use Rattle.env_config.specs.Value.{selected_value};
 ghost use Rattle.env_config.specs.EnvConfigValue.{chosen_of};
@@ -16,6 +17,7 @@ ghost use Rattle.env_config.specs.Source.{file_of};
 use crate::by_name::ByName;
 use crate::fault::RawFault;
 use crate::heading::{Heading, has_profile_default};
+use crate::kept::Kept;
 use crate::merge::{merge_into, merge_others};
 use crate::parse_fault::{EnvConfigParseError, ParseFault};
 use crate::profile::{Profile, SsoSession};
@@ -78,10 +80,22 @@ impl EnvConfigSections {
         ensures parses { ParsesSections (sections (map file_of source.now.files.items)) (string_bytes source.now.profile) result }
         ensures keys { IfOk result AreKeyed }
     {
+        EnvConfigSections::parse_kept(alloc, &Kept::All, source)
+    }
+
+    // What is kept of the sections of the files, merged.
+    fn parse_kept(
+        alloc: Global,
+        kept: &Kept<'_>,
+        source: &Source,
+    ) -> Result<EnvConfigSections, ParseFault>
+        ensures parses { ParsesSections (files_from (keeps_of kept.now) no_sections (map file_of source.now.files.items)) (string_bytes source.now.profile) result }
+        ensures keys { IfOk result AreKeyed }
+    {
         let selected = String::from_str(alloc, source.profile.as_str())?;
         let mut sections = EnvConfigSections::with_selected(alloc, selected);
         for file in &source.files {
-            sections.merge_text(alloc, file)?;
+            sections.merge_text(alloc, kept, file)?;
         }
         Ok(sections)
     }
@@ -161,13 +175,13 @@ impl EnvConfigSections {
         })
     }
 
-    // Merges the text of a file.
-    fn merge_text(&mut self, alloc: Global, file: &File) -> Result<(), ParseFault>
-        ensures sections { MergesText (sections_of self.old) (file_of file.now) (sections_of self.new) result }
+    // Merges what is kept of the text of a file.
+    fn merge_text(&mut self, alloc: Global, kept: &Kept<'_>, file: &File) -> Result<(), ParseFault>
+        ensures sections { MergesText (keeps_of kept.now) (sections_of self.old) (file_of file.now) (sections_of self.new) result }
         ensures selected { selected_of self.new ≡ selected_of self.old }
         ensures keys { AreKeyed self.old → OnOk result (AreKeyed self.new) }
     {
-        match read_raw(alloc, file.contents.as_str()) {
+        match read_raw(alloc, kept, file.contents.as_str()) {
             Ok(raw) => Ok(self.merge_file(alloc, file.kind, raw)?),
             Err(RawFault::Line(number, message)) => Err(line_fault(alloc, file, number, message)),
             Err(RawFault::NoMemory) => Err(ParseFault::NoMemory),

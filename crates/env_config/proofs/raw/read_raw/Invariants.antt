@@ -2,6 +2,7 @@ use denote.Shadow.{shadow}
 use denote.Text.{Utf8}
 use Rattle.std.proofs.Common.{◌≡◌, ◌+◌, ◌≤◌, length}
 use Rattle.env_config.specs.Draft.{state_of}
+use Rattle.env_config.specs.Kept.{keeps_of}
 use Rattle.env_config.specs.Line.{profile_lines}
 use Rattle.env_config.specs.Raw.{raw, raw_from}
 use Rattle.env_config.proofs.raw.read_raw.Given as goal
@@ -9,7 +10,7 @@ use Rattle.env_config.proofs.raw.read_raw.Given as goal
 -- the lines to come, after the draft, give what all lines give
 abbrev pub invariant-loop-rest : goal.invariant-loop-rest
 invariant-loop-rest l = record {
-  to_come : raw_from l.number (state_of l.draft) (profile_lines l.rest) ≡ raw l.text;
+  to_come : raw_from (keeps_of l.kept) l.number (state_of (keeps_of l.kept) l.draft) (profile_lines l.rest) ≡ raw (keeps_of l.kept) l.text;
   counted : l.number + length l.rest ≤ 1 + length l.text;
   text : shadow (Utf8 l.rest);
 }

@@ -1,0 +1,29 @@
+-- What is kept of a text, for the values that are asked for.
+use Rattle.std.specs.Prelude.{ℕ, Bool, ◌&&◌, ◌||◌, List, codes, bytes_eq, map, unwrap_or}
+use Rattle.std.specs.Borrow.{Bor}
+use Rattle.std.specs.List.{list_any}
+use Rattle.smithy_core.specs.TextPairs.{lower}
+use Rattle.env_config.specs.declared.kept.Kept.{Kept}
+use Rattle.env_config.specs.declared.kept.Kept.TheVariants.{All, Of}
+use Rattle.env_config.specs.Raw.{Keeps, everything}
+use Rattle.env_config.specs.Sections.{Heading, heading_of, is_profile_default}
+
+-- the key is one of these in lower case, or `services`
+abbrev pub is_kept_key : List (List ℕ) → List ℕ → Bool
+is_kept_key keys key = bytes_eq key (codes "services") || list_any (λ k. bytes_eq key (lower k)) keys
+
+-- the section has the prefix and the name; one without prefix is a profile
+abbrev pub has_heading : List ℕ → List ℕ → Heading → Bool
+has_heading prefix name heading = bytes_eq (unwrap_or heading.prefix (codes "profile")) prefix && bytes_eq heading.name name
+
+-- the section has the prefix and the name, or it is `[profile default]`, which tells whether `[default]` is taken
+abbrev pub is_kept_heading : List ℕ → List ℕ → Heading → Bool
+is_kept_heading prefix name heading = has_heading prefix name heading || is_profile_default heading.prefix heading.name
+
+-- these keys of the sections with this prefix and this name
+abbrev pub keys_in : List ℕ → List ℕ → List (List ℕ) → Keeps
+keys_in prefix name keys = record { section = λ text. is_kept_heading prefix name (heading_of text); key = is_kept_key keys }
+
+abbrev pub keeps_of : Kept → Keeps
+keeps_of All = everything
+keeps_of (Of prefix name keys) = keys_in prefix.now name.now (map (λ k. k.now) keys.now)

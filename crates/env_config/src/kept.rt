@@ -1,0 +1,69 @@
+ghost use Rattle.std.specs.Prelude.{◌≡◌, ◌&&◌, codes, bytes_eq, map};
+ghost use Rattle.std.specs.List.{list_any};
+ghost use Rattle.smithy_core.specs.TextPairs.{lower};
+ghost use Rattle.env_config.specs.Heading.{heading_seen};
+ghost use Rattle.env_config.specs.Kept.{has_heading, is_kept_heading, is_kept_key, keeps_of};
+
+use crate::heading::Heading;
+use smithy_core::is_lower_of;
+
+/// Which sections of a text are kept, and which of their keys.
+#[derive(Clone, Copy)]
+pub enum Kept<'a> {
+    /// All sections with all keys.
+    All,
+    /// Of the sections with one prefix and one name these keys, whatever their case, and `services`.
+    Of {
+        prefix: &'a str,
+        name: &'a str,
+        keys: &'a [&'a str],
+    },
+}
+
+impl<'a> Kept<'a> {
+    /// Whether the section with this text between its brackets is kept.
+    pub fn has_section(&self, text: &str) -> bool
+        ensures { result ≡ (keeps_of self.now).section text.now }
+    {
+        match self {
+            Kept::All => true,
+            Kept::Of { prefix, name, .. } => is_kept_heading(&Heading::of(text), prefix, name),
+        }
+    }
+
+    /// Whether the property with this key is kept.
+    pub fn has_key(&self, key: &str) -> bool
+        ensures { result ≡ (keeps_of self.now).key key.now }
+    {
+        match self {
+            Kept::All => true,
+            Kept::Of { keys, .. } => key == "services" || is_one_of(key, keys),
+        }
+    }
+}
+
+// `[profile default]` is kept too, since it tells whether `[default]` is taken.
+fn is_kept_heading(heading: &Heading<'_>, prefix: &str, name: &str) -> bool
+    ensures { result ≡ is_kept_heading prefix.now name.now (heading_seen heading.now) }
+{
+    has_heading(heading, prefix, name) || heading.is_profile_default()
+}
+
+// A section without prefix is a profile.
+fn has_heading(heading: &Heading<'_>, prefix: &str, name: &str) -> bool
+    ensures { result ≡ has_heading prefix.now name.now (heading_seen heading.now) }
+{
+    heading.prefix.unwrap_or("profile") == prefix && heading.name == name
+}
+
+// Whether the text is one of the keys in lower case.
+fn is_one_of(text: &str, keys: &[&str]) -> bool
+    ensures { result ≡ list_any (λ k. bytes_eq text.now (lower k)) (map (λ k. k.now) keys.now) }
+{
+    for key in keys {
+        if is_lower_of(text, key) {
+            return true;
+        }
+    }
+    false
+}
