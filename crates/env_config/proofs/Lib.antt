@@ -14,3 +14,6 @@ pub mod KeyedLemmas
 pub mod ApartLemmas
 pub mod ParseLemmas
 pub mod NarrowLemmas
+pub mod NarrowMergeLemmas
+pub mod NarrowServiceLemmas
+pub mod SelectedLemmas

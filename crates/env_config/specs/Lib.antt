@@ -19,6 +19,7 @@ pub mod Property
 pub mod Raw
 pub mod Section
 pub mod Sections
+pub mod Selected
 pub mod Source
 pub mod Texts
 pub mod Value

@@ -1,4 +1,4 @@
-ghost use Rattle.std.specs.Prelude.{◌≡◌, ◌==◌, ℕ, List, [], false, IfOk, OnOk, codes, length, map, option_copied, option_map, unwrap_or};
+ghost use Rattle.std.specs.Prelude.{◌≡◌, ◌==◌, ℕ, List, [], None, Ok, Some, false, IfOk, OnOk, codes, length, map, option_copied, option_map, unwrap_or};
 ghost use Rattle.std.specs.Ordering.{is_eq};
 ghost use Rattle.std.specs.String.{string_bytes};
 ghost use Rattle.env_config.specs.Heading.{heading_seen};
@@ -12,6 +12,7 @@ ghost use Rattle.env_config.specs.ParseFault.{faulty_line_of};
 ghost use Rattle.env_config.specs.Profile.{profile_section, session_section};
 ghost use Rattle.env_config.specs.Properties.{others_of};
 ghost use Rattle.env_config.specs.Section.{section_of};
+ghost use Rattle.env_config.specs.Selected.{ParsesSelected, ParsesService};
 ghost use Rattle.env_config.specs.Source.{file_of};
 
 use crate::by_name::ByName;
@@ -23,6 +24,7 @@ use crate::parse_fault::{EnvConfigParseError, ParseFault};
 use crate::profile::{Profile, SsoSession};
 use crate::properties::Properties;
 use crate::raw::read_raw;
+use crate::service_id::id_in_sections;
 use crate::source::{EnvConfigFileKind, File, Source};
 use crate::texts::Texts;
 use smithy_core::Mem;
@@ -81,6 +83,69 @@ impl EnvConfigSections {
         ensures keys { IfOk result AreKeyed }
     {
         EnvConfigSections::parse_kept(alloc, &Kept::All, source)
+    }
+
+    /// The sections of the files, merged, with the profile of the source selected, as far as these keys and this
+    /// service need them: of the selected profile the properties with these keys, whatever their case, and `services`;
+    /// and of the services section that it names the service's own sub-properties. Of all else there may be more or
+    /// less than in the files, so that little memory is taken whatever else the files hold.
+    ///
+    /// ```rust
+    /// let sections = EnvConfigSections::parse_selected(alloc, &source, &["region"], Some("S3"))?;
+    /// let region = sections.get("region");
+    /// ```
+    ///
+    /// # Errors
+    ///
+    /// [`ParseFault::Parse`] with the first line outside the grammar in the first faulty file, wherever it stands.
+    pub fn parse_selected(
+        alloc: Global,
+        source: &Source,
+        keys: &[&str],
+        service_id: Option<&str>,
+    ) -> Result<EnvConfigSections, ParseFault>
+        ensures { ParsesSelected (sections (map file_of source.now.files.items)) (string_bytes source.now.profile) (map (λ k. k.now) keys.now) (option_copied service_id.entry) result }
+    {
+        let sections = EnvConfigSections::parse_keys(alloc, source, keys)?;
+        match service_id {
+            Some(id) => sections.with_service(alloc, source, keys, id),
+            None => Ok(sections),
+        }
+    }
+
+    // The properties of the selected profile with these keys.
+    #[tactic(auto, unfolding(crate::specs::Sections::sections))]
+    fn parse_keys(
+        alloc: Global,
+        source: &Source,
+        keys: &[&str],
+    ) -> Result<EnvConfigSections, ParseFault>
+        ensures { ParsesSelected (sections (map file_of source.now.files.items)) (string_bytes source.now.profile) (map (λ k. k.now) keys.now) None result }
+    {
+        let kept = Kept::Of {
+            prefix: "profile",
+            name: source.profile.as_str(),
+            keys,
+        };
+        EnvConfigSections::parse_kept(alloc, &kept, source)
+    }
+
+    // These sections with the service's own sub-properties.
+    fn with_service(
+        mut self,
+        alloc: Global,
+        source: &Source,
+        keys: &[&str],
+        id: &str,
+    ) -> Result<EnvConfigSections, ParseFault>
+        requires { ParsesSelected (sections (map file_of source.now.files.items)) (string_bytes source.now.profile) (map (λ k. k.now) keys.now) None (Ok self) }
+        ensures { ParsesSelected (sections (map file_of source.now.files.items)) (string_bytes source.now.profile) (map (λ k. k.now) keys.now) (Some id.now) result }
+    {
+        let Some(services) = self.get("services") else {
+            return Ok(self);
+        };
+        self.others = service_properties(alloc, source, services, id)?;
+        Ok(self)
     }
 
     // What is kept of the sections of the files, merged.
@@ -244,6 +309,27 @@ impl EnvConfigSections {
             ),
         }
     }
+}
+
+// The sub-properties of the service in this services section.
+#[tactic(auto, unfolding(crate::specs::Sections::sections))]
+fn service_properties(
+    alloc: Global,
+    source: &Source,
+    services: &str,
+    id: &str,
+) -> Result<Properties, ParseFault>
+    ensures { ParsesService (sections (map file_of source.now.files.items)) services.now id.now result }
+{
+    let id = id_in_sections(alloc, id)?;
+    let keys = [id.as_str()];
+    let kept = Kept::Of {
+        prefix: "services",
+        name: services,
+        keys: &keys,
+    };
+    let sections = EnvConfigSections::parse_kept(alloc, &kept, source)?;
+    Ok(sections.others)
 }
 
 // The texts under the name, taken from the others.

@@ -1,0 +1,238 @@
+-- What is kept of the texts gives the sub-properties of a services section that all of them give.
+use Rattle.std.proofs.Common.{◌≡◌, ℕ, Bool, true, false, cond, ◌&&◌, ◌||◌, List, [], ◌∷◌, Ordering, Less, Equal, Greater, is_eq, refl, sym, ap, ap₂, ◌∙◌}
+use Rattle.std.specs.Prelude.{Option, Some, None, bytes_eq, codes, length, nat_lt}
+use Rattle.std.specs.List.{after_first, before_first, position_or_len}
+use Rattle.std.specs.Ordering.{ordering_then}
+use Rattle.std.specs.Option.{option_cmp}
+use Rattle.std.proofs.Math.Bool.{or-true}
+use Rattle.std.proofs.lemmas.Bool.{false≢true}
+use Rattle.std.proofs.lemmas.Slice.Eq.{bytes_eq-Decides}
+use Rattle.env_config.specs.Kept.{has_heading, is_kept_key, keys_in}
+use Rattle.env_config.specs.Line.{is_equals, trimmed}
+use Rattle.env_config.specs.Sections.{Heading, Key, Sections, heading_of, is_identifier, is_profile_default, key_cmp, merged_into, put_at_key, put_others, put_sub, put_subs, value_at_key, value_pieces, with_section}
+use Rattle.env_config.specs.Texts.{text_cmp, value_under}
+use Rattle.env_config.proofs.LaterLemmas.{at_put, key_total}
+use Rattle.env_config.proofs.LowerLemmas.{tied_same}
+use Rattle.env_config.proofs.NarrowLemmas.{IsRising, none_above}
+use Rattle.env_config.proofs.NarrowMergeLemmas.{IsKeptValue, tied_is}
+
+-- ## Keys
+
+then_first : (a b : Ordering) → is_eq (ordering_then a b) ≡ true → is_eq a ≡ true
+then_first Equal b is = refl
+then_first Less b is = is
+then_first Greater b is = is
+
+then_second : (a b : Ordering) → is_eq (ordering_then a b) ≡ true → is_eq b ≡ true
+then_second Equal b is = is
+then_second Less b is = absurd (false≢true is)
+then_second Greater b is = absurd (false≢true is)
+
+-- the order of the parts behind the first one, and behind the second
+abbrev behind_names : Key → Key → Ordering
+behind_names k j = ordering_then (text_cmp k.property_name j.property_name) (option_cmp text_cmp k.sub_property_name j.sub_property_name)
+
+abbrev behind_prefixes : Key → Key → Ordering
+behind_prefixes k j = ordering_then (text_cmp k.section_name j.section_name) (behind_names k j)
+
+tied_prefix : (k j : Key) → is_eq (key_cmp k j) ≡ true → is_eq (text_cmp k.section_key j.section_key) ≡ true
+tied_prefix k j is = then_first (text_cmp k.section_key j.section_key) (behind_prefixes k j) is
+
+tied_name : (k j : Key) → is_eq (key_cmp k j) ≡ true → is_eq (text_cmp k.section_name j.section_name) ≡ true
+tied_name k j is = then_first (text_cmp k.section_name j.section_name) (behind_names k j) (then_second (text_cmp k.section_key j.section_key) (behind_prefixes k j) is)
+
+tied_property : (k j : Key) → is_eq (key_cmp k j) ≡ true → is_eq (text_cmp k.property_name j.property_name) ≡ true
+tied_property k j is =
+    then_first (text_cmp k.property_name j.property_name) (option_cmp text_cmp k.sub_property_name j.sub_property_name)
+    (then_second (text_cmp k.section_name j.section_name) (behind_names k j) (then_second (text_cmp k.section_key j.section_key) (behind_prefixes k j) is))
+
+-- what is told apart by a part
+apart_by : (b : Bool) (d : Bool) → (d ≡ true → b ≡ true) → b ≡ false → d ≡ false
+apart_by b false more is = refl
+apart_by b true more is = sym (more refl) ∙ is
+
+-- ## Sub-properties
+
+-- where the sub-properties of a key of a section stand
+abbrev sub_at : List ℕ → List ℕ → List ℕ → Option (List ℕ) → Key
+sub_at prefix name key sub = record { section_key = prefix; section_name = name; property_name = key; sub_property_name = sub }
+
+-- a value, after the sub-property of a piece was put
+piece_gives : Key → List ℕ → List ℕ → List ℕ → Option (List ℕ) → List ℕ → Option (List ℕ)
+piece_gives k prefix name key before piece =
+    cond (nat_lt (position_or_len is_equals piece) (length piece))
+    (cond (is_eq (key_cmp k (sub_at prefix name key (Some (trimmed (before_first is_equals piece)))))) (Some (trimmed (after_first is_equals piece))) before) before
+
+pieces_give : Key → List ℕ → List ℕ → List ℕ → Option (List ℕ) → List (List ℕ) → Option (List ℕ)
+pieces_give k prefix name key before [] = before
+pieces_give k prefix name key before (piece ∷ pieces) = pieces_give k prefix name key (piece_gives k prefix name key before piece) pieces
+
+sub_gives : (others : List (Key × List ℕ)) (k : Key) (prefix name key piece : List ℕ) → value_at_key (put_sub others prefix name key piece) k ≡ piece_gives k prefix name key (value_at_key others k) piece
+unfolding piece_gives
+sub_gives others k prefix name key piece = by (nat_lt (position_or_len is_equals piece) (length piece))
+  where
+    at : Key
+    at = sub_at prefix name key (Some (trimmed (before_first is_equals piece)))
+
+    value : List ℕ
+    value = trimmed (after_first is_equals piece)
+
+    by : (b : Bool) → value_at_key (cond b (put_at_key others at value) others) k ≡ cond b (cond (is_eq (key_cmp k at)) (Some value) (value_at_key others k)) (value_at_key others k)
+    by true = at_put key_cmp key_total others at value k
+    by false = refl
+
+subs_give : (others : List (Key × List ℕ)) (k : Key) (prefix name key : List ℕ) (pieces : List (List ℕ)) → value_at_key (put_subs others prefix name key pieces) k ≡ pieces_give k prefix name key (value_at_key others k) pieces
+unfolding pieces_give
+subs_give others k prefix name key [] = refl
+subs_give others k prefix name key (piece ∷ pieces) =
+    subs_give (put_sub others prefix name key piece) k prefix name key pieces
+    ∙ ap (λ (before : Option (List ℕ)). pieces_give k prefix name key before pieces) (sub_gives others k prefix name key piece)
+
+-- sub-properties of another key, or in another section
+pieces_apart : (k : Key) (prefix name key : List ℕ) → ((sub : Option (List ℕ)) → is_eq (key_cmp k (sub_at prefix name key sub)) ≡ false) → (before : Option (List ℕ)) (pieces : List (List ℕ))
+    → pieces_give k prefix name key before pieces ≡ before
+unfolding piece_gives pieces_give
+pieces_apart k prefix name key apart before [] = refl
+pieces_apart k prefix name key apart before (piece ∷ pieces) =
+    ap (λ (now : Option (List ℕ)). pieces_give k prefix name key now pieces) (by (nat_lt (position_or_len is_equals piece) (length piece)))
+    ∙ pieces_apart k prefix name key apart before pieces
+  where
+    sub : Option (List ℕ)
+    sub = Some (trimmed (before_first is_equals piece))
+
+    value : Option (List ℕ)
+    value = Some (trimmed (after_first is_equals piece))
+
+    by : (b : Bool) → cond b (cond (is_eq (key_cmp k (sub_at prefix name key sub))) value before) before ≡ before
+    by true = ap (λ (b : Bool). cond b value before) (apart sub)
+    by false = refl
+
+-- a value, where the section has its property or hasn't
+given : Key → Option (List ℕ) → Option (List ℕ) → Option (List ℕ)
+given k None before = before
+given k (Some value) before = cond (is_identifier k.property_name) (pieces_give k k.section_key k.section_name k.property_name before (value_pieces value)) before
+
+either_way : (b : Bool) (x y : Option (List ℕ)) → x ≡ y → cond b x y ≡ y
+either_way true x y same = same
+either_way false x y same = refl
+
+spread_subs : (others : List (Key × List ℕ)) (k : Key) (prefix name key : List ℕ) (pieces : List (List ℕ)) (b : Bool)
+    → value_at_key (cond b (put_subs others prefix name key pieces) others) k ≡ cond b (pieces_give k prefix name key (value_at_key others k) pieces) (value_at_key others k)
+spread_subs others k prefix name key pieces true = subs_give others k prefix name key pieces
+spread_subs others k prefix name key pieces false = refl
+
+others_give : (others : List (Key × List ℕ)) (pairs : List (List ℕ × List ℕ)) (k : Key) → IsRising pairs
+    → value_at_key (put_others others k.section_key k.section_name pairs) k ≡ given k (value_under pairs k.property_name) (value_at_key others k)
+unfolding given
+others_give others [] k rising = refl
+others_give others (pair ∷ pairs) k rising =
+    others_give (cond (is_identifier pair.0) (put_subs others k.section_key k.section_name pair.0 (value_pieces pair.1)) others) pairs k rising.1
+    ∙ ap (given k (value_under pairs k.property_name)) (spread_subs others k k.section_key k.section_name pair.0 (value_pieces pair.1) (is_identifier pair.0))
+    ∙ by (is_eq (text_cmp k.property_name pair.0)) refl
+  where
+    before : Option (List ℕ)
+    before = value_at_key others k
+
+    now : List ℕ → Option (List ℕ)
+    now key = cond (is_identifier key) (pieces_give k k.section_key k.section_name key before (value_pieces pair.1)) before
+
+    by : (b : Bool) → is_eq (text_cmp k.property_name pair.0) ≡ b
+        → given k (value_under pairs k.property_name) (now pair.0) ≡ given k (cond b (Some pair.1) (value_under pairs k.property_name)) before
+    by true is =
+        let same : k.property_name ≡ pair.0 = tied_same k.property_name pair.0 is in
+        ap (λ (found : Option (List ℕ)). given k found (now pair.0)) (ap (value_under pairs) same ∙ none_above pairs pair.0 rising.0)
+        ∙ ap now (sym same)
+    by false is =
+        ap (given k (value_under pairs k.property_name))
+        (either_way (is_identifier pair.0) (pieces_give k k.section_key k.section_name pair.0 before (value_pieces pair.1)) before
+        (pieces_apart k k.section_key k.section_name pair.0
+        (λ sub. apart_by (is_eq (text_cmp k.property_name pair.0)) (is_eq (key_cmp k (sub_at k.section_key k.section_name pair.0 sub))) (λ tied. tied_property k (sub_at k.section_key k.section_name pair.0 sub) tied) is)
+        before (value_pieces pair.1)))
+
+others_apart : (others : List (Key × List ℕ)) (prefix name : List ℕ) (pairs : List (List ℕ × List ℕ)) (k : Key) → ((key : List ℕ) (sub : Option (List ℕ)) → is_eq (key_cmp k (sub_at prefix name key sub)) ≡ false)
+    → value_at_key (put_others others prefix name pairs) k ≡ value_at_key others k
+others_apart others prefix name [] k apart = refl
+others_apart others prefix name (pair ∷ pairs) k apart =
+    let before = value_at_key others k in
+    let pieces = value_pieces pair.1 in
+    others_apart (cond (is_identifier pair.0) (put_subs others prefix name pair.0 pieces) others) prefix name pairs k apart
+    ∙ spread_subs others k prefix name pair.0 pieces (is_identifier pair.0)
+    ∙ either_way (is_identifier pair.0) (pieces_give k prefix name pair.0 before pieces) before (pieces_apart k prefix name pair.0 (apart pair.0) before pieces)
+
+-- ## Services sections
+
+-- where a sub-property of a services section stands
+abbrev service_at : List ℕ → List ℕ → Option (List ℕ) → Key
+service_at name key sub = sub_at (codes "services") name key sub
+
+abbrev names_service : List ℕ → List ℕ → List ℕ → Bool
+names_service name prefix called = bytes_eq prefix (codes "services") && bytes_eq called name
+
+-- what a raw section makes of a sub-property
+service_put : (others : List (Key × List ℕ)) (prefix called : List ℕ) (pairs : List (List ℕ × List ℕ)) (name key : List ℕ) (sub : Option (List ℕ)) → (names_service name prefix called ≡ true → IsRising pairs)
+    → let k = service_at name key sub in
+    value_at_key (put_others others prefix called pairs) k ≡ cond (names_service name prefix called) (given k (value_under pairs key) (value_at_key others k)) (value_at_key others k)
+service_put others prefix called pairs name key sub rising = by (bytes_eq prefix (codes "services")) (bytes_eq called name) refl refl rising
+  where
+    k : Key
+    k = service_at name key sub
+
+    other_prefix : bytes_eq prefix (codes "services") ≡ false → (key : List ℕ) (sub : Option (List ℕ)) → is_eq (key_cmp k (sub_at prefix called key sub)) ≡ false
+    other_prefix is key sub =
+        apart_by (is_eq (text_cmp (codes "services") prefix)) (is_eq (key_cmp k (sub_at prefix called key sub))) (λ tied. tied_prefix k (sub_at prefix called key sub) tied)
+        (tied_is (codes "services") prefix ∙ is)
+
+    other_name : bytes_eq called name ≡ false → (key : List ℕ) (sub : Option (List ℕ)) → is_eq (key_cmp k (sub_at prefix called key sub)) ≡ false
+    other_name is key sub =
+        apart_by (is_eq (text_cmp name called)) (is_eq (key_cmp k (sub_at prefix called key sub))) (λ tied. tied_name k (sub_at prefix called key sub) tied) (tied_is name called ∙ is)
+
+    by : (c d : Bool) → bytes_eq prefix (codes "services") ≡ c → bytes_eq called name ≡ d → (c && d ≡ true → IsRising pairs)
+        → value_at_key (put_others others prefix called pairs) k ≡ cond (c && d) (given k (value_under pairs key) (value_at_key others k)) (value_at_key others k)
+    by true true prefix_is name_is rising =
+        ap₂ (λ (p n : List ℕ). value_at_key (put_others others p n pairs) k) ((bytes_eq-Decides prefix (codes "services")).0 prefix_is) ((bytes_eq-Decides called name).0 name_is)
+        ∙ others_give others pairs k (rising refl)
+    by true false prefix_is name_is rising = others_apart others prefix called pairs k (other_name name_is)
+    by false d prefix_is name_is rising = others_apart others prefix called pairs k (other_prefix prefix_is)
+
+service_gives : (s : Sections) (prefix : Option (List ℕ)) (called : List ℕ) (pairs : List (List ℕ × List ℕ)) (name key : List ℕ) (sub : Option (List ℕ))
+    → (has_heading (codes "services") name (record { prefix = prefix; name = called }) ≡ true → IsRising pairs)
+    → let k = service_at name key sub in
+    value_at_key (with_section s prefix called pairs).others k
+    ≡ cond (has_heading (codes "services") name (record { prefix = prefix; name = called })) (given k (value_under pairs key) (value_at_key s.others k)) (value_at_key s.others k)
+service_gives s None called pairs name key sub rising = refl
+service_gives s (Some prefix) called pairs name key sub rising = by (bytes_eq prefix (codes "profile")) (bytes_eq prefix (codes "sso-session")) refl refl
+  where
+    k : Key
+    k = service_at name key sub
+
+    before : Option (List ℕ)
+    before = value_at_key s.others k
+
+    lost : (other : List ℕ) → bytes_eq prefix other ≡ true → bytes_eq other (codes "services") ≡ false → before ≡ cond (names_service name prefix called) (given k (value_under pairs key) before) before
+    lost other is apart =
+        sym (ap (λ (p : List ℕ). cond (names_service name p called) (given k (value_under pairs key) before) before) ((bytes_eq-Decides prefix other).0 is)
+        ∙ ap (λ (b : Bool). cond (b && bytes_eq called name) (given k (value_under pairs key) before) before) apart)
+
+    by : (b d : Bool) → bytes_eq prefix (codes "profile") ≡ b → bytes_eq prefix (codes "sso-session") ≡ d
+        → value_at_key (cond b (record s { profiles = merged_into s.profiles called pairs })
+        (cond d (record s { sessions = merged_into s.sessions called pairs }) (record s { others = put_others s.others prefix called pairs }))).others k
+        ≡ cond (names_service name prefix called) (given k (value_under pairs key) before) before
+    by true d profile session = lost (codes "profile") profile refl
+    by false true profile session = lost (codes "sso-session") session refl
+    by false false profile session = service_put s.others prefix called pairs name key sub rising
+
+pub service_kept : (name : List ℕ) (keys : List (List ℕ)) (key : List ℕ) (sub : Option (List ℕ)) → is_kept_key keys key ≡ true
+    → IsKeptValue (keys_in (codes "services") name keys) (has_heading (codes "services") name) (λ s. value_at_key s.others (service_at name key sub))
+service_kept name keys key sub asked = record {
+  kept = λ text is. ap (λ (b : Bool). b || is_profile_default (heading_of text).prefix (heading_of text).name) is;
+  default = λ text is. ap (λ (b : Bool). has_heading (codes "services") name (heading_of text) || b) is ∙ or-true (has_heading (codes "services") name (heading_of text));
+  same = λ s t prefix called all some alike e.
+      let goes = has_heading (codes "services") name (record { prefix = prefix; name = called }) in
+      service_gives t prefix called some name key sub (λ _. alike.rising_some)
+      ∙ ap₂ (λ (found before : Option (List ℕ)). cond goes (given (service_at name key sub) found before) before) (alike.same key asked) e
+      ∙ sym (service_gives s prefix called all name key sub (λ _. alike.rising_all));
+  other = λ s prefix called pairs apart.
+      let before = value_at_key s.others (service_at name key sub) in
+      service_gives s prefix called pairs name key sub (λ is. absurd (false≢true (sym apart ∙ is)))
+      ∙ ap (λ (b : Bool). cond b (given (service_at name key sub) (value_under pairs key) before) before) apart;
+}

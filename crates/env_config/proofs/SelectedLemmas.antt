@@ -1,0 +1,138 @@
+-- Sections that are read for some keys and a service give what all sections give.
+use Rattle.std.proofs.Common.{◌≡◌, ℕ, Bool, true, ◌||◌, List, [], ◌∷◌, refl, sym, ap, subst, ◌∙◌}
+use Rattle.std.specs.Prelude.{Option, Some, None, Result, Ok, Err, bytes_eq, codes}
+use Rattle.std.specs.Option.{option_and_then}
+use Rattle.std.specs.List.{list_any}
+use Rattle.std.proofs.Math.Bool.{or-true}
+use Rattle.std.proofs.lemmas.Slice.Eq.{bytes_eq-Decides}
+use Rattle.smithy_core.specs.TextPairs.{lower}
+use Rattle.env_config.specs.declared.parse_fault.ParseFault.{ParseFault}
+use Rattle.env_config.specs.declared.parse_fault.ParseFault.TheVariants.{Parse, NoMemory}
+use Rattle.env_config.specs.declared.properties.Properties.{Properties}
+use Rattle.env_config.specs.declared.sections.EnvConfigSections.{EnvConfigSections}
+use Rattle.env_config.specs.EnvConfigSections.{ParsesSections, sections_of, selected_of}
+use Rattle.env_config.specs.EnvConfigValue.{chosen_of}
+use Rattle.env_config.specs.Kept.{has_heading, is_kept_key, keys_in}
+use Rattle.env_config.specs.Laws.{value_in}
+use Rattle.env_config.specs.ParseFault.{faulty_line_of}
+use Rattle.env_config.specs.Properties.{others_of}
+use Rattle.env_config.specs.Raw.{everything}
+use Rattle.env_config.specs.Sections.{FaultyLine, FileText, Sections, files_from, no_sections, sections, value_at_key}
+use Rattle.env_config.specs.Selected.{GivesSelected, GivesService, ParsesSelected, ParsesService}
+use Rattle.env_config.specs.Value.{id_in_sections, selected_value, service_sub, with_spaces_as}
+use Rattle.env_config.proofs.LowerLemmas.{lower_lower}
+use Rattle.env_config.proofs.NarrowMergeLemmas.{AlikeMerged, files_same, profile_kept}
+use Rattle.env_config.proofs.NarrowServiceLemmas.{service_kept}
+
+-- the line that is refused where some is kept is refused where all is
+refused : (at : Sections → Option (List ℕ)) (full : Result Sections FaultyLine) (line : FaultyLine) → AlikeMerged at full (Err line) → full ≡ Err line
+refused at (Ok all) line alike = absurd alike
+refused at (Err other) line alike = ap (λ (l : FaultyLine). Err l) (sym alike)
+
+-- ## Keys of the selected profile
+
+keys_alike : (files : List FileText) (name : List ℕ) (keys : List (List ℕ)) (key : List ℕ) → is_kept_key keys key ≡ true
+    → AlikeMerged (λ s. value_in s.profiles name key) (files_from everything no_sections files) (files_from (keys_in (codes "profile") name keys) no_sections files)
+keys_alike files name keys key asked =
+    files_same (keys_in (codes "profile") name keys) (has_heading (codes "profile") name) (λ s. value_in s.profiles name key) (profile_kept name keys key asked) files no_sections no_sections refl
+
+keys_given : (full : Result Sections FaultyLine) (profile : List ℕ) (keys : List (List ℕ)) (some : EnvConfigSections)
+    → ((key : List ℕ) → is_kept_key keys key ≡ true → AlikeMerged (λ s. value_in s.profiles profile key) full (Ok (sections_of some))) → selected_of some ≡ profile → GivesSelected full profile keys None some
+keys_given (Err line) profile keys some alike selected = absurd (alike (codes "services") refl)
+keys_given (Ok all) profile keys some alike selected =
+    (selected, λ key asked. ap (λ (name : List ℕ). value_in (sections_of some).profiles name (lower key)) selected ∙ alike (lower key) asked, tt)
+
+pub keys_parsed : (files : List FileText) (profile name : List ℕ) (keys : List (List ℕ)) (result : Result EnvConfigSections ParseFault) → name ≡ profile
+    → ParsesSections (files_from (keys_in (codes "profile") name keys) no_sections files) profile result → ParsesSelected (sections files) profile keys None result
+unfolding sections
+keys_parsed files profile name keys result named parses =
+    by result (subst (λ (n : List ℕ). ParsesSections (files_from (keys_in (codes "profile") n keys) no_sections files) profile result) named parses)
+  where
+    by : (result : Result EnvConfigSections ParseFault) → ParsesSections (files_from (keys_in (codes "profile") profile keys) no_sections files) profile result
+        → ParsesSelected (files_from everything no_sections files) profile keys None result
+    by (Ok some) parses =
+        keys_given (files_from everything no_sections files) profile keys some
+        (λ key asked. subst (λ (r : Result Sections FaultyLine). AlikeMerged (λ s. value_in s.profiles profile key) (files_from everything no_sections files) r) parses.0 (keys_alike files profile keys key asked))
+        parses.1
+    by (Err (Parse error)) parses =
+        let at : Sections → Option (List ℕ) = λ s. value_in s.profiles profile (codes "services") in
+        refused at (files_from everything no_sections files) (faulty_line_of error)
+        (subst (λ (r : Result Sections FaultyLine). AlikeMerged at (files_from everything no_sections files) r) parses (keys_alike files profile keys (codes "services") refl))
+    by (Err NoMemory) parses = tt
+
+-- ## A service
+
+-- the service's key is kept
+asked_service : (id : List ℕ) → is_kept_key (id_in_sections id ∷ []) (id_in_sections id) ≡ true
+asked_service id =
+    let key = id_in_sections id in
+    ap (λ (b : Bool). bytes_eq key (codes "services") || (b || list_any (λ k. bytes_eq key (lower k)) [])) ((bytes_eq-Decides key (lower key)).1 (sym (lower_lower (with_spaces_as (codes "-") id))))
+    ∙ or-true (bytes_eq key (codes "services"))
+
+service_alike : (files : List FileText) (services id key : List ℕ)
+    → AlikeMerged (λ s. value_at_key s.others (service_sub services id key)) (files_from everything no_sections files) (files_from (keys_in (codes "services") services (id_in_sections id ∷ [])) no_sections files)
+service_alike files services id key =
+    let keeps = keys_in (codes "services") services (id_in_sections id ∷ []) in
+    files_same keeps (has_heading (codes "services") services) (λ s. value_at_key s.others (service_sub services id key))
+    (service_kept services (id_in_sections id ∷ []) (id_in_sections id) (Some key) (asked_service id)) files no_sections no_sections refl
+
+service_given : (full : Result Sections FaultyLine) (services id : List ℕ) (some : Sections) (others : Properties) → others_of others ≡ some.others
+    → ((key : List ℕ) → AlikeMerged (λ s. value_at_key s.others (service_sub services id key)) full (Ok some)) → GivesService full services id others
+service_given (Err line) services id some others is alike = absurd (alike [])
+service_given (Ok all) services id some others is alike = λ key. ap (λ o. value_at_key o (service_sub services id key)) is ∙ alike key
+
+-- the sub-properties of the sections that are kept
+pub service_parsed : (files : List FileText) (profile services id key : List ℕ) (some : EnvConfigSections) → key ≡ id_in_sections id
+    → ParsesSections (files_from (keys_in (codes "services") services (key ∷ [])) no_sections files) profile (Ok some) → ParsesService (sections files) services id (Ok some.others)
+unfolding sections
+service_parsed files profile services id key some key_is parses =
+    let full = files_from everything no_sections files in
+    let kept : (key : List ℕ) → Result Sections FaultyLine = λ key. files_from (keys_in (codes "services") services (key ∷ [])) no_sections files in
+    let read : kept (id_in_sections id) ≡ Ok (sections_of some) = ap kept (sym key_is) ∙ parses.0 in
+    service_given full services id (sections_of some) some.others refl
+    (λ sub. subst (λ (r : Result Sections FaultyLine). AlikeMerged (λ s. value_at_key s.others (service_sub services id sub)) full r) read (service_alike files services id sub))
+
+-- the line that is refused
+pub service_refused : (files : List FileText) (profile services id key : List ℕ) (fault : ParseFault) → key ≡ id_in_sections id
+    → ParsesSections (files_from (keys_in (codes "services") services (key ∷ [])) no_sections files) profile (Err fault) → ParsesService (sections files) services id (Err fault)
+unfolding sections
+service_refused files profile services id key NoMemory key_is parses = tt
+service_refused files profile services id key (Parse error) key_is parses =
+    let full = files_from everything no_sections files in
+    let at : Sections → Option (List ℕ) = λ s. value_at_key s.others (service_sub services id []) in
+    let kept : (key : List ℕ) → Result Sections FaultyLine = λ key. files_from (keys_in (codes "services") services (key ∷ [])) no_sections files in
+    refused at full (faulty_line_of error) (subst (AlikeMerged at full) (ap kept (sym key_is) ∙ parses) (service_alike files services id []))
+
+-- ## Both
+
+module _ (read : Result Sections FaultyLine) (profile : List ℕ) (keys : List (List ℕ)) (id : List ℕ) where
+  -- a fault is the same whatever the service
+  pub fault_stays : (asked : Option (List ℕ)) (fault : ParseFault) → ParsesSelected read profile keys None (Err fault) → ParsesSelected read profile keys asked (Err fault)
+  fault_stays asked (Parse error) parses = parses
+  fault_stays asked NoMemory parses = tt
+
+  pub service_fault : (services : List ℕ) (fault : ParseFault) → ParsesService read services id (Err fault) → ParsesSelected read profile keys (Some id) (Err fault)
+  service_fault services (Parse error) parses = parses
+  service_fault services NoMemory parses = tt
+
+-- no services section is named
+pub none_named : (read : Result Sections FaultyLine) (profile : List ℕ) (keys : List (List ℕ)) (id : List ℕ) (some : EnvConfigSections) → GivesSelected read profile keys None some
+    → selected_value (chosen_of some) (codes "services") ≡ None → GivesSelected read profile keys (Some id) some
+none_named (Err line) profile keys id some gives none = absurd gives
+none_named (Ok all) profile keys id some gives none =
+    let all_none : selected_value (record { sections = all; selected = profile }) (codes "services") ≡ None = sym (gives.1 (codes "services") refl) ∙ none in
+    (gives.0, gives.1, λ key.
+        ap (option_and_then (λ services. value_at_key (sections_of some).others (service_sub services id key))) none
+        ∙ sym (ap (option_and_then (λ services. value_at_key all.others (service_sub services id key))) all_none))
+
+-- the section that is named was read
+pub service_named : (read : Result Sections FaultyLine) (profile : List ℕ) (keys : List (List ℕ)) (id services : List ℕ) (some now : EnvConfigSections) (others : Properties) → GivesSelected read profile keys None some
+    → selected_value (chosen_of some) (codes "services") ≡ Some services → GivesService read services id others → now ≡ record some { others = others } → GivesSelected read profile keys (Some id) now
+service_named (Err line) profile keys id services some now others gives named service is = absurd gives
+service_named (Ok all) profile keys id services some now others gives named service is =
+    let all_named : selected_value (record { sections = all; selected = profile }) (codes "services") ≡ Some services = sym (gives.1 (codes "services") refl) ∙ named in
+    subst (GivesSelected (Ok all) profile keys (Some id)) (sym is)
+    (gives.0, gives.1, λ key.
+        ap (option_and_then (λ services. value_at_key (others_of others) (service_sub services id key))) named
+        ∙ service key
+        ∙ sym (ap (option_and_then (λ services. value_at_key all.others (service_sub services id key))) all_named))

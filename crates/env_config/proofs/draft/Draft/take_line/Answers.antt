@@ -1,0 +1,10 @@
+use Rattle.std.proofs.Common.{rules}
+use Rattle.env_config.specs.Kept.{keeps_of}
+use Rattle.env_config.specs.Raw.{profile_line_step}
+use Rattle.env_config.proofs.draft.Draft.take_line.Goals as goal
+
+pub returns-then-starts_with-2 : goal.returns-then-starts_with-2
+unfolding profile_line_step
+returns-then-starts_with-2 c =
+    let gives = c.continue_property.ensures (keeps_of c.args.kept.now) in
+    search rules
