@@ -102,37 +102,3 @@ service_refused files profile services id key (Parse error) key_is parses =
     let at : Sections → Option (List ℕ) = λ s. value_at_key s.others (service_sub services id []) in
     let kept : (key : List ℕ) → Result Sections FaultyLine = λ key. files_from (keys_in (codes "services") services (key ∷ [])) no_sections files in
     refused at full (faulty_line_of error) (subst (AlikeMerged at full) (ap kept (sym key_is) ∙ parses) (service_alike files services id []))
-
--- ## Both
-
-module _ (read : Result Sections FaultyLine) (profile : List ℕ) (keys : List (List ℕ)) (id : List ℕ) where
-  -- a fault is the same whatever the service
-  pub fault_stays : (asked : Option (List ℕ)) (fault : ParseFault) → ParsesSelected read profile keys None (Err fault) → ParsesSelected read profile keys asked (Err fault)
-  fault_stays asked (Parse error) parses = parses
-  fault_stays asked NoMemory parses = tt
-
-  pub service_fault : (services : List ℕ) (fault : ParseFault) → ParsesService read services id (Err fault) → ParsesSelected read profile keys (Some id) (Err fault)
-  service_fault services (Parse error) parses = parses
-  service_fault services NoMemory parses = tt
-
--- no services section is named
-pub none_named : (read : Result Sections FaultyLine) (profile : List ℕ) (keys : List (List ℕ)) (id : List ℕ) (some : EnvConfigSections) → GivesSelected read profile keys None some
-    → selected_value (chosen_of some) (codes "services") ≡ None → GivesSelected read profile keys (Some id) some
-none_named (Err line) profile keys id some gives none = absurd gives
-none_named (Ok all) profile keys id some gives none =
-    let all_none : selected_value (record { sections = all; selected = profile }) (codes "services") ≡ None = sym (gives.1 (codes "services") refl) ∙ none in
-    (gives.0, gives.1, λ key.
-        ap (option_and_then (λ services. value_at_key (sections_of some).others (service_sub services id key))) none
-        ∙ sym (ap (option_and_then (λ services. value_at_key all.others (service_sub services id key))) all_none))
-
--- the section that is named was read
-pub service_named : (read : Result Sections FaultyLine) (profile : List ℕ) (keys : List (List ℕ)) (id services : List ℕ) (some now : EnvConfigSections) (others : Properties) → GivesSelected read profile keys None some
-    → selected_value (chosen_of some) (codes "services") ≡ Some services → GivesService read services id others → now ≡ record some { others = others } → GivesSelected read profile keys (Some id) now
-service_named (Err line) profile keys id services some now others gives named service is = absurd gives
-service_named (Ok all) profile keys id services some now others gives named service is =
-    let all_named : selected_value (record { sections = all; selected = profile }) (codes "services") ≡ Some services = sym (gives.1 (codes "services") refl) ∙ named in
-    subst (GivesSelected (Ok all) profile keys (Some id)) (sym is)
-    (gives.0, gives.1, λ key.
-        ap (option_and_then (λ services. value_at_key (others_of others) (service_sub services id key))) named
-        ∙ service key
-        ∙ sym (ap (option_and_then (λ services. value_at_key all.others (service_sub services id key))) all_named))
