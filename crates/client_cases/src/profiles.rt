@@ -1,12 +1,12 @@
 use crate::files::{file_of, push_file, sections_of, source_of};
 use crate::keys::key_of;
 use crate::sections::{insert_property, property_of, push_profile, push_rest, push_sections};
-use crate::texts::{text, unknown, word_of};
+use crate::texts::{given, push_visible, text, unknown, word_of};
 use env_config::{
-    EnvConfigParseError, EnvConfigSections, ParseFault, Profile, Properties, PropertiesKey,
-    Property, Source, SsoSession,
+    EnvConfigParseError, EnvConfigSections, EnvConfigValue, ParseFault, Profile, Properties,
+    PropertiesKey, Property, Source, SsoSession,
 };
-use smithy_core::Mem;
+use smithy_core::{Env, Mem};
 use std::alloc::Global;
 use std::collections::BTreeMap;
 
@@ -15,6 +15,7 @@ pub fn answer(alloc: Global, call: &str, words: &[&str]) -> Mem<String> {
         "parse" => parse(alloc, words),
         "copy" => copy(alloc, words),
         "select" => select(alloc, words),
+        "choose" => choose(alloc, words),
         "others" => others(alloc, words),
         "session" => session(alloc, words),
         "source" => copied_source(alloc, words),
@@ -107,6 +108,48 @@ fn select(alloc: Global, words: &[&str]) -> Mem<String> {
         Ok(sections) => selected(alloc, sections, key),
         Err(fault) => fault_told(alloc, fault),
     }
+}
+
+// What sections that are read for the keys and the service alone give of them.
+fn choose(alloc: Global, words: &[&str]) -> Mem<String> {
+    let [name, keys, service, files @ ..] = words else {
+        return unknown(alloc);
+    };
+    let mut asked = Vec::new(alloc);
+    for key in keys.split(' ') {
+        asked.push(key)?;
+    }
+    let (source, service) = (source_of(alloc, name, files)?, given(service));
+    match &EnvConfigSections::parse_selected(alloc, &source, asked.as_slice(), service) {
+        Ok(sections) => chosen(alloc, sections, keys, service),
+        Err(fault) => fault_told(alloc, fault),
+    }
+}
+
+// `PROFILE KEY=VALUE .. region=VALUE`, the region being the service's own, or else the profile's.
+fn chosen(
+    alloc: Global,
+    sections: &EnvConfigSections,
+    keys: &str,
+    service: Option<&str>,
+) -> Mem<String> {
+    let mut told = text(alloc, sections.selected_profile())?;
+    for key in keys.split(' ') {
+        push_value(&mut told, key, sections.get(key).unwrap_or("-"))?;
+    }
+    if let Some(id) = service {
+        let asked = EnvConfigValue::new().profile("region").service_id(id);
+        match asked.load(alloc, &Env::new(alloc), Some(sections))? {
+            Some((value, _)) => push_value(&mut told, "region", value.as_str())?,
+            None => push_value(&mut told, "region", "-")?,
+        }
+    }
+    Ok(told)
+}
+
+fn push_value(told: &mut String, key: &str, value: &str) -> Mem<()> {
+    write!(told, " {key}=")?;
+    push_visible(told, value)
 }
 
 // What sections tell of a key where nothing was parsed.

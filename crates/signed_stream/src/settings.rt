@@ -123,7 +123,13 @@ pub fn read_settings(
 ) -> Result<Settings, SettingsFault>
     ensures { GivesSettings (settings (map file_of source.now.files.items) (string_bytes source.now.profile) env.now (option_copied service_id.entry)) result }
 {
-    let sections = EnvConfigSections::parse(alloc, source)?;
+    let keys = [
+        "aws_access_key_id",
+        "aws_secret_access_key",
+        "aws_session_token",
+        "region",
+    ];
+    let sections = EnvConfigSections::parse_selected(alloc, source, &keys, service_id)?;
     settings_in(alloc, &sections, env, service_id)
 }
 
