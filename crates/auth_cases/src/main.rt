@@ -5,6 +5,7 @@ mod copies;
 mod defaults;
 mod faults;
 mod inputs;
+mod kept_keys;
 mod parts;
 mod requests;
 mod signing;
@@ -37,6 +38,7 @@ fn answer(alloc: Global, call: &str, words: &[&str]) -> Mem<String> {
         "debug" => signing::debug(alloc, words),
         "copy" => copies::answer(alloc, words),
         "fault" => faults::answer(alloc, words),
+        "keys" | "messages" => kept_keys::answer(alloc, call, words),
         _ => defaults::answer(alloc, call, words),
     }
 }

@@ -1,0 +1,113 @@
+//! Signing keys that are kept for their day, and the signers of messages that keep them.
+use crate::parts::{has_part, part, unknown};
+use crate::requests::identity_of;
+use aws_auth::{KeptKey, SigV4MessageSigner};
+use bytes::Bytes;
+use case_lines::number;
+use eventstream::{SignMessage, SignMessageError};
+use smithy_core::{
+    Header, HeaderValue, Mem, Message, Moment, Region, SigningName, StrBytes, civil,
+};
+use std::alloc::Global;
+
+/// The answer of a call on them.
+pub fn answer(alloc: Global, call: &str, parts: &[&str]) -> Mem<String> {
+    match call {
+        "keys" => keys(alloc, parts),
+        "messages" => messages(alloc, parts),
+        _ => unknown(alloc),
+    }
+}
+
+// The keys at the moments of `at SECONDS ..`, one after another, and how many were derived.
+fn keys(alloc: Global, parts: &[&str]) -> Mem<String> {
+    let mut kept = kept_of(alloc, parts)?;
+    let mut told = String::new(alloc);
+    for seconds in part(parts, "at").unwrap_or("").split(' ') {
+        push_key(alloc, &mut told, &mut kept, Moment::new(number(seconds), 0))?;
+    }
+    if has_part(parts, "copied") {
+        kept = kept.try_clone()?;
+    }
+    write!(told, "derived {}", kept.derivations())?;
+    Ok(told)
+}
+
+// Appends the key at a moment that has one.
+fn push_key(alloc: Global, told: &mut String, kept: &mut KeptKey, at: Moment) -> Mem<()> {
+    if civil(at).is_none() {
+        return Ok(());
+    }
+    let key = hex::encode(alloc, kept.key(at).as_slice())?;
+    write!(told, "{key} ")
+}
+
+// A key of `secret S`, or else that of AWS's examples, for `region R` and `name N`.
+fn kept_of(alloc: Global, parts: &[&str]) -> Mem<KeptKey> {
+    let secret = part(parts, "secret").unwrap_or("wJalrXUtnFEMI/K7MDENG+bPxRfiCYEXAMPLEKEY");
+    Ok(KeptKey::new(
+        String::from_str(alloc, secret)?,
+        String::from_str(alloc, part(parts, "region").unwrap_or("us-east-1"))?,
+        String::from_str(alloc, part(parts, "name").unwrap_or("service"))?,
+    ))
+}
+
+// Signs messages one after another: the last signature, or what the first refusal is, and how many keys were derived.
+fn messages(alloc: Global, parts: &[&str]) -> Mem<String> {
+    let mut signer = signer_of(alloc, parts)?;
+    let signed = sign_each(alloc, &mut signer, parts);
+    if has_part(parts, "copied") {
+        signer = signer.try_clone()?;
+    }
+    let (signature, derivations) = (signer.running_signature(), signer.derivations());
+    match signed {
+        Ok(()) => format!(in alloc; "{signature} derived {derivations}"),
+        Err(error) => format!(in alloc; "{error:?} derived {derivations}"),
+    }
+}
+
+// A signer that goes on from a signature without digits.
+fn signer_of(alloc: Global, parts: &[&str]) -> Mem<SigV4MessageSigner<()>> {
+    Ok(SigV4MessageSigner::new(
+        String::new(alloc),
+        identity_of(alloc, parts)?,
+        Region::new(String::from_str(alloc, "us-east-1")?),
+        SigningName::new(String::from_str(alloc, "service")?),
+        Moment::new(1_440_938_160, 0),
+        (),
+    ))
+}
+
+// Signs `count N` messages, the first at `at SECONDS`, each other so many seconds after the last as `step SECONDS` says.
+fn sign_each(
+    alloc: Global,
+    signer: &mut SigV4MessageSigner<()>,
+    parts: &[&str],
+) -> Result<(), SignMessageError> {
+    let count = number(part(parts, "count").unwrap_or("1"));
+    let step = number(part(parts, "step").unwrap_or("0"));
+    let mut seconds = number(part(parts, "at").unwrap_or("1440938160"));
+    for _ in 0..count {
+        signer.sign(message_of(alloc, parts)?, Moment::new(seconds, 0))?;
+        seconds = seconds.saturating_add(step);
+    }
+    Ok(())
+}
+
+// The message without a payload and with the header of `header-length N`, whose name has so many bytes, or with none.
+fn message_of(alloc: Global, parts: &[&str]) -> Mem<Message> {
+    let message = Message::new(alloc, Bytes::from_static(b""));
+    match part(parts, "header-length") {
+        Some(length) => message.add_header(header_of(alloc, number(length))?),
+        None => Ok(message),
+    }
+}
+
+fn header_of(alloc: Global, length: i64) -> Mem<Header> {
+    let mut name = String::new(alloc);
+    for _ in 0..length {
+        name.push('n')?;
+    }
+    let name = StrBytes::copy_from_str(alloc, name.as_str())?;
+    Ok(Header::new(name, HeaderValue::Bool(true)))
+}
