@@ -1,8 +1,13 @@
+ghost use Rattle.sigv4.specs.EventStream.{IsKeyOf};
+
 use crate::moments::moment_of;
 use crate::parts::first;
 use crate::texts::unknown;
 use sigv4::normalize_uri_path;
-use sigv4::v4::{calculate_signature, credential_scope, generate_signing_key, request_signature};
+use sigv4::v4::{
+    SigningParams, calculate_signature, credential_scope, generate_signing_key, request_signature,
+    signing_key_of,
+};
 use smithy_core::{Mem, civil};
 use std::alloc::Global;
 
@@ -81,5 +86,15 @@ fn request_code(alloc: Global, words: &[&str]) -> Mem<String> {
     match civil(time) {
         Some(_) => request_signature(alloc, text.as_bytes(), secret, time, region, name),
         None => outside_years(alloc),
+    }
+}
+
+/// The signing key of the parameters, and some other one where they sign nothing.
+pub fn key_of<S>(params: &SigningParams<'_, S>) -> [u8; 32]
+    ensures { IsKeyOf params.now result }
+{
+    match signing_key_of(params) {
+        Ok(key) => key,
+        Err(_) => [7; 32],
     }
 }

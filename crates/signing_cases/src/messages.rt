@@ -1,11 +1,15 @@
-use crate::parts::{first, part_or_none};
+use crate::keys::key_of;
+use crate::parts::{first, has_part, part_or_none};
 use crate::requests::{identity_of, name_of, region_of, time_of};
 use crate::signatures::refusal;
 use crate::texts::{unknown, with_repeats};
 use bytes::Bytes;
 use eventstream::write_message_to;
 use mac_core::sha256_hex;
-use sigv4::event_stream::{SigningParams, sign_empty_message, sign_message};
+use sigv4::event_stream::{
+    SigningParams, sign_empty_message, sign_empty_message_with_key, sign_message,
+    sign_message_with_key,
+};
 use sigv4::{SigningError, SigningOutput};
 use smithy_core::{Header, HeaderValue, Identity, Mem, Message, StrBytes};
 use std::alloc::Global;
@@ -43,7 +47,11 @@ fn signed(alloc: Global, words: &[&str]) -> Mem<Signed> {
 }
 
 fn signed_by(alloc: Global, message: &Message, identity: &Identity, words: &[&str]) -> Signed {
-    sign_message(alloc, message, first(words), &params_of(identity, words))
+    let params = params_of(identity, words);
+    if has_part(words, "with-key") {
+        return sign_message_with_key(alloc, message, first(words), &params, &key_of(&params));
+    }
+    sign_message(alloc, message, first(words), &params)
 }
 
 type Signed = Result<SigningOutput<Message>, SigningError>;
@@ -58,7 +66,11 @@ fn closing(alloc: Global, words: &[&str]) -> Mem<String> {
 }
 
 fn closed_by(alloc: Global, identity: &Identity, words: &[&str]) -> Signed {
-    sign_empty_message(alloc, first(words), &params_of(identity, words))
+    let params = params_of(identity, words);
+    if has_part(words, "with-key") {
+        return sign_empty_message_with_key(alloc, first(words), &params, &key_of(&params));
+    }
+    sign_empty_message(alloc, first(words), &params)
 }
 
 fn headers_of(alloc: Global, message: &Message) -> Mem<String> {

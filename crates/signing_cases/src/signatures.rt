@@ -1,9 +1,10 @@
-use crate::parts::first;
+use crate::keys::key_of;
+use crate::parts::{first, has_part};
 use crate::requests::{identity_of, params_of, request_of, settings_of, signable_of};
 use crate::texts::{on_one_line, unknown};
 use sigv4::{
     SignableBody, SignableRequest, SigningError, SigningInstructions, SigningOutput, SigningParams,
-    SigningSettings, canonical_text, sign,
+    SigningSettings, canonical_text, sign, sign_with_key,
 };
 use smithy_core::{HttpRequest, Identity, Mem};
 use std::alloc::Global;
@@ -101,7 +102,7 @@ type Signed = Result<SigningOutput<SigningInstructions>, SigningError>;
 
 fn signed_by(alloc: Global, request: &HttpRequest, identity: &Identity, words: &[&str]) -> Signed {
     match params_of(alloc, identity, words) {
-        Ok(params) => signed_under(alloc, signable_of(alloc, request, words), &params),
+        Ok(params) => signed_under(alloc, signable_of(alloc, request, words), &params, words),
         Err(_) => Err(SigningError::NoMemory),
     }
 }
@@ -110,11 +111,19 @@ fn signed_under(
     alloc: Global,
     signable: Result<SignableRequest<'_>, SigningError>,
     params: &SigningParams<'_>,
+    words: &[&str],
 ) -> Signed {
     match signable {
+        Ok(signable) if has_part(words, "with-key") => under_key(alloc, signable, params),
         Ok(signable) => sign(alloc, signable, params),
         Err(error) => Err(error),
     }
+}
+
+// Signs under a key that was derived beforehand.
+fn under_key(alloc: Global, signable: SignableRequest<'_>, params: &SigningParams<'_>) -> Signed {
+    let SigningParams::V4(v4_params) = params;
+    sign_with_key(alloc, signable, params, &key_of(v4_params))
 }
 
 /// The error with its place, and what it prints.
