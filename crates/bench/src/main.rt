@@ -2,8 +2,10 @@
 //!
 //! ```notrust
 //! bench sign COUNT            signs a small request: three headers and no body
-//! bench operation COUNT       signs the same request by the inputs of its operation
+//! bench kept-sign COUNT       signs such a request each time under one key
+//! bench operation COUNT       signs the small request by the inputs of its operation
 //! bench chain COUNT SIZE      signs a chain of so many events with so many bytes each
+//! bench kept-chain COUNT SIZE signs such a chain by a signer that keeps its key
 //! bench checksum COUNT SIZE   the CRC-32 of so many bytes
 //! bench hash COUNT SIZE       the SHA-256 of so many bytes
 //! bench write COUNT SIZE      writes a frame with so many bytes of payload
@@ -15,6 +17,7 @@
 
 mod digest;
 mod frames;
+mod kept;
 mod profiles;
 mod signing;
 mod sums;

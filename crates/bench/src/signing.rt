@@ -49,11 +49,13 @@ fn signature_under(
     Ok(signature)
 }
 
-fn moment_of(number: u32) -> Moment {
+/// The moment so many seconds after the first.
+pub fn moment_of(number: u32) -> Moment {
     Moment::new(1_440_938_160 + i64::from(number), 0)
 }
 
-const TARGET: &str = "https://service.us-east-1.amazonaws.com/path";
+/// The target of the small request.
+pub const TARGET: &str = "https://service.us-east-1.amazonaws.com/path";
 
 /// Signs the same request so many times by the inputs of its operation, each a second after the last one.
 pub fn operations(alloc: Global, count: u32) -> anyhow::Result<Digest> {
@@ -114,7 +116,8 @@ fn usual_name(
     Ok(None)
 }
 
-fn example_headers(alloc: Global) -> Result<Headers, AllocError> {
+/// The headers of the small request.
+pub fn example_headers(alloc: Global) -> Result<Headers, AllocError> {
     let mut headers = Headers::new(alloc);
     headers.insert("host", "service.us-east-1.amazonaws.com")?;
     headers.insert("content-type", "application/json")?;
@@ -182,7 +185,8 @@ impl LinkedFrames {
     }
 }
 
-fn example_identity(alloc: Global) -> Result<Identity, AllocError> {
+/// The credentials of AWS's examples.
+pub fn example_identity(alloc: Global) -> Result<Identity, AllocError> {
     Ok(Identity::Credentials(Credentials::new(
         String::from_str(alloc, "AKIDEXAMPLE")?,
         String::from_str(alloc, "wJalrXUtnFEMI/K7MDENG+bPxRfiCYEXAMPLEKEY")?,

@@ -1,5 +1,5 @@
 use crate::digest::Digest;
-use crate::{frames, profiles, signing, sums};
+use crate::{frames, kept, profiles, signing, sums};
 use std::alloc::{AllocError, Global};
 use std::fmt;
 
@@ -7,8 +7,10 @@ use std::fmt;
 #[derive(Clone, Copy, Debug, PartialEq, Eq)]
 pub enum Work {
     Sign { count: u32 },
+    KeptSign { count: u32 },
     Operation { count: u32 },
     Chain { count: u32, size: usize },
+    KeptChain { count: u32, size: usize },
     Checksum { count: u32, size: usize },
     Hash { count: u32, size: usize },
     Write { count: u32, size: usize },
@@ -35,8 +37,10 @@ impl Work {
     fn each(alloc: Global, count: u32) -> Result<Vec<Work>, AllocError> {
         let works = vec![in alloc;
             Work::Sign { count },
+            Work::KeptSign { count },
             Work::Operation { count },
             Work::Chain { count, size: 100 },
+            Work::KeptChain { count, size: 100 },
             Work::Checksum { count, size: 100 },
             Work::Hash { count, size: 100 },
             Work::Write { count, size: 100 },
@@ -61,6 +65,7 @@ impl Work {
     fn counted(kind: &str, count: u32) -> Option<Work> {
         match kind {
             "sign" => Some(Work::Sign { count }),
+            "kept-sign" => Some(Work::KeptSign { count }),
             "operation" => Some(Work::Operation { count }),
             "decode" => Some(Work::Decode { count }),
             "profiles" => Some(Work::Profiles { count }),
@@ -71,6 +76,7 @@ impl Work {
     fn sized(kind: &str, count: u32, size: usize) -> Option<Work> {
         match kind {
             "chain" => Some(Work::Chain { count, size }),
+            "kept-chain" => Some(Work::KeptChain { count, size }),
             "checksum" => Some(Work::Checksum { count, size }),
             "hash" => Some(Work::Hash { count, size }),
             "write" => Some(Work::Write { count, size }),
@@ -82,8 +88,10 @@ impl Work {
     pub fn answers(self, alloc: Global) -> anyhow::Result<Digest> {
         match self {
             Work::Sign { count } => signing::signatures(alloc, count),
+            Work::KeptSign { count } => kept::signatures(alloc, count),
             Work::Operation { count } => signing::operations(alloc, count),
             Work::Chain { count, size } => signing::chain(alloc, count, size),
+            Work::KeptChain { count, size } => kept::chain(alloc, count, size),
             Work::Checksum { count, size } => Ok(sums::checksums(alloc, count, size)?),
             Work::Hash { count, size } => Ok(sums::hashes(alloc, count, size)?),
             Work::Write { count, size } => frames::written(alloc, count, size),
@@ -97,8 +105,10 @@ impl fmt::Display for Work {
     fn fmt<W: fmt::Write>(&self, f: &mut fmt::Formatter<W>) -> fmt::Result {
         match self {
             Work::Sign { count } => write!(f, "sign {count}"),
+            Work::KeptSign { count } => write!(f, "kept-sign {count}"),
             Work::Operation { count } => write!(f, "operation {count}"),
             Work::Chain { count, size } => write!(f, "chain {count} {size}"),
+            Work::KeptChain { count, size } => write!(f, "kept-chain {count} {size}"),
             Work::Checksum { count, size } => write!(f, "checksum {count} {size}"),
             Work::Hash { count, size } => write!(f, "hash {count} {size}"),
             Work::Write { count, size } => write!(f, "write {count} {size}"),
