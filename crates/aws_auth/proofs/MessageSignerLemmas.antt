@@ -11,7 +11,7 @@ use Rattle.eventstream.specs.Key.{Signer, signing_key}
 use Rattle.eventstream.specs.Told.{Told, Seals, Signs, SignsEmpty, sealed}
 use Rattle.eventstream.specs.declared.sign_error.SignMessageError.{SignMessageError}
 use Rattle.sigv4.specs.EventStream.{IsKeyOf}
-use Rattle.sigv4.specs.Params.{secret_of, signer_of, v4_time}
+use Rattle.sigv4.specs.Params.{signer_of, v4_time}
 use Rattle.sigv4.specs.declared.params.SigningParams.{SigningParams}
 use Rattle.aws_auth.specs.KeptKey.{Kept}
 use Rattle.aws_auth.specs.MessageSigner.{IsOwnKey, SignerParts, SignerState, SignsBytes, SignsEnd, SignsMessage, running_signature, signer_for, signer_in, told_by, told_of, unsigned_by, unsigned_message_by}

@@ -1,7 +1,7 @@
-use Rattle.std.proofs.Common.{◌≡◌, Some, sym, ap, ◌∙◌}
+use Rattle.std.proofs.Common.{Some, sym, ap, ◌∙◌}
 use Rattle.eventstream.specs.Key.{signing_key}
 use Rattle.aws_auth.specs.KeptKey.{Kept, kept_at}
-use Rattle.aws_auth.specs.MessageSigner.{SignerState, own_key, signer_in}
+use Rattle.aws_auth.specs.MessageSigner.{SignerState, signer_in}
 use Rattle.aws_auth.proofs.KeptKeyLemmas.{kept_signer}
 use Rattle.aws_auth.proofs.message_signer.SigV4MessageSigner+unit.key_at.Goals as goal
 
