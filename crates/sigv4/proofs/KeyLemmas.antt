@@ -1,5 +1,5 @@
 -- A signing key is that of a date.
-use Rattle.std.proofs.Common.{◌≡◌, ℕ, List, None, refl, sym, ◌∙◌}
+use Rattle.std.proofs.Common.{◌≡◌, ℕ, List, None, refl, ◌∙◌}
 use Rattle.smithy_core.specs.Civil.{civil_of, date}
 use Rattle.smithy_core.specs.Moment.{Instant, floor_secs}
 use Rattle.eventstream.specs.Key.{Signer, signing_key}
