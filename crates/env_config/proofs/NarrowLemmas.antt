@@ -7,7 +7,7 @@ use Rattle.std.specs.List.{AllByRecursion, filter}
 use Rattle.std.proofs.lemmas.List.{append-nil}
 use Rattle.std.proofs.lemmas.List.Elements.{filter-append}
 use Rattle.env_config.specs.Line.{is_blank, is_skipped, profile_lines, property_of, section_name}
-use Rattle.env_config.specs.Raw.{Keeps, Last, Open, State, after_line, begun_property, continued_or, everything, last_step, opened, profile_line_step, properties_of, put_property, put_section, raw, raw_from, section_step, start, with_last, within_section}
+use Rattle.env_config.specs.Raw.{Keeps, Last, Open, State, after_line, begun_property, continued_or, everything, last_step, profile_line_step, properties_of, put_property, put_section, raw, raw_from, section_step, start, within_section}
 use Rattle.env_config.specs.Texts.{Named, put, put_named, text_cmp, value_under}
 use Rattle.env_config.proofs.ApartLemmas.{all_of}
 use Rattle.env_config.proofs.LaterLemmas.{at_put, both}

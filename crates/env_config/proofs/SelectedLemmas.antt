@@ -1,7 +1,6 @@
 -- Sections that are read for some keys and a service give what all sections give.
 use Rattle.std.proofs.Common.{◌≡◌, ℕ, Bool, true, ◌||◌, List, [], ◌∷◌, refl, sym, ap, subst, ◌∙◌}
 use Rattle.std.specs.Prelude.{Option, Some, None, Result, Ok, Err, bytes_eq, codes}
-use Rattle.std.specs.Option.{option_and_then}
 use Rattle.std.specs.List.{list_any}
 use Rattle.std.proofs.Math.Bool.{or-true}
 use Rattle.std.proofs.lemmas.Slice.Eq.{bytes_eq-Decides}
@@ -11,7 +10,6 @@ use Rattle.env_config.specs.declared.parse_fault.ParseFault.TheVariants.{Parse, 
 use Rattle.env_config.specs.declared.properties.Properties.{Properties}
 use Rattle.env_config.specs.declared.sections.EnvConfigSections.{EnvConfigSections}
 use Rattle.env_config.specs.EnvConfigSections.{ParsesSections, sections_of, selected_of}
-use Rattle.env_config.specs.EnvConfigValue.{chosen_of}
 use Rattle.env_config.specs.Kept.{has_heading, is_kept_key, keys_in}
 use Rattle.env_config.specs.Laws.{value_in}
 use Rattle.env_config.specs.ParseFault.{faulty_line_of}
@@ -19,7 +17,7 @@ use Rattle.env_config.specs.Properties.{others_of}
 use Rattle.env_config.specs.Raw.{everything}
 use Rattle.env_config.specs.Sections.{FaultyLine, FileText, Sections, files_from, no_sections, sections, value_at_key}
 use Rattle.env_config.specs.Selected.{GivesSelected, GivesService, ParsesSelected, ParsesService}
-use Rattle.env_config.specs.Value.{id_in_sections, selected_value, service_sub, with_spaces_as}
+use Rattle.env_config.specs.Value.{id_in_sections, service_sub, with_spaces_as}
 use Rattle.env_config.proofs.LowerLemmas.{lower_lower}
 use Rattle.env_config.proofs.NarrowMergeLemmas.{AlikeMerged, files_same, profile_kept}
 use Rattle.env_config.proofs.NarrowServiceLemmas.{service_kept}

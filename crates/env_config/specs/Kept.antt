@@ -1,6 +1,5 @@
 -- What is kept of a text, for the values that are asked for.
 use Rattle.std.specs.Prelude.{ℕ, Bool, ◌&&◌, ◌||◌, List, codes, bytes_eq, map, unwrap_or}
-use Rattle.std.specs.Borrow.{Bor}
 use Rattle.std.specs.List.{list_any}
 use Rattle.smithy_core.specs.TextPairs.{lower}
 use Rattle.env_config.specs.declared.kept.Kept.{Kept}

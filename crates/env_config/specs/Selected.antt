@@ -1,11 +1,11 @@
 -- Sections that are read for some keys of the selected profile, and for a service.
-use Rattle.std.specs.Prelude.{◌≡◌, ℕ, true, List, codes, Option, Some, None, Result, Ok, Err}
+use Rattle.std.specs.Prelude.{◌≡◌, ℕ, true, List, Option, Some, None, Result, Ok, Err}
 use Rattle.smithy_core.specs.TextPairs.{lower}
 use Rattle.env_config.specs.declared.parse_fault.ParseFault.{ParseFault}
 use Rattle.env_config.specs.declared.parse_fault.ParseFault.TheVariants.{Parse, NoMemory}
 use Rattle.env_config.specs.declared.properties.Properties.{Properties}
 use Rattle.env_config.specs.declared.sections.EnvConfigSections.{EnvConfigSections}
-use Rattle.env_config.specs.EnvConfigSections.{sections_of, selected_of}
+use Rattle.env_config.specs.EnvConfigSections.{selected_of}
 use Rattle.env_config.specs.EnvConfigValue.{chosen_of}
 use Rattle.env_config.specs.Kept.{is_kept_key}
 use Rattle.env_config.specs.ParseFault.{faulty_line_of}

@@ -1,12 +1,11 @@
 -- Sections that were read for the keys and the service give the settings that all sections give.
-use Rattle.std.proofs.Common.{◌≡◌, ◌∙◌, ℕ, List, [], ◌∷◌, refl, sym, ap, ap₂, subst}
+use Rattle.std.proofs.Common.{◌≡◌, ◌∙◌, ℕ, List, [], ◌∷◌, refl, ap, ap₂, subst}
 use Rattle.std.specs.Prelude.{Option, Some, None, option_map, Result, Ok, Err, codes}
 use Rattle.std.specs.Option.{option_or}
-use Rattle.env_config.specs.EnvConfigSections.{selected_of}
 use Rattle.env_config.specs.EnvConfigValue.{chosen_of}
 use Rattle.env_config.specs.Sections.{FaultyLine, Sections}
 use Rattle.env_config.specs.Selected.{GivesSelected, HasKeys, HasService}
-use Rattle.env_config.specs.Value.{Chosen, Found, InProfile, Own, Shared, found_as, in_profile, in_services, in_variables, selected_value, value}
+use Rattle.env_config.specs.Value.{Chosen, Found, InProfile, Own, Shared, found_as, in_profile, in_variables, selected_value, value}
 use Rattle.env_config.specs.declared.sections.EnvConfigSections.{EnvConfigSections}
 use Rattle.signed_stream.specs.Settings.{GivesSettings, Selected, selected_or_missing, settings_from, settings_in}
 use Rattle.signed_stream.specs.Status.{RunFault}
