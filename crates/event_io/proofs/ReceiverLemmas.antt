@@ -1,7 +1,7 @@
 -- How a receiver takes frames, and what the bytes that it has taken hold.
 use Rattle.std.proofs.Common.{◌≡◌, ◌⊎◌, inl, inr, ℕ, zero, suc, ◌+◌, ◌-◌, ◌<◌, ◌≤◌, ◌==◌, ◌||◌, Bool, true, false, if◌then◌else◌, List, [], ◌∷◌, ◌++◌, length, take, drop, Option, Some, None, Result, Ok, Err, ap, refl, sym, subst, ◌∙◌, append-nil, append_assoc, length-append, arith}
 use Rattle.std.specs.List.{flat_map, sum_by}
-use Rattle.std.proofs.lemmas.Bool.{cases_lt, eqb-false, eqb-true, ne_eqb}
+use Rattle.std.proofs.lemmas.Bool.{cases_lt, eqb-false, eqb-true, false≢true, ne_eqb}
 use Rattle.std.proofs.lemmas.Grind.{flat_map-append}
 use Rattle.std.proofs.lemmas.List.Sums.{sum_by-append}
 use Rattle.smithy_core.specs.FrameSource.{IsDrained, TakesFrame}
@@ -20,13 +20,17 @@ use Rattle.event_io.specs.Frames.{TakesFrames, data_in, data_of, idle_count, mos
 use Rattle.event_io.specs.Receiver.{FindsFront, IsCause, LacksFrame, Pulls, PullsFront, PullsOne, Reads, StopsAt, TakesTurns, frames_of, front_stop, taken_bytes}
 use Rattle.event_io.specs.ResponseFault.{is_want_kind}
 use Rattle.event_io.specs.Stop.{TellsStop, stop_of}
+use Rattle.smithy_core.specs.declared.raw_message.RawMessage.TheVariants.{Decoded, Invalid}
 use Rattle.smithy_core.specs.declared.sdk_error.SdkError.TheVariants.{ConstructionFailure, DispatchFailure, NoMemory, ResponseError, ServiceError}
 use Rattle.eventstream.specs.declared.unmarshall.UnmarshallMessage as UnmarshallMessage
 use Rattle.event_io.specs.declared.received.Received.{Received}
 use Rattle.event_io.specs.declared.received.Received.TheVariants as received
 use Rattle.event_io.specs.declared.response_fault.ResponseFault.TheVariants.{Frame, UnexpectedEndOfStream, Unmarshall, Preprocessor}
 use Rattle.event_io.specs.ResponseFault.{ReceiveError}
-use Rattle.event_io.specs.Receiver.{Begins, Cuts, CutsAt, Finds, Receives, Rest, Unmarshals, is_terminated, kept_message, recv_stop, rest_after, rest_of, terminated, terminates, unread, untold}
+use Rattle.event_io.specs.Receiver.{Begins, Cuts, CutsAt, Finds, KeepsNone, Receives, Rest, Tries, TriesFirst, TriesMessage, Unmarshals, is_no_memory, is_terminated, kept_by, kept_message, recv_stop, rest_after, rest_of, terminated, terminates, tried_stop, unread, untold}
+use Rattle.event_io.specs.declared.received.InitialMessageType.{InitialMessageType}
+use Rattle.event_io.specs.declared.received.Tried.{Tried}
+use Rattle.event_io.specs.declared.received.Tried.TheVariants as tried
 use Rattle.eventstream.proofs.ReadingLemmas.{begin_fault, begin_unfinished, fault_stays, first_stays}
 use Rattle.event_io.specs.declared.receiver.Receiver.{Receiver}
 use Rattle.event_io.specs.declared.stop.Front.{Front}
@@ -300,7 +304,6 @@ module _ {F U : Type 0} (source : FrameSource.Ghosts F) where
     turns = pulls.turns;
   }
 
-
 -- what is said of a message is no reason for none
 pub said_no_stop : {U T E : Type 0} (unmarshaller : UnmarshallMessage.Ghosts U T E) (by : U) (message : Parts) (result : Result (Received T) (ReceiveError E))
     → Unmarshals unmarshaller by message result → recv_stop result ≡ None
@@ -316,6 +319,30 @@ said_no_stop unmarshaller by message (Err (ResponseError (Frame error) raw)) say
 said_no_stop unmarshaller by message (Err (ResponseError (UnexpectedEndOfStream end) raw)) says = absurd says
 said_no_stop unmarshaller by message (Err (ResponseError (Unmarshall error) raw)) says = refl
 said_no_stop unmarshaller by message (Err (ResponseError (Preprocessor error) raw)) says = absurd says
+
+-- nor is what a preprocessor answered for it
+tried_no_stop : {M E : Type 0} (answers : Parts → Result (Parts × M) Error → Type 0) (kind : InitialMessageType) (message : Parts) (result : Result (Tried M) (ReceiveError E))
+    → TriesMessage answers kind message result → tried_stop result ≡ None
+tried_no_stop answers kind message (Ok (tried.Initial first beside)) says = refl
+tried_no_stop answers kind message (Ok tried.Other) says = refl
+tried_no_stop answers kind message (Ok tried.End) says = absurd says
+tried_no_stop answers kind message (Ok tried.NotYet) says = absurd says
+tried_no_stop answers kind message (Ok tried.OutOfTurns) says = absurd says
+tried_no_stop answers kind message (Err (ConstructionFailure refusal)) says = absurd says
+tried_no_stop answers kind message (Err DispatchFailure) says = absurd says
+tried_no_stop answers kind message (Err NoMemory) says = absurd says
+tried_no_stop answers kind message (Err (ServiceError error raw)) says = absurd says
+tried_no_stop answers kind message (Err (ResponseError (Frame error) raw)) says = absurd says
+tried_no_stop answers kind message (Err (ResponseError (UnexpectedEndOfStream end) raw)) says = absurd says
+tried_no_stop answers kind message (Err (ResponseError (Unmarshall error) raw)) says = absurd says
+tried_no_stop answers kind message (Err (ResponseError (Preprocessor error) raw)) says = refl
+
+-- without want of memory there is an answer of the message
+tried_says : {M E : Type 0} (answers : Parts → Result (Parts × M) Error → Type 0) (kind : InitialMessageType) (message : Parts) (result : Result (Tried M) (ReceiveError E))
+    → TriesMessage answers kind message result ⊎ (result ≡ Err NoMemory) → is_no_memory result ≡ false → TriesMessage answers kind message result
+tried_says answers kind message result (inl says) is = says
+tried_says {M = M} {E = E} answers kind message result (inr want) is =
+    absurd (false≢true (sym is ∙ ap (λ (r : Result (Tried M) (ReceiveError E)). is_no_memory r) want))
 
 -- ## What is still to be read
 
@@ -411,6 +438,26 @@ module _ {F U : Type 0} (source : FrameSource.Ghosts F) where
       → Cuts (Some stop.End) false said (rest_of source old) (rest_of source (record between { over = over }))
   cuts_over over said old between terminated_before is = rw (terminated_before, is) (tt, refl)
 
+  -- what a call answers, as it is said of the rest, where no message is kept
+  cuts_either : {A E : Type 0} (stop_in : Result A (ReceiveError E) → Option Stop) (last : Result A (ReceiveError E)) → stop_in last ≡ Some stop.End → terminates last ≡ false
+      → (said : Result A (ReceiveError E) → Parts → Type 0) (result : Result A (ReceiveError E)) (old between : Receiver F U) (over : Bool)
+      → (old.over ≡ true → (result ≡ last) × (between ≡ old)) → (old.over ≡ false → Reads source (stop_in result) (said result) old between)
+      → over ≡ (old.over || terminates result)
+      → Cuts (stop_in result) (terminates result) (said result) (rest_of source old) (rest_of source (record between { over = over }))
+  cuts_either {A = A} {E = E} stop_in last ends goes_on said result old between over ended going is = by old.over refl
+    where
+      by : (before : Bool) → old.over ≡ before
+          → Cuts (stop_in result) (terminates result) (said result) (rest_of source old) (rest_of source (record between { over = over }))
+      by true was =
+          let answer : result ≡ last = (ended was).0 in
+          subst
+          (λ (r : Result A (ReceiveError E)). Cuts (stop_in r) (terminates r) (said r) (rest_of source old) (rest_of source (record between { over = over })))
+          (sym answer)
+          (subst (λ (why : Option Stop). Cuts why (terminates last) (said last) (rest_of source old) (rest_of source (record between { over = over }))) (sym ends)
+          (subst (λ (b : Bool). Cuts (Some stop.End) b (said last) (rest_of source old) (rest_of source (record between { over = over }))) (sym goes_on)
+          (cuts_over over (said last) old between was (is ∙ rw was refl))))
+      by false was = cuts_going (stop_in result) (terminates result) over (said result) old between was (going was) (is ∙ rw was refl)
+
   module _ {T E : Type 0} (unmarshaller : UnmarshallMessage.Ghosts U T E) where
     -- a message is handed over, and taken
     pub reads_said : (result : Result (Received T) (ReceiveError E)) (old between new : Receiver F U) (front : Front) → PullsFront source old between (Ok front)
@@ -429,16 +476,35 @@ module _ {F U : Type 0} (source : FrameSource.Ghosts F) where
         → Cuts (recv_stop result) (terminates result) (λ message. Unmarshals unmarshaller old.unmarshaller message result) (rest_of source old)
         (rest_of source (record between { over = over }))
     any_cut result old between over receives is none =
-        by old.over refl (subst (λ (kept : Option Parts). Receives source unmarshaller kept old.over old between result) none receives)
+        cuts_either recv_stop (Ok received.End) refl refl (λ r message. Unmarshals unmarshaller old.unmarshaller message r) result old between over
+        (λ was. subst (λ (before : Bool). Receives source unmarshaller None before old between result) was open_receives)
+        (λ was. (subst (λ (before : Bool). Receives source unmarshaller None before old between result) was open_receives).0) is
       where
-        by : (before : Bool) → old.over ≡ before → Receives source unmarshaller None before old between result
-            → Cuts (recv_stop result) (terminates result) (λ message. Unmarshals unmarshaller old.unmarshaller message result) (rest_of source old)
-            (rest_of source (record between { over = over }))
-        by true was (answer, same) =
-            let still : over ≡ true = is ∙ rw was refl in
-            subst
-            (λ (r : Result (Received T) (ReceiveError E)). Cuts (recv_stop r) (terminates r) (λ message. Unmarshals unmarshaller old.unmarshaller message r) (rest_of source old)
-            (rest_of source (record between { over = over })))
-            (sym answer) (cuts_over over (λ message. Unmarshals unmarshaller old.unmarshaller message (Ok received.End)) old between was still)
-        by false was (reads, kept_none) =
-            cuts_going (recv_stop result) (terminates result) over (λ message. Unmarshals unmarshaller old.unmarshaller message result) old between was reads (is ∙ rw was refl)
+        open_receives : Receives source unmarshaller None old.over old between result
+        open_receives = subst (λ (kept : Option Parts). Receives source unmarshaller kept old.over old between result) none receives
+
+  module _ {M E : Type 0} (answers : Parts → Result (Parts × M) Error → Type 0) (kind : InitialMessageType) where
+    -- what a call answers that looks for the first message, without a kept one, as it is said of the rest
+    pub any_cut_first : (result : Result (Tried M) (ReceiveError E)) (old between : Receiver F U) (over : Bool)
+        → TriesFirst source answers kind (kept_message old) (is_terminated old) old between result → over ≡ (old.over || terminates result) → kept_message old ≡ None
+        → Cuts (tried_stop result) (terminates result) (λ message. Tries answers kind message (kept_message between) result) (rest_of source old)
+        (rest_of source (record between { over = over }))
+    any_cut_first result old between over tries is none =
+        cuts_either tried_stop (Ok tried.End) refl refl (λ r message. Tries answers kind message (kept_message between) r) result old between over
+        (λ was. subst (λ (before : Bool). TriesFirst source answers kind None before old between result) was open_tries)
+        (λ was. (subst (λ (before : Bool). TriesFirst source answers kind None before old between result) was open_tries).0) is
+      where
+        open_tries : TriesFirst source answers kind None old.over old between result
+        open_tries = subst (λ (kept : Option Parts). TriesFirst source answers kind kept old.over old between result) none tries
+
+    -- a message is tried, and taken
+    pub reads_tried : (result : Result (Tried M) (ReceiveError E)) (old between new : Receiver F U) (front : Front) → PullsFront source old between (Ok front)
+        → TriesMessage answers kind front.message result ⊎ (result ≡ Err NoMemory) → is_no_memory result ≡ false → kept_message new ≡ kept_by front.message result → new.source ≡ between.source
+        → new.buffer.bytes ≡ drop front.len between.buffer.bytes
+        → Reads source (tried_stop result) (λ message. Tries answers kind message (kept_message new) result) old new × KeepsNone (tried_stop result) new
+    reads_tried result old between new front pulls tries told keeps same left =
+        let says = tried_says answers kind front.message result tries told in
+        subst
+        (λ (why : Option Stop). Reads source why (λ message. Tries answers kind message (kept_message new) result) old new × KeepsNone why new)
+        (sym (tried_no_stop answers kind front.message result says))
+        (reads_message source (λ message. Tries answers kind message (kept_message new) result) old between new front pulls (says, keeps) same left, tt)

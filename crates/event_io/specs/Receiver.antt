@@ -25,6 +25,7 @@ use Rattle.event_io.specs.declared.received.Tried.{Tried}
 use Rattle.event_io.specs.declared.received.Tried.TheVariants as tried
 use Rattle.event_io.specs.declared.receiver.Receiver.{Receiver}
 use Rattle.event_io.specs.declared.stop.Front.{Front}
+use Rattle.event_io.specs.declared.response_fault.ResponseFault.{ResponseFault}
 use Rattle.event_io.specs.declared.response_fault.ResponseFault.TheVariants.{Frame, UnexpectedEndOfStream, Unmarshall, Preprocessor}
 use Rattle.event_io.specs.declared.stop.Stop.{Stop}
 use Rattle.event_io.specs.declared.stop.Stop.TheVariants as stop
@@ -53,11 +54,15 @@ tried_stop (Err (ResponseError (Frame error) (Invalid None))) = Some (stop.Fault
 tried_stop (Err (ResponseError (UnexpectedEndOfStream end) (Invalid (Some bytes)))) = Some (stop.CutOff bytes)
 tried_stop _ = None
 
--- after these answers nothing more is read: an error that the service sent, and each fault but a preprocessor's
+-- after each fault but a preprocessor's nothing more is read
+abbrev pub ends_reading : ResponseFault → Bool
+ends_reading (Preprocessor error) = false
+ends_reading _ = true
+
+-- nor after an error that the service sent
 abbrev pub terminates : {A E : Type 0} → Result A (ReceiveError E) → Bool
 terminates (Err (ServiceError error raw)) = true
-terminates (Err (ResponseError (Preprocessor error) raw)) = false
-terminates (Err (ResponseError refusal raw)) = true
+terminates (Err (ResponseError refusal raw)) = ends_reading refusal
 terminates _ = false
 
 -- a fault that is answered isn't want of memory
@@ -154,6 +159,11 @@ TriesMessage answers kind message (Ok (tried.Initial first beside)) = answers me
 TriesMessage {M = M} answers kind message (Ok tried.Other) = (found : Parts × M) × answers message (Ok found) × (is_initial kind found.0 ≡ false)
 TriesMessage answers kind message (Err (ResponseError (Preprocessor error) (Invalid None))) = answers message (Err error)
 TriesMessage answers kind message result = ⊥
+
+-- whether an answer is want of memory
+abbrev pub is_no_memory : {A E : Type 0} → Result A (ReceiveError E) → Bool
+is_no_memory (Err NoMemory) = true
+is_no_memory result = false
 
 -- a message is kept that doesn't begin the stream
 abbrev pub kept_by : {M E : Type 0} → Parts → Result (Tried M) (ReceiveError E) → Option Parts

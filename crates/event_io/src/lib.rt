@@ -1,15 +1,18 @@
-//! Event streams over sources: what sends the events of a source as signed frames.
+//! Event streams over sources: what sends the events of a source as signed frames, and what receives those of a body.
 //!
 //! The layer above is promised that each call of [`MessageStreamAdapter::poll_next`] answers the frame of what the signer
 //! answered for the next item, as its marshaller made it a message, at the one moment that the call took of the clock
 //! (`specs/Adapter.antt`); that the items are taken in order (`specs/EventSource.antt`); that the signer is asked once for the
-//! message that ends the stream; and that each other answer comes only for its cause.
+//! message that ends the stream; and that each other answer comes only for its cause. Of a [`Receiver`] it is promised that
+//! each call answers the kept message, or else the next one of the bytes that came and are to come, in whatever pieces, as its
+//! unmarshaller makes it an event, or why there is none, and that no other answer loses a byte (`specs/Receiver.antt`).
 #![tactic(auto)]
 
 mod adapter;
 mod adapter_fault;
 mod event_source;
 mod initial;
+mod initial_receiver;
 mod received;
 mod receiver;
 mod response_fault;

@@ -2,13 +2,13 @@ ghost use Rattle.std.specs.Prelude.{◌≡◌, ℕ, ◌^◌, ◌<◌, ◌≤◌,
 ghost use Rattle.smithy_core.specs.Message.{Parts};
 ghost use Rattle.smithy_core.specs.declared.outside.frame_part.FramePart.TheVariants.{Data};
 ghost use Rattle.event_io.specs.Frames.{one_if_idle};
-ghost use Rattle.event_io.specs.Receiver.{Cuts, Hands, IsNew, LacksFrame, PullsFront, PullsOne, Reads, Receives, ReceivesKept, TellsWantOfMemory, Unmarshals, frames_of, is_terminated, kept_message, recv_stop, rest_of, taken_bytes, terminates, unmarshaller_of};
+ghost use Rattle.event_io.specs.Receiver.{Cuts, Hands, IsNew, LacksFrame, PullsFront, PullsOne, Reads, Receives, ReceivesKept, TellsWantOfMemory, Unmarshals, ends_reading, frames_of, is_terminated, kept_message, recv_stop, rest_of, taken_bytes, terminates, unmarshaller_of};
 ghost use Rattle.event_io.specs.Stop.{IsEnd};
 
-use bytes::Bytes;
 use crate::received::Received;
 use crate::response_fault::{ReceiveError, ResponseFault, is_want};
 use crate::stop::{Front, Stop};
+use bytes::Bytes;
 use eventstream::{UnmarshallMessage, UnmarshalledMessage, peek_message};
 use seg_buf::SegBuf;
 use smithy_core::{FrameSource, Message, Polled, RawMessage, SdkError};
@@ -24,11 +24,11 @@ pub struct Receiver<F, U> {
     unmarshaller: U,
     source: F,
     // What was taken of the source and not yet answered.
-    buffer: SegBuf,
+    pub(crate) buffer: SegBuf,
     // The first message, where it was looked at and isn't the one that begins the stream.
-    kept: Option<Message>,
+    pub(crate) kept: Option<Message>,
     // Nothing more is read.
-    over: bool,
+    pub(crate) over: bool,
 }
 
 impl<F, U> Receiver<F, U> {
@@ -90,7 +90,10 @@ impl<F: FrameSource, U: UnmarshallMessage> Receiver<F, U> {
     }
 
     // Hands the message that was kept to the unmarshaller. For want of memory it is kept again.
-    fn receive_kept(&mut self, message: Message) -> Result<Received<U::Output>, ReceiveError<U::Error>>
+    fn receive_kept(
+        &mut self,
+        message: Message,
+    ) -> Result<Received<U::Output>, ReceiveError<U::Error>>
         requires { kept_message self.old ≡ None }
         ensures receives { ReceivesKept U.UnmarshallMessage message self.old self.new result }
         ensures open { is_terminated self.new ≡ is_terminated self.old }
@@ -189,7 +192,7 @@ impl<F: FrameSource, U: UnmarshallMessage> Receiver<F, U> {
     }
 
     // Takes frames until a whole message is at the front of the buffer, where it stays.
-    fn find(&mut self) -> Result<Front, Stop>
+    pub(crate) fn find(&mut self) -> Result<Front, Stop>
         ensures { PullsFront F.FrameSource self.old self.new result }
     {
         let mut idle = 0;
@@ -204,14 +207,21 @@ impl<F: FrameSource, U: UnmarshallMessage> Receiver<F, U> {
 }
 
 // Whether nothing more is read after this answer.
-fn is_last<A, E>(answer: &Result<A, ReceiveError<E>>) -> bool
+pub(crate) fn is_last<A, E>(answer: &Result<A, ReceiveError<E>>) -> bool
     ensures { result ≡ terminates answer.now }
 {
     match answer {
         Err(SdkError::ServiceError { .. }) => true,
-        Err(SdkError::ResponseError { source, .. }) => !matches!(source, ResponseFault::Preprocessor(_)),
+        Err(SdkError::ResponseError { source, .. }) => is_end(source),
         _ => false,
     }
+}
+
+// Whether nothing more is read after a fault.
+fn is_end(fault: &ResponseFault) -> bool
+    ensures { result ≡ ends_reading fault.now }
+{
+    !matches!(fault, ResponseFault::Preprocessor(_))
 }
 
 // How many frames without data a piece is: one where it is empty.

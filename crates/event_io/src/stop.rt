@@ -6,9 +6,7 @@ ghost use Rattle.event_io.specs.Stop.{TellsStop};
 ghost use Rattle.event_io.specs.declared.response_fault.ResponseFault.TheVariants.{Frame};
 
 use crate::received::{Received, Tried};
-use crate::response_fault::{
-    ReceiveError, ReceiverError, ResponseFault, is_want, response_error,
-};
+use crate::response_fault::{ReceiveError, ReceiverError, ResponseFault, is_want, response_error};
 use bytes::Bytes;
 use eventstream::Error;
 use smithy_core::{Message, RawMessage, SdkError};

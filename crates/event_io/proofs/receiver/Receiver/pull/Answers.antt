@@ -7,7 +7,7 @@ pub returns-in-Data : goal.returns-in-Data
 returns-in-Data g c = (
   Data c.in-Data.piece,
   pulls_one g.F.FrameSource (Data c.in-Data.piece) _ _ c.in-Data.ensures.gives (c.push.ensures.bytes ∙ ap (λ bytes. bytes ++ c.in-Data.piece) c.reserve_one.ensures.bytes)
-  c.poll_frame.ensures.waits c.poll_frame.ensures.count refl,
+      c.poll_frame.ensures.waits c.poll_frame.ensures.count refl,
   c.idle_turns-idle.ensures,
 )
 
@@ -15,6 +15,6 @@ pub returns-in-Trailers : goal.returns-in-Trailers
 returns-in-Trailers g c = (
   Trailers c.in-Trailers.field-0,
   pulls_one g.F.FrameSource (Trailers c.in-Trailers.field-0) _ _ c.in-Trailers.ensures.gives (c.reserve_one.ensures.bytes ∙ sym (append-nil _))
-  c.poll_frame.ensures.waits c.poll_frame.ensures.count refl,
+      c.poll_frame.ensures.waits c.poll_frame.ensures.count refl,
   refl,
 )
