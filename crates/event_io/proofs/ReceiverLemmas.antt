@@ -1,6 +1,5 @@
 -- How a receiver takes frames, and what the bytes that it has taken hold.
-use Rattle.std.proofs.Common.{◌≡◌, ◌⊎◌, inl, inr, ℕ, zero, suc, ◌+◌, ◌-◌, ◌<◌, ◌≤◌, ◌==◌, ◌||◌, Bool, true, false, if◌then◌else◌, List, [], ◌∷◌, ◌++◌, length, take, drop, Option, Some, None, Result, Ok, Err, ap, refl, sym, subst, ◌∙◌, append-nil, append_assoc, length-append, arith}
-use Rattle.std.specs.List.{flat_map, sum_by}
+use Rattle.std.proofs.Common.{◌≡◌, ◌⊎◌, inl, inr, ℕ, zero, suc, ◌+◌, ◌<◌, ◌≤◌, ◌==◌, ◌||◌, Bool, true, false, if◌then◌else◌, List, [], ◌∷◌, ◌++◌, length, take, drop, Option, Some, None, Result, Ok, Err, ap, refl, sym, subst, ◌∙◌, append-nil, append_assoc, length-append, arith}
 use Rattle.std.proofs.lemmas.Bool.{cases_lt, eqb-false, eqb-true, false≢true, ne_eqb}
 use Rattle.std.proofs.lemmas.Grind.{flat_map-append}
 use Rattle.std.proofs.lemmas.List.Sums.{sum_by-append}
@@ -12,15 +11,14 @@ use Rattle.smithy_core.specs.declared.outside.frame_source.FrameSource as FrameS
 use Rattle.eventstream.specs.Decode.{IsUnfinished, PeeksMessage}
 use Rattle.eventstream.specs.Error.{error_kind}
 use Rattle.eventstream.specs.Read.{announced, read}
-use Rattle.eventstream.specs.Reading.{First, nothing, fault, leftover, begins, as_first, first_of, reading}
+use Rattle.eventstream.specs.Reading.{First, leftover, begins, as_first, first_of, reading}
 use Rattle.eventstream.specs.declared.error.Error.{Error}
 use Rattle.eventstream.specs.declared.error.ErrorKind.{ErrorKind}
 use Rattle.eventstream.proofs.FrontLemmas.{first_bad, first_more, first_whole, short_is}
 use Rattle.event_io.specs.Frames.{TakesFrames, data_in, data_of, idle_count, most_idle, one_if_idle}
-use Rattle.event_io.specs.Receiver.{FindsFront, IsCause, LacksFrame, Pulls, PullsFront, PullsOne, Reads, StopsAt, TakesTurns, frames_of, front_stop, taken_bytes}
+use Rattle.event_io.specs.Receiver.{IsCause, LacksFrame, Pulls, PullsFront, PullsOne, Reads, StopsAt, TakesTurns, taken_bytes}
 use Rattle.event_io.specs.ResponseFault.{is_want_kind}
 use Rattle.event_io.specs.Stop.{TellsStop, stop_of}
-use Rattle.smithy_core.specs.declared.raw_message.RawMessage.TheVariants.{Decoded, Invalid}
 use Rattle.smithy_core.specs.declared.sdk_error.SdkError.TheVariants.{ConstructionFailure, DispatchFailure, NoMemory, ResponseError, ServiceError}
 use Rattle.eventstream.specs.declared.unmarshall.UnmarshallMessage as UnmarshallMessage
 use Rattle.event_io.specs.declared.received.Received.{Received}

@@ -1,5 +1,5 @@
 -- What a receiver answers, and which message begins a stream.
-use Rattle.std.specs.Prelude.{◌≡◌, ℕ, Bool, true, false, bytes_eq, List, codes, find, option_map, Option, Some, None}
+use Rattle.std.specs.Prelude.{◌≡◌, ℕ, Bool, false, bytes_eq, List, codes, find, option_map, Option}
 use Rattle.std.specs.Option.{option_map_or}
 use Rattle.smithy_core.specs.Header.{Header}
 use Rattle.smithy_core.specs.HeaderValue.{string_of}

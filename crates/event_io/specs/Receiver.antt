@@ -10,7 +10,7 @@ use Rattle.smithy_core.specs.declared.raw_message.RawMessage.TheVariants.{Decode
 use Rattle.smithy_core.specs.declared.sdk_error.SdkError.TheVariants.{DispatchFailure, NoMemory, ResponseError, ServiceError}
 use Rattle.eventstream.specs.Decode.{IsUnfinished}
 use Rattle.eventstream.specs.Error.{error_kind}
-use Rattle.eventstream.specs.Reading.{First, fault, leftover, begins, first_of, Read, reading}
+use Rattle.eventstream.specs.Reading.{First, fault, leftover, begins, first_of, reading}
 use Rattle.eventstream.specs.declared.error.Error.{Error}
 use Rattle.eventstream.specs.declared.unmarshall.UnmarshallMessage as UnmarshallMessage
 use Rattle.eventstream.specs.declared.unmarshall.UnmarshalledMessage.TheVariants as made

@@ -1,5 +1,5 @@
 -- Why a call of a receiver finds no message.
-use Rattle.std.specs.Prelude.{◌≡◌, Bool, true, false, if◌then◌else◌}
+use Rattle.std.specs.Prelude.{◌≡◌, false, if◌then◌else◌}
 use Rattle.eventstream.specs.Error.{error_kind}
 use Rattle.eventstream.specs.declared.error.Error.{Error}
 use Rattle.event_io.specs.ResponseFault.{is_want_kind}

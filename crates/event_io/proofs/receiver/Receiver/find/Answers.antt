@@ -1,6 +1,5 @@
-use Rattle.std.proofs.Common.{arith}
 use Rattle.std.proofs.lemmas.Result.{err_from_is_err_and}
-use Rattle.event_io.proofs.ReceiverLemmas.{front_found, front_gives_up, front_lacks, goes_forward, peeked_none, turned_more, turned_none}
+use Rattle.event_io.proofs.ReceiverLemmas.{front_lacks, peeked_none, turned_more}
 use Rattle.event_io.proofs.receiver.Receiver.find.Goals as goal
 
 pub returns-in_err-idle-in-None : goal.returns-in_err-idle-in-None

@@ -1,4 +1,4 @@
-use Rattle.std.proofs.Common.{ℕ, ◌+◌, ◌-◌, length}
+use Rattle.std.proofs.Common.{◌+◌, ◌-◌, length}
 use Rattle.event_io.specs.Frames.{most_idle}
 use Rattle.event_io.specs.Receiver.{taken_bytes}
 use Rattle.event_io.proofs.ReceiverLemmas.{Turned}

@@ -1,4 +1,4 @@
-use Rattle.std.proofs.Common.{◌≡◌, ◌∙◌, ap, refl, sym, append-nil, ◌++◌}
+use Rattle.std.proofs.Common.{◌∙◌, ap, refl, sym, append-nil, ◌++◌}
 use Rattle.smithy_core.specs.declared.outside.frame_part.FramePart.TheVariants.{Data, Trailers}
 use Rattle.event_io.proofs.ReceiverLemmas.{pulls_one}
 use Rattle.event_io.proofs.receiver.Receiver.pull.Goals as goal
