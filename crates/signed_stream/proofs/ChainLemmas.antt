@@ -1,64 +1,37 @@
 -- A chain that is written frame by frame, up to the first one that is refused.
-use Rattle.std.proofs.Common.{◌≡◌, ℕ, suc, ◌+◌, ◌-◌, ◌<◌, ◌≤◌, Bool, true, false, List, [], ◌∷◌, ◌++◌, Option, Some, None, option_map, length, take, drop, get_or, replicate, refl, sym, ap, ◌∙◌, arith, append-nil, add-one}
-use Rattle.std.specs.Prelude.{Result, Ok, Err, if◌then◌else◌}
+use Rattle.std.proofs.Common.{◌≡◌, ℕ, suc, ◌+◌, ◌-◌, ◌<◌, ◌≤◌, inl, inr, Bool, true, false, List, [], ◌∷◌, ◌++◌, Option, Some, None, option_map, length, take, refl, sym, ap, subst, ◌∙◌, arith, append-nil}
+use Rattle.std.specs.Prelude.{if◌then◌else◌}
 use Rattle.std.specs.Option.{option_or}
-use Rattle.std.proofs.Math.Seq.{drop-cons}
+use Rattle.std.proofs.lemmas.List.{append_assoc}
 use Rattle.smithy_core.specs.Civil.{IsInYears, is_in_years}
 use Rattle.smithy_core.specs.Moment.{Instant}
 use Rattle.smithy_core.specs.Outside.{Gains, GainsPrefix, GainsRest}
 use Rattle.smithy_core.specs.Message.{Parts}
-use Rattle.smithy_core.specs.declared.identity.Identity.{Identity}
-use Rattle.smithy_core.specs.declared.identity.Identity.TheVariants.{Credentials, Token}
 use Rattle.smithy_core.proofs.GainLemmas.{gains_front, gains_join, gains_last, gains_nothing, prefix_at_start, prefix_join, prefix_within}
+use Rattle.eventstream.specs.Error.{error_kind}
 use Rattle.eventstream.specs.Frame.{frame, unframed}
 use Rattle.eventstream.specs.Key.{Signer}
 use Rattle.eventstream.specs.Link.{begun, link_message, link_signature}
+use Rattle.eventstream.specs.Told.{encoding_refusal, unsigned_at}
+use Rattle.eventstream.specs.Write.{IsFrameFault}
 use Rattle.eventstream.specs.declared.error.ErrorKind.{ErrorKind}
+use Rattle.eventstream.specs.declared.sign_error.SignMessageError.{SignMessageError}
+use Rattle.eventstream.specs.declared.sign_error.SignMessageError.TheVariants as signing
 use Rattle.eventstream.proofs.LinkLemmas.{link_framed}
 use Rattle.eventstream.proofs.UnframedLemmas.{unframed_fault}
-use Rattle.sigv4.specs.EventStream.{failed_encoding, message_refusal, unsignable}
-use Rattle.sigv4.specs.declared.error.SigningError.{SigningError}
-use Rattle.sigv4.specs.declared.error.SigningError.TheVariants as errors
+use Rattle.event_io.specs.Chain.{next_bytes, next_unsigned}
 use Rattle.signed_stream.specs.declared.form.Form.{Form}
-use Rattle.smithy_core.specs.Identity.{IsCredentials}
 use Rattle.signed_stream.specs.Chain.{IsChained, Refusal, chain_text, fault_at, first_refusal, frames_text, link_text, outside_years, refusal_at, refusal_fault, streamed_text, text_before, unframed_at, unlinked}
-use Rattle.signed_stream.specs.Halt.{Halts, Sends, unless_refused}
-use Rattle.signed_stream.specs.Status.{RunFault, run_fault, moment_out_of_range}
+use Rattle.signed_stream.specs.Halt.{Halt, Halts, fails, refuses, unless_refused, wants}
+use Rattle.signed_stream.specs.Sending.{IsNext, IsSignFault, next_refused, sign_halt}
+use Rattle.signed_stream.specs.Status.{RunFault, moment_out_of_range}
 use Rattle.signed_stream.proofs.YearLemmas.{in_years, years_in}
-use Rattle.signed_stream.specs.declared.halt.Halt.{Halt}
-use Rattle.signed_stream.specs.declared.halt.Halt.TheVariants.{Refused, OutputFault, NoMemory}
 
 -- ## One message
 
 -- the closing message has a frame
 pub closing_framed : (signer : Signer) (signature : List ℕ) (t : Instant) → IsInYears t → unframed (link_message signer signature [] t) ≡ None
 closing_framed signer signature t within = link_framed signer signature [] t within (omega arith)
-
--- credentials sign at a moment in the years alone
-pub signs_in_years : (identity : Identity) (t : Instant) → IsCredentials identity → unsignable identity t ≡ None → is_in_years t ≡ true
-signs_in_years (Token token) t can none = absurd can
-signs_in_years (Credentials credentials) t can none = by_years (is_in_years t) none
-  where
-    by_years : (years : Bool) → (if years then None else Some (errors.MomentOutOfRange t)) ≡ None → years ≡ true
-    by_years true none = refl
-    by_years false none = cc
-
--- at another moment they are refused for it
-pub refused_by_years : (identity : Identity) (t : Instant) (error : SigningError) → IsCredentials identity → unsignable identity t ≡ Some error
-    → (error ≡ errors.MomentOutOfRange t) × (is_in_years t ≡ false)
-refused_by_years (Token token) t error can is = absurd can
-refused_by_years (Credentials credentials) t error can is = by_years (is_in_years t) is
-  where
-    by_years : (years : Bool) → (if years then None else Some (errors.MomentOutOfRange t)) ≡ Some error → (error ≡ errors.MomentOutOfRange t) × (years ≡ false)
-    by_years true is = cc
-    by_years false is = let same : error ≡ errors.MomentOutOfRange t = cc in (same, refl)
-
--- a moment outside the years is refused
-pub outside_refused : (t : Instant) → is_in_years t ≡ false → outside_years t ≡ Some (moment_out_of_range t)
-outside_refused t is = rw is refl
-
-pub inside_unrefused : (t : Instant) → is_in_years t ≡ true → outside_years t ≡ None
-inside_unrefused t is = rw is refl
 
 inside_years : (t : Instant) → outside_years t ≡ None → is_in_years t ≡ true
 inside_years t = by_years (is_in_years t)
@@ -67,67 +40,75 @@ inside_years t = by_years (is_in_years t)
     by_years true none = refl
     by_years false none = cc
 
--- a message that is signed has a frame, and its moment lies in the years
-pub signed_framed : (m : Parts) (identity : Identity) (t : Instant) → IsCredentials identity → message_refusal m identity t ≡ None → (unframed m ≡ None) × (is_in_years t ≡ true)
-signed_framed m identity t can = by_reason (unframed m)
+-- a moment at which something is signed isn't refused
+signed_inside : (t : Instant) → unsigned_at t ≡ None → is_in_years t ≡ true
+signed_inside t = by_years (is_in_years t)
   where
-    by_reason : (reason : Option ErrorKind) → option_or (option_map failed_encoding reason) (unsignable identity t) ≡ None → (reason ≡ None) × (is_in_years t ≡ true)
-    by_reason None none = (refl, signs_in_years identity t can none)
-    by_reason (Some kind) none = cc
+    by_years : (years : Bool) → (if years then None else Some (signing.MomentOutOfRange t)) ≡ None → years ≡ true
+    by_years true none = refl
+    by_years false none = cc
 
--- why a message isn't signed: it has no frame, or its moment lies outside the years
-pub data WhyUnsigned (m : Parts) (t : Instant) (error : SigningError) : Type 0 where
-  has_no_frame : (kind : ErrorKind) → error ≡ failed_encoding kind → unframed m ≡ Some kind → WhyUnsigned m t error
-  lies_outside : error ≡ errors.MomentOutOfRange t → unframed m ≡ None → is_in_years t ≡ false → WhyUnsigned m t error
+no_encoding : (reason : Option ErrorKind) (others : Option SignMessageError) → option_or (option_map encoding_refusal reason) others ≡ None → (reason ≡ None) × (others ≡ None)
+no_encoding None others none = (refl, none)
+no_encoding (Some kind) others none = cc
 
-pub why_unsigned : (m : Parts) (identity : Identity) (t : Instant) (error : SigningError) → IsCredentials identity → message_refusal m identity t ≡ Some error → WhyUnsigned m t error
-why_unsigned m identity t error can = by_reason (unframed m) refl
+-- a frame that is signed and framed isn't refused
+pub next_passes : (who : Signer) (place : ℕ) (signature : List ℕ) (events : List Parts) (t : Instant) → next_unsigned events t ≡ None
+    → unframed (link_message who signature (next_bytes events) t) ≡ None → next_refused who place signature events t ≡ None
+unfolding unlinked
+next_passes who place signature [] t signed framed = rw (signed_inside t signed) refl
+next_passes who place signature (event ∷ events) t signed framed =
+    let parts = no_encoding (unframed event) (unsigned_at t) signed in rw (parts.0, signed_inside t parts.1, framed) refl
+
+-- how a refused signature halts, and that the frame is refused so
+abbrev IsRefusedBy : Signer → ℕ → List ℕ → List Parts → Instant → Halt → Type 0
+IsRefusedBy who place signature events t halt = (told : RunFault) × (halt ≡ refuses told) × (next_refused who place signature events t ≡ Some told)
+
+-- a moment outside the years
+outside_refused : (place : ℕ) (t : Instant) (error : SignMessageError) → unsigned_at t ≡ Some error → (error ≡ signing.MomentOutOfRange t) × (is_in_years t ≡ false)
+outside_refused place t error = by_years (is_in_years t)
   where
-    by_reason : (reason : Option ErrorKind) → unframed m ≡ reason → option_or (option_map failed_encoding reason) (unsignable identity t) ≡ Some error → WhyUnsigned m t error
-    by_reason None none is = let refused = refused_by_years identity t error can is in lies_outside refused.0 none refused.1
-    by_reason (Some kind) some is = let same : error ≡ failed_encoding kind = cc in has_no_frame kind same some
+    by_years : (years : Bool) → (if years then None else Some (signing.MomentOutOfRange t)) ≡ Some error → (error ≡ signing.MomentOutOfRange t) × (years ≡ false)
+    by_years true is = cc
+    by_years false is = let same : error ≡ signing.MomentOutOfRange t = cc in (same, refl)
 
--- ## An event
-
--- an event that is signed is sent as its signed message
-pub event_linked : (signer : Signer) (place : ℕ) (signature : List ℕ) (event : Parts) (t : Instant) → unframed event ≡ None → is_in_years t ≡ true
-    → unlinked signer place signature event t ≡ unframed_at place (link_message signer signature (frame event) t)
+pub sign_refused : (who : Signer) (place : ℕ) (signature : List ℕ) (events : List Parts) (t : Instant) (error : SignMessageError) → next_unsigned events t ≡ Some error
+    → IsSignFault error × IsRefusedBy who place signature events t (sign_halt place error)
 unfolding unlinked
-event_linked signer place signature event t framed within = rw (framed, within) refl
+sign_refused who place signature [] t error is =
+    let found = outside_refused place t error is in
+    let refused : outside_years t ≡ Some (moment_out_of_range t) = rw found.1 refl in
+    rw found.0 (tt, (moment_out_of_range t, refl, refused))
+sign_refused who place signature (event ∷ events) t error is = by_reason (unframed event) refl is
+  where
+    by_reason : (reason : Option ErrorKind) → unframed event ≡ reason → option_or (option_map encoding_refusal reason) (unsigned_at t) ≡ Some error
+        → IsSignFault error × IsRefusedBy who place signature (event ∷ events) t (sign_halt place error)
+    by_reason None framed is =
+        let found = outside_refused place t error is in
+        let refused : unlinked who place signature event t ≡ Some (moment_out_of_range t) = rw (framed, found.1) refl in
+        rw found.0 (tt, (moment_out_of_range t, refl, refused))
+    by_reason (Some kind) unframed_is is =
+        let same : error ≡ encoding_refusal kind = cc in
+        let of : IsFrameFault kind = unframed_fault event kind unframed_is in
+        let refused : unlinked who place signature event t ≡ Some (fault_at place kind) = rw unframed_is refl in
+        rw same (of, (fault_at place kind, refl, refused))
 
--- an event that has no frame is refused
-pub event_unframed : (signer : Signer) (place : ℕ) (signature : List ℕ) (event : Parts) (t : Instant) (kind : ErrorKind) → unframed event ≡ Some kind
-    → unlinked signer place signature event t ≡ Some (fault_at place kind)
+-- a signed message without a frame is that of an event
+pub write_refused : (who : Signer) (place : ℕ) (signature : List ℕ) (events : List Parts) (t : Instant) (kind : ErrorKind) → next_unsigned events t ≡ None
+    → unframed (link_message who signature (next_bytes events) t) ≡ Some kind
+    → IsFrameFault kind × IsRefusedBy who place signature events t (refuses (fault_at place kind))
 unfolding unlinked
-event_unframed signer place signature event t kind is = rw is refl
-
--- an event whose moment lies outside the years is refused
-pub event_outside : (signer : Signer) (place : ℕ) (signature : List ℕ) (event : Parts) (t : Instant) → unframed event ≡ None → is_in_years t ≡ false
-    → unlinked signer place signature event t ≡ Some (moment_out_of_range t)
-unfolding unlinked
-event_outside signer place signature event t framed is = rw (framed, is) refl
-
--- a message that has a frame is sent as its line
-pub line_sent : {T : Type 0} (fault : Option RunFault) (text : List ℕ) (before now : Option (List ℕ)) (answer : Result T Halt)
-    → fault ≡ None → Sends None text before now answer → Sends fault (unless_refused fault text) before now answer
-line_sent fault text before now answer none sends = rw none sends
-
--- a message that has none is refused
-pub line_refused : (fault : Option RunFault) (told : RunFault) (text : List ℕ) (held : Option (List ℕ))
-    → fault ≡ Some told → (fault ≡ Some told) × Gains held held (unless_refused fault text)
-line_refused fault told text held is = rw is (refl, gains_nothing held)
-
-pub ruleset sending = (unframed_fault, line_sent, line_refused, prefix_at_start)
+write_refused who place signature [] t kind signed unframed_is =
+    let framed = closing_framed who signature t (in_years t (signed_inside t signed)) in
+    let no : None ≡ Some kind = sym framed ∙ unframed_is in cc
+write_refused who place signature (event ∷ events) t kind signed unframed_is =
+    let parts = no_encoding (unframed event) (unsigned_at t) signed in
+    let message = link_message who signature (frame event) t in
+    let of : IsFrameFault kind = unframed_fault message kind unframed_is in
+    let refused : unlinked who place signature event t ≡ Some (fault_at place kind) = rw (parts.0, signed_inside t parts.1, unframed_is) refl in
+    (of, (fault_at place kind, refl, refused))
 
 -- ## The chain
-
--- the event at an index, and those after it
-pub event_front : (events : List Parts) (i : ℕ) (event : Parts) → i < length events → event ≡ get_or events i event → drop i events ≡ event ∷ drop (i + 1) events
-event_front events i event within is = drop-cons events i event within ∙ rw (← is, add-one) refl
-
--- the moments of an event and those after it, where all are one moment
-pub moments_front : (event : Parts) (events : List Parts) (at : Instant) → replicate (length (event ∷ events) + 1) at ≡ at ∷ replicate (length events + 1) at
-moments_front event events at = let more : length (event ∷ events) + 1 ≡ suc (length events + 1) = omega arith in rw more refl
 
 module _ (form : Form) where
   -- the line of the first event, and then the chain of the others from its signature on
@@ -252,23 +233,30 @@ module _ (form : Form) where
 
       by_fault : (fault : Option RunFault) (halt : Halt) → unlinked signer place signature event at ≡ fault
           → Halts fault (unless_refused fault (link_text form signer signature (frame event) at)) b c halt → Halts (refusal_fault whole) text a c halt
-      by_fault fault OutputFault is sends = cut fault is sends
-      by_fault fault NoMemory is sends = cut fault is sends
-      by_fault None (Refused told) is sends = let wrong : None ≡ Some (run_fault told) = sends.0 in cc
-      by_fault (Some fault) (Refused told) is sends =
-          let same : Some fault ≡ Some (run_fault told) = sends.0 in (
+      by_fault fault fails is sends = cut fault is sends
+      by_fault fault wants is sends = cut fault is sends
+      by_fault None (refuses told) is sends = let wrong : None ≡ Some told = sends.0 in cc
+      by_fault (Some fault) (refuses told) is sends =
+          let same : Some fault ≡ Some told = sends.0 in (
             rw (← decided, unlinked_refusal signer place event events at moments signature fault is) same,
             gains_last a b c [] text (none_left fault is) sends.1,
           )
 
-  -- all events were sent: the closing line is left, or refused
-  pub closing_sent : {T : Type 0} (a b c : Option (List ℕ)) (signer : Signer) (place : ℕ) (at : Instant) (signature text : List ℕ) (whole : Option Refusal) (answer : Result T Halt)
+  -- all events were sent, and then the closing line
+  closing_sent : (a b c : Option (List ℕ)) (signer : Signer) (place : ℕ) (at : Instant) (signature text : List ℕ) → outside_years at ≡ None
+      → GainsRest a b (streamed_from signer place [] (at ∷ []) signature) text → Gains b c (link_text form signer signature [] at) → Gains a c text
+  closing_sent a b c signer place at signature text is first wrote =
+      let none : first_refusal signer place [] (at ∷ []) signature ≡ None = rw is refl in
+      gains_last a b c (link_text form signer signature [] at) text (rw (ap (text_from signer place [] (at ∷ []) signature) none ∙ chain_nil signer at signature) at first) wrote
+
+  -- the closing line wasn't sent
+  closing_halted : (a b c : Option (List ℕ)) (signer : Signer) (place : ℕ) (at : Instant) (signature text : List ℕ) (whole : Option Refusal) (halt : Halt)
       → first_refusal signer place [] (at ∷ []) signature ≡ whole
       → GainsRest a b (streamed_from signer place [] (at ∷ []) signature) text
-      → Sends (outside_years at) (unless_refused (outside_years at) (link_text form signer signature [] at)) b c answer
-      → Sends (refusal_fault whole) text a c answer
-  closing_sent {T} a b c signer place at signature text whole answer decided first =
-      by_fault (outside_years at) refl answer
+      → Halts (outside_years at) (unless_refused (outside_years at) (link_text form signer signature [] at)) b c halt
+      → Halts (refusal_fault whole) text a c halt
+  closing_halted a b c signer place at signature text whole halt decided first =
+      by_fault (outside_years at) refl halt
     where
       whole_left : outside_years at ≡ None → GainsRest a b (link_text form signer signature [] at) text
       whole_left is =
@@ -278,16 +266,154 @@ module _ (form : Form) where
       none_left : (fault : RunFault) → outside_years at ≡ Some fault → GainsRest a b [] text
       none_left fault is = rw (refused_text signer place [] (at ∷ []) signature fault (rw is refl)) at first
 
-      by_fault : (fault : Option RunFault) → outside_years at ≡ fault → (answer : Result T Halt) → Sends fault (unless_refused fault (link_text form signer signature [] at)) b c answer → Sends (refusal_fault whole) text a c answer
-      by_fault None is (Ok x) sends = (rw (← decided, is) refl, gains_last a b c (link_text form signer signature [] at) text (whole_left is) sends.1)
-      by_fault None is (Err (Refused told)) sends = let wrong : None ≡ Some (run_fault told) = sends.0 in cc
-      by_fault None is (Err OutputFault) sends = prefix_join a b c (link_text form signer signature [] at) text (whole_left is) sends
-      by_fault None is (Err NoMemory) sends = prefix_join a b c (link_text form signer signature [] at) text (whole_left is) sends
-      by_fault (Some fault) is (Ok x) sends = let wrong : Some fault ≡ None = sends.0 in cc
-      by_fault (Some fault) is (Err (Refused told)) sends =
-          let same : Some fault ≡ Some (run_fault told) = sends.0 in (rw (← decided, is) same, gains_last a b c [] text (none_left fault is) sends.1)
-      by_fault (Some fault) is (Err OutputFault) sends = prefix_join a b c [] text (none_left fault is) sends
-      by_fault (Some fault) is (Err NoMemory) sends = prefix_join a b c [] text (none_left fault is) sends
+      by_fault : (fault : Option RunFault) → outside_years at ≡ fault → (halt : Halt) → Halts fault (unless_refused fault (link_text form signer signature [] at)) b c halt → Halts (refusal_fault whole) text a c halt
+      by_fault None is (refuses told) sends = let wrong : None ≡ Some told = sends.0 in cc
+      by_fault None is fails sends = prefix_join a b c (link_text form signer signature [] at) text (whole_left is) sends
+      by_fault None is wants sends = prefix_join a b c (link_text form signer signature [] at) text (whole_left is) sends
+      by_fault (Some fault) is (refuses told) sends =
+          let same : Some fault ≡ Some told = sends.0 in (rw (← decided, is) same, gains_last a b c [] text (none_left fault is) sends.1)
+      by_fault (Some fault) is fails sends = prefix_join a b c [] text (none_left fault is) sends
+      by_fault (Some fault) is wants sends = prefix_join a b c [] text (none_left fault is) sends
+
+  -- ## So far
+
+  -- with no moment left nothing is left to write
+  nothing_left : (signer : Signer) (place : ℕ) (events : List Parts) (signature : List ℕ) → streamed_from signer place events [] signature ≡ []
+  unfolding chain_text
+  nothing_left signer place [] signature = refl
+  nothing_left signer place (event ∷ events) signature = refl
+
+  module _ (who : Signer) (events : List Parts) (seed : List ℕ) (a : Option (List ℕ)) where
+    -- the frames of the events for these moments were written, and these events are left, over this signature
+    pub record SoFar (b : Option (List ℕ)) (sent : List Instant) (place : ℕ) (left : List Parts) (signature : List ℕ) : Type 0 where
+      pub place_is : place ≡ length sent + 1
+      pub counted : length sent + length left ≡ length events
+      pub refusal : (more : List Instant) → first_refusal who place left more signature ≡ first_refusal who 1 events (sent ++ more) seed
+      pub gained : (more : List Instant) → GainsRest a b (streamed_from who place left more signature) (streamed_from who 1 events (sent ++ more) seed)
+
+    -- all frames were written
+    pub record IsOver (b : Option (List ℕ)) (sent : List Instant) : Type 0 where
+      pub counted : length sent ≡ length events + 1
+      pub refusal : first_refusal who 1 events sent seed ≡ None
+      pub gained : Gains a b (streamed_from who 1 events sent seed)
+
+    -- the state of a chain: events are left, or it is over
+    pub begins_so : SoFar a [] 1 events seed
+    begins_so = record {
+      place_is = refl;
+      counted = omega arith;
+      refusal = λ more. refl;
+      gained = λ more. record { front = []; gained = gains_nothing a; whole = refl };
+    }
+
+    module _ (b c : Option (List ℕ)) (sent : List Instant) (place : ℕ) (signature : List ℕ) (t : Instant) where
+      -- the frame of an event was written
+      pub goes_on : (event : Parts) (left : List Parts) → SoFar b sent place (event ∷ left) signature → next_refused who place signature (event ∷ left) t ≡ None
+          → Gains b c (link_text form who signature (frame event) t) → SoFar c (sent ++ t ∷ []) (place + 1) left (link_signature who signature (frame event) t)
+      goes_on event left so passes wrote = record {
+        place_is = (let is = so.place_is in omega (arith, is, length_snoc sent));
+        counted = (let is = so.counted in omega (arith, is, length_snoc sent));
+        refusal = λ more. (step more).0;
+        gained = λ more. (step more).1;
+      }
+        where
+          length_snoc : (ts : List Instant) → length (ts ++ t ∷ []) ≡ length ts + 1
+          length_snoc [] = refl
+          length_snoc (u ∷ ts) = let others = length_snoc ts in omega (arith, others)
+
+          sends : (unlinked who place signature event t ≡ None) × Gains b c (unless_refused (unlinked who place signature event t) (link_text form who signature (frame event) t))
+          sends = (passes, rw passes wrote)
+
+          step : (more : List Instant) → (first_refusal who (place + 1) left more (link_signature who signature (frame event) t) ≡ first_refusal who 1 events ((sent ++ t ∷ []) ++ more) seed)
+              × GainsRest a c (streamed_from who (place + 1) left more (link_signature who signature (frame event) t)) (streamed_from who 1 events ((sent ++ t ∷ []) ++ more) seed)
+          step more =
+              let same : (sent ++ t ∷ []) ++ more ≡ sent ++ t ∷ more = append_assoc sent (t ∷ []) more in
+              rw same (event_sent a b c who place event left t more signature (link_signature who signature (frame event) t) (streamed_from who 1 events (sent ++ t ∷ more) seed)
+              (first_refusal who 1 events (sent ++ t ∷ more) seed) refl (so.refusal (t ∷ more)) (so.gained (t ∷ more)) sends)
+
+      -- the closing frame was written
+      pub is_over : SoFar b sent place [] signature → next_refused who place signature [] t ≡ None → Gains b c (link_text form who signature [] t) → IsOver c (sent ++ t ∷ [])
+      is_over so passes wrote = record {
+        counted = (let is = so.counted in omega (arith, is, length_snoc sent));
+        refusal = sym (so.refusal (t ∷ [])) ∙ rw passes refl;
+        gained = closing_sent a b c who place t signature _ passes (so.gained (t ∷ [])) wrote;
+      }
+        where
+          length_snoc : (ts : List Instant) → length (ts ++ t ∷ []) ≡ length ts + 1
+          length_snoc [] = refl
+          length_snoc (u ∷ ts) = let others = length_snoc ts in omega (arith, others)
+
+      -- the next frame wasn't written: it is refused, or a front of it was written
+      pub is_halted : (left : List Parts) (halt : Halt) → SoFar b sent place left signature
+          → Halts (next_refused who place signature left t) (unless_refused (next_refused who place signature left t) (link_text form who signature (next_bytes left) t)) b c halt
+          → (let refusal = first_refusal who 1 events (sent ++ t ∷ []) seed in Halts (refusal_fault refusal) (streamed_text form who events (sent ++ t ∷ []) seed refusal) a c halt)
+      is_halted [] halt so sends =
+          rw (← streamed_first who events (sent ++ t ∷ []) seed) (closing_halted a b c who place t signature _ _ halt (so.refusal (t ∷ [])) (so.gained (t ∷ [])) sends)
+      is_halted (event ∷ left) halt so sends =
+          rw (← streamed_first who events (sent ++ t ∷ []) seed) (event_halted a b c who place event left t [] signature _ _ halt (so.refusal (t ∷ [])) (so.gained (t ∷ [])) sends)
+
+    -- memory ran out before the next moment
+    pub is_wanting : (b : Option (List ℕ)) (sent : List Instant) (place : ℕ) (left : List Parts) (signature : List ℕ) → SoFar b sent place left signature
+        → (let refusal = first_refusal who 1 events sent seed in GainsPrefix a b (streamed_text form who events sent seed refusal))
+    is_wanting b sent place left signature so =
+        let had = so.gained [] in
+        let all : GainsRest a b [] (streamed_from who 1 events sent seed) = rw (nothing_left who place left signature, append-nil sent) at had in
+        rw (← streamed_first who events sent seed) ([], all)
+
+-- ## The moments that were needed
+
+-- a front of a list with one more item is all but that item, or a front of the list
+front_before : (sent front rest : List Instant) (t u : Instant) → sent ++ t ∷ [] ≡ front ++ u ∷ rest → (tail : List Instant) × (sent ≡ front ++ tail)
+front_before sent [] rest t u is = (sent, refl)
+front_before [] (v ∷ front) rest t u is = absurd (no_more front (let e : t ∷ [] ≡ v ∷ (front ++ u ∷ rest) = is in cc))
+  where
+    no_more : (front : List Instant) → [] ≡ front ++ u ∷ rest → ⊥
+    no_more [] e = cc
+    no_more (w ∷ front) e = cc
+front_before (s ∷ sent) (v ∷ front) rest t u is =
+    let first : s ≡ v = cc in
+    let others : sent ++ t ∷ [] ≡ front ++ u ∷ rest = cc in
+    let found = front_before sent front rest t u others in
+    let rest_is : sent ≡ front ++ found.0 = found.1 in
+    let all : s ∷ sent ≡ v ∷ (front ++ found.0) = cc in
+    (found.0, all)
+
+-- what no moment refuses no front of the moments refuses
+pub front_unrefused : (signer : Signer) (place : ℕ) (events : List Parts) (front rest : List Instant) (signature : List ℕ)
+    → first_refusal signer place events (front ++ rest) signature ≡ None → first_refusal signer place events front signature ≡ None
+front_unrefused signer place events [] rest signature none = refl
+front_unrefused signer place [] (t ∷ front) rest signature none = none
+front_unrefused signer place (event ∷ events) (t ∷ front) rest signature none =
+    by_link (unlinked signer place signature event t) (front_unrefused signer (place + 1) events front rest (link_signature signer signature (frame event) t)) none
+  where
+    by_link : (fault : Option RunFault)
+        → (first_refusal signer (place + 1) events (front ++ rest) (link_signature signer signature (frame event) t) ≡ None → first_refusal signer (place + 1) events front (link_signature signer signature (frame event) t) ≡ None)
+        → option_or (option_map (refusal_at place) fault) (first_refusal signer (place + 1) events (front ++ rest) (link_signature signer signature (frame event) t)) ≡ None
+        → option_or (option_map (refusal_at place) fault) (first_refusal signer (place + 1) events front (link_signature signer signature (frame event) t)) ≡ None
+    by_link None others none = others none
+    by_link (Some fault) others none = cc
+
+length_front : (front tail : List Instant) → length front ≤ length (front ++ tail)
+length_front [] tail = omega arith
+length_front (t ∷ front) tail = let others = length_front front tail in omega (arith, others)
+
+length_before : (front rest : List Instant) (t : Instant) → length front + 1 ≤ length (front ++ t ∷ rest)
+length_before [] rest t = omega arith
+length_before (u ∷ front) rest t = let others = length_before front rest t in omega (arith, others)
+
+module _ (who : Signer) (events : List Parts) (seed : List ℕ) (sent : List Instant) (none : first_refusal who 1 events sent seed ≡ None) where
+  -- each of the moments that refuse nothing was needed
+  pub sent_needed : length sent ≤ length events + 1 → IsNext who events seed sent
+  sent_needed within front t rest is =
+      let count : length front + 1 ≤ length sent = rw is (length_before front rest t) in
+      (front_unrefused who 1 events front (t ∷ rest) seed (rw is at none), omega (arith, count, within))
+
+  -- and so was the one after them, where events or the closing frame are left
+  pub next_needed : (t : Instant) → length sent ≤ length events → IsNext who events seed (sent ++ t ∷ [])
+  next_needed t within front u rest is =
+      let found = front_before sent front rest t u is in
+      let count : length front ≤ length sent = rw found.1 (length_front front found.0) in
+      (front_unrefused who 1 events front found.0 seed (rw found.1 at none), omega (arith, count, within))
 
 -- ## No refusal
 

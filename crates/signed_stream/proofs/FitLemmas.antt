@@ -1,110 +1,162 @@
--- How the stream of a job goes as planned.
-use Rattle.std.proofs.Common.{◌≡◌, ℕ, ◌+◌, Bool, true, false, List, [], ◌++◌, length, replicate, Option, Some, None, refl}
-use Rattle.std.specs.Prelude.{Result, Ok, Err, String, string_bytes, if◌then◌else◌}
-use Rattle.std.specs.Option.{option_or}
-use Rattle.std.specs.declared.alloc.Global.{Global}
-use Rattle.smithy_core.specs.Civil.{is_in_years}
+-- How a job and profile texts go as planned.
+use Rattle.std.proofs.Common.{◌≡◌, ℕ, List, [], ◌∷◌, ◌++◌, length, replicate, Option, Some, None, refl, sym, ap, ◌∙◌, subst}
+use Rattle.std.specs.Prelude.{Result, Ok, Err, string_bytes}
+use Rattle.smithy_core.specs.Clock.{ClockState, GivesNext}
+use Rattle.smithy_core.specs.Given.{Gives}
 use Rattle.smithy_core.specs.Moment.{Instant}
-use Rattle.smithy_core.specs.Message.{Parts}
-use Rattle.smithy_core.specs.declared.request.HttpRequest.{HttpRequest}
-use Rattle.smithy_http.specs.Target.{Target}
-use Rattle.eventstream.specs.Key.{Signer}
-use Rattle.sigv4.specs.Request.{Case}
+use Rattle.smithy_core.specs.declared.outside.clock.Clock as Clock
+use Rattle.smithy_core.proofs.GivenLemmas.{given_last}
 use Rattle.env_config.specs.Files.{Place}
-use Rattle.signed_stream.specs.declared.form.Form.{Form}
-use Rattle.signed_stream.specs.Carriers.{GoesForJob, GoesForTarget, GoesForTexts}
-use Rattle.signed_stream.specs.Case.{job_case, request_moment}
-use Rattle.signed_stream.specs.Chain.{first_refusal, refusal_fault, streamed_text}
+use Rattle.env_config.specs.Loading.{selected_profile}
+use Rattle.env_config.specs.Sections.{FileText}
+use Rattle.signed_stream.specs.Carriers.{Goes, GoesForJob, GoesForTexts, IsAfterTexts}
 use Rattle.signed_stream.specs.Command.{Wanted}
-use Rattle.signed_stream.specs.ProfileOptions.{ProfileWanted}
-use Rattle.signed_stream.specs.Halt.{Sends, ended, halted}
+use Rattle.signed_stream.specs.Halt.{Halt, Sends, ended, fails, halt_of, halted, refuses, wants}
 use Rattle.signed_stream.specs.Job.{JobParts}
-use Rattle.signed_stream.specs.Plan.{FilesRead, GoesAsPlanned, Supplied, TargetRead, accepted, stops, unaccepted, unread}
+use Rattle.signed_stream.specs.Options.{IsOptionsOf, wanted_of}
+use Rattle.signed_stream.specs.Plan.{FilesRead, GoesAsPlanned, IsNeeded, Plan, Supplied, TargetRead, loaded, plan_end, unread}
+use Rattle.signed_stream.specs.ProfileOptions.{ProfileWanted}
 use Rattle.signed_stream.specs.ProfileTexts.{ProfileTexts}
+use Rattle.signed_stream.specs.Running.{OfClock}
 use Rattle.signed_stream.specs.Settings.{Selected}
 use Rattle.signed_stream.specs.Shown.{shown_settings}
-use Rattle.signed_stream.specs.Sign.{SignsJob, case_fault, request_fault, target_fault}
-use Rattle.signed_stream.specs.Status.{Ending, RunFault, run_fault, invalid_uri, moment_out_of_range, refused}
 use Rattle.signed_stream.specs.Sources.{selection, source_places}
-use Rattle.signed_stream.specs.Stream.{GaveJob, case_plan, job_plan, job_texts, request_plan, target_plan}
-use Rattle.signed_stream.specs.Written.{head_text, case_refusal}
-use Rattle.signed_stream.proofs.RunLemmas.{first_moment, goes_no_memory, goes_stopped}
-use Rattle.signed_stream.proofs.SendLemmas.{end_counted, sends_goes, written_lines}
-use Rattle.signed_stream.specs.declared.halt.Halt.{Halt}
-use Rattle.signed_stream.specs.declared.halt.Halt.TheVariants as halts
+use Rattle.signed_stream.specs.Status.{Ending, could_not_read_file, output_fault}
+use Rattle.signed_stream.specs.Stream.{GaveJob, job_texts, selected_plan}
+use Rattle.signed_stream.specs.Streaming.{Streams, TakesFor, stream_plan, stream_wanted}
+use Rattle.signed_stream.specs.declared.command.options.StreamWords.{StreamWords}
+use Rattle.signed_stream.specs.declared.form.Form.{Form}
+use Rattle.signed_stream.specs.declared.status.StreamFault.{StreamFault}
+use Rattle.signed_stream.specs.declared.status.StreamFault.TheVariants as faults
+use Rattle.signed_stream.specs.declared.streaming.StreamOptions.{StreamOptions}
+use Rattle.signed_stream.proofs.RunLemmas.{goes_stopped, no_moment}
+use Rattle.signed_stream.proofs.SendLemmas.{text_goes}
 
--- a fault that stops
-stopped : (fault told : RunFault) (held : Option (List ℕ)) → fault ≡ told → GoesAsPlanned (stops (refused fault)) (refused told) held held
-stopped fault told held is = rw is (goes_stopped (refused told) held)
+-- ## How a stream ends
 
--- a request that isn't signed is refused
-refused_goes : (form : Form) (text : List ℕ) (at : Instant) (case : Target → Case) (events : List Parts) (moments : List Instant) (target : TargetRead) (told : RunFault) (held : Option (List ℕ))
-    → request_fault at case target ≡ Some told → GoesAsPlanned (request_plan form text at case events moments target) (refused told) held held
-refused_goes form text at case events moments target told held is = by_years (is_in_years at) is
+pub ended_after_texts : {T : Type 0} (answer : Result T StreamFault) → IsAfterTexts (ended answer)
+ended_after_texts (Ok x) = tt
+ended_after_texts (Err fault) = by_halt (halt_of fault)
   where
-    by_target : (target : TargetRead) → target_fault case target ≡ Some told → GoesAsPlanned (target_plan form text case events moments target) (refused told) held held
-    by_target unread is = cc
-    by_target unaccepted is = stopped invalid_uri told held cc
-    by_target (accepted target) is = rw is (goes_stopped (refused told) held)
+    by_halt : (halt : Halt) → IsAfterTexts (halted halt)
+    by_halt (refuses told) = tt
+    by_halt fails = tt
+    by_halt wants = tt
 
-    by_years : (years : Bool) → option_or (if years then None else Some (moment_out_of_range at)) (target_fault case target) ≡ Some told
-        → GoesAsPlanned (if years then target_plan form text case events moments target else stops (refused (moment_out_of_range at))) (refused told) held held
-    by_years true is = by_target target is
-    by_years false is = stopped (moment_out_of_range at) told held cc
+-- the output's fault is told for the sink's alone
+pub ended_failed : {T : Type 0} (answer : Result T StreamFault) → ended answer ≡ output_fault → answer ≡ Err faults.SinkFault
+ended_failed (Ok x) is = cc
+ended_failed (Err faults.SinkFault) is = refl
+ended_failed (Err faults.NoMemory) is = cc
+ended_failed (Err fault) is = cc
 
-pub unsigned_goes : (form : Form) (text : List ℕ) (at : Instant) (case : Target → Case) (events : List Parts) (moments : List Instant) (new : HttpRequest) (halt : Halt) (held : Option (List ℕ))
-    → SignsJob text at case new (Err halt) → GoesForTarget form text at case events moments (halted halt) held held
-unsigned_goes form text at case events moments new (halts.Refused told) held signs = (signs.0, signs.1, refused_goes form text at case events moments signs.0 (run_fault told) held signs.2)
-unsigned_goes form text at case events moments new halts.OutputFault held signs = absurd signs
-unsigned_goes form text at case events moments new halts.NoMemory held signs = (unread, tt, goes_no_memory (request_plan form text at case events moments unread) held)
-
--- a request that no test refuses is written
-passed_plan : (form : Form) (text : List ℕ) (at : Instant) (case : Target → Case) (events : List Parts) (moments : List Instant) (target : Target) → request_fault at case (accepted target) ≡ None
-    → request_plan form text at case events moments (accepted target) ≡ case_plan form text (case target) events moments None
-passed_plan form text at case events moments target passed = by_years (is_in_years at) (case_fault (case target)) passed
+-- no file is told of
+pub ended_unnamed : {T : Type 0} (answer : Result T StreamFault) (path : List ℕ) → ended answer ≡ could_not_read_file path → ⊥
+ended_unnamed (Ok x) path is = cc
+ended_unnamed (Err fault) path is = by_halt (halt_of fault) is
   where
-    by_years : (years : Bool) (fault : Option RunFault) → option_or (if years then None else Some (moment_out_of_range at)) fault ≡ None
-        → (if years then case_plan form text (case target) events moments fault else stops (refused (moment_out_of_range at))) ≡ case_plan form text (case target) events moments None
-    by_years true None passed = refl
-    by_years true (Some fault) passed = cc
-    by_years false fault passed = cc
+    by_halt : (halt : Halt) → halted halt ≡ could_not_read_file path → ⊥
+    by_halt (refuses told) is = cc
+    by_halt fails is = cc
+    by_halt wants is = cc
 
--- a request that is signed is sent, and its events after it
-pub signed_goes : {T : Type 0} (form : Form) (text method : List ℕ) (at : Instant) (case : Target → Case) (events : List Parts) (moments : List Instant) (new : HttpRequest) (signature : String Global) (before now : Option (List ℕ)) (answer : Result T Halt)
-    → (signs : SignsJob text at case new (Ok signature)) → ((target : Target) → method ≡ (case target).method) → string_bytes new.method ≡ method → length moments ≡ length events + 1
-    → (signer : Signer) → ((target : Target) → signer ≡ (case target).signer)
-    → (let refusal = first_refusal signer 1 events moments (string_bytes signature) in
-    Sends (refusal_fault refusal) (head_text form (string_bytes new.method) (string_bytes new.target) new.headers ++ streamed_text form signer events moments (string_bytes signature) refusal) before now answer)
-    → GoesForTarget form text at case events moments (ended answer) before now
-signed_goes form text method at case events moments new signature before now answer signs method_is method_stays counted signer signer_is sends =
-    let target = signs.0 in
-    let c = case target in
-    let refusal = case_refusal c events moments in
-    let sent = rw (method_stays, method_is target, signer_is target, signs.3, signs.4, signs.5, ← written_lines form refusal text c events moments) at sends in
-    (accepted target, signs.1, rw (passed_plan form text at case events moments target signs.2, end_counted refusal events moments counted) (sends_goes _ _ before now answer sent))
+-- ## The moments
+
+-- the moments that were gained were taken
+pub streams_take : (taken : List Instant → Type 0) (old new : List Instant) (text : List ℕ) (plan : TargetRead → List Instant → Plan) (answer : Ending) (before now : Option (List ℕ))
+    → Streams taken old new text plan answer before now → TakesFor taken text plan answer before now
+streams_take taken old new text plan answer before now streams = record {
+  target = streams.target;
+  moments = streams.taken;
+  spelled = streams.spelled;
+  given = streams.given;
+  goes = streams.goes;
+  needed = streams.needed;
+}
+
+-- a clock that always gives one moment is asked in place of the other
+pub fixed_takes : (fixed : Clock.Ghosts ClockState) → ((before : ClockState) (moment : Instant) (now : ClockState) → fixed.answers before moment now → GivesNext before moment now)
+    → (clock : List Instant → Type 0) → clock [] → (start end : ClockState) (at : Instant) → start ≡ record { moments = []; last = at; calls = 0 }
+    → (text : List ℕ) (plan : TargetRead → List Instant → Plan) (answer : Ending) (before now : Option (List ℕ))
+    → TakesFor (λ moments. Gives fixed start moments end) text plan answer before now → TakesFor (OfClock clock (Some at)) text plan answer before now
+fixed_takes fixed told clock unasked start end at is text plan answer before now takes = record {
+  target = takes.target;
+  moments = takes.moments;
+  spelled = takes.spelled;
+  given = (given_last fixed told start end takes.moments none takes.given.0 ∙ ap (λ (t : Instant). replicate (length takes.moments) t) last, unasked);
+  goes = takes.goes;
+  needed = takes.needed;
+}
+  where
+    none : start.moments ≡ []
+    none = ap (λ (c : ClockState). c.moments) is
+
+    last : start.last ≡ at
+    last = ap (λ (c : ClockState). c.last) is
 
 -- ## The job
 
--- a job that is streamed under what is selected
-pub job_goes : (gave : List Place → FilesRead → Type 0) (env : List (List ℕ × List ℕ)) (wanted : Wanted) (j : JobParts) (files : FilesRead) (selected : Selected) (answer : Ending) (before now : Option (List ℕ))
-    → gave (source_places wanted.profile.files (job_texts j)) files → selection env wanted.profile.service_id files ≡ Ok selected
-    → GoesForTarget wanted.form j.target (request_moment wanted wanted.at) (job_case j wanted selected wanted.at) j.events (replicate (length j.events + 1) wanted.at) answer before now
-    → GoesForJob gave env wanted j answer before now
-job_goes gave env wanted j files selected answer before now loads selects goes =
-    let given : Supplied = record { files = files; moments = replicate (length j.events + 2) wanted.at; target = goes.0 } in
-    let found : GaveJob gave wanted j given = record { files = loads; moments = refl; target = goes.1 } in
-    let same : job_plan env wanted given (Ok j)
-    ≡ request_plan wanted.form j.target (request_moment wanted wanted.at) (job_case j wanted selected wanted.at) j.events (replicate (length j.events + 1) wanted.at) goes.0 =
-    rw (selects, first_moment j.events wanted.at) refl in
-    (given, found, rw same goes.2)
+-- what the words ask of a stream is planned alike
+plan_of_words : (files : List FileText) (profile : List ℕ) (env : List (List ℕ × List ℕ)) (words : StreamWords) (options : StreamOptions) (j : JobParts) → IsOptionsOf words options
+    → (target : TargetRead) (moments : List Instant)
+    → stream_plan files profile env (stream_wanted options words.form) j target moments ≡ stream_plan files profile env (wanted_of words) j target moments
+plan_of_words files profile env words options j of target [] = rw of.service_id refl
+plan_of_words files profile env words options j of target (first ∷ others) = rw (of.name, of.service_id, of.signing, of.token_name, of.skew_millis) refl
 
--- a job for which nothing is selected
-pub job_unselected : (gave : List Place → FilesRead → Type 0) (env : List (List ℕ × List ℕ)) (wanted : Wanted) (j : JobParts) (files : FilesRead) (end : Ending) (held : Option (List ℕ))
-    → gave (source_places wanted.profile.files (job_texts j)) files → selection env wanted.profile.service_id files ≡ Err end → GoesForJob gave env wanted j end held held
-job_unselected gave env wanted j files end held loads selects =
-    let given : Supplied = record { files = files; moments = replicate (length j.events + 2) wanted.at; target = unread } in
-    let found : GaveJob gave wanted j given = record { files = loads; moments = refl; target = tt } in
-    (given, found, rw selects (goes_stopped end held))
+-- a stream by options goes as the words ask
+pub words_go : (taken : List Instant → Type 0) (text : List ℕ) (files : List FileText) (profile : List ℕ) (env : List (List ℕ × List ℕ)) (words : StreamWords) (options : StreamOptions) (j : JobParts)
+    (answer : Ending) (before now : Option (List ℕ)) → IsOptionsOf words options
+    → TakesFor taken text (stream_plan files profile env (stream_wanted options words.form) j) answer before now
+    → TakesFor taken text (stream_plan files profile env (wanted_of words) j) answer before now
+words_go taken text files profile env words options j answer before now of goes = record {
+  target = goes.target;
+  moments = goes.moments;
+  spelled = goes.spelled;
+  given = goes.given;
+  goes = subst (λ plan. GoesAsPlanned plan answer before now) (plan_of_words files profile env words options j of goes.target goes.moments) goes.goes;
+  needed = λ front t rest is. sym (same front) ∙ goes.needed front t rest is;
+}
+  where
+    same : (front : List Instant) → plan_end (stream_plan files profile env (stream_wanted options words.form) j goes.target front) ≡ plan_end (stream_plan files profile env (wanted_of words) j goes.target front)
+    same front = rw (plan_of_words files profile env words options j of goes.target front) refl
+
+module _ (gave : List Place → FilesRead → Type 0) (clock : List Instant → Type 0) (env : List (List ℕ × List ℕ)) (wanted : Wanted) where
+  -- a job whose files are there, without its texts
+  plan_of_job : (texts : List FileText) (j k : JobParts) (target : TargetRead) (moments : List Instant)
+      → record j { config = None; credentials = None } ≡ record k { config = None; credentials = None }
+      → stream_plan texts (selected_profile env) env wanted k target moments ≡ stream_plan texts (selected_profile env) env wanted j target moments
+  plan_of_job texts j k target [] same = refl
+  plan_of_job texts j k target (first ∷ others) same = subst (λ parts. stream_plan texts (selected_profile env) env wanted parts target (first ∷ others) ≡ stream_plan texts (selected_profile env) env wanted j target (first ∷ others)) same refl
+
+  -- it goes as planned
+  pub job_goes : (j k : JobParts) (texts : List FileText) (profile : List ℕ) (answer : Ending) (before now : Option (List ℕ))
+      → record j { config = None; credentials = None } ≡ record k { config = None; credentials = None } → profile ≡ selected_profile env
+      → gave (source_places wanted.profile.files (job_texts j)) (loaded texts)
+      → TakesFor (OfClock clock wanted.at) j.target (stream_plan texts profile env wanted k) answer before now → GoesForJob gave clock env wanted j answer before now
+  job_goes j k texts profile answer before now same is loads goes = record {
+    given = record { files = loaded texts; moments = goes.moments; target = goes.target };
+    found = record { files = loads; target = goes.spelled };
+    moments = goes.given;
+    goes = subst (λ plan. GoesAsPlanned plan answer before now) (plans goes.moments) goes.goes;
+    needed = λ front t rest cut. sym (ends front) ∙ goes.needed front t rest cut;
+  }
+    where
+      plans : (moments : List Instant) → stream_plan texts profile env wanted k goes.target moments ≡ stream_plan texts (selected_profile env) env wanted j goes.target moments
+      plans moments = rw is (plan_of_job texts j k goes.target moments same)
+
+      ends : (front : List Instant) → plan_end (stream_plan texts profile env wanted k goes.target front) ≡ plan_end (stream_plan texts (selected_profile env) env wanted j goes.target front)
+      ends front = rw (plans front) refl
+
+  -- a job for which nothing is selected
+  pub job_unselected : (j : JobParts) (files : FilesRead) (end : Ending) (held : Option (List ℕ)) → OfClock clock wanted.at []
+      → gave (source_places wanted.profile.files (job_texts j)) files → selection env wanted.profile.service_id files ≡ Err end → GoesForJob gave clock env wanted j end held held
+  job_unselected j files end held unasked loads selects = record {
+    given = record { files = files; moments = []; target = unread };
+    found = record { files = loads; target = tt };
+    moments = unasked;
+    goes = rw selects (goes_stopped end held);
+    needed = λ front t rest is. absurd (no_moment front t rest is);
+  }
 
 -- ## What is shown
 
@@ -112,11 +164,11 @@ job_unselected gave env wanted j files end held loads selects =
 abbrev files_given : FilesRead → Supplied
 files_given files = record { files = files; moments = []; target = unread }
 
-pub texts_shown : {T : Type 0} (gave : List Place → FilesRead → Type 0) (env : List (List ℕ × List ℕ)) (wanted : ProfileWanted) (texts : ProfileTexts) (files : FilesRead) (selected : Selected) (answer : Result T Halt) (before now : Option (List ℕ))
+pub texts_shown : {T : Type 0} (gave : List Place → FilesRead → Type 0) (env : List (List ℕ × List ℕ)) (wanted : ProfileWanted) (texts : ProfileTexts) (files : FilesRead) (selected : Selected) (answer : Result T StreamFault) (before now : Option (List ℕ))
     → gave (source_places wanted.files texts) files → selection env wanted.service_id files ≡ Ok selected → Sends None (shown_settings selected) before now answer
     → GoesForTexts gave env wanted texts (ended answer) before now
 texts_shown gave env wanted texts files selected answer before now loads selects sends =
-    (files_given files, loads, rw selects (sends_goes None (shown_settings selected) before now answer sends))
+    (files_given files, loads, rw selects (text_goes (shown_settings selected) before now answer sends))
 
 pub texts_unselected : (gave : List Place → FilesRead → Type 0) (env : List (List ℕ × List ℕ)) (wanted : ProfileWanted) (texts : ProfileTexts) (files : FilesRead) (end : Ending) (held : Option (List ℕ))
     → gave (source_places wanted.files texts) files → selection env wanted.service_id files ≡ Err end → GoesForTexts gave env wanted texts end held held

@@ -1,13 +1,14 @@
 -- A run that is done has streamed, and what is valid is done.
-use Rattle.std.proofs.Common.{◌≡◌, ◌==◌, ℕ, ◌+◌, ◌≤◌, ◌⊎◌, inl, inr, Bool, true, false, List, [], ◌∷◌, Option, Some, None, option_map, nat_lt, length, refl, sym, ◌∙◌, arith}
-use Rattle.std.specs.Prelude.{if◌then◌else◌, Result, Ok, Err}
+use Rattle.std.proofs.Common.{◌≡◌, ◌==◌, ℕ, ◌+◌, ◌≤◌, ◌⊎◌, inl, inr, Bool, true, false, List, [], ◌∷◌, ◌++◌, Option, Some, None, option_map, nat_lt, length, refl, sym, subst, ◌∙◌, arith}
+use Rattle.std.specs.Prelude.{if◌then◌else◌, Result, Ok, Err, IfOk, string_bytes}
 use Rattle.std.specs.Option.{option_or}
-use Rattle.std.proofs.lemmas.Bool.{eq-eqb, eqb-true}
+use Rattle.std.proofs.lemmas.Bool.{eqb-true}
 use Rattle.std.proofs.lemmas.Bool.Decides.{nat_tests}
 use Rattle.smithy_core.specs.Civil.{IsInYears, is_in_years}
 use Rattle.smithy_core.specs.Moment.{Instant}
 use Rattle.smithy_core.specs.Outside.{Gains}
 use Rattle.smithy_core.specs.Message.{Parts}
+use Rattle.smithy_core.specs.declared.request.HttpRequest.{HttpRequest}
 use Rattle.smithy_http.specs.Target.{Target}
 use Rattle.sigv4.specs.Request.{Case}
 use Rattle.sigv4.specs.Refusal.{unfit, unfit_signed_target}
@@ -17,8 +18,9 @@ use Rattle.env_config.specs.Files.{Place}
 use Rattle.env_config.specs.Loading.{selected_profile}
 use Rattle.env_config.specs.Sections.{FileText}
 use Rattle.signed_stream.specs.declared.form.Form.{Form}
+use Rattle.signed_stream.specs.declared.status.StreamFault.{StreamFault}
 use Rattle.signed_stream.specs.Case.{job_case, request_moment}
-use Rattle.signed_stream.specs.Chain.{IsChained, Refusal}
+use Rattle.signed_stream.specs.Chain.{IsChained, Refusal, first_refusal}
 use Rattle.signed_stream.specs.Command.{Command, Wanted, bad_word, show_settings, stream, unbuilt_word}
 use Rattle.signed_stream.specs.ProfileOptions.{ProfileWanted}
 use Rattle.signed_stream.specs.Job.{JobParts, job}
@@ -28,12 +30,14 @@ use Rattle.signed_stream.specs.Running.{CanBeDone, Completes, HasDone, RunsAsPla
 use Rattle.signed_stream.specs.Settings.{Selected, settings}
 use Rattle.signed_stream.specs.ShowSettings.{GaveTexts, IsShowable, settings_plan, shown_plan}
 use Rattle.signed_stream.specs.Shown.{shown_settings}
-use Rattle.signed_stream.specs.Sign.{case_fault, fault_for, unsigned}
+use Rattle.signed_stream.specs.Halt.{Halt, ended, fails, halt_of, halted, refuses, wants}
+use Rattle.signed_stream.specs.Sign.{IsSigned, case_fault, fault_for, unsigned}
 use Rattle.signed_stream.specs.Sources.{or_refused, selection, when_selected}
 use Rattle.signed_stream.specs.Status.{Ending, RunFault, done, job_too_large, no_memory, output_fault, read_fault, refused, moment_out_of_range}
-use Rattle.signed_stream.specs.Stream.{GaveJob, GaveReading, IsStreamable, case_plan, job_plan, selected_plan, streamed, target_plan}
+use Rattle.signed_stream.specs.Stream.{GaveJob, GaveReading, IsStreamable, IsValid, case_plan, job_plan, selected_plan, streamed, target_plan, written_valid}
+use Rattle.signed_stream.specs.Streaming.{CompletesStream, HasSent, IsSentSigned, job_with, stream_plan}
 use Rattle.signed_stream.specs.Written.{case_refusal, written_stream, written_end, written_until}
-use Rattle.signed_stream.proofs.ChainLemmas.{chained_moments, frames_unrefused, unrefused_frames}
+use Rattle.signed_stream.proofs.ChainLemmas.{frames_unrefused, front_unrefused, unrefused_frames}
 use Rattle.signed_stream.proofs.TargetLemmas.{reads_one, reads_one_way}
 use Rattle.signed_stream.proofs.YearLemmas.{in_years, years_in}
 
@@ -96,41 +100,53 @@ done_case form text c events moments before now None is goes = by_refusal (case_
     by_refusal (Some refusal) is goes = let wrong : refused refusal.fault ≡ done = writes_done _ _ before now goes in cc
     by_refusal None none goes = by_count (length moments == length events + 1) refl none goes
 
--- a job that is done under what is selected
-record DoneJob (j : JobParts) (wanted : Wanted) (selected : Selected) (given : Supplied) (before now : Option (List ℕ)) : Type 0 where
-  first : Instant
-  others : List Instant
-  target : Target
-  moments : given.moments ≡ first ∷ others
-  targets : given.target ≡ accepted target
-  years : IsInYears (request_moment wanted first)
-  case : DoneCase wanted.form j.target (job_case j wanted selected first target) j.events others before now
+-- what is valid and was written
+abbrev pub HasWritten : List FileText → List ℕ → List (List ℕ × List ℕ) → Wanted → JobParts → TargetRead → List Instant → Option (List ℕ) → Option (List ℕ) → Type 0
+HasWritten files profile env wanted j target moments before now = (input : IsValid files profile env wanted j target moments) × Gains before now (written_valid input)
 
-done_target : (j : JobParts) (wanted : Wanted) (selected : Selected) (given : Supplied) (first : Instant) (others : List Instant) (before now : Option (List ℕ)) → given.moments ≡ first ∷ others → IsInYears (request_moment wanted first)
-    → (target : TargetRead) → given.target ≡ target → GoesAsPlanned (target_plan wanted.form j.target (job_case j wanted selected first) j.events others target) done before now → DoneJob j wanted selected given before now
-done_target j wanted selected given first others before now moments years unread is goes = absurd (stops_undone _ before now (λ e. cc) goes)
-done_target j wanted selected given first others before now moments years unaccepted is goes = absurd (stops_undone _ before now (λ e. cc) goes)
-done_target j wanted selected given first others before now moments years (accepted target) is goes =
-    let c = job_case j wanted selected first target in record {
-      first = first;
-      others = others;
-      target = target;
-      moments = moments;
-      targets = is;
-      years = years;
-      case = done_case wanted.form j.target c j.events others before now (case_fault c) refl goes;
-    }
+module _ (files : List FileText) (profile : List ℕ) (env : List (List ℕ × List ℕ)) (wanted : Wanted) (j : JobParts) (before now : Option (List ℕ)) (selected : Selected)
+    (settled : settings files profile env wanted.profile.service_id ≡ Ok selected) where
+  done_target : (first : Instant) (others : List Instant) → IsInYears (request_moment wanted first) → (target : TargetRead)
+      → GoesAsPlanned (target_plan wanted.form j.target (job_case j wanted selected first) j.events others target) done before now → HasWritten files profile env wanted j target (first ∷ others) before now
+  done_target first others years unread goes = absurd (stops_undone _ before now (λ e. cc) goes)
+  done_target first others years unaccepted goes = absurd (stops_undone _ before now (λ e. cc) goes)
+  done_target first others years (accepted target) goes =
+      let c = job_case j wanted selected first target in
+      let case = done_case wanted.form j.target c j.events others before now (case_fault c) refl goes in
+      let input : IsValid files profile env wanted j (accepted target) (first ∷ others) = record {
+        selected = selected;
+        first = first;
+        others = others;
+        parts = target;
+        settled = settled;
+        begins = refl;
+        accepts = refl;
+        years = years;
+        fit = case.fit;
+        fits = case.fits;
+        chained = case.chained;
+      } in
+      (input, case.gains)
 
-done_selected : (j : JobParts) (wanted : Wanted) (selected : Selected) (given : Supplied) (before now : Option (List ℕ)) (moments : List Instant) → given.moments ≡ moments
-    → GoesAsPlanned (selected_plan j wanted given.target moments selected) done before now → DoneJob j wanted selected given before now
-done_selected j wanted selected given before now [] is goes = absurd (stops_undone _ before now (λ e. cc) goes)
-done_selected j wanted selected given before now (first ∷ others) is goes = by_years (is_in_years (request_moment wanted first)) refl goes
+  done_selected : (target : TargetRead) (moments : List Instant) → GoesAsPlanned (selected_plan j wanted target moments selected) done before now → HasWritten files profile env wanted j target moments before now
+  done_selected target [] goes = absurd (stops_undone _ before now (λ e. cc) goes)
+  done_selected target (first ∷ others) goes = by_years (is_in_years (request_moment wanted first)) refl goes
+    where
+      by_years : (years : Bool) → is_in_years (request_moment wanted first) ≡ years
+          → GoesAsPlanned (if years then target_plan wanted.form j.target (job_case j wanted selected first) j.events others target else stops (refused (moment_out_of_range (request_moment wanted first)))) done before now
+          → HasWritten files profile env wanted j target (first ∷ others) before now
+      by_years true within goes = done_target first others (in_years (request_moment wanted first) within) target goes
+      by_years false within goes = absurd (stops_undone _ before now (λ e. cc) goes)
+
+-- a stream that is done was valid, and was written
+pub done_stream : (files : List FileText) (profile : List ℕ) (env : List (List ℕ × List ℕ)) (wanted : Wanted) (j : JobParts) (target : TargetRead) (moments : List Instant) (before now : Option (List ℕ))
+    → GoesAsPlanned (stream_plan files profile env wanted j target moments) done before now → HasWritten files profile env wanted j target moments before now
+done_stream files profile env wanted j target moments before now goes = by_settings (settings files profile env wanted.profile.service_id) refl goes
   where
-    by_years : (years : Bool) → is_in_years (request_moment wanted first) ≡ years
-        → GoesAsPlanned (if years then target_plan wanted.form j.target (job_case j wanted selected first) j.events others given.target else stops (refused (moment_out_of_range (request_moment wanted first)))) done before now
-        → DoneJob j wanted selected given before now
-    by_years true within goes = done_target j wanted selected given first others before now is (in_years (request_moment wanted first) within) given.target refl goes
-    by_years false within goes = absurd (stops_undone _ before now (λ e. cc) goes)
+    by_settings : (outcome : Result Selected RunFault) → settings files profile env wanted.profile.service_id ≡ outcome
+        → GoesAsPlanned (when_selected (selected_plan j wanted target moments) (or_refused outcome)) done before now → HasWritten files profile env wanted j target moments before now
+    by_settings (Ok selected) is goes = done_selected files profile env wanted j before now selected is target moments goes
+    by_settings (Err fault) is goes = absurd (stops_undone _ before now (λ e. cc) goes)
 
 -- a run that is done has its files, and they select what it goes on with
 record HasSelected (env : List (List ℕ × List ℕ)) (service_id : Option (List ℕ)) (files : FilesRead) (others : Selected → Plan) (before now : Option (List ℕ)) : Type 0 where
@@ -158,29 +174,24 @@ HasStreamed gave env wanted bytes given before now = (input : IsStreamable gave 
 done_reading : (gave : List Place → FilesRead → Type 0) (env : List (List ℕ × List ℕ)) (wanted : Wanted) (bytes : List ℕ) (reading : Result JobParts ℕ) (given : Supplied) (before now : Option (List ℕ))
     → length bytes ≤ most_input → job bytes ≡ reading → GaveReading gave wanted reading given → GoesAsPlanned (job_plan env wanted given reading) done before now → HasStreamed gave env wanted bytes given before now
 done_reading gave env wanted bytes (Err place) given before now short spelled found goes = absurd (stops_undone _ before now (λ e. cc) goes)
-done_reading gave env wanted bytes (Ok j) given before now short spelled found goes =
-    let has = done_files env wanted.profile.service_id given.files (selected_plan j wanted given.target given.moments) before now goes in
-    let did = done_selected j wanted has.selected given before now given.moments refl has.goes in
-    let input : IsStreamable gave env wanted bytes given = record {
-      read = j;
-      texts = has.texts;
-      selected = has.selected;
-      first = did.first;
-      others = did.others;
-      target = did.target;
-      short = short;
-      spelled = spelled;
-      supplied = found;
-      files = has.all;
-      moments = did.moments;
-      targets = did.targets;
-      settled = has.settled;
-      years = did.years;
-      fit = did.case.fit;
-      fits = did.case.fits;
-      chained = did.case.chained;
-    } in
-    (input, did.case.gains)
+done_reading gave env wanted bytes (Ok j) given before now short spelled found goes = by_files given.files refl goes
+  where
+    by_files : (files : FilesRead) → given.files ≡ files → GoesAsPlanned (when_selected (selected_plan j wanted given.target given.moments) (selection env wanted.profile.service_id files)) done before now
+        → HasStreamed gave env wanted bytes given before now
+    by_files unloaded is goes = absurd (stops_undone _ before now (λ e. cc) goes)
+    by_files (unreadable path) is goes = absurd (stops_undone _ before now (λ e. cc) goes)
+    by_files (loaded texts) is goes =
+        let did = done_stream texts (selected_profile env) env wanted j given.target given.moments before now goes in
+        let input : IsStreamable gave env wanted bytes given = record {
+          read = j;
+          texts = texts;
+          short = short;
+          spelled = spelled;
+          supplied = found;
+          files = is;
+          valid = did.0;
+        } in
+        (input, did.1)
 
 -- an input for which is shown what is selected
 abbrev HasShown : (List Place → FilesRead → Type 0) → List (List ℕ × List ℕ) → ProfileWanted → List ℕ → Supplied → Option (List ℕ) → Option (List ℕ) → Type 0
@@ -228,47 +239,44 @@ has_done_where gave env command bytes given answer before now is runs = has_done
 
 -- ## What can be done
 
--- the plan of an input that can be streamed, for these files and moments, is that of its target
-streamable_plan : (gave : List Place → FilesRead → Type 0) (env : List (List ℕ × List ℕ)) (wanted : Wanted) (bytes : List ℕ) (given other : Supplied) (input : IsStreamable gave env wanted bytes given)
-    → other.files ≡ loaded input.texts → other.moments ≡ input.first ∷ input.others
-    → command_plan env (stream wanted) bytes other ≡ target_plan wanted.form input.read.target (job_case input.read wanted input.selected input.first) input.read.events input.others other.target
-unfolding command_plan
-streamable_plan gave env wanted bytes given other input files moments =
-    let large : nat_lt most_input (length bytes) ≡ false = (let short = input.short in grind (arith, nat_tests)) in
-    rw (large, input.spelled, files, input.settled, moments, years_in (request_moment wanted input.first) input.years) refl
-
--- for its target it is to write all
-streamable_target : (gave : List Place → FilesRead → Type 0) (env : List (List ℕ × List ℕ)) (wanted : Wanted) (bytes : List ℕ) (given : Supplied) (input : IsStreamable gave env wanted bytes given)
-    → target_plan wanted.form input.read.target (job_case input.read wanted input.selected input.first) input.read.events input.others (accepted input.target) ≡ writes (streamed input) done
-streamable_target gave env wanted bytes given input =
-    let c = job_case input.read wanted input.selected input.first input.target in
-    let none = frames_unrefused c.signer 1 input.read.events input.others (signature_of c) input.chained in
-    let counted : (length input.others == length input.read.events + 1) ≡ true = eq-eqb _ _ (chained_moments c.signer input.read.events input.others (signature_of c) input.chained) in
-    rw (input.fit, input.fits, none, counted) refl
-
 -- what stops for want of memory completes
 stopped_completes : (answer : Ending) → EndsAsPlanned (stops no_memory) answer → Completes answer
 stopped_completes answer (inl is) = inr (inr (inr is))
 stopped_completes answer (inr (inl is)) = inr (inl is)
 stopped_completes answer (inr (inr is)) = inr (inr (inr is))
 
--- what can be streamed completes, also where the target wasn't read
-completes_stream : (gave : List Place → FilesRead → Type 0) (env : List (List ℕ × List ℕ)) (wanted : Wanted) (bytes : List ℕ) (given other : Supplied) (answer : Ending) (input : IsStreamable gave env wanted bytes other)
-    → other.files ≡ given.files → GaveJob gave wanted input.read given → EndsAsPlanned (command_plan env (stream wanted) bytes given) answer → Completes answer
-completes_stream gave env wanted bytes given other answer input files found goes =
-    by_target given.target found.target
-    (rw (streamable_plan gave env wanted bytes other given input (sym files ∙ input.files) (found.moments ∙ sym input.supplied.moments ∙ input.moments)) at goes)
-  where
-    reads : TargetSpells input.read.target (accepted input.target)
-    reads = rw input.targets at input.supplied.target
+-- and so does what is written to such an end, or to the whole
+written_completes : (text : List ℕ) (whole : Bool) (answer : Ending) → EndsAsPlanned (writes text (if whole then done else no_memory)) answer → Completes answer
+written_completes text true answer (inl is) = inl is
+written_completes text false answer (inl is) = inr (inr (inr is))
+written_completes text whole answer (inr (inl is)) = inr (inl is)
+written_completes text whole answer (inr (inr (inl is))) = inr (inr (inl is))
+written_completes text whole answer (inr (inr (inr is))) = inr (inr (inr is))
 
-    by_target : (target : TargetRead) → TargetSpells input.read.target target
-        → EndsAsPlanned (target_plan wanted.form input.read.target (job_case input.read wanted input.selected input.first) input.read.events input.others target) answer → Completes answer
-    by_target unread spells goes = stopped_completes answer goes
-    by_target unaccepted spells goes = absurd (reads_one_way input.read.target input.target spells reads)
-    by_target (accepted target) spells goes =
-        let same = reads_one input.read.target target input.target spells reads in
-        rw (same, streamable_target gave env wanted bytes other input) at goes
+module _ (files : List FileText) (profile : List ℕ) (env : List (List ℕ × List ℕ)) (wanted : Wanted) (j : JobParts) (other : TargetRead) (taken later : List Instant) (answer : Ending)
+    (spells : TargetSpells j.target other) (input : IsValid files profile env wanted j other (taken ++ later)) where
+  -- the first moment and the others begin those that are valid
+  completes_others : (others : List Instant) → input.others ≡ others ++ later → (target : TargetRead) → TargetSpells j.target target
+      → EndsAsPlanned (target_plan wanted.form j.target (job_case j wanted input.selected input.first) j.events others target) answer → Completes answer
+  completes_others others rest unread reads goes = stopped_completes answer goes
+  completes_others others rest unaccepted reads goes = absurd (reads_one_way j.target input.parts reads (rw input.accepts at spells))
+  completes_others others rest (accepted target) reads goes =
+      let same : target ≡ input.parts = reads_one j.target target input.parts reads (rw input.accepts at spells) in
+      let c = job_case j wanted input.selected input.first input.parts in
+      let whole : first_refusal c.signer 1 j.events (others ++ later) (signature_of c) ≡ None = rw (← rest) (frames_unrefused c.signer 1 j.events input.others (signature_of c) input.chained) in
+      let none = front_unrefused c.signer 1 j.events others later (signature_of c) whole in
+      written_completes (written_stream wanted.form j.target c j.events others) (length others == length j.events + 1) answer (rw (same, input.fit, input.fits, none) at goes)
+
+  -- what is valid at these moments and any later ones completes, also where the target wasn't read
+  pub completes_stream : (target : TargetRead) → TargetSpells j.target target → EndsAsPlanned (stream_plan files profile env wanted j target taken) answer → Completes answer
+  completes_stream target reads goes = by_taken taken input.begins (rw input.settled at goes)
+    where
+      by_taken : (taken : List Instant) → taken ++ later ≡ input.first ∷ input.others → EndsAsPlanned (selected_plan j wanted target taken input.selected) answer → Completes answer
+      by_taken [] begins goes = stopped_completes answer goes
+      by_taken (first ∷ others) begins goes =
+          let same : first ≡ input.first = cc in
+          let rest : others ++ later ≡ input.others = cc in
+          completes_others others (sym rest) target reads (rw (same, years_in (request_moment wanted input.first) input.years) at goes)
 
 -- what can be shown completes
 completes_shown : (gave : List Place → FilesRead → Type 0) (env : List (List ℕ × List ℕ)) (wanted : ProfileWanted) (bytes : List ℕ) (given other : Supplied) (answer : Ending) (input : IsShowable gave env wanted bytes other)
@@ -279,12 +287,68 @@ completes_shown gave env wanted bytes given other answer input files goes =
     let are : given.files ≡ loaded input.texts = sym files ∙ input.files in
     rw (large, input.spelled, are, input.settled) at goes
 
+-- what can be streamed completes
+completes_job : (gave : List Place → FilesRead → Type 0) (env : List (List ℕ × List ℕ)) (wanted : Wanted) (bytes : List ℕ) (given other : Supplied) (later : List Instant) (answer : Ending)
+    (input : IsStreamable gave env wanted bytes other) → other.files ≡ given.files → other.moments ≡ given.moments ++ later → GaveJob gave wanted input.read given
+    → EndsAsPlanned (command_plan env (stream wanted) bytes given) answer → Completes answer
+unfolding command_plan
+completes_job gave env wanted bytes given other later answer input files moments found goes =
+    let large : nat_lt most_input (length bytes) ≡ false = (let short = input.short in grind (arith, nat_tests)) in
+    let are : given.files ≡ loaded input.texts = sym files ∙ input.files in
+    let valid : IsValid input.texts (selected_profile env) env wanted input.read other.target (given.moments ++ later) = rw moments at input.valid in
+    completes_stream input.texts (selected_profile env) env wanted input.read other.target given.moments later answer input.supplied.target valid given.target found.target
+    (rw (large, input.spelled, are) at goes)
+
 -- what can be done with these files is done
-pub completes : (gave : List Place → FilesRead → Type 0) (env : List (List ℕ × List ℕ)) (command : Command) (bytes : List ℕ) (given other : Supplied) (answer : Ending) (before now : Option (List ℕ))
-    → RunsAsPlanned gave env command bytes given answer before now → other.files ≡ given.files → CanBeDone gave env command bytes other → Completes answer
-completes gave env (bad_word place) bytes given other answer before now runs files can = absurd can
-completes gave env (unbuilt_word place) bytes given other answer before now runs files can = absurd can
-completes gave env (stream wanted) bytes given other answer before now runs files can =
+pub completes : (gave : List Place → FilesRead → Type 0) (env : List (List ℕ × List ℕ)) (command : Command) (bytes : List ℕ) (given other : Supplied) (later : List Instant) (answer : Ending) (before now : Option (List ℕ))
+    → RunsAsPlanned gave env command bytes given answer before now → other.files ≡ given.files → other.moments ≡ given.moments ++ later → CanBeDone gave env command bytes other → Completes answer
+completes gave env (bad_word place) bytes given other later answer before now runs files moments can = absurd can
+completes gave env (unbuilt_word place) bytes given other later answer before now runs files moments can = absurd can
+completes gave env (stream wanted) bytes given other later answer before now runs files moments can =
     let found : GaveJob gave wanted can.read given = rw can.spelled at runs.supplied in
-    completes_stream gave env wanted bytes given other answer can files found runs.goes.ends
-completes gave env (show_settings wanted) bytes given other answer before now runs files can = completes_shown gave env wanted bytes given other answer can files runs.goes.ends
+    completes_job gave env wanted bytes given other later answer can files moments found runs.goes.ends
+completes gave env (show_settings wanted) bytes given other later answer before now runs files moments can = completes_shown gave env wanted bytes given other answer can files runs.goes.ends
+
+-- ## The library's call
+
+-- lists behind one front
+same_back : (front a b : List Instant) → front ++ a ≡ front ++ b → a ≡ b
+same_back [] a b is = is
+same_back (t ∷ front) a b is = same_back front a b (let others : front ++ a ≡ front ++ b = cc in others)
+
+-- the signed request is the one that is answered
+pub headline_sent : (files : List FileText) (profile : List ℕ) (env : List (List ℕ × List ℕ)) (wanted : Wanted) (request : HttpRequest) (events : List Parts) (target : TargetRead) (selected : Selected)
+    (old new taken : List Instant) (before now : Option (List ℕ)) (result : Result HttpRequest StreamFault) → settings files profile env wanted.profile.service_id ≡ Ok selected → new ≡ old ++ taken
+    → TargetSpells (string_bytes request.target) target → GoesAsPlanned (stream_plan files profile env wanted (job_with request events) target taken) (ended result) before now
+    → IfOk result (IsSentSigned (job_with request events) wanted selected request old new) → HasSent files profile env wanted request events target taken before now result
+headline_sent files profile env wanted request events target selected old new taken before now (Err fault) settled gained spells goes sent = tt
+headline_sent files profile env wanted request events target selected old new taken before now (Ok answer) settled gained spells goes sent =
+    let did = done_stream files profile env wanted (job_with request events) target taken before now goes in
+    let valid = did.0 in
+    let moments : valid.first ∷ valid.others ≡ sent.first ∷ sent.others = sym valid.begins ∙ same_back old taken (sent.first ∷ sent.others) (sym gained ∙ sent.taken) in
+    let first : sent.first ≡ valid.first = (let is = moments in cc) in
+    let same : selected ≡ valid.selected = (let is : Ok selected ≡ Ok valid.selected = sym settled ∙ valid.settled in cc) in
+    let parts : sent.target ≡ valid.parts = reads_one (string_bytes request.target) sent.target valid.parts sent.spelled (rw valid.accepts at spells) in
+    (valid, did.1, signed_for sent.first valid.first selected valid.selected sent.target valid.parts first same parts sent.signed)
+  where
+    signed_for : (first one : Instant) (selected other : Selected) (parts target : Target) → first ≡ one → selected ≡ other → parts ≡ target
+        → IsSigned (job_case (job_with request events) wanted selected first parts) request answer → IsSigned (job_case (job_with request events) wanted other one target) request answer
+    signed_for first one selected other parts target is same spelled signed =
+        subst (λ (t : Target). IsSigned (job_case (job_with request events) wanted other one t) request answer) spelled
+        (subst (λ (s : Selected). IsSigned (job_case (job_with request events) wanted s one parts) request answer) same
+        (subst (λ (m : Instant). IsSigned (job_case (job_with request events) wanted selected m parts) request answer) is signed))
+
+-- it ends for no input
+pub completes_sent : {T : Type 0} (answer : Result T StreamFault) → Completes (ended answer) → CompletesStream (ended answer)
+completes_sent answer (inl is) = inl is
+completes_sent answer (inr (inr is)) = inr is
+completes_sent answer (inr (inl is)) = absurd (by_answer answer is)
+  where
+    by_halt : (halt : Halt) → halted halt ≡ read_fault → ⊥
+    by_halt (refuses told) is = cc
+    by_halt fails is = cc
+    by_halt wants is = cc
+
+    by_answer : {T : Type 0} (answer : Result T StreamFault) → ended answer ≡ read_fault → ⊥
+    by_answer (Ok x) is = cc
+    by_answer (Err fault) is = by_halt (halt_of fault) is

@@ -1,5 +1,5 @@
 -- How a run goes as planned, and what it keeps.
-use Rattle.std.proofs.Common.{◌≡◌, ℕ, suc, ◌+◌, ◌<◌, ◌≤◌, inl, inr, Bool, true, false, nat_lt, List, [], ◌∷◌, length, replicate, Option, Some, None, option_map, refl, ◌∙◌, arith}
+use Rattle.std.proofs.Common.{◌≡◌, ℕ, suc, ◌+◌, ◌<◌, ◌≤◌, inl, inr, Bool, true, false, nat_lt, List, [], ◌∷◌, ◌++◌, length, replicate, Option, Some, None, option_map, refl, ◌∙◌, arith}
 use Rattle.std.specs.Prelude.{if◌then◌else◌, Result, Ok, Err}
 use Rattle.std.specs.Option.{option_or}
 use Rattle.std.proofs.lemmas.Bool.Decides.{nat_tests}
@@ -25,9 +25,9 @@ use Rattle.signed_stream.specs.Chain.{Refusal, fault_at, first_refusal, outside_
 use Rattle.signed_stream.specs.Command.{Command, Wanted, bad_word, show_settings, stream, unbuilt_word}
 use Rattle.signed_stream.specs.ProfileOptions.{ProfileWanted}
 use Rattle.signed_stream.specs.Job.{JobParts, job}
-use Rattle.signed_stream.specs.Plan.{EndsAsPlanned, FilesRead, GainsAsPlanned, GoesAsPlanned, Plan, Supplied, TargetRead, accepted, most_input, stops, unaccepted, unloaded, unread, writes}
+use Rattle.signed_stream.specs.Plan.{EndsAsPlanned, FilesRead, GainsAsPlanned, GoesAsPlanned, IsNeeded, Plan, Supplied, TargetRead, accepted, plan_end, most_input, stops, unaccepted, unloaded, unread, writes}
 use Rattle.signed_stream.specs.ProfileTexts.{ProfileTexts, profile_texts}
-use Rattle.signed_stream.specs.Running.{EndsAsAsked, Gave, KeepsOutput, Unless, UnlessCommand, comes_late, command_plan, may_be_of_frame, read_plan}
+use Rattle.signed_stream.specs.Running.{EndsAsAsked, Gave, IsOfCommand, KeepsOutput, OfClock, RunsAsPlanned, TakesMoments, Unless, UnlessCommand, comes_late, command_plan, may_be_in_years, may_be_of_frame, read_plan}
 use Rattle.signed_stream.specs.Settings.{Selected}
 use Rattle.signed_stream.specs.ShowSettings.{GaveTexts, settings_plan, shown_plan}
 use Rattle.signed_stream.specs.Shown.{shown_settings}
@@ -183,10 +183,6 @@ keeps_target form text case events moments (accepted target) answer before now g
         keeps_written (may_be_of_frame true) (written_until form refusal text c events moments) (written_end refusal events moments) answer before now
         (keeps_end refusal events moments before now (refuses_frames c.signer 1 events moments (signature_of c))) goes
 
--- the first moment of a job, and the others
-pub first_moment : (events : List Parts) (t : Instant) → replicate (length events + 2) t ≡ t ∷ replicate (length events + 1) t
-first_moment events t = let more : length events + 2 ≡ suc (length events + 1) = omega arith in rw more refl
-
 keeps_request : (form : Form) (text : List ℕ) (at : Instant) (case : Target → Case) (events : List Parts) (moments : List Instant) (target : TargetRead) (answer : Ending) (before now : Option (List ℕ))
     → GoesAsPlanned (request_plan form text at case events moments target) answer before now → KeepsOutput (may_be_of_frame (is_in_years at)) answer before now
 keeps_request form text at case events moments target answer before now goes = by_years (is_in_years at) goes
@@ -195,18 +191,48 @@ keeps_request form text at case events moments target answer before now goes = b
     by_years true goes = keeps_target form text case events moments target answer before now goes
     by_years false goes = keeps_same (may_be_of_frame false) answer before now goes.gains
 
-keeps_selected : (wanted : Wanted) (j : JobParts) (target : TargetRead) (answer : Ending) (before now : Option (List ℕ)) (moments : List Instant) → moments ≡ replicate (length j.events + 2) wanted.at
-    → (outcome : Result Selected Ending) → GoesAsPlanned (when_selected (selected_plan j wanted target moments) outcome) answer before now → KeepsOutput (comes_late (stream wanted)) answer before now
-keeps_selected wanted j target answer before now moments are (Ok selected) goes =
-    keeps_request wanted.form j.target (request_moment wanted wanted.at) (job_case j wanted selected wanted.at) j.events (replicate (length j.events + 1) wanted.at) target answer before now
-    (rw (are, first_moment j.events wanted.at) at goes)
-keeps_selected wanted j target answer before now moments are (Err end) goes = keeps_same (comes_late (stream wanted)) answer before now goes.gains
+-- where the moment may lie in the years no more is kept
+keeps_later : (years : Bool) (answer : Ending) (before now : Option (List ℕ)) → KeepsOutput (may_be_of_frame years) answer before now → KeepsOutput (may_be_of_frame true) answer before now
+keeps_later true answer before now keeps = keeps
+keeps_later false (refused fault) before now keeps = by_fault fault keeps
+  where
+    by_fault : (fault : RunFault) → Unless (may_be_of_frame false fault) (now ≡ before) → Unless (may_be_of_frame true fault) (now ≡ before)
+    by_fault (moment_out_of_range moment) keeps = tt
+    by_fault (invalid_header_name_length place) keeps = tt
+    by_fault (header_value_too_long place) keeps = tt
+    by_fault (timestamp_value_too_large place) keeps = tt
+    by_fault (headers_too_long place) keeps = tt
+    by_fault (payload_too_long place) keeps = tt
+    by_fault (message_too_long place) keeps = tt
+    by_fault fault keeps = keeps
+keeps_later false done before now keeps = tt
+keeps_later false output_fault before now keeps = tt
+keeps_later false no_memory before now keeps = tt
+keeps_later false (bad_words place) before now keeps = keeps
+keeps_later false job_too_large before now keeps = keeps
+keeps_later false (bad_job place) before now keeps = keeps
+keeps_later false read_fault before now keeps = keeps
+keeps_later false (could_not_read_file path) before now keeps = keeps
+keeps_later false (not_built place) before now keeps = keeps
 
-keeps_reading : (gave : List Place → FilesRead → Type 0) (env : List (List ℕ × List ℕ)) (wanted : Wanted) (given : Supplied) (answer : Ending) (before now : Option (List ℕ)) (reading : Result JobParts ℕ)
-    → GaveReading gave wanted reading given → GoesAsPlanned (job_plan env wanted given reading) answer before now → KeepsOutput (comes_late (stream wanted)) answer before now
-keeps_reading gave env wanted given answer before now (Ok j) found goes =
-    keeps_selected wanted j given.target answer before now given.moments found.moments (selection env wanted.profile.service_id given.files) goes
-keeps_reading gave env wanted given answer before now (Err place) found goes = keeps_same (comes_late (stream wanted)) answer before now goes.gains
+module _ (gave : List Place → FilesRead → Type 0) (clock : List Instant → Type 0) where
+  keeps_selected : (wanted : Wanted) (j : JobParts) (target : TargetRead) (answer : Ending) (before now : Option (List ℕ)) (moments : List Instant) → OfClock clock wanted.at moments
+      → (outcome : Result Selected Ending) → GoesAsPlanned (when_selected (selected_plan j wanted target moments) outcome) answer before now → KeepsOutput (comes_late (stream wanted)) answer before now
+  keeps_selected wanted j target answer before now moments of (Err end) goes = keeps_same (comes_late (stream wanted)) answer before now goes.gains
+  keeps_selected wanted j target answer before now [] of (Ok selected) goes = keeps_same (comes_late (stream wanted)) answer before now goes.gains
+  keeps_selected wanted j target answer before now (first ∷ others) of (Ok selected) goes =
+      by_at wanted.at of (keeps_request wanted.form j.target (request_moment wanted first) (job_case j wanted selected first) j.events others target answer before now goes)
+    where
+      by_at : (asked : Option Instant) → OfClock clock asked (first ∷ others) → KeepsOutput (may_be_of_frame (is_in_years (request_moment wanted first))) answer before now
+          → KeepsOutput (may_be_of_frame (may_be_in_years wanted asked)) answer before now
+      by_at None of keeps = keeps_later (is_in_years (request_moment wanted first)) answer before now keeps
+      by_at (Some at) of keeps = let same : first ≡ at = (let all : first ∷ others ≡ at ∷ replicate (length others) at = of.0 in cc) in rw (← same) keeps
+
+  keeps_reading : (env : List (List ℕ × List ℕ)) (wanted : Wanted) (given : Supplied) (answer : Ending) (before now : Option (List ℕ)) (reading : Result JobParts ℕ)
+      → OfClock clock wanted.at given.moments → GoesAsPlanned (job_plan env wanted given reading) answer before now → KeepsOutput (comes_late (stream wanted)) answer before now
+  keeps_reading env wanted given answer before now (Ok j) of goes =
+      keeps_selected wanted j given.target answer before now given.moments of (selection env wanted.profile.service_id given.files) goes
+  keeps_reading env wanted given answer before now (Err place) of goes = keeps_same (comes_late (stream wanted)) answer before now goes.gains
 
 keeps_shown : (wanted : ProfileWanted) (answer : Ending) (before now : Option (List ℕ)) (outcome : Result Selected Ending)
     → GoesAsPlanned (when_selected shown_plan outcome) answer before now → KeepsOutput (comes_late (show_settings wanted)) answer before now
@@ -218,56 +244,104 @@ keeps_texts : (env : List (List ℕ × List ℕ)) (wanted : ProfileWanted) (give
 keeps_texts env wanted given answer before now (Ok texts) goes = keeps_shown wanted answer before now (selection env wanted.service_id given.files) goes
 keeps_texts env wanted given answer before now (Err place) goes = keeps_same (comes_late (show_settings wanted)) answer before now goes.gains
 
-pub keeps_bytes : (gave : List Place → FilesRead → Type 0) (env : List (List ℕ × List ℕ)) (command : Command) (bytes : List ℕ) (answer : Ending) (before now : Option (List ℕ))
-    → GoesForBytes gave env command bytes answer before now → KeepsOutput (comes_late command) answer before now
-keeps_bytes gave env (bad_word place) bytes answer before now found = keeps_same (comes_late (bad_word place)) answer before now found.2.gains
-keeps_bytes gave env (unbuilt_word place) bytes answer before now found = keeps_same (comes_late (unbuilt_word place)) answer before now found.2.gains
-keeps_bytes gave env (stream wanted) bytes answer before now found = keeps_reading gave env wanted found.0 answer before now (job bytes) found.1 found.2
-keeps_bytes gave env (show_settings wanted) bytes answer before now found = keeps_texts env wanted found.0 answer before now (profile_texts bytes) found.2
+pub keeps_bytes : (gave : List Place → FilesRead → Type 0) (clock : List Instant → Type 0) (env : List (List ℕ × List ℕ)) (command : Command) (bytes : List ℕ) (answer : Ending) (before now : Option (List ℕ))
+    → GoesForBytes gave clock env command bytes answer before now → KeepsOutput (comes_late command) answer before now
+keeps_bytes gave clock env (bad_word place) bytes answer before now found = keeps_same (comes_late (bad_word place)) answer before now found.goes.gains
+keeps_bytes gave clock env (unbuilt_word place) bytes answer before now found = keeps_same (comes_late (unbuilt_word place)) answer before now found.goes.gains
+keeps_bytes gave clock env (stream wanted) bytes answer before now found = keeps_reading gave clock env wanted found.given answer before now (job bytes) found.moments found.goes
+keeps_bytes gave clock env (show_settings wanted) bytes answer before now found = keeps_texts env wanted found.given answer before now (profile_texts bytes) found.goes
 
 -- ## The bytes of the input
 
--- what the outside gave where neither files nor target were read
-abbrev pub nothing_given : List Instant → Supplied
-nothing_given moments = record { files = unloaded; moments = moments; target = unread }
+-- what the outside gave where neither files nor target were read, and no moment was taken
+abbrev pub nothing_given : Supplied
+nothing_given = record { files = unloaded; moments = []; target = unread }
 
--- an outside that has given nothing, which is always so; `free` says that files need not be loaded
-pub reads_nothing : (gave : List Place → FilesRead → Type 0) → ((places : List Place) → gave places unloaded) → (command : Command) (bytes : List ℕ) → (given : Supplied) × Gave gave command bytes given
-reads_nothing gave free (bad_word place) bytes = (nothing_given [], tt)
-reads_nothing gave free (unbuilt_word place) bytes = (nothing_given [], tt)
-reads_nothing gave free (stream wanted) bytes = by_reading (job bytes)
-  where
-    by_reading : (reading : Result JobParts ℕ) → (given : Supplied) × GaveReading gave wanted reading given
-    by_reading (Ok j) = (nothing_given (replicate (length j.events + 2) wanted.at), record { files = free _; moments = refl; target = tt })
-    by_reading (Err place) = (nothing_given [], tt)
-reads_nothing gave free (show_settings wanted) bytes = (nothing_given [], by_reading (profile_texts bytes))
-  where
-    by_reading : (reading : Result ProfileTexts ℕ) → GaveTexts gave wanted reading (nothing_given [])
-    by_reading (Ok texts) = free _
-    by_reading (Err place) = tt
+-- no moment stands in no list
+pub no_moment : (front : List Instant) (t : Instant) (rest : List Instant) → [] ≡ front ++ t ∷ rest → ⊥
+no_moment [] t rest e = cc
+no_moment (u ∷ front) t rest e = cc
 
-pub bytes_no_memory : (gave : List Place → FilesRead → Type 0) → ((places : List Place) → gave places unloaded) → (env : List (List ℕ × List ℕ)) (command : Command) (bytes : List ℕ) (held : Option (List ℕ))
-    → GoesForBytes gave env command bytes no_memory held held
-bytes_no_memory gave free env command bytes held =
-    let nothing = reads_nothing gave free command bytes in (nothing.0, nothing.1, goes_no_memory (read_plan env command bytes nothing.0) held)
+-- as planned for a job that was read
+pub job_was_read : (gave : List Place → FilesRead → Type 0) (clock : List Instant → Type 0) (env : List (List ℕ × List ℕ)) (wanted : Wanted) (bytes : List ℕ) (j : JobParts) (answer : Ending) (before now : Option (List ℕ))
+    → job bytes ≡ Ok j → GoesForJob gave clock env wanted j answer before now → GoesForBytes gave clock env (stream wanted) bytes answer before now
+job_was_read gave clock env wanted bytes j answer before now is goes = record {
+  given = goes.given;
+  found = rw is goes.found;
+  moments = goes.moments;
+  goes = rw is goes.goes;
+  needed = rw is goes.needed;
+}
 
--- a bad line of a job, or of profile texts
-pub job_is_bad : (gave : List Place → FilesRead → Type 0) (env : List (List ℕ × List ℕ)) (wanted : Wanted) (bytes : List ℕ) (place : ℕ) (held : Option (List ℕ)) → job bytes ≡ Err place
-    → GoesForBytes gave env (stream wanted) bytes (bad_job place) held held
-job_is_bad gave env wanted bytes place held is = (nothing_given [], rw is tt, rw is (goes_stopped (bad_job place) held))
+-- a clock that isn't asked gives no moment, whatever is asked for
+pub unasked_at : (clock : List Instant → Type 0) → clock [] → (asked : Option Instant) → OfClock clock asked []
+unasked_at clock unasked None = unasked
+unasked_at clock unasked (Some at) = (refl, unasked)
 
-pub texts_are_bad : (gave : List Place → FilesRead → Type 0) (env : List (List ℕ × List ℕ)) (wanted : ProfileWanted) (bytes : List ℕ) (place : ℕ) (held : Option (List ℕ)) → profile_texts bytes ≡ Err place
-    → GoesForBytes gave env (show_settings wanted) bytes (bad_job place) held held
-texts_are_bad gave env wanted bytes place held is = (nothing_given [], rw is tt, rw is (goes_stopped (bad_job place) held))
+-- `free` says that files need not be loaded, and `unasked` that the clock wasn't asked
+module _ (gave : List Place → FilesRead → Type 0) (free : (places : List Place) → gave places unloaded) (clock : List Instant → Type 0) (unasked : clock []) where
+  -- no moment is taken
+  takes_none : (command : Command) → TakesMoments clock command []
+  takes_none (bad_word place) = (refl, unasked)
+  takes_none (unbuilt_word place) = (refl, unasked)
+  takes_none (show_settings wanted) = (refl, unasked)
+  takes_none (stream wanted) = unasked_at clock unasked wanted.at
 
--- as planned for what was read
-pub job_was_read : (gave : List Place → FilesRead → Type 0) (env : List (List ℕ × List ℕ)) (wanted : Wanted) (bytes : List ℕ) (j : JobParts) (answer : Ending) (before now : Option (List ℕ)) → job bytes ≡ Ok j
-    → GoesForJob gave env wanted j answer before now → GoesForBytes gave env (stream wanted) bytes answer before now
-job_was_read gave env wanted bytes j answer before now is found = (found.0, rw is found.1, rw is found.2)
+  -- an outside that has given nothing, which is always so
+  gave_nothing : (command : Command) (bytes : List ℕ) → Gave gave command bytes nothing_given
+  gave_nothing (bad_word place) bytes = tt
+  gave_nothing (unbuilt_word place) bytes = tt
+  gave_nothing (stream wanted) bytes = by_reading (job bytes)
+    where
+      by_reading : (reading : Result JobParts ℕ) → GaveReading gave wanted reading nothing_given
+      by_reading (Ok j) = record { files = free _; target = tt }
+      by_reading (Err place) = tt
+  gave_nothing (show_settings wanted) bytes = by_reading (profile_texts bytes)
+    where
+      by_reading : (reading : Result ProfileTexts ℕ) → GaveTexts gave wanted reading nothing_given
+      by_reading (Ok texts) = free _
+      by_reading (Err place) = tt
 
-pub texts_were_read : (gave : List Place → FilesRead → Type 0) (env : List (List ℕ × List ℕ)) (wanted : ProfileWanted) (bytes : List ℕ) (texts : ProfileTexts) (answer : Ending) (before now : Option (List ℕ)) → profile_texts bytes ≡ Ok texts
-    → GoesForTexts gave env wanted texts answer before now → GoesForBytes gave env (show_settings wanted) bytes answer before now
-texts_were_read gave env wanted bytes texts answer before now is found = (found.0, rw is found.1, rw is found.2)
+  pub bytes_no_memory : (env : List (List ℕ × List ℕ)) (command : Command) (bytes : List ℕ) (held : Option (List ℕ)) → GoesForBytes gave clock env command bytes no_memory held held
+  bytes_no_memory env command bytes held = record {
+    given = nothing_given;
+    found = gave_nothing command bytes;
+    moments = takes_none command;
+    goes = goes_no_memory (read_plan env command bytes nothing_given) held;
+    needed = λ front t rest is. absurd (no_moment front t rest is);
+  }
+
+  -- a bad line of a job, or of profile texts
+  pub job_is_bad : (env : List (List ℕ × List ℕ)) (wanted : Wanted) (bytes : List ℕ) (place : ℕ) (held : Option (List ℕ)) → job bytes ≡ Err place
+      → GoesForBytes gave clock env (stream wanted) bytes (bad_job place) held held
+  job_is_bad env wanted bytes place held is = record {
+    given = nothing_given;
+    found = rw is tt;
+    moments = takes_none (stream wanted);
+    goes = rw is (goes_stopped (bad_job place) held);
+    needed = λ front t rest is. absurd (no_moment front t rest is);
+  }
+
+  pub texts_are_bad : (env : List (List ℕ × List ℕ)) (wanted : ProfileWanted) (bytes : List ℕ) (place : ℕ) (held : Option (List ℕ)) → profile_texts bytes ≡ Err place
+      → GoesForBytes gave clock env (show_settings wanted) bytes (bad_job place) held held
+  texts_are_bad env wanted bytes place held is = record {
+    given = nothing_given;
+    found = rw is tt;
+    moments = (refl, unasked);
+    goes = rw is (goes_stopped (bad_job place) held);
+    needed = λ front t rest is. absurd (no_moment front t rest is);
+  }
+
+  -- as planned for texts that were read
+  pub texts_were_read : (env : List (List ℕ × List ℕ)) (wanted : ProfileWanted) (bytes : List ℕ) (texts : ProfileTexts) (answer : Ending) (before now : Option (List ℕ)) → profile_texts bytes ≡ Ok texts
+      → GoesForTexts gave env wanted texts answer before now → GoesForBytes gave clock env (show_settings wanted) bytes answer before now
+  texts_were_read env wanted bytes texts answer before now is goes = record {
+    given = record goes.0 { moments = [] };
+    found = rw is goes.1;
+    moments = (refl, unasked);
+    goes = rw is goes.2;
+    needed = λ front t rest is. absurd (no_moment front t rest is);
+  }
 
 -- ## The input
 
@@ -291,10 +365,23 @@ plan_of_read env command bytes given short = by_command command
     by_command (show_settings wanted) = rw within refl
 
 -- an answer as planned for its bytes goes as planned for an input that was read to its end
-pub read_runs : (gave : List Place → FilesRead → Type 0) (env : List (List ℕ × List ℕ)) (command : Command) (left : Option (List ℕ)) (read bytes : List ℕ) (answer : Ending) (before now : Option (List ℕ))
-    → IsAllOf left read → length read ≤ most_input → left ≡ Some bytes → GoesForBytes gave env command read answer before now → GoesForInput gave env command bytes answer before now
-read_runs gave env command left read bytes answer before now all short told found =
-    rw (← all_read left read bytes all told) (found.0, record { supplied = found.1; goes = rw (plan_of_read env command read found.0 short) found.2 })
+pub read_runs : (gave : List Place → FilesRead → Type 0) (clock : List Instant → Type 0) (env : List (List ℕ × List ℕ)) (command : Command) (left : Option (List ℕ)) (read : List ℕ) (answer : Ending) (before now : Option (List ℕ))
+    → IsAllOf left read → length read ≤ most_input → GoesForBytes gave clock env command read answer before now → GoesForInput gave clock env command left answer before now
+read_runs gave clock env command left read answer before now all short found =
+    (found.given, found.moments, λ bytes told. rw (← all_read left read bytes all told) runs)
+  where
+    plans : (moments : List Instant) → command_plan env command read (record found.given { moments = moments }) ≡ read_plan env command read (record found.given { moments = moments })
+    plans moments = plan_of_read env command read (record found.given { moments = moments }) short
+
+    ends : (moments : List Instant) → plan_end (command_plan env command read (record found.given { moments = moments })) ≡ plan_end (read_plan env command read (record found.given { moments = moments }))
+    ends moments = rw (plans moments) refl
+
+    runs : RunsAsPlanned gave env command read found.given answer before now
+    runs = record {
+      supplied = found.found;
+      goes = rw (plan_of_read env command read found.given short) found.goes;
+      needed = λ front t rest is. ends front ∙ found.needed front t rest is;
+    }
 
 -- the words are a command
 abbrev pub IsCommand : Command → Type 0
@@ -321,34 +408,43 @@ plan_too_large env command (Some told_bytes) bytes given is long told = by_comma
     by_command (stream wanted) is = rw large refl
     by_command (show_settings wanted) is = rw large refl
 
-pub too_large_runs : (gave : List Place → FilesRead → Type 0) → ((places : List Place) → gave places unloaded) → (env : List (List ℕ × List ℕ)) (command : Command) (left : Option (List ℕ)) (bytes : List ℕ) (held : Option (List ℕ))
-    → IsCommand command → IsLongerThan left most_input → left ≡ Some bytes → GoesForInput gave env command bytes job_too_large held held
-too_large_runs gave free env command left bytes held is long told =
-    let nothing = reads_nothing gave free command bytes in
-    (nothing.0, record { supplied = nothing.1; goes = rw (plan_too_large env command left bytes nothing.0 is long told) (goes_stopped job_too_large held) })
+module _ (gave : List Place → FilesRead → Type 0) (free : (places : List Place) → gave places unloaded) (clock : List Instant → Type 0) (unasked : clock []) where
+  -- with nothing given
+  nothing_runs : (env : List (List ℕ × List ℕ)) (command : Command) (left : Option (List ℕ)) (answer : Ending) (held : Option (List ℕ))
+      → ((bytes : List ℕ) → left ≡ Some bytes → GoesAsPlanned (command_plan env command bytes nothing_given) answer held held) → GoesForInput gave clock env command left answer held held
+  nothing_runs env command left answer held goes = (
+    nothing_given,
+    takes_none gave free clock unasked command,
+    λ bytes told. record {
+      supplied = gave_nothing gave free clock unasked command bytes;
+      goes = goes bytes told;
+      needed = λ front t rest is. absurd (no_moment front t rest is);
+    },
+  )
 
-pub read_fault_runs : (gave : List Place → FilesRead → Type 0) → ((places : List Place) → gave places unloaded) → (env : List (List ℕ × List ℕ)) (command : Command) (bytes : List ℕ) (held : Option (List ℕ))
-    → GoesForInput gave env command bytes read_fault held held
-read_fault_runs gave free env command bytes held =
-    let nothing = reads_nothing gave free command bytes in (nothing.0, record { supplied = nothing.1; goes = goes_read_fault (command_plan env command bytes nothing.0) held })
+  pub too_large_runs : (env : List (List ℕ × List ℕ)) (command : Command) (left : Option (List ℕ)) (held : Option (List ℕ)) → IsCommand command → IsLongerThan left most_input
+      → GoesForInput gave clock env command left job_too_large held held
+  too_large_runs env command left held is long =
+      nothing_runs env command left job_too_large held (λ bytes told. rw (plan_too_large env command left bytes nothing_given is long told) (goes_stopped job_too_large held))
 
-pub no_memory_runs : (gave : List Place → FilesRead → Type 0) → ((places : List Place) → gave places unloaded) → (env : List (List ℕ × List ℕ)) (command : Command) (bytes : List ℕ) (held : Option (List ℕ))
-    → GoesForInput gave env command bytes no_memory held held
-no_memory_runs gave free env command bytes held =
-    let nothing = reads_nothing gave free command bytes in (nothing.0, record { supplied = nothing.1; goes = goes_no_memory (command_plan env command bytes nothing.0) held })
+  pub read_fault_runs : (env : List (List ℕ × List ℕ)) (command : Command) (left : Option (List ℕ)) (held : Option (List ℕ)) → GoesForInput gave clock env command left read_fault held held
+  read_fault_runs env command left held = nothing_runs env command left read_fault held (λ bytes told. goes_read_fault (command_plan env command bytes nothing_given) held)
 
--- ## Words
+  pub no_memory_runs : (env : List (List ℕ × List ℕ)) (command : Command) (left : Option (List ℕ)) (held : Option (List ℕ)) → GoesForInput gave clock env command left no_memory held held
+  no_memory_runs env command left held = nothing_runs env command left no_memory held (λ bytes told. goes_no_memory (command_plan env command bytes nothing_given) held)
 
--- words that are no command
-pub bad_word_runs : (gave : List Place → FilesRead → Type 0) (env : List (List ℕ × List ℕ)) (command : Command) (place : ℕ) (bytes : List ℕ) (held : Option (List ℕ)) → command ≡ bad_word place
-    → GoesForInput gave env command bytes (bad_words place) held held
-unfolding command_plan
-bad_word_runs gave env command place bytes held is = rw is (nothing_given [], record { supplied = tt; goes = goes_stopped (bad_words place) held })
+  -- ## Words
 
-pub unbuilt_word_runs : (gave : List Place → FilesRead → Type 0) (env : List (List ℕ × List ℕ)) (command : Command) (place : ℕ) (bytes : List ℕ) (held : Option (List ℕ)) → command ≡ unbuilt_word place
-    → GoesForInput gave env command bytes (not_built place) held held
-unfolding command_plan
-unbuilt_word_runs gave env command place bytes held is = rw is (nothing_given [], record { supplied = tt; goes = goes_stopped (not_built place) held })
+  -- words that are no command
+  pub bad_word_runs : (env : List (List ℕ × List ℕ)) (command : Command) (place : ℕ) (left : Option (List ℕ)) (held : Option (List ℕ)) → command ≡ bad_word place
+      → GoesForInput gave clock env command left (bad_words place) held held
+  unfolding command_plan
+  bad_word_runs env command place left held is = rw is (nothing_runs env (bad_word place) left (bad_words place) held (λ bytes told. goes_stopped (bad_words place) held))
+
+  pub unbuilt_word_runs : (env : List (List ℕ × List ℕ)) (command : Command) (place : ℕ) (left : Option (List ℕ)) (held : Option (List ℕ)) → command ≡ unbuilt_word place
+      → GoesForInput gave clock env command left (not_built place) held held
+  unfolding command_plan
+  unbuilt_word_runs env command place left held is = rw is (nothing_runs env (unbuilt_word place) left (not_built place) held (λ bytes told. goes_stopped (not_built place) held))
 
 pub holds_untouched : (command : Command) (P : Type 0) → P → UnlessCommand command P
 holds_untouched (bad_word place) P holds = holds
@@ -373,41 +469,11 @@ asked_no_memory (unbuilt_word place) = inr refl
 asked_no_memory (stream wanted) = tt
 asked_no_memory (show_settings wanted) = tt
 
--- the ends of a command once the input is asked
-abbrev pub IsOfCommand : Ending → Type 0
-IsOfCommand (bad_words place) = ⊥
-IsOfCommand (not_built place) = ⊥
-IsOfCommand end = Unit {0}
-
-pub asked_of_command : (command : Command) (end : Ending) → IsCommand command → IsOfCommand end → EndsAsAsked command end
-asked_of_command (bad_word place) end is of = absurd is
-asked_of_command (unbuilt_word place) end is of = absurd is
-asked_of_command (stream wanted) end is of = by_end end of
-  where
-    by_end : (end : Ending) → IsOfCommand end → EndsAsAsked (stream wanted) end
-    by_end (bad_words place) of = absurd of
-    by_end (not_built place) of = absurd of
-    by_end done of = tt
-    by_end job_too_large of = tt
-    by_end (bad_job place) of = tt
-    by_end read_fault of = tt
-    by_end (could_not_read_file path) of = tt
-    by_end (refused fault) of = tt
-    by_end output_fault of = tt
-    by_end no_memory of = tt
-asked_of_command (show_settings wanted) end is of = by_end end of
-  where
-    by_end : (end : Ending) → IsOfCommand end → EndsAsAsked (show_settings wanted) end
-    by_end (bad_words place) of = absurd of
-    by_end (not_built place) of = absurd of
-    by_end done of = tt
-    by_end job_too_large of = tt
-    by_end (bad_job place) of = tt
-    by_end read_fault of = tt
-    by_end (could_not_read_file path) of = tt
-    by_end (refused fault) of = tt
-    by_end output_fault of = tt
-    by_end no_memory of = tt
+pub of_command : (command : Command) (end : Ending) → IsCommand command → IsOfCommand end → EndsAsAsked command end
+of_command (bad_word place) end is of = absurd is
+of_command (unbuilt_word place) end is of = absurd is
+of_command (stream wanted) end is of = of
+of_command (show_settings wanted) end is of = of
 
 pub after_input : (end : Ending) → IsAfterInput end → IsOfCommand end
 after_input done of = tt
@@ -421,4 +487,4 @@ after_input (not_built place) of = absurd of
 after_input job_too_large of = absurd of
 after_input read_fault of = absurd of
 
-pub ruleset words_of_runs = (keeps_same, bad_word_runs, unbuilt_word_runs, no_memory_runs, holds_untouched, unread_rest, asked_no_memory)
+pub ruleset words_of_runs = (keeps_same, holds_untouched, unread_rest, asked_no_memory)

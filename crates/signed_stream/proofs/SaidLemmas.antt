@@ -1,11 +1,10 @@
 -- A run that says how it ended: the end stays, or want of memory takes its place.
-use Rattle.std.proofs.Common.{◌≡◌, ℕ, ◌≤◌, ◌⊎◌, inl, inr, Bool, List, [], Option, Some, None, refl, sym, ◌∙◌}
+use Rattle.std.proofs.Common.{◌≡◌, ℕ, ◌≤◌, ◌⊎◌, inl, inr, Bool, List, Option, refl, sym, ◌∙◌}
 use Rattle.smithy_core.specs.Outside.{RoseOrStands}
 use Rattle.smithy_core.proofs.GainLemmas.{prefix_at_start, prefix_from_whole}
 use Rattle.env_config.specs.Files.{Place}
-use Rattle.signed_stream.specs.Carriers.{GoesForInput}
 use Rattle.signed_stream.specs.Command.{Command}
-use Rattle.signed_stream.specs.Plan.{FilesRead, GainsAsPlanned, GoesAsPlanned, Plan, Supplied, stops, unloaded, unread, writes}
+use Rattle.signed_stream.specs.Plan.{FilesRead, GainsAsPlanned, GoesAsPlanned, Plan, Supplied, stops, writes}
 use Rattle.signed_stream.specs.Running.{CountsReads, CountsWrites, EndsAsAsked, KeepsDisk, KeepsOutput, RunsAsPlanned, command_plan}
 use Rattle.signed_stream.specs.Status.{Ending, RunFault, bad_job, bad_words, could_not_read_file, done, job_too_large, no_memory, not_built, output_fault, read_fault, refused}
 use Rattle.signed_stream.proofs.RunLemmas.{asked_no_memory, goes_no_memory}
@@ -38,18 +37,10 @@ said_goes plan end answer before now goes (inl is) = rw is goes
 said_goes plan end answer before now goes (inr is) =
     rw is (record { ends = (goes_no_memory plan before).ends; gains = cut_short plan end before now goes.gains })
 
-pub said_runs : (gave : List Place → FilesRead → Type 0) (env : List (List ℕ × List ℕ)) (command : Command) (bytes : List ℕ) (end answer : Ending) (before now : Option (List ℕ))
-    → GoesForInput gave env command bytes end before now → IsSaid end answer → GoesForInput gave env command bytes answer before now
-said_runs gave env command bytes end answer before now found said =
-    (found.0, record { supplied = found.1.supplied; goes = said_goes (command_plan env command bytes found.0) end answer before now found.1.goes said })
-
--- what the outside gave, whether or not the input tells its bytes
-pub one_given : (gave : List Place → FilesRead → Type 0) (env : List (List ℕ × List ℕ)) (command : Command) (left : Option (List ℕ)) (answer : Ending) (before now : Option (List ℕ))
-    → ((bytes : List ℕ) → left ≡ Some bytes → GoesForInput gave env command bytes answer before now)
-    → (given : Supplied) × ((bytes : List ℕ) → left ≡ Some bytes → RunsAsPlanned gave env command bytes given answer before now)
-one_given gave env command None answer before now runs = (record { files = unloaded; moments = []; target = unread }, λ bytes told. cc)
-one_given gave env command (Some all) answer before now runs =
-    let found = runs all refl in (found.0, λ bytes told. let same : all ≡ bytes = cc in rw (← same) found.1)
+pub said_runs : (gave : List Place → FilesRead → Type 0) (env : List (List ℕ × List ℕ)) (command : Command) (bytes : List ℕ) (given : Supplied) (end answer : Ending) (before now : Option (List ℕ))
+    → RunsAsPlanned gave env command bytes given end before now → IsSaid end answer → RunsAsPlanned gave env command bytes given answer before now
+said_runs gave env command bytes given end answer before now runs said =
+    record { supplied = runs.supplied; goes = said_goes (command_plan env command bytes given) end answer before now runs.goes said; needed = runs.needed }
 
 pub said_keeps : (late : RunFault → Bool) (end answer : Ending) (before now : Option (List ℕ)) → KeepsOutput late end before now → IsSaid end answer → KeepsOutput late answer before now
 said_keeps late end answer before now keeps (inl is) = rw is keeps

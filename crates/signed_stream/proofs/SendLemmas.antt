@@ -1,21 +1,23 @@
 -- A head and lines that are sent after it.
-use Rattle.std.proofs.Common.{◌≡◌, ◌==◌, ℕ, ◌+◌, inl, inr, true, List, ◌++◌, length, Option, Some, None, refl}
+use Rattle.std.proofs.Common.{◌≡◌, ◌==◌, ℕ, ◌+◌, inl, inr, true, List, [], ◌++◌, length, Option, Some, None, refl, arith}
 use Rattle.std.specs.Prelude.{Result, Ok, Err}
 use Rattle.std.proofs.lemmas.Bool.{eq-eqb}
 use Rattle.smithy_core.specs.Moment.{Instant}
 use Rattle.smithy_core.specs.Outside.{Gains}
 use Rattle.smithy_core.specs.Message.{Parts}
 use Rattle.smithy_core.proofs.GainLemmas.{gains_front, gains_last, prefix_join, prefix_within}
+use Rattle.eventstream.specs.Key.{Signer}
 use Rattle.sigv4.specs.Request.{Case}
 use Rattle.sigv4.specs.Signed.{signature_of}
 use Rattle.signed_stream.specs.declared.form.Form.{Form}
+use Rattle.signed_stream.specs.declared.status.StreamFault.{StreamFault}
 use Rattle.signed_stream.specs.Chain.{Refusal, refusal_fault, streamed_text}
-use Rattle.signed_stream.specs.Halt.{Halts, Sends, ended}
+use Rattle.signed_stream.specs.Halt.{Halt, Halts, Sends, ended, fails, halt_of, halted, refuses, wants}
 use Rattle.signed_stream.specs.Plan.{GoesAsPlanned, writes}
-use Rattle.signed_stream.specs.Status.{Ending, RunFault, done, run_fault, refused}
+use Rattle.signed_stream.specs.Sending.{IsWhole, SendsAll, SendsChain}
+use Rattle.signed_stream.specs.Status.{RunFault, done}
 use Rattle.signed_stream.specs.Written.{signed_head, written_stream, written_before, written_end, written_until}
-use Rattle.signed_stream.specs.declared.halt.Halt.{Halt}
-use Rattle.signed_stream.specs.declared.halt.Halt.TheVariants.{Refused, OutputFault, NoMemory}
+use Rattle.signed_stream.proofs.ChainLemmas.{sent_needed}
 
 -- the text that is written is the head, and then the lines that are streamed
 pub written_lines : (form : Form) (refusal : Option Refusal) (target : List ℕ) (c : Case) (events : List Parts) (moments : List Instant)
@@ -25,37 +27,64 @@ written_lines form None target c events moments = refl
 written_lines form (Some refusal) target c events moments = refl
 
 -- a back is sent after its front
-pub back_sent : {T : Type 0} (a b c : Option (List ℕ)) (front back : List ℕ) (fault : Option RunFault) (answer : Result T Halt)
+back_halted : (a b c : Option (List ℕ)) (front back : List ℕ) (fault : Option RunFault) (halt : Halt)
+    → Gains a b front → Halts fault back b c halt → Halts fault (front ++ back) a c halt
+back_halted a b c front back fault (refuses told) first second = (second.0, gains_last a b c back (front ++ back) (gains_front a b front back first) second.1)
+back_halted a b c front back fault fails first second = prefix_join a b c back (front ++ back) (gains_front a b front back first) second
+back_halted a b c front back fault wants first second = prefix_join a b c back (front ++ back) (gains_front a b front back first) second
+
+back_sent : {T : Type 0} (a b c : Option (List ℕ)) (front back : List ℕ) (fault : Option RunFault) (answer : Result T StreamFault)
     → Gains a b front → Sends fault back b c answer → Sends fault (front ++ back) a c answer
 back_sent a b c front back fault (Ok x) first second = (second.0, gains_last a b c back (front ++ back) (gains_front a b front back first) second.1)
-back_sent a b c front back fault (Err (Refused told)) first second = (second.0, gains_last a b c back (front ++ back) (gains_front a b front back first) second.1)
-back_sent a b c front back fault (Err OutputFault) first second = prefix_join a b c back (front ++ back) (gains_front a b front back first) second
-back_sent a b c front back fault (Err NoMemory) first second = prefix_join a b c back (front ++ back) (gains_front a b front back first) second
+back_sent a b c front back fault (Err told) first second = back_halted a b c front back fault (halt_of told) first second
 
 -- a front that isn't whole is a front of all
-pub front_halted : (a b : Option (List ℕ)) (front back : List ℕ) (fault : Option RunFault) (halt : Halt)
+front_halted : (a b : Option (List ℕ)) (front back : List ℕ) (fault : Option RunFault) (halt : Halt)
     → Halts None front a b halt → Halts fault (front ++ back) a b halt
-front_halted a b front back fault (Refused told) halts = let wrong : None ≡ Some (run_fault told) = halts.0 in cc
-front_halted a b front back fault OutputFault halts = prefix_within a b front back halts
-front_halted a b front back fault NoMemory halts = prefix_within a b front back halts
+front_halted a b front back fault (refuses told) halts = let wrong : None ≡ Some told = halts.0 in cc
+front_halted a b front back fault fails halts = prefix_within a b front back halts
+front_halted a b front back fault wants halts = prefix_within a b front back halts
 
-pub ruleset sent_after = (back_sent, front_halted)
+module _ {T : Type 0} (form : Form) (head : List ℕ) (who : Signer) (events : List Parts) (seed : List ℕ) where
+  -- frames after a head that was sent
+  pub sent_after : (a b c : Option (List ℕ)) (moments : List Instant) (answer : Result T StreamFault) → Gains a b head
+      → SendsChain form who events seed b c moments answer → SendsAll form head who events seed a c moments answer
+  sent_after a b c moments answer first chain = record {
+    sends = back_sent a b c head _ _ answer first chain.sends;
+    whole = chain.whole;
+    next = chain.next;
+  }
 
--- how what is sent is to end
-abbrev pub end_of : Option RunFault → Ending
-end_of None = done
-end_of (Some fault) = refused fault
+  -- a head that wasn't
+  pub halted_before : (a b : Option (List ℕ)) (told : StreamFault) → Halts None head a b (halt_of told)
+      → SendsAll {T = T} form head who events seed a b [] (Err told)
+  halted_before a b told halts = record {
+    sends = front_halted a b head (streamed_text form who events [] seed None) None (halt_of told) halts;
+    whole = tt;
+    next = sent_needed who events seed [] refl (omega arith);
+  }
 
--- each frame had its moment
-pub end_counted : (refusal : Option Refusal) (events : List Parts) (moments : List Instant) → length moments ≡ length events + 1
-    → written_end refusal events moments ≡ end_of (refusal_fault refusal)
-end_counted None events moments counted = let same : (length moments == length events + 1) ≡ true = eq-eqb _ _ counted in rw same refl
-end_counted (Some refusal) events moments counted = refl
+-- an answer that sends what a plan is to write goes as planned
+pub sends_goes : {T : Type 0} (refusal : Option Refusal) (text : List ℕ) (events : List Parts) (moments : List Instant) (before now : Option (List ℕ)) (answer : Result T StreamFault)
+    → Sends (refusal_fault refusal) text before now answer → IsWhole events moments answer
+    → GoesAsPlanned (writes text (written_end refusal events moments)) (ended answer) before now
+sends_goes None text events moments before now (Ok x) sends counted =
+    let same : (length moments == length events + 1) ≡ true = eq-eqb _ _ counted in record { ends = rw same (inl refl); gains = sends.1 }
+sends_goes (Some refusal) text events moments before now (Ok x) sends counted = let wrong : Some refusal.fault ≡ None = sends.0 in cc
+sends_goes refusal text events moments before now (Err told) sends counted = by_halt refusal (halt_of told) sends
+  where
+    by_halt : (refusal : Option Refusal) (halt : Halt) → Halts (refusal_fault refusal) text before now halt → GoesAsPlanned (writes text (written_end refusal events moments)) (halted halt) before now
+    by_halt None (refuses told) halts = let wrong : None ≡ Some told = halts.0 in cc
+    by_halt (Some refusal) (refuses told) halts = let same : refusal.fault ≡ told = (let is : Some refusal.fault ≡ Some told = halts.0 in cc) in record { ends = rw same (inl refl); gains = halts.1 }
+    by_halt refusal fails halts = record { ends = inr (inr (inl refl)); gains = halts }
+    by_halt refusal wants halts = record { ends = inr (inr (inr refl)); gains = halts }
 
--- an answer that sends a text goes as planned to write it
-pub sends_goes : {T : Type 0} (fault : Option RunFault) (text : List ℕ) (before now : Option (List ℕ)) (answer : Result T Halt)
-    → Sends fault text before now answer → GoesAsPlanned (writes text (end_of fault)) (ended answer) before now
-sends_goes fault text before now (Ok x) sends = record { ends = rw sends.0 (inl refl); gains = sends.1 }
-sends_goes fault text before now (Err (Refused told)) sends = record { ends = rw sends.0 (inl refl); gains = sends.1 }
-sends_goes fault text before now (Err OutputFault) sends = record { ends = inr (inr (inl refl)); gains = sends }
-sends_goes fault text before now (Err NoMemory) sends = record { ends = inr (inr (inr refl)); gains = sends }
+-- a text alone
+pub text_goes : {T : Type 0} (text : List ℕ) (before now : Option (List ℕ)) (answer : Result T StreamFault) → Sends None text before now answer → GoesAsPlanned (writes text done) (ended answer) before now
+text_goes text before now (Ok x) sends = record { ends = inl refl; gains = sends.1 }
+text_goes text before now (Err told) sends = by_halt (halt_of told) sends
+  where
+    by_halt : (halt : Halt) → Halts None text before now halt → GoesAsPlanned (writes text done) (halted halt) before now
+    by_halt (refuses told) halts = let wrong : None ≡ Some told = halts.0 in cc
+    by_halt fails halts = record { ends = inr (inr (inl refl)); gains = halts }
+    by_halt wants halts = record { ends = inr (inr (inr refl)); gains = halts }

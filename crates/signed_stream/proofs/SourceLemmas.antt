@@ -14,6 +14,7 @@ use Rattle.env_config.specs.declared.load_fault.EnvConfigFileLoadError.TheVarian
 use Rattle.env_config.specs.declared.source.EnvConfigFileKind.{EnvConfigFileKind}
 use Rattle.env_config.specs.declared.source.EnvConfigFileKind.TheVariants.{Config, Credentials}
 use Rattle.env_config.specs.declared.source.Source.{Source}
+use Rattle.signed_stream.specs.Carriers.{IsAfterTexts}
 use Rattle.signed_stream.specs.Plan.{FilesRead, loaded, unloaded, unreadable}
 use Rattle.signed_stream.specs.ProfileOptions.{place_of}
 use Rattle.signed_stream.specs.ProfileTexts.{ProfileTexts}
@@ -118,6 +119,12 @@ module _ {D : Type 0} (answers : D → List ℕ → Result (Vec ℕ) DiskError �
       → Loads answers reads tells env places before now (Ok source) → settings (map file_of source.files.items) (string_bytes source.profile) env service_id ≡ Ok (selected_of given)
       → (files : FilesRead) × DiskGives answers reads tells env before now places files × (selection env service_id files ≡ Ok (selected_of given))
   settings_select places service_id before now source given found gives = (loaded (map file_of source.files.items), found.0, rw (← found.1, gives) refl)
+
+-- files that aren't loaded end a run once its texts were read
+pub loads_after_texts : (fault : EnvConfigFileLoadError) → IsAfterTexts (load_ending fault)
+loads_after_texts (loads.ParseError error) = tt
+loads_after_texts (loads.CouldNotReadFile fault) = tt
+loads_after_texts loads.NoMemory = tt
 
 -- the settings' own ends name no file
 pub settings_name_none : (fault : SettingsFault) (path : List ℕ) → settings_ending fault ≡ could_not_read_file path → ⊥

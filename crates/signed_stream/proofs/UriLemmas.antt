@@ -13,13 +13,12 @@ use Rattle.env_config.specs.Files.{Place}
 use Rattle.env_config.specs.Loading.{selected_profile}
 use Rattle.env_config.specs.Sections.{FaultyLine, FileText, Sections, sections}
 use Rattle.signed_stream.specs.declared.form.Form.{Form}
-use Rattle.signed_stream.specs.Carriers.{GoesForInput}
 use Rattle.signed_stream.specs.Case.{job_case, request_moment}
 use Rattle.signed_stream.specs.Chain.{Refusal}
 use Rattle.signed_stream.specs.Command.{Command, bad_word, show_settings, stream, unbuilt_word, Wanted}
 use Rattle.signed_stream.specs.Job.{JobParts, job}
 use Rattle.signed_stream.specs.Plan.{EndsAsPlanned, FilesRead, Plan, TargetSpells, Supplied, TargetRead, accepted, loaded, most_input, stops, unaccepted, unloaded, unread, unreadable, writes}
-use Rattle.signed_stream.specs.Running.{IfStreams, command_plan}
+use Rattle.signed_stream.specs.Running.{IfStreams, RunsAsPlanned, command_plan}
 use Rattle.signed_stream.specs.Settings.{Selected, selected_or_missing, settings, settings_from}
 use Rattle.signed_stream.specs.ShowSettings.{settings_plan, shown_plan}
 use Rattle.signed_stream.specs.ProfileOptions.{ProfileWanted}
@@ -152,22 +151,22 @@ shown_unrefused env wanted given (Ok texts) goes = selection_refused env wanted.
     by_end text (inr (inr (inr is))) = cc
 
 -- a run that is refused for its target has read a job whose target isn't accepted, or takes no parameters
-run_refused : (gave : List Place → FilesRead → Type 0) (env : List (List ℕ × List ℕ)) (command : Command) (bytes : List ℕ) (before now : Option (List ℕ))
-    → GoesForInput gave env command bytes (refused invalid_uri) before now → IfStreams command (λ wanted. ReadsUnfitTarget wanted (job bytes))
+run_refused : (gave : List Place → FilesRead → Type 0) (env : List (List ℕ × List ℕ)) (command : Command) (bytes : List ℕ) (given : Supplied) (before now : Option (List ℕ))
+    → RunsAsPlanned gave env command bytes given (refused invalid_uri) before now → IfStreams command (λ wanted. ReadsUnfitTarget wanted (job bytes))
 unfolding command_plan
-run_refused gave env (bad_word place) bytes before now found = other_stop _ (λ e. cc) found.1.goes.ends
-run_refused gave env (unbuilt_word place) bytes before now found = other_stop _ (λ e. cc) found.1.goes.ends
-run_refused gave env (stream wanted) bytes before now found = by_length (nat_lt most_input (length bytes)) found.1.goes.ends
+run_refused gave env (bad_word place) bytes given before now runs = other_stop _ (λ e. cc) runs.goes.ends
+run_refused gave env (unbuilt_word place) bytes given before now runs = other_stop _ (λ e. cc) runs.goes.ends
+run_refused gave env (stream wanted) bytes given before now runs = by_length (nat_lt most_input (length bytes)) runs.goes.ends
   where
-    by_length : (large : Bool) → EndsAsPlanned (if large then stops job_too_large else job_plan env wanted found.0 (job bytes)) (refused invalid_uri) → ReadsUnfitTarget wanted (job bytes)
+    by_length : (large : Bool) → EndsAsPlanned (if large then stops job_too_large else job_plan env wanted given (job bytes)) (refused invalid_uri) → ReadsUnfitTarget wanted (job bytes)
     by_length true goes = absurd (other_stop _ (λ e. cc) goes)
-    by_length false goes = job_refused gave env wanted found.0 (job bytes) found.1.supplied goes
-run_refused gave env (show_settings wanted) bytes before now found = by_length (nat_lt most_input (length bytes)) found.1.goes.ends
+    by_length false goes = job_refused gave env wanted given (job bytes) runs.supplied goes
+run_refused gave env (show_settings wanted) bytes given before now runs = by_length (nat_lt most_input (length bytes)) runs.goes.ends
   where
-    by_length : (large : Bool) → EndsAsPlanned (if large then stops job_too_large else settings_plan env wanted found.0 (profile_texts bytes)) (refused invalid_uri) → ⊥
+    by_length : (large : Bool) → EndsAsPlanned (if large then stops job_too_large else settings_plan env wanted given (profile_texts bytes)) (refused invalid_uri) → ⊥
     by_length true goes = other_stop _ (λ e. cc) goes
-    by_length false goes = shown_unrefused env wanted found.0 (profile_texts bytes) goes
+    by_length false goes = shown_unrefused env wanted given (profile_texts bytes) goes
 
-pub run_refused_where : (gave : List Place → FilesRead → Type 0) (env : List (List ℕ × List ℕ)) (command : Command) (bytes : List ℕ) (answer : Ending) (before now : Option (List ℕ)) → answer ≡ refused invalid_uri
-    → GoesForInput gave env command bytes answer before now → IfStreams command (λ wanted. ReadsUnfitTarget wanted (job bytes))
-run_refused_where gave env command bytes answer before now is found = run_refused gave env command bytes before now (rw is at found)
+pub run_refused_where : (gave : List Place → FilesRead → Type 0) (env : List (List ℕ × List ℕ)) (command : Command) (bytes : List ℕ) (given : Supplied) (answer : Ending) (before now : Option (List ℕ)) → answer ≡ refused invalid_uri
+    → RunsAsPlanned gave env command bytes given answer before now → IfStreams command (λ wanted. ReadsUnfitTarget wanted (job bytes))
+run_refused_where gave env command bytes given answer before now is runs = run_refused gave env command bytes given before now (rw is at runs)

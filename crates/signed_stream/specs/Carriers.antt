@@ -1,45 +1,46 @@
 -- What the functions below `run` promise to one another, and what carries the proofs of its promises. A reader of those needs none of it: they are in
 -- Running, and what they rest on in Plan, Stream and ShowSettings.
-use Rattle.std.specs.Prelude.{◌≡◌, ℕ, List, Option, Result, Ok, Err}
+use Rattle.std.specs.Prelude.{◌≡◌, ℕ, List, Option, Some, Result, Ok, Err}
 use Rattle.smithy_core.specs.Moment.{Instant}
-use Rattle.smithy_core.specs.Message.{Parts}
-use Rattle.smithy_http.specs.Target.{Target}
 use Rattle.env_config.specs.Files.{Place}
-use Rattle.sigv4.specs.Request.{Case}
 use Rattle.signed_stream.specs.Command.{Command, Wanted}
 use Rattle.signed_stream.specs.ProfileOptions.{ProfileWanted}
 use Rattle.signed_stream.specs.Job.{JobParts}
-use Rattle.signed_stream.specs.Plan.{FilesRead, GoesAsPlanned, TargetSpells, Supplied, TargetRead}
+use Rattle.signed_stream.specs.Plan.{FilesRead, GoesAsPlanned, IsNeeded, Plan, Supplied}
 use Rattle.signed_stream.specs.ProfileTexts.{ProfileTexts}
-use Rattle.signed_stream.specs.Running.{Gave, RunsAsPlanned, read_plan}
+use Rattle.signed_stream.specs.Running.{Gave, OfClock, RunsAsPlanned, TakesMoments, read_plan}
 use Rattle.signed_stream.specs.Settings.{Selected, selected_of}
 use Rattle.signed_stream.specs.ShowSettings.{GaveTexts, settings_plan}
 use Rattle.signed_stream.specs.Sources.{selection, source_places}
 use Rattle.signed_stream.specs.Status.{Ending, bad_job, could_not_read_file, done, ending_of, no_memory, output_fault, refused}
-use Rattle.signed_stream.specs.Stream.{GaveJob, job_plan, request_plan}
-use Rattle.signed_stream.specs.declared.form.Form.{Form}
+use Rattle.signed_stream.specs.Stream.{GaveJob, job_plan}
 use Rattle.signed_stream.specs.declared.settings.Settings.{Settings}
 use Rattle.signed_stream.specs.declared.status.Status.{Status}
 
--- as planned for what the target spells
-abbrev pub GoesForTarget : Form → List ℕ → Instant → (Target → Case) → List Parts → List Instant → Ending → Option (List ℕ) → Option (List ℕ) → Type 0
-GoesForTarget form text at case events moments answer before now =
-    (target : TargetRead) × TargetSpells text target × GoesAsPlanned (request_plan form text at case events moments target) answer before now
+-- what a function below `run` promises of a plan: there is what the outside gave, for which the answer is as planned, and no moment was taken that the plan
+-- didn't need
+pub record Goes (supplied : Supplied → Type 0) (taken : List Instant → Type 0) (plan : Supplied → Plan) (answer : Ending) (before now : Option (List ℕ)) : Type 0 where
+  pub given : Supplied
+  pub found : supplied given
+  pub moments : taken given.moments
+  pub goes : GoesAsPlanned (plan given) answer before now
+  pub needed : IsNeeded (λ moments. plan (record given { moments = moments })) given.moments
 
--- as planned for what a command reads of these bytes
-abbrev pub GoesForBytes : (List Place → FilesRead → Type 0) → List (List ℕ × List ℕ) → Command → List ℕ → Ending → Option (List ℕ) → Option (List ℕ) → Type 0
-GoesForBytes gave env command bytes answer before now =
-    (given : Supplied) × Gave gave command bytes given × GoesAsPlanned (read_plan env command bytes given) answer before now
+module _ (gave : List Place → FilesRead → Type 0) (clock : List Instant → Type 0) (env : List (List ℕ × List ℕ)) where
+  -- as planned for what a command reads of these bytes
+  abbrev pub GoesForBytes : Command → List ℕ → Ending → Option (List ℕ) → Option (List ℕ) → Type 0
+  GoesForBytes command bytes = Goes (Gave gave command bytes) (TakesMoments clock command) (λ given. read_plan env command bytes given)
 
--- as planned for what the outside gave for an input
-abbrev pub GoesForInput : (List Place → FilesRead → Type 0) → List (List ℕ × List ℕ) → Command → List ℕ → Ending → Option (List ℕ) → Option (List ℕ) → Type 0
-GoesForInput gave env command bytes answer before now = (given : Supplied) × RunsAsPlanned gave env command bytes given answer before now
+  -- as planned for what the outside gave for an input, where it tells its bytes
+  abbrev pub GoesForInput : Command → Option (List ℕ) → Ending → Option (List ℕ) → Option (List ℕ) → Type 0
+  GoesForInput command left answer before now =
+      (given : Supplied) × TakesMoments clock command given.moments × ((bytes : List ℕ) → left ≡ Some bytes → RunsAsPlanned gave env command bytes given answer before now)
 
--- as planned for a job
-abbrev pub GoesForJob : (List Place → FilesRead → Type 0) → List (List ℕ × List ℕ) → Wanted → JobParts → Ending → Option (List ℕ) → Option (List ℕ) → Type 0
-GoesForJob gave env wanted j answer before now = (given : Supplied) × GaveJob gave wanted j given × GoesAsPlanned (job_plan env wanted given (Ok j)) answer before now
+  -- as planned for a job
+  abbrev pub GoesForJob : Wanted → JobParts → Ending → Option (List ℕ) → Option (List ℕ) → Type 0
+  GoesForJob wanted j = Goes (GaveJob gave wanted j) (OfClock clock wanted.at) (λ given. job_plan env wanted given (Ok j))
 
--- as planned for profile texts
+-- as planned for profile texts, which take no moment
 abbrev pub GoesForTexts : (List Place → FilesRead → Type 0) → List (List ℕ × List ℕ) → ProfileWanted → ProfileTexts → Ending → Option (List ℕ) → Option (List ℕ) → Type 0
 GoesForTexts gave env wanted texts answer before now =
     (given : Supplied) × GaveTexts gave wanted (Ok texts) given × GoesAsPlanned (settings_plan env wanted given (Ok texts)) answer before now

@@ -26,11 +26,11 @@ is_raw HexLines = false
 abbrev pub is_later_command : List ℕ → Bool
 is_later_command word = list_any (bytes_eq word) (codes "check" ∷ codes "chunk" ∷ codes "gen" ∷ [])
 
--- what `stream` is asked for: the name of the service, the moment, how to sign, the name of the session token, by how many milliseconds the
--- service's clock is ahead, in which form to write, and the profile
+-- what `stream` is asked for: the name of the service, the moment that all have, where it isn't the clock that gives them, how to sign, the name of the
+-- session token, by how many milliseconds the service's clock is ahead, in which form to write, and the profile
 pub record Wanted : Type 0 where
   pub name : List ℕ
-  pub at : Instant
+  pub at : Option Instant
   pub signing : SigningOptions
   pub token_name : Option (List ℕ)
   pub skew_millis : Option ℤ
@@ -127,12 +127,11 @@ take_word place given (Some Skew) word = take_skew place given (number w64 word)
 take_word place given (Some (OfProfile option)) word = options (record given { profile = with_profile_option given.profile option word; awaited = None })
 
 -- the words are over: the command, or the place after the last word
-abbrev pub command_of : ℕ → Options → Option (List ℕ) → Option Instant → Option Valued → Command
-command_of place given name at (Some option) = bad_word place
-command_of place given None at None = bad_word place
-command_of place given (Some name) None None = unbuilt_word place
-command_of place given (Some name) (Some at) None =
-    stream (record { name = name; at = at; signing = given.signing; token_name = given.token_name; skew_millis = given.skew_millis; form = given.form; profile = given.profile })
+abbrev pub command_of : ℕ → Options → Option (List ℕ) → Option Valued → Command
+command_of place given name (Some option) = bad_word place
+command_of place given None None = bad_word place
+command_of place given (Some name) None =
+    stream (record { name = name; at = given.at; signing = given.signing; token_name = given.token_name; skew_millis = given.skew_millis; form = given.form; profile = given.profile })
 
 -- goes on, where the word didn't end the matter
 abbrev pub after_taken : WordTaken → (Options → Command) → Command
@@ -141,7 +140,7 @@ after_taken (ends command) others = command
 
 -- the words from a place on, after those that gave this
 abbrev pub options_from : ℕ → Options → List (List ℕ) → Command
-options_from place given [] = command_of place given given.name given.at given.awaited
+options_from place given [] = command_of place given given.name given.awaited
 options_from place given (word ∷ words) = after_taken (take_word place given given.awaited word) (λ more. options_from (place + 1) more words)
 
 -- ## `settings`

@@ -15,6 +15,7 @@ pub mod ProfileOptions
 pub mod ProfileTexts
 pub mod Running
 pub mod Saying
+pub mod Sending
 pub mod Settings
 pub mod ShowSettings
 pub mod Shown
@@ -22,4 +23,5 @@ pub mod Sign
 pub mod Sources
 pub mod Status
 pub mod Stream
+pub mod Streaming
 pub mod Written

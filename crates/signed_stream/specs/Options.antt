@@ -1,5 +1,5 @@
 -- What the readers of the words answer.
-use Rattle.std.specs.Prelude.{◌≡◌, ℕ, Option, Some, None, Result, Ok, Err}
+use Rattle.std.specs.Prelude.{◌≡◌, ℕ, Option, Some, None, option_map, Result, Ok, Err, string_bytes}
 use Rattle.std.specs.Option.{option_copied}
 use Rattle.signed_stream.specs.Command.{Command, bad_word, unbuilt_word, stream, show_settings, Options, ProfileGiven, WordTaken, Wanted, options, ends}
 use Rattle.signed_stream.specs.ProfileOptions.{profile_wanted}
@@ -11,6 +11,7 @@ use Rattle.signed_stream.specs.declared.command.options.StreamWords.{StreamWords
 use Rattle.signed_stream.specs.declared.command.options.GivenOptions.{GivenOptions}
 use Rattle.signed_stream.specs.declared.command.profile.GivenProfile.{GivenProfile}
 use Rattle.signed_stream.specs.declared.command.profile.ProfileOptions.{ProfileOptions}
+use Rattle.signed_stream.specs.declared.streaming.StreamOptions.{StreamOptions}
 
 -- what the words ask `stream` for
 abbrev pub wanted_of : StreamWords → Wanted
@@ -23,6 +24,14 @@ wanted_of words = record {
   form = words.form;
   profile = profile_wanted words.profile;
 }
+
+-- the options are what the words ask of a stream
+pub record IsOptionsOf (words : StreamWords) (options : StreamOptions) : Type 0 where
+  pub name : string_bytes options.name ≡ words.name.now
+  pub service_id : option_map string_bytes options.service_id ≡ option_copied words.profile.service_id
+  pub signing : options.signing ≡ words.signing
+  pub token_name : option_map string_bytes options.token_name ≡ option_copied words.token_name
+  pub skew_millis : options.skew_millis ≡ words.skew_millis
 
 -- the command that is asked for
 abbrev pub commanded : Commanded → Command

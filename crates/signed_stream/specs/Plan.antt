@@ -1,5 +1,5 @@
 -- What a run is to do with what the outside gave, and what it means that it goes so.
-use Rattle.std.specs.Prelude.{◌≡◌, ℕ, ◌⊎◌, nat_lt, if◌then◌else◌, List, length, Option}
+use Rattle.std.specs.Prelude.{◌≡◌, ℕ, ◌⊎◌, nat_lt, if◌then◌else◌, List, ◌∷◌, ◌++◌, length, Option}
 use Rattle.smithy_core.specs.Moment.{Instant}
 use Rattle.smithy_core.specs.Outside.{Gains, GainsPrefix}
 use Rattle.smithy_http.specs.QueryWriter.{SpellsNoTarget}
@@ -36,7 +36,7 @@ pub data FilesRead : Type 0 where
 -- what the outside gave in one call
 pub record Supplied : Type 0 where
   pub files : FilesRead
-  -- the moments in their order: the request's, those of the events, and the closing frame's
+  -- the moments that were taken, in their order: the request's, those of the events, and the closing frame's
   pub moments : List Instant
   pub target : TargetRead
 
@@ -67,6 +67,15 @@ GainsAsPlanned (writes text end) answer before now = now ≡ before
 pub record GoesAsPlanned (plan : Plan) (answer : Ending) (before now : Option (List ℕ)) : Type 0 where
   pub ends : EndsAsPlanned plan answer
   pub gains : GainsAsPlanned plan answer before now
+
+-- how a plan is to end
+abbrev pub plan_end : Plan → Ending
+plan_end (stops end) = end
+plan_end (writes text end) = end
+
+-- a moment was taken only where the plan for those before it ends for want of the next one
+abbrev pub IsNeeded : (List Instant → Plan) → List Instant → Type 0
+IsNeeded plan moments = (front : List Instant) (t : Instant) (rest : List Instant) → moments ≡ front ++ t ∷ rest → plan_end (plan front) ≡ no_memory
 
 -- the most bytes of an input
 abbrev pub most_input : ℕ

@@ -1,12 +1,13 @@
 -- What a run promises.
-use Rattle.std.specs.Prelude.{◌≡◌, ℕ, ◌≤◌, ◌⊎◌, Bool, true, false, List, Option, Some}
+use Rattle.std.specs.Prelude.{◌≡◌, ℕ, ◌≤◌, ◌⊎◌, Bool, true, false, List, [], ◌++◌, length, replicate, Option, Some, None}
 use Rattle.smithy_core.specs.Civil.{is_in_years}
+use Rattle.smithy_core.specs.Moment.{Instant}
 use Rattle.smithy_core.specs.Outside.{Gains, RoseOrStands}
 use Rattle.env_config.specs.Files.{Place}
 use Rattle.signed_stream.specs.Case.{request_moment}
 use Rattle.signed_stream.specs.Command.{Command, Wanted, bad_word, show_settings, stream, unbuilt_word}
 use Rattle.signed_stream.specs.Job.{job}
-use Rattle.signed_stream.specs.Plan.{FilesRead, GoesAsPlanned, Plan, Supplied, stops, unless_large, unreadable}
+use Rattle.signed_stream.specs.Plan.{FilesRead, GoesAsPlanned, IsNeeded, Plan, Supplied, stops, unless_large, unreadable}
 use Rattle.signed_stream.specs.ProfileTexts.{profile_texts}
 use Rattle.signed_stream.specs.Saying.{Says}
 use Rattle.signed_stream.specs.ShowSettings.{GaveTexts, IsShowable, settings_plan}
@@ -36,20 +37,35 @@ command_plan env (bad_word place) bytes given = stops (bad_words place)
 command_plan env (unbuilt_word place) bytes given = stops (not_built place)
 command_plan env command bytes given = unless_large bytes (read_plan env command bytes given)
 
--- the outside gave this, and the run went as planned for it
+-- the moments of a stream: those that the clock gave, or one and the same, for which the clock isn't asked; `clock` tells what the clock gave
+abbrev pub OfClock : (List Instant → Type 0) → Option Instant → List Instant → Type 0
+OfClock clock None moments = clock moments
+OfClock clock (Some at) moments = (moments ≡ replicate (length moments) at) × clock []
+
+-- the moments that a command takes: `stream` alone takes any
+abbrev pub TakesMoments : (List Instant → Type 0) → Command → List Instant → Type 0
+TakesMoments clock (stream wanted) moments = OfClock clock wanted.at moments
+TakesMoments clock command moments = (moments ≡ []) × clock []
+
+-- the outside gave this, the run went as planned for it, and took no moment that the plan didn't need
 pub record RunsAsPlanned (gave : List Place → FilesRead → Type 0) (env : List (List ℕ × List ℕ)) (command : Command) (bytes : List ℕ) (given : Supplied) (answer : Ending) (before now : Option (List ℕ)) : Type 0 where
   pub supplied : Gave gave command bytes given
   pub goes : GoesAsPlanned (command_plan env command bytes given) answer before now
+  pub needed : IsNeeded (λ moments. command_plan env command bytes (record given { moments = moments })) given.moments
 
 -- ## The run
+
+-- the ends of a command: for no word
+abbrev pub IsOfCommand : Ending → Type 0
+IsOfCommand (bad_words place) = ⊥
+IsOfCommand (not_built place) = ⊥
+IsOfCommand end = Unit {0}
 
 -- where the words are no command, it ends so, or for want of memory; no other run ends for a word
 abbrev pub EndsAsAsked : Command → Ending → Type 0
 EndsAsAsked (bad_word place) answer = (answer ≡ bad_words place) ⊎ (answer ≡ no_memory)
 EndsAsAsked (unbuilt_word place) answer = (answer ≡ not_built place) ⊎ (answer ≡ no_memory)
-EndsAsAsked command (bad_words place) = ⊥
-EndsAsAsked command (not_built place) = ⊥
-EndsAsAsked command answer = Unit {0}
+EndsAsAsked command answer = IsOfCommand answer
 
 -- where the words are no command
 abbrev pub UnlessCommand : Command → Type 0 → Type 0
@@ -85,9 +101,14 @@ may_be_of_frame in_years (payload_too_long place) = true
 may_be_of_frame in_years (message_too_long place) = true
 may_be_of_frame in_years fault = false
 
+-- whether the request's moment may lie in the years: any may that the clock gives
+abbrev pub may_be_in_years : Wanted → Option Instant → Bool
+may_be_in_years wanted None = true
+may_be_in_years wanted (Some at) = is_in_years (request_moment wanted at)
+
 -- whether a command can be refused for the fault after it has written; `stream` alone can
 abbrev pub comes_late : Command → RunFault → Bool
-comes_late (stream wanted) fault = may_be_of_frame (is_in_years (request_moment wanted wanted.at)) fault
+comes_late (stream wanted) fault = may_be_of_frame (may_be_in_years wanted wanted.at) fault
 comes_late command fault = false
 
 -- where the test fails
@@ -144,15 +165,18 @@ pub record SinkChange : Type 0 where
   pub faults_before : ℕ
   pub faults_now : ℕ
 
--- How a run went with what the outside gave: `gave` tells what the disk gave, and the input had this left, whose count of faults was `reads_before` and is
--- `reads_now`.
-pub record Ran (gave : List Place → FilesRead → Type 0) (env : List (List ℕ × List ℕ)) (command : Command) (left : Option (List ℕ)) (given : Supplied) (answer : Ending) (reads_before reads_now : ℕ) (out err : SinkChange) : Type 0 where
+-- How a run went with what the outside gave: `gave` tells what the disk gave and `clock` what the clock gave, and the input had this left, whose count of faults
+-- was `reads_before` and is `reads_now`.
+pub record Ran (gave : List Place → FilesRead → Type 0) (clock : List Instant → Type 0) (env : List (List ℕ × List ℕ)) (command : Command) (left : Option (List ℕ)) (given : Supplied) (answer : Ending) (reads_before reads_now : ℕ) (out err : SinkChange) : Type 0 where
   -- where it is done, the headline
   pub headline : (bytes : List ℕ) → left ≡ Some bytes → answer ≡ done → HasDone gave env command bytes given out.held_before out.held_now
-  -- what can be done with these files is done
-  pub complete : (bytes : List ℕ) → left ≡ Some bytes → (other : Supplied) → other.files ≡ given.files → CanBeDone gave env command bytes other → Completes answer
+  -- what can be done with these files, at the moments that were taken and any later ones, is done
+  pub complete : (bytes : List ℕ) → left ≡ Some bytes → (other : Supplied) → other.files ≡ given.files → (later : List Instant) → other.moments ≡ given.moments ++ later
+      → CanBeDone gave env command bytes other → Completes answer
   -- it ended as the words ask
   pub ended : EndsAsAsked command answer
+  -- its moments are those of the clock, or the one that the words name
+  pub moments : TakesMoments clock command given.moments
   -- where the input tells its bytes, it ended and the output gained as planned
   pub planned : (bytes : List ℕ) → left ≡ Some bytes → RunsAsPlanned gave env command bytes given answer out.held_before out.held_now
   -- what the output keeps also where it doesn't

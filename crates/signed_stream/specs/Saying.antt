@@ -3,7 +3,7 @@ use Rattle.std.specs.Prelude.{◌≡◌, ℕ, ◌⊎◌, List, [], ◌++◌, cod
 use Rattle.std.specs.Fmt.{decimal}
 use Rattle.smithy_core.specs.Outside.{Gains, GainsPrefix, GainsProperPrefix, RoseOrStands}
 use Rattle.smithy_core.specs.Text.{line}
-use Rattle.signed_stream.specs.Status.{Ending, done, bad_words, job_too_large, bad_job, read_fault, could_not_read_file, refused, output_fault, no_memory, not_built, RunFault, parse_error, missing_credentials, missing_signing_region, moment_out_of_range, invalid_uri, invalid_header_name, invalid_header_value, missing_host, invalid_token_name, missing_expires, invalid_header_name_length, header_value_too_long, timestamp_value_too_large, headers_too_long, payload_too_long, message_too_long}
+use Rattle.signed_stream.specs.Status.{Ending, done, bad_words, job_too_large, bad_job, read_fault, could_not_read_file, refused, output_fault, no_memory, not_built, RunFault, parse_error, missing_credentials, missing_signing_region, moment_out_of_range, invalid_uri, invalid_header_name, invalid_header_value, missing_host, invalid_token_name, missing_expires, invalid_header_name_length, header_value_too_long, timestamp_value_too_large, headers_too_long, payload_too_long, message_too_long, sink_fault, memory_fault}
 
 -- the number and the name of a fault
 abbrev pub fault_text : RunFault → List ℕ
@@ -23,6 +23,8 @@ fault_text (timestamp_value_too_large place) = codes "13 TimestampValueTooLarge"
 fault_text (headers_too_long place) = codes "14 HeadersTooLong"
 fault_text (payload_too_long place) = codes "15 PayloadTooLong"
 fault_text (message_too_long place) = codes "16 MessageTooLong"
+fault_text sink_fault = codes "17 SinkFault"
+fault_text memory_fault = codes "18 NoMemory"
 
 -- the line of an end, and nothing where the run is done
 abbrev pub ending_line : Ending → List ℕ

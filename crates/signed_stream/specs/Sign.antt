@@ -12,7 +12,9 @@ use Rattle.sigv4.specs.Request.{Case, key_id_of, token_of}
 use Rattle.sigv4.specs.Signed.{signature_of, signed_headers, signed_target}
 use Rattle.sigv4.specs.declared.error.SigningError.{SigningError}
 use Rattle.sigv4.specs.declared.error.SigningError.TheVariants as errors
+use Rattle.eventstream.specs.Told.{sealed}
 use Rattle.aws_auth.specs.Inputs.{chosen_text}
+use Rattle.aws_auth.specs.MessageSigner.{SignerState, running_signature, signer_in, told_of}
 use Rattle.aws_auth.specs.declared.error.SigV4SigningError.{SigV4SigningError}
 use Rattle.aws_auth.specs.declared.error.SigV4SigningError.TheVariants as auth
 use Rattle.aws_auth.specs.declared.name_override.OverrideError.{OverrideError}
@@ -21,9 +23,9 @@ use Rattle.signed_stream.specs.Case.{request_moment, settings_with}
 use Rattle.signed_stream.specs.Chain.{outside_years}
 use Rattle.signed_stream.specs.Command.{Wanted}
 use Rattle.signed_stream.specs.Plan.{TargetSpells, TargetRead, accepted, unaccepted, unread}
-use Rattle.signed_stream.specs.Status.{RunFault, run_fault, invalid_header_name, invalid_header_value, invalid_token_name, invalid_uri, missing_expires, missing_host, moment_out_of_range}
-use Rattle.signed_stream.specs.declared.halt.Halt.{Halt}
-use Rattle.signed_stream.specs.declared.halt.Halt.TheVariants.{Refused, OutputFault, NoMemory}
+use Rattle.signed_stream.specs.Status.{RunFault, invalid_header_name, invalid_header_value, invalid_token_name, invalid_uri, missing_expires, missing_host, moment_out_of_range}
+use Rattle.signed_stream.specs.Halt.{Halt, fails, halt_of, refuses, wants}
+use Rattle.signed_stream.specs.declared.status.StreamFault.{StreamFault}
 
 -- ## Why a request is refused
 
@@ -56,9 +58,9 @@ request_fault at case target = option_or (outside_years at) (target_fault case t
 
 -- ## What is signed
 
--- the case of a request that an identity signs for a region, as it is wanted, for what its target spells
-abbrev pub identity_case : HttpRequest → Identity → List ℕ → Wanted → Target → Case
-identity_case request identity region wanted target = record {
+-- the case of a request that an identity signs for a region at its first moment, as it is wanted, for what its target spells
+abbrev pub identity_case : HttpRequest → Identity → List ℕ → Wanted → Instant → Target → Case
+identity_case request identity region wanted first target = record {
   method = string_bytes request.method;
   target = target;
   headers = request.headers;
@@ -67,20 +69,34 @@ identity_case request identity region wanted target = record {
   key_id = key_id_of identity;
   token = token_of identity;
   signer = record { secret = secret_of identity; region = region; name = wanted.name };
-  at = request_moment wanted wanted.at;
+  at = request_moment wanted first;
 }
 
--- where no test fails target and headers are those of the signed request, and the answer is the signature; else it is the fault of the first test that
--- fails, or want of memory
-abbrev pub SignsJob : List ℕ → Instant → (Target → Case) → HttpRequest → Result (String Global) Halt → Type 0
-SignsJob text at case new (Ok signature) =
-    (target : Target) × TargetSpells text (accepted target) × (request_fault at case (accepted target) ≡ None)
-    × (new.headers ≡ signed_headers (case target)) × (string_bytes new.target ≡ signed_target (case target) text)
-    × (string_bytes signature ≡ signature_of (case target))
-SignsJob text at case new (Err (Refused fault)) =
-    (target : TargetRead) × TargetSpells text target × (request_fault at case target ≡ Some (run_fault fault))
-SignsJob text at case new (Err OutputFault) = ⊥
-SignsJob text at case new (Err NoMemory) = Unit {0}
+-- the request goes out as the signed one of the case
+pub record IsSigned (c : Case) (old new : HttpRequest) : Type 0 where
+  pub method : string_bytes new.method ≡ c.method
+  pub target : string_bytes new.target ≡ signed_target c (string_bytes old.target)
+  pub headers : new.headers ≡ signed_headers c
+  pub body : new.body ≡ old.body
+
+-- the signer seals messages for who signs the case, over its signature
+pub record SealsFor (c : Case) (signer : SignerState (Unit {0})) : Type 0 where
+  pub told : told_of signer ≡ sealed (running_signature signer) (signer_in signer)
+  pub signature : running_signature signer ≡ signature_of c
+  pub who : signer_in signer ≡ c.signer
+
+-- why a request isn't signed: the first test that fails, or want of memory
+abbrev pub Unsigned : List ℕ → Instant → (Target → Case) → Halt → Type 0
+Unsigned text at case (refuses told) = (target : TargetRead) × TargetSpells text target × (request_fault at case target ≡ Some told)
+Unsigned text at case fails = ⊥
+Unsigned text at case wants = Unit {0}
+
+-- where no test fails the answer is the signed request, and a signer that goes on from its signature
+abbrev pub SignsJob : Instant → (Target → Case) → HttpRequest → Result (HttpRequest × SignerState (Unit {0})) StreamFault → Type 0
+SignsJob at case old (Ok signed) =
+    (target : Target) × TargetSpells (string_bytes old.target) (accepted target) × (request_fault at case (accepted target) ≡ None)
+    × IsSigned (case target) old signed.0 × SealsFor (case target) signed.1
+SignsJob at case old (Err fault) = Unsigned (string_bytes old.target) at case (halt_of fault)
 
 -- ## Between the functions that sign: a reader of `run` needs none of it
 
@@ -96,11 +112,10 @@ IsRequestError (auth.Signing (errors.MomentOutOfRange moment)) = Unit {0}
 IsRequestError auth.NoMemory = Unit {0}
 IsRequestError error = ⊥
 
--- the halt tells the error of signing a request
-abbrev pub TellsError : SigV4SigningError → Halt → Type 0
-TellsError (auth.Signing error) (Refused fault) = run_fault fault ≡ fault_for error
-TellsError (auth.Signing error) halt = ⊥
-TellsError error halt = halt ≡ NoMemory
+-- how the error of signing a request halts the stream
+abbrev pub error_halt : SigV4SigningError → Halt
+error_halt (auth.Signing error) = refuses (fault_for error)
+error_halt error = wants
 
 -- the answer is the name that is asked for, or want of memory
 abbrev pub GivesName : Option (List ℕ) → Result (Option (String Global)) OverrideError → Type 0

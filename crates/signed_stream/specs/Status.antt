@@ -35,6 +35,10 @@ pub data RunFault : Type 0 where
   headers_too_long : ℕ → RunFault
   payload_too_long : ℕ → RunFault
   message_too_long : ℕ → RunFault
+  -- the sink failed
+  sink_fault : RunFault
+  -- memory ran out
+  memory_fault : RunFault
 
 -- how a run ends
 pub data Ending : Type 0 where
@@ -71,6 +75,8 @@ run_fault (faults.TimestampValueTooLarge place) = timestamp_value_too_large plac
 run_fault (faults.HeadersTooLong place) = headers_too_long place
 run_fault (faults.PayloadTooLong place) = payload_too_long place
 run_fault (faults.MessageTooLong place) = message_too_long place
+run_fault faults.SinkFault = sink_fault
+run_fault faults.NoMemory = memory_fault
 
 -- what contracts see of a status
 abbrev pub ending_of : Status → Ending

@@ -1,5 +1,5 @@
 -- The command `stream`: what a job asks of a run, and when it can be streamed.
-use Rattle.std.specs.Prelude.{◌≡◌, ℕ, ◌+◌, ◌≤◌, ◌⊎◌, true, if◌then◌else◌, List, [], ◌∷◌, length, replicate, Result, Ok, Err, Option, Some, None}
+use Rattle.std.specs.Prelude.{◌≡◌, ℕ, ◌+◌, ◌≤◌, ◌⊎◌, true, if◌then◌else◌, List, [], ◌∷◌, length, Result, Ok, Err, Option, Some, None}
 use Rattle.smithy_core.specs.Civil.{IsInYears, is_in_years}
 use Rattle.smithy_core.specs.Moment.{Instant}
 use Rattle.smithy_core.specs.Message.{Parts}
@@ -31,10 +31,9 @@ use Rattle.signed_stream.specs.Written.{case_refusal, written_stream, written_en
 abbrev pub job_texts : JobParts → ProfileTexts
 job_texts j = record { config = j.config; credentials = j.credentials }
 
--- for a job: what the files give, the moment that is asked for each time, and what the job's target spells; `gave` tells what the disk gave
+-- for a job: what the files give, and what the job's target spells; `gave` tells what the disk gave
 pub record GaveJob (gave : List Place → FilesRead → Type 0) (wanted : Wanted) (j : JobParts) (given : Supplied) : Type 0 where
   pub files : gave (source_places wanted.profile.files (job_texts j)) given.files
-  pub moments : given.moments ≡ replicate (length j.events + 2) wanted.at
   pub target : TargetSpells j.target given.target
 
 -- for what was read
@@ -74,31 +73,44 @@ job_plan env wanted given (Err place) = stops (bad_job place)
 
 -- ## What can be streamed
 
--- The input can be streamed with what the outside gave: it isn't too large, and is a job; the files are there, and give a key id, a secret and a region; the
--- request's moment lies in the years; the target is accepted, no test of the request fails, its signed target isn't too long, and the chain of the events at
--- the other moments is defined.
-pub record IsStreamable (gave : List Place → FilesRead → Type 0) (env : List (List ℕ × List ℕ)) (wanted : Wanted) (bytes : List ℕ) (given : Supplied) : Type 0 where
-  pub read : JobParts
-  pub texts : List FileText
+-- The files give a key id, a secret and a region; there is a first moment, and the request's lies in the years; the target is accepted, no test of
+-- the request fails, its signed target isn't too long, and the chain of the events at the other moments is defined
+pub record IsValid (files : List FileText) (profile : List ℕ) (env : List (List ℕ × List ℕ)) (wanted : Wanted) (j : JobParts) (target : TargetRead) (moments : List Instant) : Type 0 where
   pub selected : Selected
   pub first : Instant
   pub others : List Instant
-  pub target : Target
+  pub parts : Target
+  pub settled : settings files profile env wanted.profile.service_id ≡ Ok selected
+  pub begins : moments ≡ first ∷ others
+  pub accepts : target ≡ accepted parts
+  pub years : IsInYears (request_moment wanted first)
+  pub fit : unfit (job_case j wanted selected first parts) ≡ None
+  pub fits : unfit_signed_target (job_case j wanted selected first parts) ≡ None
+  pub chained : IsChained (job_case j wanted selected first parts).signer j.events others (signature_of (job_case j wanted selected first parts))
+
+module _ {files : List FileText} {profile : List ℕ} {env : List (List ℕ × List ℕ)} {wanted : Wanted} {j : JobParts} {target : TargetRead} {moments : List Instant}
+    (input : IsValid files profile env wanted j target moments) where
+  -- the case of its request
+  abbrev pub valid_case : Case
+  valid_case = job_case j wanted input.selected input.first input.parts
+
+  -- the head of the signed request, and then the chain of the events
+  abbrev pub written_valid : List ℕ
+  written_valid = written_stream wanted.form j.target valid_case j.events input.others
+
+-- The input can be streamed with what the outside gave: it isn't too large, and is a job; the files are there, and all is valid.
+pub record IsStreamable (gave : List Place → FilesRead → Type 0) (env : List (List ℕ × List ℕ)) (wanted : Wanted) (bytes : List ℕ) (given : Supplied) : Type 0 where
+  pub read : JobParts
+  pub texts : List FileText
   pub short : length bytes ≤ most_input
   pub spelled : job bytes ≡ Ok read
   pub supplied : GaveJob gave wanted read given
   pub files : given.files ≡ loaded texts
-  pub moments : given.moments ≡ first ∷ others
-  pub targets : given.target ≡ accepted target
-  pub settled : settings texts (selected_profile env) env wanted.profile.service_id ≡ Ok selected
-  pub years : IsInYears (request_moment wanted first)
-  pub fit : unfit (job_case read wanted selected first target) ≡ None
-  pub fits : unfit_signed_target (job_case read wanted selected first target) ≡ None
-  pub chained : IsChained (job_case read wanted selected first target).signer read.events others (signature_of (job_case read wanted selected first target))
+  pub valid : IsValid texts (selected_profile env) env wanted read given.target given.moments
 
 -- the head of the signed request, and then the chain of the events
 abbrev pub streamed : {gave : List Place → FilesRead → Type 0} {env : List (List ℕ × List ℕ)} {wanted : Wanted} {bytes : List ℕ} {given : Supplied} → IsStreamable gave env wanted bytes given → List ℕ
-streamed {wanted = wanted} input = written_stream wanted.form input.read.target (job_case input.read wanted input.selected input.first input.target) input.read.events input.others
+streamed input = written_valid input.valid
 
 -- a job was read whose target isn't accepted, or has an authority without a scheme, or takes no parameters of its signature: it is `*`, or gets too long
 abbrev pub ReadsUnfitTarget : Wanted → Result JobParts ℕ → Type 0

@@ -1,157 +1,146 @@
-ghost use Rattle.std.specs.Prelude.{◌≡◌, ◌+◌, ◌≤◌, [], None, IfOk, IsErrOf, length, replicate};
-ghost use Rattle.std.specs.String.{string_bytes};
+ghost use Rattle.std.specs.Prelude.{◌≡◌, ◌≤◌, ◌++◌, List, None, IfOk, IsErrOf, length, map};
+ghost use Rattle.smithy_core.specs.Given.{GivesEach};
+ghost use Rattle.smithy_core.specs.Moment.{Instant};
 ghost use Rattle.smithy_core.specs.Outside.{RoseOrStands};
-ghost use Rattle.eventstream.specs.Frame.{frame};
-ghost use Rattle.eventstream.specs.Link.{link_signature};
+ghost use Rattle.eventstream.specs.Told.{sealed};
 ghost use Rattle.eventstream.specs.Write.{IsFrameFault};
-ghost use Rattle.sigv4.specs.Params.{signer_of, v4_identity, v4_time};
-ghost use Rattle.smithy_core.specs.Identity.{IsCredentials};
-ghost use Rattle.signed_stream.specs.Chain.{fault_at, first_refusal, frame_text, link_text, outside_years, refusal_fault, streamed_text, unframed_at, unlinked};
-ghost use Rattle.signed_stream.specs.Halt.{Sends, unless_refused};
-ghost use Rattle.signed_stream.specs.Status.{run_fault};
+ghost use Rattle.event_io.specs.Adapter.{signer_of};
+ghost use Rattle.event_io.specs.Chain.{Chains};
+ghost use Rattle.aws_auth.specs.MessageSigner.{running_signature, signer_in, told_of};
+ghost use Rattle.signed_stream.specs.Chain.{fault_at, frame_text};
+ghost use Rattle.signed_stream.specs.Halt.{Sends, halt_of, refuses};
+ghost use Rattle.signed_stream.specs.Sending.{IsChainAnswer, IsSignFault, SendsChain, TellsAnswer, sealed_signature, sealed_signer, sign_halt};
 
 use crate::form::Form;
-use crate::halt::Halt;
 use crate::status::StreamFault;
-use eventstream::{ErrorKind, frame_of, write_message_to};
-use sigv4::event_stream::{SigningParams, sign_empty_message, sign_message};
-use sigv4::{SigningError, SigningOutput};
-use smithy_core::{ByteSink, Message, Moment, SinkError, write_all};
+use aws_auth::SigV4MessageSigner;
+use bytes::Bytes;
+use event_io::{AdapterFault, EventSource, ListEvents, MessageStreamAdapter, Next};
+use eventstream::{ErrorKind, IdentityMarshaller, SignMessage, SignMessageError};
+use smithy_core::{
+    ByteSink, Clock, Mem, Message, Moment, RawMessage, SdkError, SinkError, write_all,
+};
 use std::alloc::Global;
+use std::collections::VecDeque;
 
-/// Streams the events in a form: a signed frame for each and an empty one last, all at the moment of the parameters.
+// Makes frames of events in memory, which are messages as they are.
+type EventAdapter<G> = MessageStreamAdapter<
+    ListEvents<Message, Message>,
+    IdentityMarshaller,
+    IdentityMarshaller,
+    G,
+>;
+
+/// Streams the events in a form: a signed frame for each and an empty one last, each at a moment of its own.
 ///
 /// # Errors
 ///
-/// [`Halt::Refused`] with the fault of the first event that has no frame, whose moment lies outside the years or whose
-/// signed message has no frame, or with that of the closing frame's moment: the sink has gained the frames before it.
-/// [`Halt::OutputFault`] where the sink's count of faults rose and [`Halt::NoMemory`] for want of memory: it has
-/// gained a front of these frames.
-pub fn stream_events<K: ByteSink>(
+/// The fault of the first event that has no frame, whose moment lies outside the years or whose signed message has no
+/// frame, or that of the closing frame's moment: the sink has gained the frames before it. [`StreamFault::SinkFault`]
+/// where the sink's count of faults rose and [`StreamFault::NoMemory`] for want of memory: it has gained a front of
+/// the frames that were begun.
+pub fn stream_events<C: Clock, K: ByteSink>(
     alloc: Global,
-    params: &SigningParams<'_>,
-    seed: String,
+    signer: SigV4MessageSigner<()>,
     events: &[Message],
+    clock: &mut C,
     form: Form,
     sink: &mut K,
-) -> Result<(), Halt>
-    requires { IsCredentials (v4_identity params.now) }
+    moments: &mut Vec<Moment>,
+) -> Result<(), StreamFault>
+    requires { told_of signer ≡ sealed (running_signature signer) (signer_in signer) }
     ensures count { K.faults sink.old ≤ K.faults sink.new }
-    ensures sends { let moments = replicate (length events.now + 1) (v4_time params.now) in
-        let refusal = first_refusal (signer_of params.now) 1 events.now moments (string_bytes seed) in
-        Sends (refusal_fault refusal) (streamed_text form (signer_of params.now) events.now moments (string_bytes seed) refusal)
-        (K.held sink.old) (K.held sink.new) result }
-    ensures failed { IsErrOf result Halt.OutputFault → RoseOrStands (K.faults sink.old) (K.faults sink.new) }
-    ensures steady { (IsErrOf result Halt.OutputFault → ⊥) → K.faults sink.new ≡ K.faults sink.old }
+    ensures sends { (taken : List Instant) × (moments.new.items ≡ moments.old.items ++ taken) × GivesEach C.Clock clock.old taken clock.new
+        × SendsChain form (signer_in signer) events.now (running_signature signer) (K.held sink.old) (K.held sink.new) taken result }
+    ensures failed { IsErrOf result StreamFault.SinkFault → RoseOrStands (K.faults sink.old) (K.faults sink.new) }
+    ensures steady { (IsErrOf result StreamFault.SinkFault → ⊥) → K.faults sink.new ≡ K.faults sink.old }
 {
-    let mut signature = seed;
-    let mut place = 1;
-    'events: for event in events {
-        signature = send_event(alloc, params, signature.as_str(), event, place, form, sink)?;
-        place += 1;
-    }
-    send_closing(alloc, params, signature.as_str(), form, sink)
+    let items = ListEvents::new(items_of(alloc, events)?);
+    let adapter = MessageStreamAdapter::new(
+        alloc,
+        IdentityMarshaller,
+        IdentityMarshaller,
+        signer,
+        items,
+    );
+    send_frames(alloc, adapter, events, clock, form, sink, moments)
 }
 
-// Signs the event at a place over the signature before it, and writes the frame. The answer is the new signature.
-#[tactic(auto, using(crate::proofs::ChainLemmas::sending), unfolding(crate::specs::Chain::link_text, crate::specs::Chain::unlinked))]
-fn send_event<K: ByteSink>(
+// Writes the frames that an adapter makes of the events and of their end.
+fn send_frames<G: SignMessage, C: Clock, K: ByteSink>(
     alloc: Global,
-    params: &SigningParams<'_>,
-    signature: &str,
-    event: &Message,
+    mut adapter: EventAdapter<G>,
+    events: &[Message],
+    clock: &mut C,
+    form: Form,
+    sink: &mut K,
+    moments: &mut Vec<Moment>,
+) -> Result<(), StreamFault>
+    requires { Chains ⟦<ListEvents<Message, Message> as EventSource>⟧ G.SignMessage (sealed_signer (G.told (signer_of adapter))) events.now (sealed_signature (G.told (signer_of adapter))) adapter }
+    ensures count { K.faults sink.old ≤ K.faults sink.new }
+    ensures sends { (taken : List Instant) × (moments.new.items ≡ moments.old.items ++ taken) × GivesEach C.Clock clock.old taken clock.new
+        × SendsChain form (sealed_signer (G.told (signer_of adapter))) events.now (sealed_signature (G.told (signer_of adapter))) (K.held sink.old) (K.held sink.new) taken result }
+    ensures failed { IsErrOf result StreamFault.SinkFault → RoseOrStands (K.faults sink.old) (K.faults sink.new) }
+    ensures steady { (IsErrOf result StreamFault.SinkFault → ⊥) → K.faults sink.new ≡ K.faults sink.old }
+{
+    let end = events.len() + 2;
+    'frames: for place in 1..end {
+        let answer = adapter.poll_next(clock, moments);
+        let frame = frame_at(place, answer)?;
+        write_frame(alloc, frame.as_slice(), form, sink)?;
+    }
+    Ok(())
+}
+
+// Copies of the events, none of which is an error.
+fn items_of(alloc: Global, events: &[Message]) -> Mem<VecDeque<Result<Message, Message>>>
+    ensures { IfOk result (λ items. items.items ≡ map (λ event. Ok event) events.now) }
+{
+    let mut items = VecDeque::with_capacity(alloc, events.len())?;
+    for event in events {
+        items.push_back(Ok(event.try_clone()?))?;
+    }
+    Ok(items)
+}
+
+// The frame that an adapter answered for a place.
+fn frame_at(
     place: usize,
-    form: Form,
-    sink: &mut K,
-) -> Result<String, Halt>
-    requires { IsCredentials (v4_identity params.now) }
-    ensures count { K.faults sink.old ≤ K.faults sink.new }
-    ensures next { IfOk result (λ next. string_bytes next ≡ link_signature (signer_of params.now) signature.now (frame event.now) (v4_time params.now)) }
-    ensures sends { let fault = unlinked (signer_of params.now) place signature.now event.now (v4_time params.now) in
-        Sends fault (unless_refused fault (link_text form (signer_of params.now) signature.now (frame event.now) (v4_time params.now)))
-        (K.held sink.old) (K.held sink.new) result }
-    ensures failed { IsErrOf result Halt.OutputFault → RoseOrStands (K.faults sink.old) (K.faults sink.new) }
-    ensures steady { (IsErrOf result Halt.OutputFault → ⊥) → K.faults sink.new ≡ K.faults sink.old }
+    answer: Result<Next, SdkError<AdapterFault, AdapterFault, RawMessage>>,
+) -> Result<Bytes, StreamFault>
+    requires { IsChainAnswer answer }
+    ensures { TellsAnswer place answer result }
 {
-    match sign_message(alloc, event, signature, params) {
-        Ok(signed) => {
-            let (message, next) = signed.into_parts();
-            write_frame(alloc, &message, place, form, sink)?;
-            Ok(next)
-        }
-        Err(SigningError::FailedToEncodeMessage(error)) => {
-            Err(Halt::Refused(fault_at(place, error.kind())))
-        }
-        Err(SigningError::MomentOutOfRange(_)) => Err(outside_years(params.time())),
-        Err(SigningError::NoMemory) => Err(Halt::NoMemory),
-        Err(_) => unreachable!(),
+    match answer {
+        Ok(Next::Frame(bytes)) => Ok(bytes),
+        Err(SdkError::ConstructionFailure(AdapterFault::Sign(error))) => Err(sign_fault(
+            place, error,
+        )),
+        Err(SdkError::ConstructionFailure(AdapterFault::Write(error))) => Err(fault_at(
+            place,
+            error.kind(),
+        )),
+        Err(SdkError::NoMemory) => Err(StreamFault::NoMemory),
+        _ => unreachable!(),
     }
 }
 
-// Signs no bytes over the signature before them, and writes the frame.
-#[tactic(auto, using(crate::proofs::ChainLemmas::sending, crate::proofs::ChainLemmas::closing_framed), unfolding(crate::specs::Chain::link_text))]
-fn send_closing<K: ByteSink>(
-    alloc: Global,
-    params: &SigningParams<'_>,
-    signature: &str,
-    form: Form,
-    sink: &mut K,
-) -> Result<(), Halt>
-    requires { IsCredentials (v4_identity params.now) }
-    ensures count { K.faults sink.old ≤ K.faults sink.new }
-    ensures sends { let fault = outside_years (v4_time params.now) in
-        Sends fault (unless_refused fault (link_text form (signer_of params.now) signature.now [] (v4_time params.now))) (K.held sink.old) (K.held sink.new) result }
-    ensures failed { IsErrOf result Halt.OutputFault → RoseOrStands (K.faults sink.old) (K.faults sink.new) }
-    ensures steady { (IsErrOf result Halt.OutputFault → ⊥) → K.faults sink.new ≡ K.faults sink.old }
+// The fault that tells why the message at a place isn't signed.
+fn sign_fault(place: usize, error: SignMessageError) -> StreamFault
+    requires { IsSignFault error }
+    ensures { halt_of result ≡ sign_halt place error }
 {
-    match sign_empty_message(alloc, signature, params) {
-        Ok(signed) => {
-            let (message, _) = signed.into_parts();
-            let frame = frame_of(alloc, &message)?;
-            write_bytes(alloc, frame.as_slice(), form, sink)
-        }
-        Err(SigningError::MomentOutOfRange(_)) => Err(outside_years(params.time())),
-        Err(SigningError::NoMemory) => Err(Halt::NoMemory),
-        Err(_) => unreachable!(),
-    }
-}
-
-// The moment is refused.
-fn outside_years(moment: Moment) -> Halt
-    ensures { result ≡ Halt.Refused (StreamFault.MomentOutOfRange moment) }
-{
-    Halt::Refused(StreamFault::MomentOutOfRange(moment))
-}
-
-// Writes the frame of the message at a place.
-#[tactic(auto, using(crate::proofs::ChainLemmas::sending))]
-fn write_frame<K: ByteSink>(
-    alloc: Global,
-    message: &Message,
-    place: usize,
-    form: Form,
-    sink: &mut K,
-) -> Result<(), Halt>
-    ensures count { K.faults sink.old ≤ K.faults sink.new }
-    ensures sends { let fault = unframed_at place message.now in
-        Sends fault (unless_refused fault (frame_text form (frame message.now))) (K.held sink.old) (K.held sink.new) result }
-    ensures failed { IsErrOf result Halt.OutputFault → RoseOrStands (K.faults sink.old) (K.faults sink.new) }
-    ensures steady { (IsErrOf result Halt.OutputFault → ⊥) → K.faults sink.new ≡ K.faults sink.old }
-{
-    let mut frame = Vec::new(alloc);
-    match write_message_to(alloc, message, &mut frame) {
-        Ok(()) => write_bytes(alloc, frame.as_slice(), form, sink),
-        Err(error) => match error.kind() {
-            ErrorKind::NoMemory => Err(Halt::NoMemory),
-            reason => Err(Halt::Refused(fault_at(place, reason))),
-        },
+    match error {
+        SignMessageError::FailedToEncodeMessage(error) => fault_at(place, error.kind()),
+        SignMessageError::MomentOutOfRange(moment) => StreamFault::MomentOutOfRange(moment),
+        _ => unreachable!(),
     }
 }
 
 // The fault that tells of the message at a place why it has no frame.
 fn fault_at(place: usize, reason: &ErrorKind) -> StreamFault
     requires { IsFrameFault reason.now }
-    ensures { run_fault result ≡ fault_at place reason.now }
+    ensures { halt_of result ≡ refuses (fault_at place reason.now) }
 {
     match reason {
         ErrorKind::InvalidHeaderNameLength => StreamFault::InvalidHeaderNameLength(place),
@@ -164,18 +153,18 @@ fn fault_at(place: usize, reason: &ErrorKind) -> StreamFault
     }
 }
 
-// Writes the bytes of a frame.
+// Writes the bytes of a frame in one piece.
 #[tactic(auto, using(smithy_core::proofs::GainLemmas::prefix_at_start), unfolding(crate::specs::Chain::frame_text))]
-fn write_bytes<K: ByteSink>(
+fn write_frame<K: ByteSink>(
     alloc: Global,
     frame: &[u8],
     form: Form,
     sink: &mut K,
-) -> Result<(), Halt>
+) -> Result<(), StreamFault>
     ensures count { K.faults sink.old ≤ K.faults sink.new }
     ensures sends { Sends None (frame_text form frame.now) (K.held sink.old) (K.held sink.new) result }
-    ensures failed { IsErrOf result Halt.OutputFault → RoseOrStands (K.faults sink.old) (K.faults sink.new) }
-    ensures steady { (IsErrOf result Halt.OutputFault → ⊥) → K.faults sink.new ≡ K.faults sink.old }
+    ensures failed { IsErrOf result StreamFault.SinkFault → RoseOrStands (K.faults sink.old) (K.faults sink.new) }
+    ensures steady { (IsErrOf result StreamFault.SinkFault → ⊥) → K.faults sink.new ≡ K.faults sink.old }
 {
     match form {
         Form::Raw => write_text(sink, frame),
@@ -191,18 +180,18 @@ fn write_bytes<K: ByteSink>(
 ///
 /// # Errors
 ///
-/// [`Halt::OutputFault`] where the sink's count of faults rose, [`Halt::NoMemory`] for want of memory.
+/// [`StreamFault::SinkFault`] where the sink's count of faults rose, [`StreamFault::NoMemory`] for want of memory.
 /// After both the sink has gained a front of the text.
 #[tactic(auto, using(smithy_core::proofs::GainLemmas::prefix_from_proper))]
-pub fn write_text<K: ByteSink>(sink: &mut K, text: &[u8]) -> Result<(), Halt>
+pub fn write_text<K: ByteSink>(sink: &mut K, text: &[u8]) -> Result<(), StreamFault>
     ensures count { K.faults sink.old ≤ K.faults sink.new }
     ensures sends { Sends None text.now (K.held sink.old) (K.held sink.new) result }
-    ensures failed { IsErrOf result Halt.OutputFault → RoseOrStands (K.faults sink.old) (K.faults sink.new) }
-    ensures steady { (IsErrOf result Halt.OutputFault → ⊥) → K.faults sink.new ≡ K.faults sink.old }
+    ensures failed { IsErrOf result StreamFault.SinkFault → RoseOrStands (K.faults sink.old) (K.faults sink.new) }
+    ensures steady { (IsErrOf result StreamFault.SinkFault → ⊥) → K.faults sink.new ≡ K.faults sink.old }
 {
     match write_all(sink, text) {
         Ok(()) => Ok(()),
-        Err(SinkError::Failed) => Err(Halt::OutputFault),
-        Err(SinkError::NoMemory) => Err(Halt::NoMemory),
+        Err(SinkError::Failed) => Err(StreamFault::SinkFault),
+        Err(SinkError::NoMemory) => Err(StreamFault::NoMemory),
     }
 }

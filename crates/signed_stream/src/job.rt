@@ -1,4 +1,4 @@
-ghost use Rattle.std.specs.Prelude.{◌≡◌, ◌==◌, ◌+◌, [], count_by, IfOk, option_map};
+ghost use Rattle.std.specs.Prelude.{◌≡◌, ◌==◌, ◌+◌, [], count_by, IfOk};
 ghost use Rattle.std.specs.String.{string_bytes};
 ghost use Rattle.signed_stream.specs.Job.{job, lines_from, no_draft};
 ghost use Rattle.signed_stream.specs.Lines.{job_lines, text_lines};
@@ -16,6 +16,7 @@ use crate::job::draft::Draft;
 pub use crate::job::fault::JobFault;
 use crate::job::lines::cut_line;
 pub use crate::job::profile_texts::ProfileTexts;
+use crate::text::copy_of;
 use bytes::Bytes;
 use smithy_core::{HttpRequest, Mem, Message};
 use std::alloc::Global;
@@ -41,20 +42,10 @@ impl Job {
     {
         Ok(Job {
             request: self.request.try_clone()?,
-            config: copied(&self.config)?,
-            credentials: copied(&self.credentials)?,
+            config: copy_of(&self.config)?,
+            credentials: copy_of(&self.credentials)?,
             events: copied_events(*self.events.allocator(), self.events.as_slice())?,
         })
-    }
-}
-
-// A copy of the text, where there is one.
-fn copied(text: &Option<String>) -> Mem<Option<String>>
-    ensures { IfOk result (λ copy. option_map string_bytes copy ≡ option_map string_bytes text.now) }
-{
-    match text {
-        Some(text) => Ok(Some(text.clone()?)),
-        None => Ok(None),
     }
 }
 

@@ -6,6 +6,9 @@
 //! of memory; and what output and `err` gained after each (`specs/Running.antt`, and below it `specs/Plan.antt`,
 //! `specs/Sources.antt`, `specs/Stream.antt` and `specs/ShowSettings.antt`).
 //!
+//! A program that has a request and its events in memory calls [`sign_and_stream`], which is promised the same of the
+//! sink and of the clock's moments, and answers the signed request (`specs/Streaming.antt`).
+//!
 //! An object of the outside need not tell its content. Clauses on what the input spells speak where the input tells
 //! its bytes, and those on what was gained where the sink tells what it holds; the objects in memory do both.
 #![tactic(auto)]
@@ -13,7 +16,6 @@
 mod chain;
 mod command;
 mod form;
-mod halt;
 mod job;
 mod numbers;
 mod running;
@@ -25,11 +27,14 @@ mod sign;
 mod sources;
 mod status;
 mod stream;
+mod streaming;
 mod text;
 mod written;
 
+pub use crate::form::Form;
 pub use crate::job::{Job, JobFault, read_job};
 pub use crate::running::run;
 pub use crate::saying::say;
 pub use crate::settings::{Settings, SettingsFault, read_settings};
 pub use crate::status::{Status, StreamFault};
+pub use crate::streaming::{StreamOptions, sign_and_stream};

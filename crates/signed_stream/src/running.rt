@@ -6,16 +6,18 @@ ghost use Rattle.signed_stream.specs.Command.{command};
 ghost use Rattle.signed_stream.specs.Job.{job};
 ghost use Rattle.signed_stream.specs.Options.{commanded};
 ghost use Rattle.signed_stream.specs.Plan.{Supplied};
+ghost use Rattle.smithy_core.specs.Given.{Gives};
 ghost use Rattle.signed_stream.specs.Running.{EndsAsAsked, IfStreams, KeepsDisk, KeepsOutput, NamesUnreadable, Ran, UnlessCommand, comes_late};
 ghost use Rattle.signed_stream.specs.Sources.{DiskGives};
 ghost use Rattle.signed_stream.specs.Status.{could_not_read_file, done, ending_of, invalid_uri, output_fault, read_fault, refused};
 ghost use Rattle.signed_stream.specs.Stream.{ReadsUnfitTarget};
 
 use crate::command::{Command, WordsFault, read_words};
+use crate::job::{JobFault, read_job, read_profile_texts};
 use crate::saying::say;
 use crate::show_settings::show_settings;
 use crate::status::Status;
-use crate::stream::stream_bytes;
+use crate::stream::stream_job;
 use smithy_core::{ByteSink, ByteSource, Clock, Disk, Env, ReadFault, read_all};
 use std::alloc::Global;
 
@@ -24,13 +26,14 @@ const MOST_INPUT: usize = 67_108_864;
 
 /// Does what the words ask for, on the objects of the outside, and says on `err` how it ended.
 ///
-/// The words are those after the program's name. `stream --name NAME --at N` reads a job from `input`, signs its
-/// request by AWS Signature Version 4, and writes to `out` the head of the signed request and then a chain of event
-/// stream frames: one for each event in order and an empty one last, each signed over the signature before it, the
-/// first over that of the request. All of them have the moment N, but the request where `--skew` shifts it. Options
-/// say how the request is signed: `--query` with `--expires N` makes a presigned one. With `--raw` the frames alone are
-/// written, as bytes, and else lines: the head, and each frame in hexadecimal. `settings` writes what was selected to
-/// sign with: profile, region, key id, and whether there is a token.
+/// The words are those after the program's name. `stream --name NAME` reads a job from `input`, signs its request by
+/// AWS Signature Version 4, and writes to `out` the head of the signed request and then a chain of event stream
+/// frames: one for each event in order and an empty one last, each signed over the signature before it, the first over
+/// that of the request. The request, each event and the closing frame take a moment each of the clock, in this order;
+/// with `--at N` all of them have the moment N. The request's is shifted by `--skew`. Options say how the request is
+/// signed: `--query` with `--expires N` makes a presigned one. With `--raw` the frames alone are written, as bytes, and
+/// else lines: the head, and each frame in hexadecimal. `settings` writes what was selected to sign with: profile,
+/// region, key id, and whether there is a token.
 ///
 /// Key id, secret and token are those of the selected profile, which is that of `AWS_PROFILE` or else `default`, and
 /// the region is the service's own variable, `AWS_REGION`, the service's own setting or the profile's, the first that
@@ -53,8 +56,9 @@ pub fn run<S: ByteSource, D: Disk, C: Clock, K: ByteSink, E: ByteSink>(
     err: &mut E,
 ) -> Status
     // There is what the outside gave, for which the headline holds, what can be done is done, and the run ended, gained
-    // and said what words, variables, input and files ask for.
-    ensures headline { (given : Supplied) × Ran (DiskGives D.answers D.faults (D.files disk.old) env.now disk.old disk.new) env.now
+    // and said what words, variables, input, files and clock ask for.
+    ensures headline { (given : Supplied) × Ran (DiskGives D.answers D.faults (D.files disk.old) env.now disk.old disk.new)
+        (λ taken. Gives C.Clock clock.old taken clock.new) env.now
         (command (map string_bytes words.now)) (S.left input.old) given (ending_of result) (S.faults input.old) (S.faults input.new)
         (record { held_before = K.held out.old; held_now = K.held out.new; faults_before = K.faults out.old; faults_now = K.faults out.new })
         (record { held_before = E.held err.old; held_now = E.held err.new; faults_before = E.faults err.old; faults_now = E.faults err.new }) }
@@ -71,29 +75,29 @@ pub fn run<S: ByteSource, D: Disk, C: Clock, K: ByteSink, E: ByteSink>(
     // The disk was asked only once the input was read and is a job; its files are as they were.
     ensures disk { KeepsDisk (ending_of result) disk.old disk.new × (D.files disk.new ≡ D.files disk.old) }
 
-    // The input was read to its end, a rest of it is left, no count fell, and the clock wasn't asked.
+    // The input was read to its end, a rest of it is left, and no count fell.
     ensures outside { (ending_of result ≡ done → IsAtEnd (S.left input.new)) × IsRestOf (S.left input.old) (S.left input.new)
         × (S.faults input.old ≤ S.faults input.new) × (D.faults disk.old ≤ D.faults disk.new) × (K.faults out.old ≤ K.faults out.new)
-        × (E.faults err.old ≤ E.faults err.new) × (C.given clock.new ≡ C.given clock.old) }
+        × (E.faults err.old ≤ E.faults err.new) }
 {
-    let status = answer(alloc, words, env, input, disk, out);
+    let status = answer(alloc, words, env, input, disk, clock, out);
     say(alloc, status, err)
 }
 
 // Does what the words ask for, and answers how it ended.
 #[tactic(auto, using(crate::proofs::RunLemmas::words_of_runs))]
-fn answer<S: ByteSource, D: Disk, K: ByteSink>(
+fn answer<S: ByteSource, D: Disk, C: Clock, K: ByteSink>(
     alloc: Global,
     words: &[String],
     env: &Env,
     input: &mut S,
     disk: &mut D,
+    clock: &mut C,
     out: &mut K,
 ) -> Status
     ensures asked { EndsAsAsked (command (map string_bytes words.now)) (ending_of result) }
-    ensures planned { (bytes : List ℕ) → S.left input.old ≡ Some bytes
-        → GoesForInput (DiskGives D.answers D.faults (D.files disk.old) env.now disk.old disk.new) env.now (command (map string_bytes words.now)) bytes
-        (ending_of result) (K.held out.old) (K.held out.new) }
+    ensures planned { GoesForInput (DiskGives D.answers D.faults (D.files disk.old) env.now disk.old disk.new) (λ taken. Gives C.Clock clock.old taken clock.new) env.now
+        (command (map string_bytes words.now)) (S.left input.old) (ending_of result) (K.held out.old) (K.held out.new) }
     ensures kept { KeepsOutput (comes_late (command (map string_bytes words.now))) (ending_of result) (K.held out.old) (K.held out.new) }
     ensures named { (path : List ℕ) → ending_of result ≡ could_not_read_file path
         → NamesUnreadable (DiskGives D.answers D.faults (D.files disk.old) env.now disk.old disk.new) (command (map string_bytes words.now)) path }
@@ -109,7 +113,7 @@ fn answer<S: ByteSource, D: Disk, K: ByteSink>(
         × (S.faults input.old ≤ S.faults input.new) × (D.faults disk.old ≤ D.faults disk.new) × (K.faults out.old ≤ K.faults out.new) }
 {
     match read_words(alloc, words) {
-        Ok(command) => answer_command(alloc, command, env, input, disk, out),
+        Ok(command) => answer_command(alloc, command, env, input, disk, clock, out),
         Err(WordsFault::BadWord(place)) => Status::BadWords(place),
         Err(WordsFault::NotBuilt(place)) => Status::NotBuilt(place),
         Err(WordsFault::NoMemory) => Status::NoMemory,
@@ -118,18 +122,18 @@ fn answer<S: ByteSource, D: Disk, K: ByteSink>(
 
 // Does what the command asks for on the input, and answers how it ended.
 #[tactic(auto, using(crate::proofs::CommandLemmas::asks_command, crate::proofs::RunLemmas::after_input))]
-fn answer_command<S: ByteSource, D: Disk, K: ByteSink>(
+fn answer_command<S: ByteSource, D: Disk, C: Clock, K: ByteSink>(
     alloc: Global,
     command: Command<'_>,
     env: &Env,
     input: &mut S,
     disk: &mut D,
+    clock: &mut C,
     out: &mut K,
 ) -> Status
     ensures asked { EndsAsAsked (commanded command.entry) (ending_of result) }
-    ensures planned { (bytes : List ℕ) → S.left input.old ≡ Some bytes
-        → GoesForInput (DiskGives D.answers D.faults (D.files disk.old) env.now disk.old disk.new) env.now (commanded command.entry) bytes
-        (ending_of result) (K.held out.old) (K.held out.new) }
+    ensures planned { GoesForInput (DiskGives D.answers D.faults (D.files disk.old) env.now disk.old disk.new) (λ taken. Gives C.Clock clock.old taken clock.new) env.now
+        (commanded command.entry) (S.left input.old) (ending_of result) (K.held out.old) (K.held out.new) }
     ensures kept { KeepsOutput (comes_late (commanded command.entry)) (ending_of result) (K.held out.old) (K.held out.new) }
     ensures named { (path : List ℕ) → ending_of result ≡ could_not_read_file path
         → NamesUnreadable (DiskGives D.answers D.faults (D.files disk.old) env.now disk.old disk.new) (commanded command.entry) path }
@@ -142,7 +146,7 @@ fn answer_command<S: ByteSource, D: Disk, K: ByteSink>(
         × (S.faults input.old ≤ S.faults input.new) × (D.faults disk.old ≤ D.faults disk.new) × (K.faults out.old ≤ K.faults out.new) }
 {
     match read_all(alloc, input, MOST_INPUT) {
-        Ok(bytes) => answer_bytes(alloc, command, bytes.as_slice(), env, disk, out),
+        Ok(bytes) => answer_bytes(alloc, command, bytes.as_slice(), env, disk, clock, out),
         Err(ReadFault::Failed) => Status::ReadFault,
         Err(ReadFault::TooLarge) => Status::JobTooLarge,
         Err(ReadFault::NoMemory) => Status::NoMemory,
@@ -150,17 +154,18 @@ fn answer_command<S: ByteSource, D: Disk, K: ByteSink>(
 }
 
 // Does what the command asks for on the bytes of the input, and answers how it ended.
-fn answer_bytes<D: Disk, K: ByteSink>(
+fn answer_bytes<D: Disk, C: Clock, K: ByteSink>(
     alloc: Global,
     command: Command<'_>,
     bytes: &[u8],
     env: &Env,
     disk: &mut D,
+    clock: &mut C,
     out: &mut K,
 ) -> Status
     ensures end { IsAfterInput (ending_of result) }
-    ensures planned { GoesForBytes (DiskGives D.answers D.faults (D.files disk.old) env.now disk.old disk.new) env.now (commanded command.entry) bytes.now
-        (ending_of result) (K.held out.old) (K.held out.new) }
+    ensures planned { GoesForBytes (DiskGives D.answers D.faults (D.files disk.old) env.now disk.old disk.new) (λ taken. Gives C.Clock clock.old taken clock.new) env.now
+        (commanded command.entry) bytes.now (ending_of result) (K.held out.old) (K.held out.new) }
     ensures named { (path : List ℕ) → ending_of result ≡ could_not_read_file path
         → NamesUnreadable (DiskGives D.answers D.faults (D.files disk.old) env.now disk.old disk.new) (commanded command.entry) path }
     ensures disk { KeepsDisk (ending_of result) disk.old disk.new }
@@ -170,7 +175,15 @@ fn answer_bytes<D: Disk, K: ByteSink>(
     ensures count { (D.faults disk.old ≤ D.faults disk.new) × (K.faults out.old ≤ K.faults out.new) }
 {
     match command {
-        Command::Stream(words) => stream_bytes(alloc, bytes, words, env, disk, out),
-        Command::Settings(options) => show_settings(alloc, bytes, options, env, disk, out),
+        Command::Stream(words) => match read_job(alloc, bytes) {
+            Ok(job) => stream_job(alloc, job, words, env, disk, clock, out),
+            Err(JobFault::BadLine(place)) => Status::BadJob(place),
+            Err(JobFault::NoMemory) => Status::NoMemory,
+        },
+        Command::Settings(options) => match read_profile_texts(alloc, bytes) {
+            Ok(texts) => show_settings(alloc, texts, options, env, disk, out),
+            Err(JobFault::BadLine(place)) => Status::BadJob(place),
+            Err(JobFault::NoMemory) => Status::NoMemory,
+        },
     }
 }

@@ -76,6 +76,8 @@ fn refusal_line(alloc: Global, fault: &StreamFault) -> Mem<String>
         StreamFault::HeadersTooLong(_) => "refused 14 HeadersTooLong\n",
         StreamFault::PayloadTooLong(_) => "refused 15 PayloadTooLong\n",
         StreamFault::MessageTooLong(_) => "refused 16 MessageTooLong\n",
+        StreamFault::SinkFault => "refused 17 SinkFault\n",
+        StreamFault::NoMemory => "refused 18 NoMemory\n",
     };
     String::from_str(alloc, line)
 }

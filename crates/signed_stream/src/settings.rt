@@ -44,6 +44,7 @@ pub enum SettingsFault {
     MissingCredentials,
     /// No place gives a region.
     MissingSigningRegion,
+    /// Memory ran out.
     NoMemory,
 }
 

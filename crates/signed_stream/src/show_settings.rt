@@ -1,11 +1,11 @@
 ghost use Rattle.std.specs.Prelude.{◌≡◌, ◌≤◌, ℕ, List, None, IsErrOf};
 ghost use Rattle.smithy_core.specs.Outside.{RoseOrStands};
-ghost use Rattle.signed_stream.specs.Carriers.{GoesForBytes, GoesForTexts, IsAfterInput, IsAfterTexts};
+ghost use Rattle.signed_stream.specs.Carriers.{GoesForTexts, IsAfterTexts};
 ghost use Rattle.signed_stream.specs.Command.{show_settings};
 ghost use Rattle.signed_stream.specs.Halt.{Sends};
 ghost use Rattle.signed_stream.specs.ProfileOptions.{profile_wanted};
 ghost use Rattle.signed_stream.specs.ProfileTexts.{texts_of};
-ghost use Rattle.signed_stream.specs.Running.{KeepsDisk, NamesUnreadable};
+ghost use Rattle.signed_stream.specs.Running.{NamesUnreadable};
 ghost use Rattle.signed_stream.specs.Settings.{selected_of};
 ghost use Rattle.signed_stream.specs.Shown.{shown_settings};
 ghost use Rattle.signed_stream.specs.Sources.{DiskGives};
@@ -13,44 +13,16 @@ ghost use Rattle.signed_stream.specs.Status.{could_not_read_file, ending_of, out
 
 use crate::chain::write_text;
 use crate::command::ProfileOptions;
-use crate::halt::{Halt, status_of};
-use crate::job::{JobFault, ProfileTexts, read_profile_texts};
+use crate::job::ProfileTexts;
 use crate::settings::Settings;
 use crate::shown::settings_text;
 use crate::sources::select;
-use crate::status::Status;
+use crate::status::{Status, StreamFault, status_of};
 use smithy_core::{ByteSink, Disk, Env};
 use std::alloc::Global;
 
-/// Shows what profile files and variables select, where the bytes are profile texts alone.
+/// Shows what profile files and variables select: the texts, with the files that the options name.
 pub fn show_settings<D: Disk, K: ByteSink>(
-    alloc: Global,
-    bytes: &[u8],
-    options: ProfileOptions<'_>,
-    env: &Env,
-    disk: &mut D,
-    out: &mut K,
-) -> Status
-    ensures end { IsAfterInput (ending_of result) }
-    ensures planned { GoesForBytes (DiskGives D.answers D.faults (D.files disk.old) env.now disk.old disk.new) env.now (show_settings (profile_wanted options.entry)) bytes.now
-        (ending_of result) (K.held out.old) (K.held out.new) }
-    ensures named { (path : List ℕ) → ending_of result ≡ could_not_read_file path
-        → NamesUnreadable (DiskGives D.answers D.faults (D.files disk.old) env.now disk.old disk.new) (show_settings (profile_wanted options.entry)) path }
-    ensures disk { KeepsDisk (ending_of result) disk.old disk.new }
-    ensures same { D.files disk.new ≡ D.files disk.old }
-    ensures output_failed { ending_of result ≡ output_fault → RoseOrStands (K.faults out.old) (K.faults out.new) }
-    ensures output_steady { (ending_of result ≡ output_fault → ⊥) → K.faults out.new ≡ K.faults out.old }
-    ensures count { (D.faults disk.old ≤ D.faults disk.new) × (K.faults out.old ≤ K.faults out.new) }
-{
-    match read_profile_texts(alloc, bytes) {
-        Ok(texts) => show_selected(alloc, texts, options, env, disk, out),
-        Err(JobFault::BadLine(place)) => Status::BadJob(place),
-        Err(JobFault::NoMemory) => Status::NoMemory,
-    }
-}
-
-// Shows what the texts select with the files that the options name.
-fn show_selected<D: Disk, K: ByteSink>(
     alloc: Global,
     texts: ProfileTexts,
     options: ProfileOptions<'_>,
@@ -76,11 +48,15 @@ fn show_selected<D: Disk, K: ByteSink>(
 
 // Writes what is selected.
 #[tactic(auto, using(smithy_core::proofs::GainLemmas::prefix_at_start))]
-fn write_settings<K: ByteSink>(alloc: Global, settings: &Settings, out: &mut K) -> Result<(), Halt>
+fn write_settings<K: ByteSink>(
+    alloc: Global,
+    settings: &Settings,
+    out: &mut K,
+) -> Result<(), StreamFault>
     ensures count { K.faults out.old ≤ K.faults out.new }
     ensures sends { Sends None (shown_settings (selected_of settings.now)) (K.held out.old) (K.held out.new) result }
-    ensures failed { IsErrOf result Halt.OutputFault → RoseOrStands (K.faults out.old) (K.faults out.new) }
-    ensures steady { (IsErrOf result Halt.OutputFault → ⊥) → K.faults out.new ≡ K.faults out.old }
+    ensures failed { IsErrOf result StreamFault.SinkFault → RoseOrStands (K.faults out.old) (K.faults out.new) }
+    ensures steady { (IsErrOf result StreamFault.SinkFault → ⊥) → K.faults out.new ≡ K.faults out.old }
 {
     let text = settings_text(alloc, settings)?;
     write_text(out, text.as_bytes())

@@ -1,54 +1,45 @@
-ghost use Rattle.std.specs.Prelude.{◌≡◌, IfOk, option_copied, option_map};
+ghost use Rattle.std.specs.Prelude.{◌≡◌, IfOk, option_map};
 ghost use Rattle.std.specs.String.{string_bytes};
-ghost use Rattle.signed_stream.specs.Case.{request_moment};
 ghost use Rattle.smithy_core.specs.Identity.{IsCredentials};
-ghost use Rattle.signed_stream.specs.Options.{wanted_of};
-ghost use Rattle.signed_stream.specs.Status.{run_fault};
-ghost use Rattle.signed_stream.specs.Sign.{GivesName, IsRequestError, SignsJob, TellsError, fault_for, identity_case};
+ghost use Rattle.signed_stream.specs.Case.{request_moment};
+ghost use Rattle.signed_stream.specs.Halt.{halt_of, refuses};
+ghost use Rattle.signed_stream.specs.Sign.{GivesName, IsRequestError, SignsJob, error_halt, fault_for, identity_case};
+ghost use Rattle.signed_stream.specs.Streaming.{stream_wanted};
 
-use crate::command::StreamWords;
-use crate::halt::Halt;
 use crate::status::StreamFault;
-use crate::text::copied;
+use crate::streaming::StreamOptions;
+use crate::text::copy_of;
 use aws_auth::{
-    OverrideError, SigV4OperationSigningConfig, SigV4SessionTokenNameOverride, SigV4Signer,
-    SigV4SigningError, SigningInputs,
+    OverrideError, SigV4MessageSigner, SigV4OperationSigningConfig, SigV4SessionTokenNameOverride,
+    SigV4Signer, SigV4SigningError, SigningInputs,
 };
 use sigv4::{SigningError, SigningSettings};
-use smithy_core::{HttpRequest, Identity, Mem, Region, SigningName};
+use smithy_core::{HttpRequest, Identity, Mem, Moment, Region, SigningName};
 use std::alloc::Global;
 
-/// Signs a request: it is the signed one then, and the answer is the signature.
+/// A request, signed, and what signs the messages that follow it.
 ///
 /// # Errors
 ///
-/// [`Halt::Refused`] with the first test of the moment, the target, the headers, the host, the token's name and the
-/// signature's own texts that fails, and [`Halt::NoMemory`] for want of memory.
+/// The first test of the moment, the target, the headers, the host, the token's name and the signature's own texts
+/// that fails, and [`StreamFault::NoMemory`] for want of memory.
 pub fn sign_request(
     alloc: Global,
-    request: &mut HttpRequest,
+    request: &HttpRequest,
     identity: &Identity,
     region: &str,
-    words: StreamWords<'_>,
-) -> Result<String, Halt>
+    options: &StreamOptions,
+    first: Moment,
+) -> Result<(HttpRequest, SigV4MessageSigner<()>), StreamFault>
     requires { IsCredentials identity.now }
-    ensures method { request.new.method ≡ request.old.method }
-    ensures signs { let wanted = wanted_of words.entry in
-        SignsJob (string_bytes request.old.target) (request_moment wanted wanted.at) (identity_case request.old identity.now region.now wanted)
-        request.new result }
+    ensures { (form : _) → let wanted = stream_wanted options.now form in
+        SignsJob (request_moment wanted first) (identity_case request.now identity.now region.now wanted first) request.now result }
 {
-    let StreamWords {
-        name,
-        at,
-        signing,
-        token_name,
-        skew_millis,
-        ..
-    } = words;
+    let mut signed = request.try_clone()?;
     let config = SigV4OperationSigningConfig {
         region: Some(Region::new(String::from_str(alloc, region)?)),
-        name: Some(SigningName::new(String::from_str(alloc, name)?)),
-        signing_options: signing,
+        name: Some(SigningName::new(options.name.clone()?)),
+        signing_options: options.signing.try_clone()?,
     };
     let inputs = SigningInputs {
         config: Some(&config),
@@ -56,16 +47,16 @@ pub fn sign_request(
         name: None,
         region: None,
         payload: None,
-        skew_millis,
+        skew_millis: options.skew_millis,
     };
-    let asked = copied(alloc, token_name)?;
+    let asked = copy_of(&options.token_name)?;
     let name_override = SigV4SessionTokenNameOverride::new(
         move |_: &SigningSettings, _: &SigV4OperationSigningConfig| name_asked(&asked),
     );
     let signer = SigV4Signer::new();
-    match signer.sign_http_request(request, identity, &inputs, at, Some(&name_override)) {
-        Ok(signed) => Ok(signed.signature),
-        Err(error) => Err(halt_of(&error)),
+    match signer.sign_http_request(&mut signed, identity, &inputs, first, Some(&name_override)) {
+        Ok(signature) => Ok((signed, signature.message_signer)),
+        Err(error) => Err(fault_of(&error)),
     }
 }
 
@@ -79,14 +70,14 @@ fn name_asked(name: &Option<String>) -> Result<Option<String>, OverrideError>
     }
 }
 
-// How an error of signing a request halts the stream.
-fn halt_of(error: &SigV4SigningError) -> Halt
+// The fault that tells an error of signing a request.
+fn fault_of(error: &SigV4SigningError) -> StreamFault
     requires { IsRequestError error.now }
-    ensures { TellsError error.now result }
+    ensures { halt_of result ≡ error_halt error.now }
 {
     match error {
-        SigV4SigningError::Signing(error) => Halt::Refused(refusal_for(error)),
-        SigV4SigningError::NoMemory => Halt::NoMemory,
+        SigV4SigningError::Signing(error) => refusal_for(error),
+        SigV4SigningError::NoMemory => StreamFault::NoMemory,
         _ => unreachable!(),
     }
 }
@@ -94,7 +85,7 @@ fn halt_of(error: &SigV4SigningError) -> Halt
 // The fault that tells why a request isn't signed.
 fn refusal_for(error: &SigningError) -> StreamFault
     requires { IsRequestError (SigV4SigningError.Signing error.now) }
-    ensures { run_fault result ≡ fault_for error.now }
+    ensures { halt_of result ≡ refuses (fault_for error.now) }
 {
     match error {
         SigningError::InvalidUri => StreamFault::InvalidUri,

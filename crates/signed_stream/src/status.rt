@@ -1,4 +1,6 @@
 ghost use Rattle.std.specs.Prelude.{◌≡◌, IfOk};
+ghost use Rattle.signed_stream.specs.Halt.{ended};
+ghost use Rattle.signed_stream.specs.Status.{ending_of};
 
 use crate::settings::SettingsFault;
 use env_config::{EnvConfigFileLoadError, EnvConfigParseError};
@@ -43,6 +45,10 @@ pub enum StreamFault {
     PayloadTooLong(usize),
     /// The frame of the event at this place, or of its signed message, passes 4,294,967,295 bytes.
     MessageTooLong(usize),
+    /// The sink failed, and counted it.
+    SinkFault,
+    /// Memory ran out.
+    NoMemory,
 }
 
 impl StreamFault {
@@ -73,7 +79,37 @@ impl StreamFault {
             StreamFault::HeadersTooLong(place) => StreamFault::HeadersTooLong(*place),
             StreamFault::PayloadTooLong(place) => StreamFault::PayloadTooLong(*place),
             StreamFault::MessageTooLong(place) => StreamFault::MessageTooLong(*place),
+            StreamFault::SinkFault => StreamFault::SinkFault,
+            StreamFault::NoMemory => StreamFault::NoMemory,
         })
+    }
+}
+
+impl From<AllocError> for StreamFault {
+    ghost use Rattle.std.specs.Prelude.{◌≡◌};
+    ghost use Rattle.signed_stream.specs.declared.status.StreamFault.TheVariants.{NoMemory};
+
+    ghost from_gives = { λ _ fault. fault ≡ NoMemory };
+
+    fn from(_e: AllocError) -> StreamFault {
+        StreamFault::NoMemory
+    }
+}
+
+impl From<SettingsFault> for StreamFault {
+    ghost use Rattle.std.specs.Prelude.{◌≡◌};
+    ghost use Rattle.signed_stream.specs.Halt.{halt_of, halted};
+    ghost use Rattle.signed_stream.specs.Status.{settings_ending};
+
+    ghost from_gives = { λ fault result. halted (halt_of result) ≡ settings_ending fault };
+
+    fn from(fault: SettingsFault) -> StreamFault {
+        match fault {
+            SettingsFault::ParseError(error) => StreamFault::ParseError(error),
+            SettingsFault::MissingCredentials => StreamFault::MissingCredentials,
+            SettingsFault::MissingSigningRegion => StreamFault::MissingSigningRegion,
+            SettingsFault::NoMemory => StreamFault::NoMemory,
+        }
     }
 }
 
@@ -173,6 +209,22 @@ impl From<EnvConfigFileLoadError> for Status {
     }
 }
 
+impl From<StreamFault> for Status {
+    ghost use Rattle.std.specs.Prelude.{◌≡◌};
+    ghost use Rattle.signed_stream.specs.Halt.{halt_of, halted};
+    ghost use Rattle.signed_stream.specs.Status.{ending_of};
+
+    ghost from_gives = { λ fault status. ending_of status ≡ halted (halt_of fault) };
+
+    fn from(fault: StreamFault) -> Status {
+        match fault {
+            StreamFault::SinkFault => Status::OutputFault,
+            StreamFault::NoMemory => Status::NoMemory,
+            fault => Status::Refused(fault),
+        }
+    }
+}
+
 impl From<SettingsFault> for Status {
     ghost use Rattle.std.specs.Prelude.{◌≡◌};
     ghost use Rattle.signed_stream.specs.Status.{ending_of, settings_ending};
@@ -180,13 +232,16 @@ impl From<SettingsFault> for Status {
     ghost from_gives = { λ fault status. ending_of status ≡ settings_ending fault };
 
     fn from(fault: SettingsFault) -> Status {
-        match fault {
-            SettingsFault::ParseError(error) => Status::Refused(StreamFault::ParseError(error)),
-            SettingsFault::MissingCredentials => Status::Refused(StreamFault::MissingCredentials),
-            SettingsFault::MissingSigningRegion => {
-                Status::Refused(StreamFault::MissingSigningRegion)
-            }
-            SettingsFault::NoMemory => Status::NoMemory,
-        }
+        Status::from(StreamFault::from(fault))
+    }
+}
+
+/// How a run ends with this outcome of a stream.
+pub fn status_of<T: Drop>(outcome: Result<T, StreamFault>) -> Status
+    ensures { ending_of result ≡ ended outcome }
+{
+    match outcome {
+        Ok(_) => Status::Done,
+        Err(fault) => Status::from(fault),
     }
 }

@@ -11,8 +11,8 @@ use std::alloc::Global;
 pub struct StreamWords<'a> {
     /// The name of the service.
     pub name: &'a str,
-    /// The moment of the request, of every event and of the closing frame.
-    pub at: Moment,
+    /// The moment of the request, of every event and of the closing frame, where the clock doesn't give them.
+    pub at: Option<Moment>,
     /// How the request is signed.
     pub signing: SigningOptions,
     /// The name of the session token's header or parameter, where that isn't the usual one.
@@ -191,19 +191,18 @@ impl<'a> GivenOptions<'a> {
 
     /// The command, where the place after the last word is reached.
     pub fn finish(self, place: usize) -> Result<StreamWords<'a>, WordsFault>
-        ensures { let given = options_of self.entry in ReadsStream (command_of place given given.name given.at given.awaited) result }
+        ensures { let given = options_of self.entry in ReadsStream (command_of place given given.name given.awaited) result }
     {
-        match (self.awaited, self.name, self.at) {
-            (None, Some(name), Some(at)) => Ok(StreamWords {
+        match (self.awaited, self.name) {
+            (None, Some(name)) => Ok(StreamWords {
                 name,
-                at,
+                at: self.at,
                 signing: self.signing,
                 token_name: self.token_name,
                 skew_millis: self.skew_millis,
                 form: self.form,
                 profile: self.profile,
             }),
-            (None, Some(_), None) => Err(WordsFault::NotBuilt(place)),
             _ => Err(WordsFault::BadWord(place)),
         }
     }

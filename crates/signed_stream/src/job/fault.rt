@@ -9,6 +9,7 @@ use std::fmt;
 pub enum JobFault {
     /// The line at this place is bad.
     BadLine(usize),
+    /// Memory ran out.
     NoMemory,
 }
 

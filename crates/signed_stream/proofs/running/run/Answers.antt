@@ -1,10 +1,11 @@
-use Rattle.std.proofs.Common.{map}
+use Rattle.std.proofs.Common.{◌≡◌, List, ℕ, Some, map}
 use Rattle.std.specs.Prelude.{string_bytes}
 use Rattle.signed_stream.specs.Command.{command}
+use Rattle.signed_stream.specs.Running.{RunsAsPlanned}
 use Rattle.signed_stream.specs.Sources.{DiskGives}
 use Rattle.signed_stream.specs.Status.{ending_of}
 use Rattle.signed_stream.proofs.HeadlineLemmas.{completes, has_done_where}
-use Rattle.signed_stream.proofs.SaidLemmas.{one_given, said_asked, said_is, said_keeps, said_reads, said_runs, said_writes}
+use Rattle.signed_stream.proofs.SaidLemmas.{said_asked, said_is, said_keeps, said_reads, said_runs, said_writes}
 use Rattle.signed_stream.proofs.UriLemmas.{run_refused_where}
 use Rattle.signed_stream.proofs.running.run.Goals as goal
 
@@ -13,15 +14,17 @@ returns-clause-headline g c =
     let answer = c.answer-status.ensures in
     let said = c.say.ensures.answer in
     let gave = DiskGives g.D.Disk.answers g.D.Disk.faults (g.D.Disk.files c.args.disk.now) c.args.env.now c.args.disk.now c.answer-status.new.disk in
-    let given = one_given gave c.args.env.now (command (map string_bytes c.args.words.now)) (g.S.ByteSource.left c.args.input.now) (ending_of c.say.result)
-    (g.K.ByteSink.held c.args.out.now) (g.K.ByteSink.held c.answer-status.new.out)
-    (λ bytes told. said_runs gave _ _ _ _ _ _ _ (answer.planned bytes told) said) in (
-      given.0,
+    let given = answer.planned.0 in
+    let runs : (bytes : List ℕ) → g.S.ByteSource.left c.args.input.now ≡ Some bytes
+    → RunsAsPlanned gave c.args.env.now (command (map string_bytes c.args.words.now)) bytes given (ending_of c.say.result) (g.K.ByteSink.held c.args.out.now) (g.K.ByteSink.held c.answer-status.new.out) =
+    λ bytes told. said_runs gave _ _ _ _ _ _ _ _ (answer.planned.2 bytes told) said in (
+      given,
       record {
-        headline = λ bytes told is. has_done_where gave _ _ bytes given.0 _ _ _ is (given.1 bytes told);
-        complete = λ bytes told other files can. completes gave _ _ bytes given.0 other _ _ _ (given.1 bytes told) files can;
+        headline = λ bytes told is. has_done_where gave _ _ bytes given _ _ _ is (runs bytes told);
+        complete = λ bytes told other files later moments can. completes gave _ _ bytes given other later _ _ _ (runs bytes told) files moments can;
         ended = said_asked _ _ _ answer.asked said;
-        planned = given.1;
+        moments = answer.planned.1;
+        planned = runs;
         kept = said_keeps _ _ _ _ _ answer.kept said;
         named = λ path is. answer.named path (said_is _ _ _ said is (λ e. cc));
         said = c.say.ensures.said;
@@ -32,5 +35,5 @@ returns-clause-headline g c =
 
 pub returns-clause-target : goal.returns-clause-target
 returns-clause-target g c = λ is bytes told.
-    run_refused_where (DiskGives g.D.Disk.answers g.D.Disk.faults (g.D.Disk.files c.args.disk.now) c.args.env.now c.args.disk.now c.answer-status.new.disk) _ _ bytes _ _ _ is
-    (said_runs _ _ _ _ _ _ _ _ (c.answer-status.ensures.planned bytes told) c.say.ensures.answer)
+    run_refused_where (DiskGives g.D.Disk.answers g.D.Disk.faults (g.D.Disk.files c.args.disk.now) c.args.env.now c.args.disk.now c.answer-status.new.disk) _ _ bytes _ _ _ _ is
+    (said_runs _ _ _ _ _ _ _ _ _ (c.answer-status.ensures.planned.2 bytes told) c.say.ensures.answer)

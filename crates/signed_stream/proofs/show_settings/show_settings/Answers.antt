@@ -1,10 +1,12 @@
+use Rattle.std.proofs.Common.{ap, sym, ◌∙◌}
+use Rattle.signed_stream.specs.Halt.{ended}
 use Rattle.signed_stream.specs.ProfileOptions.{profile_wanted}
 use Rattle.signed_stream.specs.ProfileTexts.{texts_of}
 use Rattle.signed_stream.specs.Settings.{selected_of}
 use Rattle.signed_stream.specs.Sources.{DiskGives}
 use Rattle.signed_stream.specs.Status.{ending_of}
-use Rattle.signed_stream.proofs.FitLemmas.{texts_shown, texts_unselected}
-use Rattle.signed_stream.proofs.show_settings.show_selected.Goals as goal
+use Rattle.signed_stream.proofs.FitLemmas.{ended_after_texts, ended_failed, ended_unnamed, texts_shown, texts_unselected}
+use Rattle.signed_stream.proofs.show_settings.show_settings.Goals as goal
 
 pub returns-in-Ok-clause-planned : goal.returns-in-Ok-clause-planned
 returns-in-Ok-clause-planned g c =
@@ -19,3 +21,15 @@ returns-clause-planned g c =
     let gave = DiskGives g.D.Disk.answers g.D.Disk.faults (g.D.Disk.files c.args.disk.now) c.args.env.now c.args.disk.now c.select.new.disk in
     let found = c.in-Err.ensures.selects in
     texts_unselected gave c.args.env.now (profile_wanted c.args.options) (texts_of c.args.texts) found.0 (ending_of c.in-Err.status) (g.K.ByteSink.held c.args.out.now) found.1 found.2
+
+pub returns-in-Ok-clause-end : goal.returns-in-Ok-clause-end
+returns-in-Ok-clause-end g c = rw c.status_of.ensures (ended_after_texts c.write_settings.result)
+
+pub returns-in-Ok-clause-named : goal.returns-in-Ok-clause-named
+returns-in-Ok-clause-named g c = λ path is. absurd (ended_unnamed c.write_settings.result path (sym c.status_of.ensures ∙ is))
+
+pub returns-in-Ok-clause-output_failed : goal.returns-in-Ok-clause-output_failed
+returns-in-Ok-clause-output_failed g c = λ is. c.write_settings.ensures.failed (ended_failed c.write_settings.result (sym c.status_of.ensures ∙ is))
+
+pub returns-in-Ok-clause-output_steady : goal.returns-in-Ok-clause-output_steady
+returns-in-Ok-clause-output_steady g c = λ other. c.write_settings.ensures.steady (λ is. other (c.status_of.ensures ∙ ap ended is))

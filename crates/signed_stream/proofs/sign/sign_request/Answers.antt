@@ -1,31 +1,37 @@
-use Rattle.std.proofs.Common.{option_map, refl, rules}
+use Rattle.std.proofs.Common.{option_map, refl, rules, ap, ◌∙◌}
 use Rattle.std.specs.Prelude.{string_bytes}
 use Rattle.aws_auth.specs.Inputs.{chosen}
-use Rattle.signed_stream.specs.Options.{wanted_of}
 use Rattle.signed_stream.specs.Sign.{GivesName}
-use Rattle.signed_stream.proofs.SignLemmas.{refused_job, right_identity, signed_job}
+use Rattle.signed_stream.specs.Streaming.{stream_wanted}
+use Rattle.signed_stream.specs.declared.form.Form.TheVariants.{Raw}
+use Rattle.signed_stream.proofs.SignLemmas.{refused_job, right_identity, signed_as_asked, signed_job, unsigned_as_asked}
 use Rattle.signed_stream.proofs.sign.sign_request.Goals as goal
 
-pub returns-in-Ok-clause-signs : goal.returns-in-Ok-clause-signs
+pub returns-in-Ok : goal.returns-in-Ok
 unfolding chosen
-returns-in-Ok-clause-signs c =
-    signed_job _ _ _ _ (wanted_of c.args.words) c.args.region.now _
+returns-in-Ok c = λ form.
+    let asked = record (stream_wanted c.args.options.now form) { signing = c.in_ok-try_clone.field-0 } in
+    signed_as_asked c.args.request.now c.in_ok-signed.signed c.args.identity.now c.args.region.now (stream_wanted c.args.options.now form) c.args.first c.in_ok-try_clone.field-0 c.in_ok-try_clone.ensures
+    c.in_ok-signed.ensures.method c.in_ok-signed.ensures.target c.in_ok-signed.ensures.headers c.in_ok-signed.ensures.body
+    c.sign_http_request.new.request c.in-Ok.signature c.requires (ap string_bytes c.in-Ok.ensures.method) c.in-Ok.ensures.body
+    (signed_job _ _ _ _ asked c.args.region.now c.args.first _
     (record {
-      chosen_is = rw (c.new.ensures, c.in_ok-from_str.ensures.ok, c.new-2.ensures, c.in_ok-from_str-2.ensures.ok) refl;
+      chosen_is = rw (c.new.ensures, c.in_ok-from_str.ensures.ok, c.new-2.ensures, c.in_ok-clone.ensures.cases) refl;
       before = rw (right_identity c.args.identity.now c.requires) refl;
     })
     (λ config answer may.
     let met = may.says.met in
     let given : GivesName (option_map string_bytes c.in_ok-asked.asked) answer = search rules in
     rw c.in_ok-asked.ensures at given)
-    _ _ c.in-Ok.ensures.signs
+    _ _ c.in-Ok.ensures.signs)
 
-pub halt_of-requires : goal.halt_of-requires
+pub fault_of-requires : goal.fault_of-requires
 unfolding chosen
-halt_of-requires c =
-    let told = refused_job _ _ _ _ (wanted_of c.args.words) c.args.region.now _
+fault_of-requires c =
+    let asked = record (stream_wanted c.args.options.now Raw) { signing = c.in_ok-try_clone.field-0 } in
+    let told = refused_job _ _ _ _ asked c.args.region.now c.args.first _
     (record {
-      chosen_is = rw (c.new.ensures, c.in_ok-from_str.ensures.ok, c.new-2.ensures, c.in_ok-from_str-2.ensures.ok) refl;
+      chosen_is = rw (c.new.ensures, c.in_ok-from_str.ensures.ok, c.new-2.ensures, c.in_ok-clone.ensures.cases) refl;
       before = rw (right_identity c.args.identity.now c.requires) refl;
     })
     (λ config answer may.
@@ -35,12 +41,13 @@ halt_of-requires c =
     c.sign_http_request.new.request _ c.in-Err.ensures.signs in
     told.0
 
-pub returns-clause-signs : goal.returns-clause-signs
+pub returns-in-Err : goal.returns-in-Err
 unfolding chosen
-returns-clause-signs c =
-    let told = refused_job _ _ _ _ (wanted_of c.args.words) c.args.region.now _
+returns-in-Err c = λ form.
+    let asked = record (stream_wanted c.args.options.now form) { signing = c.in_ok-try_clone.field-0 } in
+    let told = refused_job _ _ _ _ asked c.args.region.now c.args.first _
     (record {
-      chosen_is = rw (c.new.ensures, c.in_ok-from_str.ensures.ok, c.new-2.ensures, c.in_ok-from_str-2.ensures.ok) refl;
+      chosen_is = rw (c.new.ensures, c.in_ok-from_str.ensures.ok, c.new-2.ensures, c.in_ok-clone.ensures.cases) refl;
       before = rw (right_identity c.args.identity.now c.requires) refl;
     })
     (λ config answer may.
@@ -48,4 +55,6 @@ returns-clause-signs c =
     let given : GivesName (option_map string_bytes c.in_ok-asked.asked) answer = search rules in
     rw c.in_ok-asked.ensures at given)
     c.sign_http_request.new.request _ c.in-Err.ensures.signs in
-    told.1 c.halt_of.result c.halt_of.ensures
+    rw c.fault_of.ensures
+    (unsigned_as_asked c.args.request.now c.in_ok-signed.signed c.args.identity.now c.args.region.now (stream_wanted c.args.options.now form) c.args.first c.in_ok-try_clone.field-0 c.in_ok-try_clone.ensures
+    c.in_ok-signed.ensures.method c.in_ok-signed.ensures.target c.in_ok-signed.ensures.headers c.in_ok-signed.ensures.body _ told.1)

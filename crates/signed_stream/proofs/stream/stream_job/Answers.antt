@@ -1,23 +1,54 @@
+use Rattle.std.proofs.Common.{map, refl, ap, sym, ◌∙◌}
+use Rattle.std.specs.Option.{option_copied}
+use Rattle.std.specs.Prelude.{string_bytes}
+use Rattle.smithy_core.specs.Given.{Gives}
+use Rattle.smithy_core.proofs.GivenLemmas.{given_none}
+use Rattle.env_config.specs.Source.{file_of}
 use Rattle.signed_stream.specs.Draft.{job_parts}
 use Rattle.signed_stream.specs.Halt.{ended}
 use Rattle.signed_stream.specs.Options.{wanted_of}
-use Rattle.signed_stream.specs.Settings.{selected_of}
+use Rattle.signed_stream.specs.ProfileOptions.{place_of}
 use Rattle.signed_stream.specs.Sources.{DiskGives}
 use Rattle.signed_stream.specs.Status.{ending_of}
-use Rattle.signed_stream.proofs.FitLemmas.{job_goes, job_unselected}
+use Rattle.signed_stream.specs.Streaming.{job_with}
+use Rattle.signed_stream.proofs.FitLemmas.{ended_after_texts, ended_failed, ended_unnamed, job_goes, job_unselected}
+use Rattle.signed_stream.proofs.RunLemmas.{unasked_at}
+use Rattle.signed_stream.proofs.SourceLemmas.{load_names, load_selects, loads_after_texts}
 use Rattle.signed_stream.proofs.stream.stream_job.Goals as goal
 
 pub returns-in-Ok-clause-planned : goal.returns-in-Ok-clause-planned
 returns-in-Ok-clause-planned g c =
-    let gave = DiskGives g.D.Disk.answers g.D.Disk.faults (g.D.Disk.files c.args.disk.now) c.args.env.now c.args.disk.now c.select.new.disk in
-    let found = c.in-Ok.ensures.selects in
-    let goes = rw (c.as_slice-events.ensures.value, c.as_str-region.ensures) at c.stream_request.ensures.planned in
+    let gave = DiskGives g.D.Disk.answers g.D.Disk.faults (g.D.Disk.files c.args.disk.now) c.args.env.now c.args.disk.now c.load_source.new.disk in
+    let streams = rw c.as_slice-events.ensures.value at c.stream_source.ensures.streams in
     rw c.status_of.ensures
-    (job_goes gave c.args.env.now (wanted_of c.args.words) (job_parts c.args.job) found.0 (selected_of c.in-Ok.settings) (ended c.stream_request.result)
-    (g.K.ByteSink.held c.args.out.now) (g.K.ByteSink.held c.stream_request.new.out) found.1 found.2 goes)
+    (job_goes gave (λ taken. Gives g.C.Clock c.args.clock.now taken c.stream_source.new.clock) c.args.env.now (wanted_of c.args.words) (job_parts c.args.job) (job_with c.args.job.request c.args.job.events.items)
+    (map file_of c.in-Ok.source.files.items) (string_bytes c.in-Ok.source.profile) _ _ _ refl c.in-Ok.ensures.loads.1 c.in-Ok.ensures.loads.0 streams)
 
 pub returns-in-Err-clause-planned : goal.returns-in-Err-clause-planned
 returns-in-Err-clause-planned g c =
-    let gave = DiskGives g.D.Disk.answers g.D.Disk.faults (g.D.Disk.files c.args.disk.now) c.args.env.now c.args.disk.now c.select.new.disk in
-    let found = c.in-Err.ensures.selects in
-    job_unselected gave c.args.env.now (wanted_of c.args.words) (job_parts c.args.job) found.0 (ending_of c.in-Err.status) (g.K.ByteSink.held c.args.out.now) found.1 found.2
+    let gave = DiskGives g.D.Disk.answers g.D.Disk.faults (g.D.Disk.files c.args.disk.now) c.args.env.now c.args.disk.now c.load_source.new.disk in
+    let unasked = given_none g.C.Clock c.args.clock.now in
+    let found = load_selects g.D.Disk.answers g.D.Disk.faults (g.D.Disk.files c.args.disk.now) c.args.env.now _ (option_copied c.args.words.profile.service_id) c.args.disk.now c.load_source.new.disk c.in-Err.fault c.from.result
+    c.in-Err.ensures.loads c.from.ensures in
+    job_unselected gave (λ taken. Gives g.C.Clock c.args.clock.now taken c.args.clock.now) c.args.env.now (wanted_of c.args.words) (job_parts c.args.job) found.0 (ending_of c.from.result) (g.K.ByteSink.held c.args.out.now)
+    (unasked_at (λ taken. Gives g.C.Clock c.args.clock.now taken c.args.clock.now) unasked c.args.words.at) found.1 found.2
+
+pub returns-in-Ok-clause-end : goal.returns-in-Ok-clause-end
+returns-in-Ok-clause-end g c = rw c.status_of.ensures (ended_after_texts c.stream_source.result)
+
+pub returns-in-Ok-clause-named : goal.returns-in-Ok-clause-named
+returns-in-Ok-clause-named g c = λ path is. absurd (ended_unnamed c.stream_source.result path (sym c.status_of.ensures ∙ is))
+
+pub returns-in-Ok-clause-output_failed : goal.returns-in-Ok-clause-output_failed
+returns-in-Ok-clause-output_failed g c = λ is. c.stream_source.ensures.failed (ended_failed c.stream_source.result (sym c.status_of.ensures ∙ is))
+
+pub returns-in-Ok-clause-output_steady : goal.returns-in-Ok-clause-output_steady
+returns-in-Ok-clause-output_steady g c = λ other. c.stream_source.ensures.steady (λ is. other (c.status_of.ensures ∙ ap ended is))
+
+pub returns-in-Err-clause-end : goal.returns-in-Err-clause-end
+returns-in-Err-clause-end g c = rw c.from.ensures (loads_after_texts c.in-Err.fault)
+
+pub returns-in-Err-clause-named : goal.returns-in-Err-clause-named
+returns-in-Err-clause-named g c = λ path is.
+    load_names g.D.Disk.answers g.D.Disk.faults (g.D.Disk.files c.args.disk.now) c.args.env.now (map place_of c.args.words.profile.files.items) _ c.args.disk.now c.load_source.new.disk c.in-Err.fault c.from.result path
+    c.in-Err.ensures.loads c.from.ensures is

@@ -1,0 +1,18 @@
+use Rattle.std.proofs.Common.{◌≡◌}
+use Rattle.smithy_core.specs.contracts.message.Message as message
+use Rattle.event_io.specs.Adapter.{signer_of}
+use Rattle.event_io.specs.contracts.event_source.ListEventsEventSource.TheImpl as items
+use Rattle.signed_stream.specs.Sending.{sealed_signature, sealed_signer}
+use Rattle.signed_stream.proofs.PollLemmas.{IsAt}
+use Rattle.signed_stream.proofs.chain.send_frames.Given as goal
+
+-- the frames before this place were written, each at the moment that was taken for it
+abbrev pub invariant-frames : goal.invariant-frames
+invariant-frames g l =
+    let sink = g.K.ByteSink in
+    let told = g.G.SignMessage.told (signer_of l.fn.adapter) in
+    record {
+      count : sink.faults l.sink ≡ sink.faults l.fn.sink;
+      at : IsAt (items.ghosts message.the_row message.the_row) g.G.SignMessage g.C.Clock l.form (sealed_signer told) l.events (sealed_signature told) (sink.held l.fn.sink) l.fn.moments.items l.fn.clock
+          (sink.held l.sink) l.moments.items l.clock l.place l.adapter;
+    }

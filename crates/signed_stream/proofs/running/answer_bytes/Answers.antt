@@ -1,0 +1,46 @@
+use Rattle.smithy_core.specs.Given.{Gives}
+use Rattle.smithy_core.proofs.GivenLemmas.{given_none}
+use Rattle.signed_stream.specs.Options.{commanded, wanted_of}
+use Rattle.signed_stream.specs.ProfileOptions.{profile_wanted}
+use Rattle.signed_stream.specs.ProfileTexts.{texts_of}
+use Rattle.signed_stream.specs.Sources.{DiskGives}
+use Rattle.signed_stream.specs.Status.{ending_of}
+use Rattle.signed_stream.proofs.RunLemmas.{bytes_no_memory, job_is_bad, job_was_read, texts_are_bad, texts_were_read}
+use Rattle.signed_stream.proofs.running.answer_bytes.Goals as goal
+
+pub returns-in-Ok-clause-planned : goal.returns-in-Ok-clause-planned
+returns-in-Ok-clause-planned g c =
+    rw c.in-Stream.is
+    (job_was_read (DiskGives g.D.Disk.answers g.D.Disk.faults (g.D.Disk.files c.args.disk.now) c.args.env.now c.args.disk.now c.stream_job.new.disk)
+    (λ taken. Gives g.C.Clock c.args.clock.now taken c.stream_job.new.clock) c.args.env.now (wanted_of c.in-Stream.words) c.args.bytes.now _ _ _ _ c.in-Ok.ensures c.stream_job.ensures.planned)
+
+pub returns-in-Stream-clause-planned : goal.returns-in-Stream-clause-planned
+returns-in-Stream-clause-planned g c =
+    bytes_no_memory (DiskGives g.D.Disk.answers g.D.Disk.faults (g.D.Disk.files c.args.disk.now) c.args.env.now c.args.disk.now c.args.disk.now) (λ places. tt)
+    (λ taken. Gives g.C.Clock c.args.clock.now taken c.args.clock.now) (given_none g.C.Clock c.args.clock.now) c.args.env.now (commanded c.args.command) c.args.bytes.now (g.K.ByteSink.held c.args.out.now)
+
+pub returns-in-Err-BadLine-clause-planned : goal.returns-in-Err-BadLine-clause-planned
+returns-in-Err-BadLine-clause-planned g c =
+    let read = rw c.in-Err-BadLine.field-0-is at c.in-Err-BadLine.ensures in
+    rw (c.in-Stream.is, c.in-Err-BadLine.field-0-is)
+    (job_is_bad (DiskGives g.D.Disk.answers g.D.Disk.faults (g.D.Disk.files c.args.disk.now) c.args.env.now c.args.disk.now c.args.disk.now) (λ places. tt)
+    (λ taken. Gives g.C.Clock c.args.clock.now taken c.args.clock.now) (given_none g.C.Clock c.args.clock.now) c.args.env.now (wanted_of c.in-Stream.words) c.args.bytes.now _ (g.K.ByteSink.held c.args.out.now) read)
+
+pub returns-in-Ok-read_profile_texts-clause-planned : goal.returns-in-Ok-read_profile_texts-clause-planned
+returns-in-Ok-read_profile_texts-clause-planned g c =
+    rw c.in-Settings.is
+    (texts_were_read (DiskGives g.D.Disk.answers g.D.Disk.faults (g.D.Disk.files c.args.disk.now) c.args.env.now c.args.disk.now c.show_settings.new.disk) (λ places. tt)
+    (λ taken. Gives g.C.Clock c.args.clock.now taken c.args.clock.now) (given_none g.C.Clock c.args.clock.now) c.args.env.now (profile_wanted c.in-Settings.options) c.args.bytes.now
+    (texts_of c.in-Ok-read_profile_texts.texts) _ _ _ c.in-Ok-read_profile_texts.ensures c.show_settings.ensures.planned)
+
+pub returns-in-Err-BadLine-read_profile_texts-clause-planned : goal.returns-in-Err-BadLine-read_profile_texts-clause-planned
+returns-in-Err-BadLine-read_profile_texts-clause-planned g c =
+    let read = rw c.in-Err-BadLine-read_profile_texts.field-0-is at c.in-Err-BadLine-read_profile_texts.ensures in
+    rw (c.in-Settings.is, c.in-Err-BadLine-read_profile_texts.field-0-is)
+    (texts_are_bad (DiskGives g.D.Disk.answers g.D.Disk.faults (g.D.Disk.files c.args.disk.now) c.args.env.now c.args.disk.now c.args.disk.now) (λ places. tt)
+    (λ taken. Gives g.C.Clock c.args.clock.now taken c.args.clock.now) (given_none g.C.Clock c.args.clock.now) c.args.env.now (profile_wanted c.in-Settings.options) c.args.bytes.now _ (g.K.ByteSink.held c.args.out.now) read)
+
+pub returns-clause-planned : goal.returns-clause-planned
+returns-clause-planned g c =
+    bytes_no_memory (DiskGives g.D.Disk.answers g.D.Disk.faults (g.D.Disk.files c.args.disk.now) c.args.env.now c.args.disk.now c.args.disk.now) (λ places. tt)
+    (λ taken. Gives g.C.Clock c.args.clock.now taken c.args.clock.now) (given_none g.C.Clock c.args.clock.now) c.args.env.now (commanded c.args.command) c.args.bytes.now (g.K.ByteSink.held c.args.out.now)

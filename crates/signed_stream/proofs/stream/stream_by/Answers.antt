@@ -1,0 +1,37 @@
+use Rattle.std.proofs.Common.{[], map}
+use Rattle.std.proofs.lemmas.Result.{err_from_is_err_and}
+use Rattle.std.specs.Prelude.{string_bytes}
+use Rattle.smithy_core.specs.Given.{Gives}
+use Rattle.smithy_core.proofs.GivenLemmas.{given_none}
+use Rattle.env_config.specs.Source.{file_of}
+use Rattle.signed_stream.specs.Options.{wanted_of}
+use Rattle.signed_stream.specs.Plan.{unread}
+use Rattle.signed_stream.specs.Streaming.{job_with, stream_plan}
+use Rattle.signed_stream.proofs.FitLemmas.{streams_take, words_go}
+use Rattle.signed_stream.proofs.RunLemmas.{goes_no_memory, no_moment}
+use Rattle.signed_stream.proofs.stream.stream_by.Goals as goal
+
+pub returns-in_err-options-clause-streams : goal.returns-in_err-options-clause-streams
+returns-in_err-options-clause-streams g c =
+    let exit = err_from_is_err_and c.from_residual.result c.from_residual.ensures.1 in
+    let plan = stream_plan (map file_of c.args.source.now.files.items) (string_bytes c.args.source.now.profile) c.args.env.now (wanted_of c.args.words) (job_with c.args.request.now c.args.events.now) unread [] in
+    rw (exit.1, exit.2) (record {
+      target = unread;
+      moments = [];
+      spelled = tt;
+      given = given_none g.C.Clock c.args.clock.now;
+      goes = goes_no_memory plan (g.K.ByteSink.held c.args.out.now);
+      needed = λ front t rest is. absurd (no_moment front t rest is);
+    })
+
+pub returns-in_err-sign_and_stream-clause-streams : goal.returns-in_err-sign_and_stream-clause-streams
+returns-in_err-sign_and_stream-clause-streams g c =
+    let exit = err_from_is_err_and c.from_residual-in_err-sign_and_stream.result c.from_residual-in_err-sign_and_stream.ensures.1 in
+    rw (exit.1, exit.2)
+    (words_go (λ taken. Gives g.C.Clock c.args.clock.now taken c.sign_and_stream.new.clock) (string_bytes c.args.request.now.target) (map file_of c.args.source.now.files.items) (string_bytes c.args.source.now.profile)
+    c.args.env.now c.args.words c.in_ok-options.options (job_with c.args.request.now c.args.events.now) _ _ _ c.in_ok-options.ensures (streams_take _ _ _ _ _ _ _ _ c.in_err-sign_and_stream.ensures.streams.streams))
+
+pub returns-clause-streams : goal.returns-clause-streams
+returns-clause-streams g c =
+    words_go (λ taken. Gives g.C.Clock c.args.clock.now taken c.sign_and_stream.new.clock) (string_bytes c.args.request.now.target) (map file_of c.args.source.now.files.items) (string_bytes c.args.source.now.profile)
+    c.args.env.now c.args.words c.in_ok-options.options (job_with c.args.request.now c.args.events.now) _ _ _ c.in_ok-options.ensures (streams_take _ _ _ _ _ _ _ _ c.in_ok-sign_and_stream.ensures.streams.streams)
