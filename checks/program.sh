@@ -142,6 +142,7 @@ head -c 67108864 /dev/zero > large
 ends 'an input of 67108864 bytes' 4 'bad line 1' settings < large
 rm large
 ends 'an empty job' 4 'bad line 1' stream --name a --at 0 < nothing
+ends 'an empty job at the moments of the clock' 4 'bad line 1' stream --name a < nothing
 ends 'a bad line after a missing file' 4 'bad line 1' settings --config none < job
 ends 'a folder as the input' 5 'read fault' settings < home
 ends 'no input' 5 'read fault' settings <&-
@@ -165,12 +166,22 @@ found=$? case='a line that has no room' status=7
 judge
 ends 'a command that is not built' 11 'not built 1' check --name a < nothing
 ends 'no name' 2 'bad word 3' stream --raw < nothing
-ends 'no moment' 11 'not built 4' stream --name a < nothing
 # The frames of a job are the same bytes, raw and as lines of hexadecimal.
 "$program" stream --name a --at 0 --config first < job | sed '1,/^$/d' | tr -d '\n' > frames.hex
 "$program" stream --name a --at 0 --config first --raw < job | od -An -v -tx1 | tr -d ' \n' > raw.hex
 if [ ! -s raw.hex ] || ! cmp -s frames.hex raw.hex; then
   echo 'raw frames: other bytes than the lines'
+  failed=1
+fi
+# Without a moment among the words the request has the clock's.
+begun=$(date +%s)
+"$program" stream --name a --config first < job | sed '/^$/q' > clock.head
+over=$(date +%s)
+digits='s/^x-amz-date: \(....\)\(..\)\(..\)T\(..\)\(..\)\(..\)Z$/\1-\2-\3 \4:\5:\6/p'
+moment=$(date -u -d "$(sed -n "$digits" clock.head)" +%s)
+"$program" stream --name a --at "$moment" --config first < job | sed '/^$/q' > fixed.head
+if [ "$moment" -lt "$begun" ] || [ "$moment" -gt "$over" ] || ! cmp -s clock.head fixed.head; then
+  echo 'no moment among the words: another head than at the moment of the clock'
   failed=1
 fi
 exit "$failed"

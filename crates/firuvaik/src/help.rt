@@ -5,15 +5,15 @@ ghost use Rattle.firuvaik.specs.Asked.{text_asked, text_for};
 const HELP: &str = "\
 firuvaik signs a request and streams its events as a chain of signed frames.
 
-usage: firuvaik stream --name NAME --at N [--raw] [--skew MILLISECONDS]
+usage: firuvaik stream --name NAME [--at N] [--raw] [--skew MILLISECONDS]
          [--omit-token] [--token-name NAME] [--query --expires SECONDS]
          [--sha256] [--unsigned] [--single-encode] [--no-normalize] PROFILE
          | firuvaik settings PROFILE | firuvaik --help | firuvaik --version
   PROFILE: [--service-id ID] [--config PATH] [--credentials PATH]
 
-The first NAME is the service's signing name, N the moment in seconds since
-1970-01-01T00:00:00Z. stream prints the signed head and frames, --raw the frames
-alone as bytes, settings what is selected. Input (settings: only TEXT lines):
+The first NAME is the service's signing name. N is the moment in seconds since
+1970-01-01T00:00:00Z, else the clock's. stream prints signed head and frames,
+--raw frames as bytes, settings what is selected. Input (settings: TEXT lines):
   method METHOD, target TARGET     once each
   header NAME: VALUE               any number
   body HEX                         at most once
