@@ -1,7 +1,7 @@
 //! What a run is given, from the words of its line: a line of the job each, but for those that begin with `@`.
 use crate::texts::with_repeats;
 use case_lines::bytes_of_hex;
-use smithy_core::{Env, FaultyDisk, Mem};
+use smithy_core::{Env, FaultyDisk, ListClock, Mem, Moment};
 use std::alloc::Global;
 
 // A job with one event is these three, one after another.
@@ -34,7 +34,9 @@ fn push_line(alloc: Global, input: &mut Vec<u8>, line: &str) -> Mem<()> {
     match line.split_once(' ').unwrap_or((line, "")) {
         ("@hex", digits) => push_digits(alloc, input, digits),
         ("@text", text) => input.extend_from_slice(text.as_bytes()),
-        ("@env" | "@file" | "@digits" | "@read" | "@disk" | "@out" | "@err", _) => Ok(()),
+        ("@env" | "@file" | "@digits" | "@read" | "@disk" | "@out" | "@err" | "@clock", _) => Ok(
+            (),
+        ),
         (word, _) => push_part(alloc, input, word, line),
     }
 }
@@ -103,4 +105,18 @@ pub fn fails_of(alloc: Global, lines: &[&str], object: &str) -> Mem<Vec<u64>> {
         }
     }
     Ok(fails)
+}
+
+/// The clock, which gives the moments of each `@clock SECONDS` in their order, or second 0 where there are none.
+pub fn clock_of(alloc: Global, lines: &[&str]) -> Mem<ListClock> {
+    let mut moments = Vec::new(alloc);
+    for line in lines {
+        if let Some(("@clock", secs)) = line.split_once(' ') {
+            moments.push(Moment::new(secs.parse().unwrap_or(0), 0))?;
+        }
+    }
+    if moments.is_empty() {
+        moments.push(Moment::new(0, 0))?;
+    }
+    Ok(ListClock::new(moments))
 }

@@ -20,6 +20,7 @@ mod requests;
 mod runs;
 mod settings;
 mod signatures;
+mod streams;
 mod texts;
 
 use case_lines::{Answers, run_cases};
@@ -71,6 +72,7 @@ fn signing_answer(alloc: Global, call: &str, words: &[&str]) -> Mem<String> {
         "fault" => faults::answer(alloc, words),
         "read_job" => job_texts::answer(alloc, words),
         "read_settings" => settings::answer(alloc, words),
+        "sign_and_stream" => streams::answer(alloc, words),
         _ => runs::answer(alloc, call, words),
     }
 }

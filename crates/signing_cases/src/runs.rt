@@ -1,11 +1,11 @@
-use crate::jobs::{disk_of, env_of, fails_of, input_of};
+use crate::jobs::{clock_of, disk_of, env_of, fails_of, input_of};
 use crate::texts::{bytes_on_one_line, unknown};
 use bytes::Bytes;
 use case_lines::bytes_of_hex;
 use eventstream::read_message_from;
 use mac_core::sha256_hex;
 use signed_stream::{Status, StreamFault, run};
-use smithy_core::{FaultySink, FaultySource, FixedClock, Mem, Moment};
+use smithy_core::{FaultySink, FaultySource, Mem};
 use std::alloc::Global;
 
 /// The answer of a run.
@@ -141,7 +141,7 @@ fn ended(
         &env,
         &mut input,
         &mut disk,
-        &mut FixedClock::new(Moment::new(0, 0)),
+        &mut clock_of(alloc, lines)?,
         out,
         err,
     ))
