@@ -138,13 +138,29 @@ fn chosen(
         push_value(&mut told, key, sections.get(key).unwrap_or("-"))?;
     }
     if let Some(id) = service {
-        let asked = EnvConfigValue::new().profile("region").service_id(id);
-        match asked.load(alloc, &Env::new(alloc), Some(sections))? {
-            Some((value, _)) => push_value(&mut told, "region", value.as_str())?,
+        let env = Env::new(alloc);
+        match region_of(alloc, sections, &env, id)? {
+            Some(region) => push_value(&mut told, "region", region.as_str())?,
             None => push_value(&mut told, "region", "-")?,
         }
     }
     Ok(told)
+}
+
+fn region_of(
+    alloc: Global,
+    sections: &EnvConfigSections,
+    env: &Env,
+    id: &str,
+) -> Mem<Option<String>> {
+    match asked_region(id).load(alloc, env, Some(sections))? {
+        Some((region, _)) => Ok(Some(region)),
+        None => Ok(None),
+    }
+}
+
+fn asked_region(id: &str) -> EnvConfigValue<'_> {
+    EnvConfigValue::new().profile("region").service_id(id)
 }
 
 fn push_value(told: &mut String, key: &str, value: &str) -> Mem<()> {
