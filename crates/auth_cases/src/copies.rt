@@ -1,13 +1,12 @@
 //! Copies, each compared with what it was made of: by `==` where there is one, and else by what both show.
 use crate::faults::error_of;
 use crate::inputs::{config_of, options_of, override_of};
-use crate::parts::unknown;
 use crate::signing::sign_anew;
 use aws_auth::{
     OverrideError, SigV4MessageSigner, SigV4OperationSigningConfig, SigV4SessionTokenNameOverride,
     SigV4SigningError, Signed,
 };
-use case_lines::shown;
+use case_lines::{shown, unknown};
 use sigv4::SigningSettings;
 use smithy_core::Mem;
 use std::alloc::Global;

@@ -1,10 +1,10 @@
 //! What options, configs, the scheme and overrides are.
 use crate::inputs::override_of;
-use crate::parts::unknown;
 use aws_auth::{
     PayloadSigningOverrideRuntimePlugin, SCHEME_ID, SigV4AuthScheme, SigV4OperationSigningConfig,
     SigningOptions,
 };
+use case_lines::unknown;
 use smithy_core::Mem;
 use std::alloc::Global;
 

@@ -1,6 +1,6 @@
 //! What faults print, each by its type and its name.
-use crate::parts::unknown;
 use aws_auth::{EndpointField, OverrideError, SigV4SigningError};
+use case_lines::unknown;
 use sigv4::SigningError;
 use smithy_core::{Mem, Moment};
 use std::alloc::Global;

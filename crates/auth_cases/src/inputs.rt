@@ -1,10 +1,10 @@
 //! What a request is signed by: its config, the endpoint's fields, and what the inputs have of their own.
-use crate::parts::{has_part, part, part_text};
+use crate::parts::part_text;
 use aws_auth::{
     HttpSignatureType, PayloadSigningOverride, SigV4OperationSigningConfig, SigningInputs,
     SigningOptions,
 };
-use case_lines::number;
+use case_lines::{has_part, number, part};
 use smithy_core::{Document, Mem, Region, SigningName};
 use std::alloc::Global;
 

@@ -1,9 +1,8 @@
 //! Signing keys that are kept for their day, and the signers of messages that keep them.
-use crate::parts::{has_part, part, unknown};
 use crate::requests::identity_of;
 use aws_auth::{KeptKey, SigV4MessageSigner};
 use bytes::Bytes;
-use case_lines::number;
+use case_lines::{has_part, number, part, unknown};
 use eventstream::{SignMessage, SignMessageError};
 use smithy_core::{
     Header, HeaderValue, Mem, Message, Moment, Region, SigningName, StrBytes, civil,

@@ -10,7 +10,7 @@ mod parts;
 mod requests;
 mod signing;
 
-use case_lines::{Answers, run_cases};
+use case_lines::{Answers, run_cases, unknown};
 use smithy_core::Mem;
 use std::alloc::Global;
 use std::io;
@@ -27,7 +27,7 @@ impl Answers for Calls {
     fn answer(&self, alloc: Global, words: &[&str]) -> Mem<String> {
         match words {
             [call, rest @ ..] => answer(alloc, call, rest),
-            [] => parts::unknown(alloc),
+            [] => unknown(alloc),
         }
     }
 }

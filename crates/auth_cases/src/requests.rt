@@ -1,6 +1,7 @@
 //! The request and who signs it.
-use crate::parts::{has_part, part, part_text};
+use crate::parts::part_text;
 use bytes::Bytes;
+use case_lines::{has_part, part};
 use smithy_core::{Credentials, HttpRequest, Identity, Mem};
 use std::alloc::Global;
 

@@ -1,12 +1,12 @@
 //! Signs requests.
 use crate::inputs::Given;
-use crate::parts::{has_part, part, part_text};
+use crate::parts::part_text;
 use crate::requests::{identity_of, request_of, request_told};
 use aws_auth::{
     OverrideError, SigV4AuthScheme, SigV4OperationSigningConfig, SigV4SessionTokenNameOverride,
     SigV4SigningError, Signed,
 };
-use case_lines::{number, shown};
+use case_lines::{has_part, number, part, shown};
 use sigv4::SigningSettings;
 use smithy_core::{HttpRequest, Identity, Mem, Moment};
 use std::alloc::Global;

@@ -5,11 +5,14 @@
 //! on standard error, and the program then ends with status 1. In a word, `%XX` stands for a byte.
 //!
 //! It promises what a line's case, words and wanted answer are ([`case_of`], [`words_of`]), and what words write. What a
-//! case shows is what the compared answers are.
+//! case shows is what the compared answers are. The texts that programs make of words and answers promise nothing: the
+//! cases show them.
 #![tactic(auto)]
 
 mod run;
+mod texts;
 mod words;
 
 pub use crate::run::{Answers, run_cases};
+pub use crate::texts::{compared, halves, has_part, on_one_line, part, unknown, with_repeats};
 pub use crate::words::{bytes_of_hex, case_of, number, shown, words_of};

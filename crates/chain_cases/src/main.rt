@@ -1,7 +1,7 @@
 //! Answers cases on the checking of chains of signed frames: `stdin` says what each line means.
 #![tactic(auto)]
 
-use case_lines::{Answers, bytes_of_hex, run_cases};
+use case_lines::{Answers, bytes_of_hex, run_cases, unknown};
 use chain_check::{ChainFault, check_chain};
 use eventstream::write_message_to;
 use smithy_core::{Mem, Message};
@@ -20,7 +20,7 @@ impl Answers for Calls {
     fn answer(&self, alloc: Global, words: &[&str]) -> Mem<String> {
         match words {
             ["chain", seed, secret, name, frames] => checked(alloc, seed, secret, name, frames),
-            _ => String::from_str(alloc, "unknown"),
+            _ => unknown(alloc),
         }
     }
 }

@@ -1,8 +1,9 @@
 use crate::metadata::{api_of, build_of};
 use crate::metrics::metric_named;
 use crate::parts::{additional_of, app_of, config_of, feature_of, framework_of};
-use crate::texts::{env_of, split, unknown};
+use crate::texts::env_of;
 use aws_intercept::AwsUserAgent;
+use case_lines::{halves, unknown};
 use smithy_core::{Env, Mem};
 use std::alloc::Global;
 
@@ -64,7 +65,7 @@ fn told(alloc: Global, agent: &AwsUserAgent) -> Mem<String> {
 
 // The agent for tests, or the one of the build that tells `build MORE`, or of the build in an environment.
 pub fn agent_of(alloc: Global, base: &str) -> Mem<AwsUserAgent> {
-    match split(base) {
+    match halves(base) {
         ("build", more) => built(alloc, more),
         ("tests", _) => AwsUserAgent::for_tests(alloc),
         _ => in_environment(alloc, &env_of(alloc, base)?),
@@ -97,7 +98,7 @@ fn with_parts(alloc: Global, agent: AwsUserAgent, parts: &[&str]) -> Mem<AwsUser
 
 // The agent with the part `KIND VALUE`, where that is one.
 fn with_part(alloc: Global, agent: AwsUserAgent, part: &str) -> Mem<AwsUserAgent> {
-    match split(part) {
+    match halves(part) {
         ("metric", value) => with_metric(alloc, agent, value),
         ("framework", value) => with_framework(alloc, agent, value),
         ("value", value) => with_value(alloc, agent, value),
@@ -159,7 +160,7 @@ fn with_app(alloc: Global, agent: AwsUserAgent, word: &str) -> AwsUserAgent {
 
 // Adds the part `KIND VALUE`, where that is one.
 fn add_part(alloc: Global, agent: &mut AwsUserAgent, part: &str) -> Mem<()> {
-    match split(part) {
+    match halves(part) {
         ("metric", value) => add_metric(alloc, agent, value),
         ("framework", value) => add_framework(alloc, agent, value),
         ("value", value) => add_value(alloc, agent, value),

@@ -2,9 +2,9 @@ use crate::agents::agent_of;
 use crate::metadata::api_of;
 use crate::metrics::{aws_named, credentials_named, smithy_named};
 use crate::parts::{app_of, framework_of};
-use crate::texts::{split, text};
+use crate::texts::text;
 use aws_intercept::{ApiMetadata, ConfigBag, DisableClockSkewCorrection, InvocationId};
-use case_lines::number;
+use case_lines::{halves, number};
 use smithy_core::{DateTime, Mem, Moment, RetryConfig, TimeoutConfig};
 use std::alloc::Global;
 
@@ -17,7 +17,7 @@ pub fn fill(alloc: Global, bag: &mut ConfigBag, entries: &[&str]) -> Mem<()> {
 }
 
 pub fn put(alloc: Global, bag: &mut ConfigBag, entry: &str) -> Mem<()> {
-    let (kind, value) = split(entry);
+    let (kind, value) = halves(entry);
     match kind {
         "retry" => bag.retry = Some(retry_of(value)),
         "timeout" => bag.timeout = Some(timeout_of(value)),

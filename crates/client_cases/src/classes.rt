@@ -1,9 +1,10 @@
 use crate::headers::response_of;
-use crate::texts::{given_text, text, unknown};
+use crate::texts::{given_text, text};
 use aws_intercept::{
     AwsErrorCodeClassifier, RetryAction, RetryKind, ServiceClockSkewClassifier, THROTTLING_ERRORS,
     TRANSIENT_ERRORS,
 };
+use case_lines::unknown;
 use smithy_core::{ErrorMetadata, Headers, HttpResponse, Mem};
 use std::alloc::Global;
 

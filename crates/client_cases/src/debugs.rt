@@ -2,7 +2,8 @@
 use crate::files::{file_of, sections_of};
 use crate::loading::stepped;
 use crate::profiles::fault_told;
-use crate::texts::{text, unknown};
+use crate::texts::text;
+use case_lines::unknown;
 use env_config::{EnvConfigFiles, EnvConfigSections, Property};
 use smithy_core::Mem;
 use std::alloc::Global;

@@ -1,6 +1,7 @@
 use crate::files::sections_of;
-use crate::texts::{text, unknown, visible};
+use crate::texts::{text, visible};
 use aws_intercept::{IdFault, InvalidInvocationId, InvalidMetadataValue, UserAgentFault};
+use case_lines::unknown;
 use env_config::{
     BuildFault, CouldNotReadConfigFile, EnvConfigFileLoadError, EnvConfigParseError, ParseFault,
     ValidateFault,

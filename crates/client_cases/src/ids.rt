@@ -1,11 +1,11 @@
 use crate::sending::id_told;
-use crate::texts::{text, unknown, visible};
+use crate::texts::{text, visible};
 use aws_intercept::{
     ConfigBag, DefaultInvocationIdGenerator, IdFault, InvalidInvocationId, InvocationId,
     InvocationIdGenerator, InvocationIdInterceptor, NoInvocationIdGenerator,
     PredefinedInvocationIdGenerator,
 };
-use case_lines::shown;
+use case_lines::{shown, unknown};
 use rand_pcg::Pcg32;
 use smithy_core::Mem;
 use std::alloc::Global;

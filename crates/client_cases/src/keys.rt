@@ -1,4 +1,5 @@
-use crate::texts::{given_text, unknown};
+use crate::texts::given_text;
+use case_lines::unknown;
 use env_config::{PropertiesKey, PropertiesKeyBuilder, PropertiesKeyFault};
 use smithy_core::Mem;
 use std::alloc::{AllocError, Global};

@@ -1,7 +1,7 @@
 use crate::files::kind_of;
 use crate::profiles::source_told;
-use crate::texts::{env_of, text, unknown};
-use case_lines::bytes_of_hex;
+use crate::texts::{env_of, text};
+use case_lines::{bytes_of_hex, unknown};
 use env_config::{BuildFault, Builder, EnvConfigFileLoadError, EnvConfigFiles, load};
 use smithy_core::{CalmDisk, Disk, FaultyDisk, Mem};
 use std::alloc::Global;

@@ -25,7 +25,7 @@ mod texts;
 mod traces;
 mod values;
 
-use case_lines::{Answers, run_cases};
+use case_lines::{Answers, run_cases, unknown};
 use std::alloc::{AllocError, Global};
 use std::io;
 use std::process::ExitCode;
@@ -41,7 +41,7 @@ impl Answers for Clients {
     fn answer(&self, alloc: Global, words: &[&str]) -> Result<String, AllocError> {
         match words {
             [subject, call, words @ ..] => answer(alloc, subject, call, words),
-            _ => texts::unknown(alloc),
+            _ => unknown(alloc),
         }
     }
 }
@@ -74,6 +74,6 @@ fn client_answer(
         "traces" => traces::answer(alloc, call, words),
         "skews" => skews::answer(alloc, call, words),
         "classes" => classes::answer(alloc, call, words),
-        _ => texts::unknown(alloc),
+        _ => unknown(alloc),
     }
 }

@@ -1,10 +1,10 @@
 use crate::parts::{PartFault, additional_of, app_of, config_of, feature_of, framework_of};
-use crate::texts::{text, unknown};
+use crate::texts::text;
 use aws_intercept::{
     AdditionalMetadata, ApiMetadata, BuildMetadata, ConfigMetadata, FeatureMetadata,
     FrameworkMetadata, OsFamily,
 };
-use case_lines::shown;
+use case_lines::{shown, unknown};
 use smithy_core::Mem;
 use std::alloc::Global;
 

@@ -1,7 +1,8 @@
-use crate::texts::{split, text, unknown};
+use crate::texts::text;
 use aws_intercept::{
     AwsCredentialFeature, AwsSdkFeature, AwsUserAgent, BusinessMetric, SmithySdkFeature,
 };
+use case_lines::{halves, unknown};
 use smithy_core::Mem;
 use std::alloc::Global;
 use std::fmt::Debug;
@@ -73,7 +74,7 @@ fn with_counts(alloc: Global, agent: AwsUserAgent, counts: &[&str]) -> Mem<AwsUs
 
 // The agent with so many of the metric.
 fn with_count(alloc: Global, agent: AwsUserAgent, count: &str) -> Mem<AwsUserAgent> {
-    let (count, name) = split(count);
+    let (count, name) = halves(count);
     match metric_named(alloc, name) {
         Ok(Some(metric)) => repeated(agent, metric, count.parse().unwrap_or(0)),
         _ => Ok(agent),

@@ -1,7 +1,8 @@
 use crate::files::{file_of, push_file, sections_of, source_of};
 use crate::keys::key_of;
 use crate::sections::{insert_property, property_of, push_profile, push_rest, push_sections};
-use crate::texts::{given, push_visible, text, unknown, word_of};
+use crate::texts::{given, push_visible, text, word_of};
+use case_lines::unknown;
 use env_config::{
     EnvConfigParseError, EnvConfigSections, EnvConfigValue, ParseFault, Profile, Properties,
     PropertiesKey, Property, Source, SsoSession,

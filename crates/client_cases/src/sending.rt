@@ -1,12 +1,12 @@
 use crate::bags::{fill, moment_of};
 use crate::headers::{headers_told, request_of};
 use crate::metadata::build_of;
-use crate::texts::{text, unknown};
+use crate::texts::text;
 use aws_intercept::{
     ConfigBag, InvocationIdInterceptor, RequestInfoInterceptor, UserAgentFault,
     UserAgentInterceptor,
 };
-use case_lines::shown;
+use case_lines::{shown, unknown};
 use smithy_core::{Env, Mem};
 use std::alloc::Global;
 

@@ -1,7 +1,8 @@
 use crate::bags::{moment_of, put};
 use crate::headers::response_of;
-use crate::texts::{given, unknown};
+use crate::texts::given;
 use aws_intercept::{ConfigBag, ServiceClockSkewInterceptor};
+use case_lines::unknown;
 use smithy_core::{HttpResponse, Mem};
 use std::alloc::Global;
 use std::fmt;

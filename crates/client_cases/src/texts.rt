@@ -2,18 +2,8 @@ use percent_encoding::{CONTROLS, utf8_percent_encode};
 use smithy_core::{Env, Mem};
 use std::alloc::Global;
 
-// What answers a line whose words name no call.
-pub fn unknown(alloc: Global) -> Mem<String> {
-    text(alloc, "no such call")
-}
-
 pub fn text(alloc: Global, text: &str) -> Mem<String> {
     String::from_str(alloc, text)
-}
-
-// The parts before and after the first blank.
-pub fn split(word: &str) -> (&str, &str) {
-    word.split_once(' ').unwrap_or((word, ""))
 }
 
 // What a word gives, `-` for nothing.

@@ -1,6 +1,7 @@
 use crate::headers::{headers_told, request_of};
-use crate::texts::{given, unknown};
+use crate::texts::given;
 use aws_intercept::{ConfigBag, RecursionDetectionInterceptor};
+use case_lines::unknown;
 use smithy_core::{Env, HttpRequest, Mem};
 use std::alloc::Global;
 

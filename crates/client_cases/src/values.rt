@@ -1,6 +1,7 @@
 use crate::files::sections_of;
 use crate::profiles::fault_told;
-use crate::texts::{env_of, given, text, unknown};
+use crate::texts::{env_of, given, text};
+use case_lines::unknown;
 use env_config::{
     EnvConfigError, EnvConfigSections, EnvConfigSource, EnvConfigValue, Origin, Os,
     ServiceConfigKey, ValidateFault, get_service_env_config, home_dir,

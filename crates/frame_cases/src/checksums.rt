@@ -1,5 +1,6 @@
-use crate::shown::{digits, push_given, unknown};
+use crate::shown::{digits, push_given};
 use crate::words::bytes_of;
+use case_lines::unknown;
 use mac_core::{Crc, HmacSha256, crc32, hmac_sha256, sha256_hex};
 use std::alloc::{AllocError, Global};
 

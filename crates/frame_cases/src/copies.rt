@@ -1,8 +1,9 @@
 use crate::outside::{
     Outside, answers_of, faulty_disk_of, faulty_source_of, files_of, given, moments_of,
 };
-use crate::shown::{push_answer, unknown};
+use crate::shown::push_answer;
 use crate::words::{bytes_of, numbers_of, size_of};
+use case_lines::unknown;
 use smithy_core::{CalmDisk, CalmSink, CalmSource, FaultySink, ListClock, Mem};
 use std::alloc::Global;
 

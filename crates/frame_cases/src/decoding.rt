@@ -2,8 +2,9 @@ ghost use Rattle.std.specs.Prelude.{◌<◌};
 
 use crate::segments::{left, push};
 use crate::shown::{digits, message, push_given};
-use crate::words::{bytes_of, parts, shared};
+use crate::words::{bytes_of, shared};
 use bytes::Bytes;
+use case_lines::halves;
 use eventstream::{DecodedFrame, Error, MessageFrameDecoder};
 use seg_buf::SegBuf;
 use smithy_core::{Mem, Message};
@@ -41,7 +42,7 @@ fn new_stream(alloc: Global) -> Stream {
 }
 
 fn after(alloc: Global, stream: &mut Stream, step: &str) -> Mem<String> {
-    match parts(step) {
+    match halves(step) {
         ("push", bytes) => push(alloc, &mut stream.buffer, shared(alloc, bytes)?),
         ("push_each", bytes) => push_each(alloc, stream, bytes_of(alloc, bytes)?.as_slice()),
         (step, _) => after_bare(alloc, stream, step),

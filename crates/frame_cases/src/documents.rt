@@ -1,5 +1,5 @@
-use crate::shown::{push_given, unknown};
-use crate::words::parts;
+use crate::shown::push_given;
+use case_lines::{halves, unknown};
 use smithy_core::{Document, Mem};
 use std::alloc::Global;
 
@@ -53,7 +53,7 @@ fn member(alloc: Global, name: &str, value: Mem<Document>) -> Mem<(String, Docum
 fn object_of(alloc: Global, words: &[&str]) -> Mem<Document> {
     let mut members = Vec::new(alloc);
     for word in words {
-        let (name, value) = parts(word);
+        let (name, value) = halves(word);
         members.push(member(alloc, name, document_of(alloc, value))?)?;
     }
     Ok(Document::Object(members))

@@ -1,5 +1,5 @@
-use crate::shown::unknown;
-use crate::words::{moment_of, parts};
+use crate::words::moment_of;
+use case_lines::{halves, unknown};
 use eventstream::{Error, ErrorKind};
 use smithy_core::Mem;
 use std::alloc::{AllocError, Global};
@@ -19,7 +19,7 @@ fn copied(alloc: Global, error: &Error) -> Mem<String> {
 }
 
 fn error_of(alloc: Global, word: &str) -> Mem<Error> {
-    match parts(word) {
+    match halves(word) {
         ("marshalling", text) => Ok(Error::marshalling(String::from_str(alloc, text)?)),
         ("unmarshalling", text) => Ok(Error::unmarshalling(String::from_str(alloc, text)?)),
         ("AllocError", _) => Ok(Error::from(AllocError)),
@@ -49,7 +49,7 @@ fn kind_of(alloc: Global, name: &str, word: &str) -> Mem<ErrorKind> {
 
 // The kinds that tell something.
 fn telling_kind(alloc: Global, name: &str, word: &str) -> Mem<ErrorKind> {
-    let (computed, carried) = parts(word);
+    let (computed, carried) = halves(word);
     Ok(match name {
         "InvalidHeaderValueType" => ErrorKind::InvalidHeaderValueType(word.parse().unwrap_or(0)),
         "MessageChecksumMismatch" => {

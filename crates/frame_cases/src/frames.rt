@@ -1,6 +1,7 @@
-use crate::shown::{digits, message, quoted, unknown};
+use crate::shown::{digits, message, quoted};
 use crate::words::{bytes_of, headers_of, message_of, shared};
 use bytes::Bytes;
+use case_lines::unknown;
 use eventstream::{
     Error, MessageSizeHint, frame_of, read_message_from, write_headers_to, write_message_to,
 };

@@ -1,9 +1,9 @@
 ghost use Rattle.std.specs.Prelude.{◌≤◌, length, IfOk};
 
 use crate::outside::read_paths;
-use crate::shown::{quoted, truth, unknown};
+use crate::shown::{quoted, truth};
 use crate::words::{bytes_of, size_of};
-use case_lines::number;
+use case_lines::{number, unknown};
 use smithy_core::{Clock, Disk, Env, HostDisk, Mem, SystemClock};
 use std::alloc::Global;
 use std::env::FillError;

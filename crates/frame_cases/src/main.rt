@@ -32,8 +32,7 @@ mod texts;
 mod values;
 mod words;
 
-use crate::shown::unknown;
-use case_lines::{Answers, run_cases};
+use case_lines::{Answers, run_cases, unknown};
 use std::alloc::{AllocError, Global};
 use std::process::ExitCode;
 use std::rt::Runtime;

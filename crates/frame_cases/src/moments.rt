@@ -1,6 +1,6 @@
 use crate::shown;
 use crate::words::moment_of;
-use case_lines::number;
+use case_lines::{number, unknown};
 use smithy_core::{DateTime, Format, civil};
 use std::alloc::{AllocError, Global};
 
@@ -8,7 +8,7 @@ pub fn answer(alloc: Global, call: &[&str]) -> Result<String, AllocError> {
     match call {
         ["from_millis", millis] => shown::moment(alloc, DateTime::from_millis(number(millis))),
         [call, moment] => of_moment(alloc, call, moment_of(moment)),
-        _ => shown::unknown(alloc),
+        _ => unknown(alloc),
     }
 }
 
@@ -21,7 +21,7 @@ fn of_moment(alloc: Global, call: &str, moment: DateTime) -> Result<String, Allo
         "date_time" => text(alloc, moment, Format::DateTime),
         "http_date" => text(alloc, moment, Format::HttpDate),
         "epoch_seconds" => text(alloc, moment, Format::EpochSeconds),
-        _ => shown::unknown(alloc),
+        _ => unknown(alloc),
     }
 }
 

@@ -1,5 +1,6 @@
-use crate::shown::{moment, nothing, push_given, quoted, told, unknown};
-use crate::words::{bytes_of, moment_of, numbers_of, parts, size_of};
+use crate::shown::{moment, nothing, push_given, quoted, told};
+use crate::words::{bytes_of, moment_of, numbers_of, size_of};
+use case_lines::{halves, unknown};
 use smithy_core::{
     ByteSink, ByteSource, CalmDisk, CalmSink, CalmSource, Clock, DateTime, Disk, FaultyDisk,
     FaultySink, FaultySource, FixedClock, ListClock, Mem, StdSink, StdSource, read_all, write_all,
@@ -210,7 +211,7 @@ fn reads<S: ByteSource>(alloc: Global, source: &mut S, steps: &[&str]) -> Mem<St
 }
 
 fn read_by<S: ByteSource>(alloc: Global, source: &mut S, step: &str) -> Mem<String> {
-    match parts(step) {
+    match halves(step) {
         ("all", limit) => read_whole(alloc, source, size_of(limit)),
         ("into", content) => read_into(alloc, source, content),
         (_, room) => read_once(alloc, source, size_of(room)),
@@ -272,7 +273,7 @@ fn writes<K: ByteSink>(alloc: Global, sink: &mut K, steps: &[&str]) -> Mem<Strin
 }
 
 fn write_by<K: ByteSink>(alloc: Global, sink: &mut K, step: &str) -> Mem<String> {
-    match parts(step) {
+    match halves(step) {
         ("all", piece) => write_whole(alloc, sink, piece),
         (_, piece) => write_once(alloc, sink, piece),
     }
@@ -300,7 +301,7 @@ pub fn files_of(alloc: Global, word: &str) -> Mem<Vec<(String, Vec<u8>)>> {
 }
 
 fn file_of(alloc: Global, word: &str) -> Mem<(String, Vec<u8>)> {
-    let (path, bytes) = parts(word);
+    let (path, bytes) = halves(word);
     let bytes = bytes_of(alloc, bytes)?;
     Ok((String::from_str(alloc, path)?, bytes))
 }

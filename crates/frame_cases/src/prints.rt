@@ -1,4 +1,4 @@
-use crate::shown::unknown;
+use case_lines::unknown;
 use smithy_core::{
     DiskError, Failed, FormatFault, InvalidAppName, Mem, ReadFault, SdkError, SinkError,
     TimeOutOfRange,

@@ -1,6 +1,7 @@
-use crate::shown::{nothing, push_answer, push_given, quoted, truth, unknown};
+use crate::shown::{nothing, push_answer, push_given, quoted, truth};
 use crate::texts::unless_empty;
-use crate::words::{moment_of, parts, shared};
+use crate::words::{moment_of, shared};
+use case_lines::{halves, unknown};
 use smithy_core::{
     Credentials, Headers, HttpRequest, HttpResponse, Identity, Mem, Moment, RetryConfig,
 };
@@ -47,7 +48,7 @@ fn headers(alloc: Global, steps: &[&str]) -> Mem<String> {
 }
 
 fn after(alloc: Global, headers: &mut Headers, step: &str) -> Mem<String> {
-    let (step, word) = parts(step);
+    let (step, word) = halves(step);
     match step {
         "insert" | "append" => put_in(alloc, headers, step, word),
         "len" => format!(in alloc; "{}", headers.len()),
@@ -76,7 +77,7 @@ fn put_in(alloc: Global, headers: &mut Headers, step: &str, pair: &str) -> Mem<S
 
 // Adds a pair, in the place of its name or at the end.
 fn put(headers: &mut Headers, step: &str, pair: &str) -> Mem<()> {
-    let (name, value) = parts(pair);
+    let (name, value) = halves(pair);
     match step {
         "insert" => headers.insert(name, value),
         _ => headers.append(name, value),
@@ -117,7 +118,7 @@ fn push_pair(answers: &mut String, name: &str, value: &str) -> Mem<()> {
 fn collected(alloc: Global, words: &[&str]) -> Mem<String> {
     let mut given: Vec<(&str, &str)> = Vec::new(alloc);
     for word in words {
-        given.push(parts(word))?;
+        given.push(halves(word))?;
     }
     let headers: Headers = given.into_iter().collect(alloc)?;
     pairs(alloc, &headers)
@@ -125,7 +126,7 @@ fn collected(alloc: Global, words: &[&str]) -> Mem<String> {
 
 fn put_all(headers: &mut Headers, steps: &[&str]) -> Mem<()> {
     for step in steps {
-        let (step, pair) = parts(step);
+        let (step, pair) = halves(step);
         put(headers, step, pair)?;
     }
     Ok(())

@@ -1,5 +1,6 @@
-use crate::shown::{digits, moment, unknown};
+use crate::shown::{digits, moment};
 use crate::words::{header_of, message_of};
+use case_lines::unknown;
 use eventstream::{
     Error, ResponseHeaders, expect_bool, expect_byte, expect_byte_array, expect_int16,
     expect_int32, expect_int64, expect_string, expect_timestamp, parse_response_headers,

@@ -1,6 +1,7 @@
 use crate::shown::{digits, nothing, push_given};
-use crate::words::{parts, shared, size_of};
+use crate::words::{shared, size_of};
 use bytes::Bytes;
+use case_lines::halves;
 use seg_buf::SegBuf;
 use std::alloc::{AllocError, Global};
 
@@ -15,7 +16,7 @@ pub fn answer(alloc: Global, steps: &[&str]) -> Result<String, AllocError> {
 }
 
 fn after(alloc: Global, buffer: &mut SegBuf, step: &str) -> Result<String, AllocError> {
-    let (step, word) = parts(step);
+    let (step, word) = halves(step);
     match step {
         "push" => push(alloc, buffer, shared(alloc, word)?),
         "push_slice" => push_slice(alloc, buffer, shared(alloc, word)?.as_slice()),

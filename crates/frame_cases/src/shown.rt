@@ -112,11 +112,6 @@ pub fn push_given(
     push_answer(answers, answer?.as_str())
 }
 
-// The answer to words that are no call.
-pub fn unknown(alloc: Global) -> Result<String, AllocError> {
-    String::from_str(alloc, "no such call")
-}
-
 pub fn truth(alloc: Global, holds: bool) -> Result<String, AllocError> {
     format!(in alloc; "{holds}")
 }

@@ -2,9 +2,10 @@ ghost use Rattle.std.specs.Prelude.{◌≤◌, length, IfOk};
 ghost use Rattle.smithy_core.specs.FrameSource.{AreShort};
 
 use crate::requests::pairs;
-use crate::shown::{push_given, quoted, told, unknown};
-use crate::words::{numbers_of, parts, shared, size_of};
+use crate::shown::{push_given, quoted, told};
+use crate::words::{numbers_of, shared, size_of};
 use bytes::Bytes;
+use case_lines::{halves, unknown};
 use smithy_core::{CalmFrames, FaultyFrames, FramePart, FrameSource, Headers, Mem, Polled};
 use std::alloc::Global;
 
@@ -161,14 +162,14 @@ fn answer_of(alloc: Global, word: &str) -> Mem<Polled> {
 }
 
 fn frame_of(alloc: Global, word: &str) -> Mem<FramePart> {
-    match parts(word) {
+    match halves(word) {
         ("trailers", pair) => Ok(FramePart::Trailers(trailers_of(alloc, pair)?)),
         (_, data) => Ok(FramePart::Data(shared(alloc, data)?)),
     }
 }
 
 fn trailers_of(alloc: Global, pair: &str) -> Mem<Headers> {
-    let (name, value) = parts(pair);
+    let (name, value) = halves(pair);
     let mut trailers = Headers::new(alloc);
     trailers.append(name, value)?;
     Ok(trailers)

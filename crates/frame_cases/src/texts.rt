@@ -1,5 +1,6 @@
-use crate::shown::{digits, header, message, quoted, told, truth, unknown};
+use crate::shown::{digits, header, message, quoted, told, truth};
 use crate::words::{bytes_of, header_of, message_of, shared, text_of};
+use case_lines::unknown;
 use smithy_core::{
     AppName, Blob, Env, ErrorMetadata, Header, Mem, Message, RawMessage, Region, SigningName,
     StrBytes, is_header_name, is_header_value, is_lower_of, push_line,

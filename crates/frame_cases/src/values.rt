@@ -1,5 +1,6 @@
-use crate::shown::{digits, moment, told, unknown, value};
+use crate::shown::{digits, moment, told, value};
 use crate::words::header_of;
+use case_lines::unknown;
 use smithy_core::{Header, HeaderValue, Mem, StrBytes};
 use std::alloc::Global;
 use std::fmt::Display;

@@ -1,5 +1,5 @@
 use bytes::Bytes;
-use case_lines::{bytes_of_hex, number};
+use case_lines::{bytes_of_hex, halves, number};
 use smithy_core::{DateTime, Header, HeaderValue, Message, StrBytes};
 use std::alloc::{AllocError, Global};
 
@@ -59,13 +59,8 @@ fn shared_text(alloc: Global, word: &str) -> Result<StrBytes, AllocError> {
     StrBytes::copy_from_str(alloc, text_of(alloc, word)?.as_str())
 }
 
-// The parts before and after the first space.
-pub fn parts(word: &str) -> (&str, &str) {
-    word.split_once(' ').unwrap_or((word, ""))
-}
-
 pub fn moment_of(word: &str) -> DateTime {
-    let (secs, nanos) = parts(word);
+    let (secs, nanos) = halves(word);
     let nanos: u32 = nanos.parse().unwrap_or(0);
     DateTime::new(number(secs), nanos.min(999_999_999))
 }
@@ -86,8 +81,8 @@ pub fn numbers_of(alloc: Global, word: &str) -> Result<Vec<u64>, AllocError> {
 }
 
 pub fn header_of(alloc: Global, word: &str) -> Result<Header, AllocError> {
-    let (name, value) = parts(word);
-    let (kind, value) = parts(value);
+    let (name, value) = halves(word);
+    let (kind, value) = halves(value);
     let value = value_of(alloc, kind, value)?;
     Ok(Header::new(shared_text(alloc, name)?, value))
 }

@@ -1,9 +1,9 @@
 //! Polls adapters.
 use crate::events::{WaitingEvents, first_item, given, initial_items_of, items_of};
 use crate::marshalling::Telling;
-use crate::parts::{count, part, push, unknown};
+use crate::parts::{count, push};
 use crate::signers::{LastSignature, MarkSigner, bearer, sigv4};
-use case_lines::number;
+use case_lines::{number, part, unknown};
 use event_io::{
     AdapterFault, EventOrInitialMarshaller, EventSource, EventStreamSender, MessageStreamAdapter,
     Next,

@@ -1,6 +1,5 @@
 //! Faults and errors, each by its name.
-use crate::parts::{halves, unknown};
-use case_lines::number;
+use case_lines::{halves, number, unknown};
 use event_io::{AdapterFault, MessageStreamError};
 use eventstream::{Error, ErrorKind, SignMessageError};
 use smithy_core::{ErrorMetadata, Mem, Moment, RawMessage, SdkError};

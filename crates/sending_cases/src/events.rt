@@ -1,7 +1,8 @@
 ghost use Rattle.std.specs.Prelude.{◌≡◌, [], None};
 
 use crate::marshalling::event_or_initial;
-use crate::parts::{halves, push};
+use crate::parts::push;
+use case_lines::halves;
 use event_io::{EventOrInitial, EventPolled, EventSource, ListEvents};
 use smithy_core::Mem;
 use std::alloc::Global;

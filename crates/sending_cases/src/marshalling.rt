@@ -1,7 +1,7 @@
 //! What events are as messages.
 use crate::errors::error_of;
-use crate::parts::{halves, unknown};
 use bytes::Bytes;
+use case_lines::{halves, unknown};
 use event_io::{EventOrInitial, EventOrInitialMarshaller};
 use eventstream::{Error, IdentityMarshaller, MarshallMessage, write_message_to};
 use smithy_core::{Header, HeaderValue, Mem, Message, StrBytes};

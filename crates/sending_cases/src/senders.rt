@@ -1,6 +1,7 @@
 //! Senders of the events of a source.
 use crate::events::{WaitingEvents, first_item, given};
-use crate::parts::{count, unknown};
+use crate::parts::count;
+use case_lines::unknown;
 use event_io::EventStreamSender;
 use smithy_core::Mem;
 use std::alloc::Global;

@@ -1,8 +1,8 @@
 //! The calls of signers.
 use crate::marshalling::{framed, message_of};
-use crate::parts::{halves, push, unknown};
+use crate::parts::push;
 use crate::signers::{LastSignature, MarkSigner, bearer, sigv4};
-use case_lines::number;
+use case_lines::{halves, number, unknown};
 use eventstream::{DeferredSigner, NoOpSigner, SignMessage, SignMessageError};
 use smithy_core::{Mem, Message, Moment};
 use std::alloc::Global;

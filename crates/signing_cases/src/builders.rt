@@ -1,7 +1,6 @@
-use crate::parts::{has_part, part_or_none};
+use crate::parts::part_or_none;
 use crate::requests::{identity_of, name_of, region_of, time_of};
-use crate::texts::unknown;
-use case_lines::number;
+use case_lines::{has_part, number, unknown};
 use sigv4::v4::{Builder, SigningParams};
 use sigv4::{SigningParams as RequestParams, SigningSettings};
 use smithy_core::{Identity, Mem, Moment};

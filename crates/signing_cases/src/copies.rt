@@ -4,8 +4,7 @@ use crate::instructions::{push_header, told};
 use crate::parts::first;
 use crate::requests::{identity_of, params_of, payload_of, request_of, settings_of, signable_of};
 use crate::signatures::{refusal, signed};
-use crate::texts::{on_one_line, unknown};
-use case_lines::shown;
+use case_lines::{compared, shown, unknown};
 use sigv4::{
     Header, SignableRequest, SigningError, SigningInstructions, SigningOutput, SigningParams,
     canonical_text,
@@ -36,16 +35,6 @@ fn of_kind(alloc: Global, kind: &str, words: &[&str]) -> Mem<String> {
         "SigningInstructions" => instructions(alloc, words),
         "Header" => headers(alloc, words),
         _ => unknown(alloc),
-    }
-}
-
-/// The text of both, or both.
-pub fn compared(alloc: Global, first: Mem<String>, copy: Mem<String>) -> Mem<String> {
-    let (first, copy) = (first?, copy?);
-    if first == copy {
-        on_one_line(alloc, first.as_str())
-    } else {
-        format!(in alloc; "{first} and {copy}")
     }
 }
 

@@ -1,4 +1,5 @@
-use crate::texts::{length, unknown, with_repeats};
+use crate::texts::length;
+use case_lines::{unknown, with_repeats};
 use http_uri::Uri;
 use smithy_core::{ErrorMetadata, Mem};
 use smithy_http::{

@@ -1,6 +1,5 @@
 use crate::moments::moment_of;
-use crate::texts::unknown;
-use case_lines::shown;
+use case_lines::{shown, unknown};
 use smithy_core::{Format, Mem};
 use smithy_http::label::EncodingStrategy;
 use smithy_http::{label, query};

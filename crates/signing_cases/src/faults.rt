@@ -1,5 +1,5 @@
 //! What faults print, each by its type and its name.
-use crate::texts::unknown;
+use case_lines::unknown;
 use smithy_core::Mem;
 use smithy_http::{HeaderFault, InvalidEndpointError, MergeFault, UriFault};
 use std::alloc::Global;

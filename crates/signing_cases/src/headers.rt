@@ -1,4 +1,4 @@
-use crate::texts::{on_one_line, unknown};
+use case_lines::{on_one_line, unknown};
 use smithy_core::{Headers, HttpRequest, HttpResponse, Mem};
 use smithy_http::{HeaderFault, set_request_header_if_absent, set_response_header_if_absent};
 use std::alloc::Global;

@@ -1,7 +1,6 @@
-use crate::parts::part;
 use crate::requests::request_of;
 use crate::signatures::{refusal, signed};
-use crate::texts::{on_one_line, unknown, with_repeats};
+use case_lines::{on_one_line, part, unknown, with_repeats};
 use sigv4::{Header, SigningError, SigningInstructions, SigningOutput};
 use smithy_core::{HttpRequest, Mem};
 use std::alloc::Global;

@@ -2,7 +2,7 @@ ghost use Rattle.sigv4.specs.EventStream.{IsKeyOf};
 
 use crate::moments::moment_of;
 use crate::parts::first;
-use crate::texts::unknown;
+use case_lines::unknown;
 use sigv4::normalize_uri_path;
 use sigv4::v4::{
     SigningParams, calculate_signature, credential_scope, generate_signing_key, request_signature,

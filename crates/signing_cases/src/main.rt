@@ -1,4 +1,4 @@
-//! Answers cases on requests, signatures, signed messages and whole runs: `stdin` says what each line means.
+//! Answers cases on requests, signatures and signed messages: `stdin` says what each line means.
 #![tactic(auto)]
 
 mod builders;
@@ -8,8 +8,6 @@ mod escapes;
 mod faults;
 mod headers;
 mod instructions;
-mod job_texts;
-mod jobs;
 mod keys;
 mod merges;
 mod messages;
@@ -17,13 +15,10 @@ mod moments;
 mod parts;
 mod queries;
 mod requests;
-mod runs;
-mod settings;
 mod signatures;
-mod streams;
 mod texts;
 
-use case_lines::{Answers, run_cases};
+use case_lines::{Answers, run_cases, unknown};
 use smithy_core::Mem;
 use std::alloc::Global;
 use std::io;
@@ -40,7 +35,7 @@ impl Answers for Calls {
     fn answer(&self, alloc: Global, words: &[&str]) -> Mem<String> {
         match words {
             [call, rest @ ..] => answer(alloc, call, rest),
-            [] => texts::unknown(alloc),
+            [] => unknown(alloc),
         }
     }
 }
@@ -70,9 +65,6 @@ fn signing_answer(alloc: Global, call: &str, words: &[&str]) -> Mem<String> {
         "link" | "link_headers" | "closing" => messages::answer(alloc, call, words),
         "copy" => copies::answer(alloc, words),
         "fault" => faults::answer(alloc, words),
-        "read_job" => job_texts::answer(alloc, words),
-        "read_settings" => settings::answer(alloc, words),
-        "sign_and_stream" => streams::answer(alloc, words),
-        _ => runs::answer(alloc, call, words),
+        _ => unknown(alloc),
     }
 }

@@ -1,5 +1,4 @@
-use crate::texts::unknown;
-use case_lines::number;
+use case_lines::{number, unknown};
 use http_header::{HeaderMap, HeaderName, HeaderValue};
 use smithy_core::Mem;
 use smithy_http::append_merge_header_maps;

@@ -1,9 +1,9 @@
 use crate::keys::key_of;
-use crate::parts::{first, has_part, part_or_none};
+use crate::parts::{first, part_or_none};
 use crate::requests::{identity_of, name_of, region_of, time_of};
 use crate::signatures::refusal;
-use crate::texts::{unknown, with_repeats};
 use bytes::Bytes;
+use case_lines::{has_part, unknown, with_repeats};
 use eventstream::write_message_to;
 use mac_core::sha256_hex;
 use sigv4::event_stream::{

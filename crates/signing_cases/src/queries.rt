@@ -1,5 +1,5 @@
-use crate::texts::{length, unknown, with_repeats};
-use case_lines::shown;
+use crate::texts::length;
+use case_lines::{shown, unknown, with_repeats};
 use http_uri::Uri;
 use smithy_core::Mem;
 use smithy_http::query::Writer;

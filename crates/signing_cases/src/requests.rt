@@ -1,8 +1,9 @@
 //! A request and how it is signed, from the words `METHOD TARGET`, `header NAME: VALUE`, `body TEXT` and so on.
 
 use crate::moments::moment_of;
-use crate::parts::{first, has_part, part, part_or_none};
+use crate::parts::{first, part_or_none};
 use bytes::Bytes;
+use case_lines::{has_part, part};
 use sigv4::{
     PayloadChecksumKind, PercentEncodingMode, SessionTokenMode, SignableBody, SignableRequest,
     SignatureLocation, SigningError, SigningParams, SigningSettings, UriPathNormalizationMode, v4,

@@ -1,7 +1,7 @@
 use crate::keys::key_of;
-use crate::parts::{first, has_part};
+use crate::parts::first;
 use crate::requests::{identity_of, params_of, request_of, settings_of, signable_of};
-use crate::texts::{on_one_line, unknown};
+use case_lines::{has_part, on_one_line, unknown};
 use sigv4::{
     SignableBody, SignableRequest, SigningError, SigningInstructions, SigningOutput, SigningParams,
     SigningSettings, canonical_text, sign, sign_with_key,

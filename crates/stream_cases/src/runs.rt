@@ -1,7 +1,7 @@
 use crate::jobs::{clock_of, disk_of, env_of, fails_of, input_of};
-use crate::texts::{bytes_on_one_line, unknown};
+use crate::texts::bytes_on_one_line;
 use bytes::Bytes;
-use case_lines::bytes_of_hex;
+use case_lines::{bytes_of_hex, unknown};
 use eventstream::read_message_from;
 use mac_core::sha256_hex;
 use signed_stream::{Status, StreamFault, run};
@@ -34,7 +34,8 @@ fn whole(alloc: Global, command: &str, lines: &[&str]) -> Mem<String> {
     with_held(alloc, ending.as_str(), out.held())
 }
 
-fn with_held(alloc: Global, ending: &str, held: &[u8]) -> Mem<String> {
+/// What `err` says and the output holds.
+pub fn with_held(alloc: Global, ending: &str, held: &[u8]) -> Mem<String> {
     let held = bytes_on_one_line(alloc, held)?;
     format!(in alloc; "{ending}|{held}")
 }
@@ -152,8 +153,8 @@ fn input_source(alloc: Global, lines: &[&str]) -> Mem<FaultySource> {
     Ok(FaultySource::new(input_of(alloc, lines)?, fails))
 }
 
-// The words between spaces, each with its own spaces in place of `%20`.
-fn words_of(alloc: Global, command: &str) -> Mem<Vec<String>> {
+/// The words between spaces, each with its own spaces in place of `%20`.
+pub fn words_of(alloc: Global, command: &str) -> Mem<Vec<String>> {
     let mut words = Vec::new(alloc);
     for word in command.split_whitespace() {
         words.push(word.replace(alloc, "%20", " ")?)?;

@@ -1,7 +1,8 @@
 //! Jobs that are signed and streamed by a call of the library, from the words of their lines.
 use crate::jobs::{clock_of, env_of, fails_of, input_of};
-use crate::texts::{bytes_on_one_line, unknown};
+use crate::texts::bytes_on_one_line;
 use aws_auth::SigningOptions;
+use case_lines::unknown;
 use env_config::{EnvConfigFileKind, File, Source};
 use signed_stream::{Form, Job, StreamOptions, read_job, sign_and_stream};
 use smithy_core::{FaultySink, Mem, Moment};
@@ -65,8 +66,12 @@ fn options_of(alloc: Global, name: &str) -> Mem<StreamOptions> {
     })
 }
 
-// The texts of the job, under the profile `default`.
-fn source_of(alloc: Global, config: Option<String>, credentials: Option<String>) -> Mem<Source> {
+/// The texts of the job, under the profile `default`.
+pub fn source_of(
+    alloc: Global,
+    config: Option<String>,
+    credentials: Option<String>,
+) -> Mem<Source> {
     let mut files = Vec::new(alloc);
     push_file(&mut files, EnvConfigFileKind::Config, config)?;
     push_file(&mut files, EnvConfigFileKind::Credentials, credentials)?;

@@ -1,6 +1,5 @@
 //! What a run is given, from the words of its line: a line of the job each, but for those that begin with `@`.
-use crate::texts::with_repeats;
-use case_lines::bytes_of_hex;
+use case_lines::{bytes_of_hex, with_repeats};
 use smithy_core::{Env, FaultyDisk, ListClock, Mem, Moment};
 use std::alloc::Global;
 
@@ -74,13 +73,19 @@ pub fn env_of(alloc: Global, lines: &[&str]) -> Mem<Env> {
     Ok(env)
 }
 
-/// The disk, with the files `PATH TEXT` and those of `PATH DIGITS`.
+/// The disk, whose calls `@disk PLACE` fail.
 pub fn disk_of(alloc: Global, lines: &[&str]) -> Mem<FaultyDisk> {
+    let files = files_of(alloc, lines)?;
+    Ok(FaultyDisk::new(files, fails_of(alloc, lines, "@disk")?))
+}
+
+/// The files of the disk: those of `@file PATH TEXT` and of `@digits PATH DIGITS`.
+pub fn files_of(alloc: Global, lines: &[&str]) -> Mem<Vec<(String, Vec<u8>)>> {
     let mut files = Vec::new(alloc);
     for line in lines {
         push_file(alloc, &mut files, line)?;
     }
-    Ok(FaultyDisk::new(files, fails_of(alloc, lines, "@disk")?))
+    Ok(files)
 }
 
 fn push_file(alloc: Global, files: &mut Vec<(String, Vec<u8>)>, line: &str) -> Mem<()> {

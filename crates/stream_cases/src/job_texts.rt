@@ -1,6 +1,6 @@
 //! What the lines of a job spell.
-use crate::copies::compared;
 use crate::jobs::input_of;
+use case_lines::compared;
 use eventstream::write_message_to;
 use signed_stream::{Job, read_job};
 use smithy_core::{Headers, Mem, Message};

@@ -1,7 +1,6 @@
 //! What is selected of profile files `config: TEXT`, `credentials PATH: TEXT` and variables.
-use crate::copies::compared;
 use crate::jobs::env_of;
-use crate::texts::unknown;
+use case_lines::{compared, unknown};
 use env_config::{EnvConfigFileKind, File, Source};
 use signed_stream::{Settings, SettingsFault, read_settings};
 use smithy_core::Mem;

@@ -1,0 +1,118 @@
+//! A stream of which each part is called by hand: the request's signer, a deferred signer that is handed the one of
+//! messages, and the polls of an adapter.
+use crate::jobs::{clock_of, env_of, input_of};
+use crate::streams::source_of;
+use aws_auth::{
+    OverrideError, SigV4MessageSigner, SigV4OperationSigningConfig, SigV4SessionTokenNameOverride,
+    SigV4Signer, SigV4SigningError, Signed, SigningInputs, SigningOptions,
+};
+use case_lines::unknown;
+use event_io::{ListEvents, MessageStreamAdapter, Next};
+use eventstream::{DeferredSigner, IdentityMarshaller};
+use signed_stream::{Job, Settings, read_job, read_settings};
+use sigv4::SigningSettings;
+use smithy_core::{Clock, HttpRequest, Identity, ListClock, Mem, Message, Region, SigningName};
+use std::alloc::Global;
+use std::collections::VecDeque;
+
+/// The frames of a job's events and the closing one, for a service.
+pub fn answer(alloc: Global, words: &[&str]) -> Mem<String> {
+    let [name, lines @ ..] = words else {
+        return unknown(alloc);
+    };
+    match read_job(alloc, input_of(alloc, lines)?.as_slice()) {
+        Ok(job) => of_job(alloc, name, job, lines),
+        Err(_) => unknown(alloc),
+    }
+}
+
+fn of_job(alloc: Global, name: &str, job: Job, lines: &[&str]) -> Mem<String> {
+    let mut clock = clock_of(alloc, lines)?;
+    let mut request = job.request;
+    let source = source_of(alloc, job.config, job.credentials)?;
+    let signed = match read_settings(alloc, &source, &env_of(alloc, lines)?, None) {
+        Ok(settings) => sign(alloc, &mut request, name, settings, &mut clock)?,
+        Err(_) => return unknown(alloc),
+    };
+    match signed {
+        Ok(signed) => frames_of(alloc, signed.message_signer, job.events, &mut clock),
+        Err(_) => unknown(alloc),
+    }
+}
+
+fn sign(
+    alloc: Global,
+    request: &mut HttpRequest,
+    name: &str,
+    settings: Settings,
+    clock: &mut ListClock,
+) -> Mem<Result<Signed, SigV4SigningError>> {
+    let identity = Identity::Credentials(settings.credentials);
+    let config = config_of(alloc, name, settings.region)?;
+    Ok(sign_by(request, &identity, &config, clock))
+}
+
+fn sign_by(
+    request: &mut HttpRequest,
+    identity: &Identity,
+    config: &SigV4OperationSigningConfig,
+    clock: &mut ListClock,
+) -> Result<Signed, SigV4SigningError> {
+    let inputs = SigningInputs {
+        config: Some(config),
+        endpoint: None,
+        name: None,
+        region: None,
+        payload: None,
+        skew_millis: None,
+    };
+    let no_name = SigV4SessionTokenNameOverride::new(no_override);
+    SigV4Signer::new().sign_http_request(request, identity, &inputs, clock.now(), Some(&no_name))
+}
+
+fn no_override(
+    _settings: &SigningSettings,
+    _config: &SigV4OperationSigningConfig,
+) -> Result<Option<String>, OverrideError> {
+    Ok(None)
+}
+
+fn config_of(alloc: Global, name: &str, region: Region) -> Mem<SigV4OperationSigningConfig> {
+    Ok(SigV4OperationSigningConfig {
+        region: Some(region),
+        name: Some(SigningName::new(String::from_str(alloc, name)?)),
+        signing_options: SigningOptions::default(),
+    })
+}
+
+fn frames_of(
+    alloc: Global,
+    signer: SigV4MessageSigner<()>,
+    events: Vec<Message>,
+    clock: &mut ListClock,
+) -> Mem<String> {
+    let mut deferred = DeferredSigner::new();
+    deferred.wire(Box::new(alloc, signer)?);
+    let mut adapter = MessageStreamAdapter::new(
+        alloc,
+        IdentityMarshaller,
+        IdentityMarshaller,
+        deferred,
+        items_of(alloc, events)?,
+    );
+    let mut moments = Vec::new(alloc);
+    let mut text = String::new(alloc);
+    while let Ok(Next::Frame(frame)) = adapter.poll_next(clock, &mut moments) {
+        text.push_str(hex::encode(alloc, frame.as_slice())?.as_str())?;
+        text.push_str("\\n")?;
+    }
+    Ok(text)
+}
+
+fn items_of(alloc: Global, events: Vec<Message>) -> Mem<ListEvents<Message, Message>> {
+    let mut items = VecDeque::new(alloc);
+    for event in events {
+        items.push_back(Ok(event))?;
+    }
+    Ok(ListEvents::new(items))
+}
