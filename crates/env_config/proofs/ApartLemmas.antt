@@ -150,21 +150,21 @@ all_always P always [] = tt
 all_always P always (x ∷ xs) = (always x, all_always P always xs)
 
 -- names with the same values give the same
-pub names_alike : (sections : Sections) (kind : EnvConfigFileKind) (overridden : Bool) (file now : Named (List (List ℕ × List ℕ))) (names : List (List ℕ))
-    → AllByRecursion (λ (name : List ℕ). value_under now.values name ≡ value_under file.values name) names → with_names sections kind overridden now names ≡ with_names sections kind overridden file names
-names_alike sections kind overridden file now [] same = refl
-names_alike sections kind overridden file now (name ∷ names) same =
-    ap (λ (found : Option (List (List ℕ × List ℕ))). with_names (with_raw sections kind overridden (heading_of name) (unwrap_or found [])) kind overridden now names) same.0
-    ∙ names_alike (with_raw sections kind overridden (heading_of name) (properties_of file name)) kind overridden file now names same.1
+pub names_alike : (keeps : Keeps) (sections : Sections) (kind : EnvConfigFileKind) (overridden : Bool) (file now : Named (List (List ℕ × List ℕ))) (names : List (List ℕ))
+    → AllByRecursion (λ (name : List ℕ). value_under now.values name ≡ value_under file.values name) names → with_names keeps sections kind overridden now names ≡ with_names keeps sections kind overridden file names
+names_alike keeps sections kind overridden file now [] same = refl
+names_alike keeps sections kind overridden file now (name ∷ names) same =
+    ap (λ (found : Option (List (List ℕ × List ℕ))). with_names keeps (with_raw keeps sections kind overridden (heading_of name) (unwrap_or found [])) kind overridden now names) same.0
+    ∙ names_alike keeps (with_raw keeps sections kind overridden (heading_of name) (properties_of file name)) kind overridden file now names same.1
 
 -- the first name was merged, and its section taken
-pub name_merged : (before after : Sections) (kind : EnvConfigFileKind) (overridden : Bool) (file now : Named (List (List ℕ × List ℕ))) (name : List ℕ) (names : List (List ℕ))
-    → after ≡ with_raw before kind overridden (heading_of name) (properties_of file name) → ((other : List ℕ) → is_eq (text_cmp other name) ≡ false → value_under now.values other ≡ value_under file.values other)
-    → IsApart (name ∷ names) → with_names after kind overridden now names ≡ with_names before kind overridden file (name ∷ names)
-name_merged before after kind overridden file now name names is stay apart =
+pub name_merged : (keeps : Keeps) (before after : Sections) (kind : EnvConfigFileKind) (overridden : Bool) (file now : Named (List (List ℕ × List ℕ))) (name : List ℕ) (names : List (List ℕ))
+    → after ≡ with_raw keeps before kind overridden (heading_of name) (properties_of file name) → ((other : List ℕ) → is_eq (text_cmp other name) ≡ false → value_under now.values other ≡ value_under file.values other)
+    → IsApart (name ∷ names) → with_names keeps after kind overridden now names ≡ with_names keeps before kind overridden file (name ∷ names)
+name_merged keeps before after kind overridden file now name names is stay apart =
     let others = all_of (λ (other : List ℕ). is_eq (text_cmp other name) ≡ false) (λ (other : List ℕ). value_under now.values other ≡ value_under file.values other) stay names apart.0 in
-    ap (λ (sections : Sections). with_names sections kind overridden now names) is
-    ∙ names_alike (with_raw before kind overridden (heading_of name) (properties_of file name)) kind overridden file now names others
+    ap (λ (sections : Sections). with_names keeps sections kind overridden now names) is
+    ∙ names_alike keeps (with_raw keeps before kind overridden (heading_of name) (properties_of file name)) kind overridden file now names others
 
 -- the name at an index, and those after it
 pub names_front : (items : List (String Global)) (i : ℕ) (item : String Global) (name : List ℕ) → i < length items → item ≡ get_or items i item → name ≡ string_bytes item

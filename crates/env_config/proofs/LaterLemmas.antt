@@ -141,24 +141,24 @@ key_total =
 abbrev AboveKeys : List (Key × List ℕ) → List (Key × List ℕ) → List (Key × List ℕ) → Type 0
 AboveKeys es ds us = (q : Key) → value_at_key es q ≡ option_or (value_at_key ds q) (value_at_key us q)
 
-sub_above : (es ds us : List (Key × List ℕ)) (prefix name key piece : List ℕ) → AboveKeys es ds us → AboveKeys (put_sub es prefix name key piece) (put_sub ds prefix name key piece) us
+sub_above : (es ds us : List (Key × List ℕ)) (prefix name key piece : List ℕ) → AboveKeys es ds us → AboveKeys (put_sub everything es prefix name key piece) (put_sub everything ds prefix name key piece) us
 sub_above es ds us prefix name key piece above =
     let at : Key = record { section_key = prefix; section_name = name; property_name = key; sub_property_name = Some (trimmed (before_first is_equals piece)) } in
     let value = trimmed (after_first is_equals piece) in
     both (λ (es ds : List (Key × List ℕ)). AboveKeys es ds us) (nat_lt (position_or_len is_equals piece) (length piece)) (put_at_key es at value) es (put_at_key ds at value) ds
     (above_put key_cmp key_total es ds us at value above) above
 
-subs_above : (es ds us : List (Key × List ℕ)) (prefix name key : List ℕ) (pieces : List (List ℕ)) → AboveKeys es ds us → AboveKeys (put_subs es prefix name key pieces) (put_subs ds prefix name key pieces) us
+subs_above : (es ds us : List (Key × List ℕ)) (prefix name key : List ℕ) (pieces : List (List ℕ)) → AboveKeys es ds us → AboveKeys (put_subs everything es prefix name key pieces) (put_subs everything ds prefix name key pieces) us
 subs_above es ds us prefix name key [] above = above
 subs_above es ds us prefix name key (piece ∷ pieces) above =
-    subs_above (put_sub es prefix name key piece) (put_sub ds prefix name key piece) us prefix name key pieces (sub_above es ds us prefix name key piece above)
+    subs_above (put_sub everything es prefix name key piece) (put_sub everything ds prefix name key piece) us prefix name key pieces (sub_above es ds us prefix name key piece above)
 
-others_above : (es ds us : List (Key × List ℕ)) (prefix name : List ℕ) (pairs : List (List ℕ × List ℕ)) → AboveKeys es ds us → AboveKeys (put_others es prefix name pairs) (put_others ds prefix name pairs) us
+others_above : (es ds us : List (Key × List ℕ)) (prefix name : List ℕ) (pairs : List (List ℕ × List ℕ)) → AboveKeys es ds us → AboveKeys (put_others everything es prefix name pairs) (put_others everything ds prefix name pairs) us
 others_above es ds us prefix name [] above = above
 others_above es ds us prefix name (pair ∷ pairs) above =
     let pieces = slice_split (λ b. nat_eq b 10) pair.1 in
-    others_above (cond (is_identifier pair.0) (put_subs es prefix name pair.0 pieces) es) (cond (is_identifier pair.0) (put_subs ds prefix name pair.0 pieces) ds) us prefix name pairs
-    (both (λ (es ds : List (Key × List ℕ)). AboveKeys es ds us) (is_identifier pair.0) (put_subs es prefix name pair.0 pieces) es (put_subs ds prefix name pair.0 pieces) ds
+    others_above (cond (is_identifier pair.0) (put_subs everything es prefix name pair.0 pieces) es) (cond (is_identifier pair.0) (put_subs everything ds prefix name pair.0 pieces) ds) us prefix name pairs
+    (both (λ (es ds : List (Key × List ℕ)). AboveKeys es ds us) (is_identifier pair.0) (put_subs everything es prefix name pair.0 pieces) es (put_subs everything ds prefix name pair.0 pieces) ds
     (subs_above es ds us prefix name pair.0 pieces above) above)
 
 -- ## Files
@@ -168,13 +168,13 @@ record AboveAll (s t u : Sections) : Type 0 where
   pub sessions : (name key : List ℕ) → value_in s.sessions name key ≡ option_or (value_in t.sessions name key) (value_in u.sessions name key)
   pub others : (q : Key) → value_at_key s.others q ≡ option_or (value_at_key t.others q) (value_at_key u.others q)
 
-section_above : (s t u : Sections) (prefix : Option (List ℕ)) (name : List ℕ) (pairs : List (List ℕ × List ℕ)) → AboveAll s t u → AboveAll (with_section s prefix name pairs) (with_section t prefix name pairs) u
+section_above : (s t u : Sections) (prefix : Option (List ℕ)) (name : List ℕ) (pairs : List (List ℕ × List ℕ)) → AboveAll s t u → AboveAll (with_section everything s prefix name pairs) (with_section everything t prefix name pairs) u
 section_above s t u None name pairs above =
     record { profiles = merged_above s.profiles t.profiles u.profiles name pairs above.profiles; sessions = above.sessions; others = above.others }
 section_above s t u (Some prefix) name pairs above =
     let profile : Sections → Sections = λ x. record x { profiles = merged_into x.profiles name pairs } in
     let session : Sections → Sections = λ x. record x { sessions = merged_into x.sessions name pairs } in
-    let other : Sections → Sections = λ x. record x { others = put_others x.others prefix name pairs } in
+    let other : Sections → Sections = λ x. record x { others = put_others everything x.others prefix name pairs } in
     let P : Sections → Sections → Type 0 = λ x y. AboveAll x y u in
     let is_session = bytes_eq prefix (codes "sso-session") in
     both P (bytes_eq prefix (codes "profile")) (profile s) (cond is_session (session s) (other s)) (profile t) (cond is_session (session t) (other t))
@@ -184,16 +184,16 @@ section_above s t u (Some prefix) name pairs above =
     (record { profiles = above.profiles; sessions = above.sessions; others = others_above s.others t.others u.others prefix name pairs above.others }))
 
 names_above : (s t u : Sections) (kind : EnvConfigFileKind) (overridden : Bool) (file : Named (List (List ℕ × List ℕ))) (names : List (List ℕ)) → AboveAll s t u
-    → AboveAll (with_names s kind overridden file names) (with_names t kind overridden file names) u
+    → AboveAll (with_names everything s kind overridden file names) (with_names everything t kind overridden file names) u
 names_above s t u kind overridden file [] above = above
 names_above s t u kind overridden file (name ∷ names) above =
     let heading = heading_of name in
     let pairs = properties_of file name in
-    let merged : Sections → Sections = λ x. with_section x heading.prefix heading.name pairs in
-    names_above (with_raw s kind overridden heading pairs) (with_raw t kind overridden heading pairs) u kind overridden file names
+    let merged : Sections → Sections = λ x. with_section everything x heading.prefix heading.name pairs in
+    names_above (with_raw everything s kind overridden heading pairs) (with_raw everything t kind overridden heading pairs) u kind overridden file names
     (both (λ (x y : Sections). AboveAll x y u) (is_taken_from kind overridden heading.prefix heading.name) (merged s) s (merged t) t (section_above s t u heading.prefix heading.name pairs above) above)
 
-file_above : (s t u : Sections) (kind : EnvConfigFileKind) (file : Named (List (List ℕ × List ℕ))) → AboveAll s t u → AboveAll (with_file s kind file) (with_file t kind file) u
+file_above : (s t u : Sections) (kind : EnvConfigFileKind) (file : Named (List (List ℕ × List ℕ))) → AboveAll s t u → AboveAll (with_file everything s kind file) (with_file everything t kind file) u
 unfolding with_file
 file_above s t u kind file above = names_above s t u kind (has_profile_default file.names) file file.names above
 
@@ -206,14 +206,14 @@ files_go_on s before [] more is = ap (λ (x : Sections). files_from everything x
 files_go_on s before (file ∷ files) more is = by (raw everything file.contents) (λ next over. files_go_on next before files more over) is
   where
     by : (read : Result (Named (List (List ℕ × List ℕ))) (ℕ × List ℕ)) → ((next : Sections) → files_from everything next files ≡ Ok before → files_from everything next (files ++ more) ≡ files_from everything before more)
-        → after_file file (λ read. files_from everything (with_file s file.kind read) files) read ≡ Ok before → after_file file (λ read. files_from everything (with_file s file.kind read) (files ++ more)) read ≡ files_from everything before more
-    by (Ok read) goes_on is = goes_on (with_file s file.kind read) is
+        → after_file file (λ read. files_from everything (with_file everything s file.kind read) files) read ≡ Ok before → after_file file (λ read. files_from everything (with_file everything s file.kind read) (files ++ more)) read ≡ files_from everything before more
+    by (Ok read) goes_on is = goes_on (with_file everything s file.kind read) is
     by (Err fault) goes_on is = absurd cc
 
 last_above : (file : FileText) (before alone after : Sections) (read : Result (Named (List (List ℕ × List ℕ))) (ℕ × List ℕ))
-    → after_file file (λ read. files_from everything (with_file before file.kind read) []) read ≡ Ok after → after_file file (λ read. files_from everything (with_file no_sections file.kind read) []) read ≡ Ok alone → AboveAll after alone before
+    → after_file file (λ read. files_from everything (with_file everything before file.kind read) []) read ≡ Ok after → after_file file (λ read. files_from everything (with_file everything no_sections file.kind read) []) read ≡ Ok alone → AboveAll after alone before
 last_above file before alone after (Ok read) after_is alone_is =
-    subst₂ (λ (x y : Sections). AboveAll x y before) (ok_same (files_from everything (with_file before file.kind read) []) (with_file before file.kind read) after refl after_is) (ok_same (files_from everything (with_file no_sections file.kind read) []) (with_file no_sections file.kind read) alone refl alone_is)
+    subst₂ (λ (x y : Sections). AboveAll x y before) (ok_same (files_from everything (with_file everything before file.kind read) []) (with_file everything before file.kind read) after refl after_is) (ok_same (files_from everything (with_file everything no_sections file.kind read) []) (with_file everything no_sections file.kind read) alone refl alone_is)
     (file_above before no_sections before file.kind read (record { profiles = λ name key. refl; sessions = λ name key. refl; others = λ key. refl }))
 last_above file before alone after (Err fault) after_is alone_is = absurd cc
 

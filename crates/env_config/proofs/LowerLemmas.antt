@@ -187,12 +187,12 @@ record LowerMerged (sections : Sections) : Type 0 where
   pub profiles : EachValue LowerSection sections.profiles.values
   pub sessions : EachValue LowerSection sections.sessions.values
 
-with_section_lower : (sections : Sections) (prefix : Option (List ℕ)) (name : List ℕ) (pairs : List (List ℕ × List ℕ)) → LowerMerged sections → LowerKeys pairs → LowerMerged (with_section sections prefix name pairs)
+with_section_lower : (sections : Sections) (prefix : Option (List ℕ)) (name : List ℕ) (pairs : List (List ℕ × List ℕ)) → LowerMerged sections → LowerKeys pairs → LowerMerged (with_section everything sections prefix name pairs)
 with_section_lower sections None name pairs is low = record { profiles = merged_lower sections.profiles name pairs is.profiles low; sessions = is.sessions }
 with_section_lower sections (Some prefix) name pairs is low =
     let profile : Sections = record sections { profiles = merged_into sections.profiles name pairs } in
     let session : Sections = record sections { sessions = merged_into sections.sessions name pairs } in
-    let other : Sections = record sections { others = put_others sections.others prefix name pairs } in
+    let other : Sections = record sections { others = put_others everything sections.others prefix name pairs } in
     either LowerMerged (bytes_eq prefix (codes "profile")) profile (cond (bytes_eq prefix (codes "sso-session")) session other)
     (record { profiles = merged_lower sections.profiles name pairs is.profiles low; sessions = is.sessions })
     (either LowerMerged (bytes_eq prefix (codes "sso-session")) session other
@@ -200,16 +200,16 @@ with_section_lower sections (Some prefix) name pairs is low =
     (record { profiles = is.profiles; sessions = is.sessions }))
 
 names_lower : (sections : Sections) (kind : EnvConfigFileKind) (overridden : Bool) (file : Named (List (List ℕ × List ℕ))) (names : List (List ℕ)) → LowerMerged sections → EachValue LowerKeys file.values
-    → LowerMerged (with_names sections kind overridden file names)
+    → LowerMerged (with_names everything sections kind overridden file names)
 names_lower sections kind overridden file [] is low = is
 names_lower sections kind overridden file (name ∷ names) is low =
     let heading = heading_of name in
     let pairs = properties_of file name in
-    let merged = with_section sections heading.prefix heading.name pairs in
-    names_lower (with_raw sections kind overridden heading pairs) kind overridden file names
+    let merged = with_section everything sections heading.prefix heading.name pairs in
+    names_lower (with_raw everything sections kind overridden heading pairs) kind overridden file names
     (either LowerMerged (is_taken_from kind overridden heading.prefix heading.name) merged sections (with_section_lower sections heading.prefix heading.name pairs is (properties_lower file name low)) is) low
 
-file_lower : (sections : Sections) (kind : EnvConfigFileKind) (file : Named (List (List ℕ × List ℕ))) → LowerMerged sections → EachValue LowerKeys file.values → LowerMerged (with_file sections kind file)
+file_lower : (sections : Sections) (kind : EnvConfigFileKind) (file : Named (List (List ℕ × List ℕ))) → LowerMerged sections → EachValue LowerKeys file.values → LowerMerged (with_file everything sections kind file)
 unfolding with_file
 file_lower sections kind file is low = names_lower sections kind (has_profile_default file.names) file file.names is low
 
@@ -218,8 +218,8 @@ files_lower sections [] is = is
 files_lower sections (file ∷ files) is = by (raw everything file.contents) (raw_lower file.contents) (λ next low. files_lower next files low)
   where
     by : (read : Result (Named (List (List ℕ × List ℕ))) (ℕ × List ℕ)) → OfOk (λ (read : Named (List (List ℕ × List ℕ))). EachValue LowerKeys read.values) read
-        → ((next : Sections) → LowerMerged next → OfOk LowerMerged (files_from everything next files)) → OfOk LowerMerged (after_file file (λ read. files_from everything (with_file sections file.kind read) files) read)
-    by (Ok read) low more = more (with_file sections file.kind read) (file_lower sections file.kind read is low)
+        → ((next : Sections) → LowerMerged next → OfOk LowerMerged (files_from everything next files)) → OfOk LowerMerged (after_file file (λ read. files_from everything (with_file everything sections file.kind read) files) read)
+    by (Ok read) low more = more (with_file everything sections file.kind read) (file_lower sections file.kind read is low)
     by (Err fault) low more = tt
 
 sections_lower : (files : List FileText) (merged : Sections) → sections files ≡ Ok merged → LowerMerged merged

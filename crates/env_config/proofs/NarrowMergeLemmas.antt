@@ -78,16 +78,16 @@ merged_gives sections called pairs name key rising =
     by false is = refl
 
 -- what a raw section makes of the value of a key of a profile
-profile_gives : (s : Sections) (prefix : Option (List ℕ)) (called : List ℕ) (pairs : List (List ℕ × List ℕ)) (name key : List ℕ)
+profile_gives : (keeps : Keeps) (s : Sections) (prefix : Option (List ℕ)) (called : List ℕ) (pairs : List (List ℕ × List ℕ)) (name key : List ℕ)
     → (has_heading (codes "profile") name (record { prefix = prefix; name = called }) ≡ true → IsRising pairs)
-    → value_in (with_section s prefix called pairs).profiles name key
+    → value_in (with_section keeps s prefix called pairs).profiles name key
     ≡ cond (has_heading (codes "profile") name (record { prefix = prefix; name = called })) (over key (value_under pairs key) (value_in s.profiles name key)) (value_in s.profiles name key)
-profile_gives s None called pairs name key rising = merged_gives s.profiles called pairs name key rising
-profile_gives s (Some prefix) called pairs name key rising = by (bytes_eq prefix (codes "profile")) (bytes_eq prefix (codes "sso-session")) rising
+profile_gives keeps s None called pairs name key rising = merged_gives s.profiles called pairs name key rising
+profile_gives keeps s (Some prefix) called pairs name key rising = by (bytes_eq prefix (codes "profile")) (bytes_eq prefix (codes "sso-session")) rising
   where
     by : (b d : Bool) → (b && bytes_eq called name ≡ true → IsRising pairs)
         → value_in (cond b (record s { profiles = merged_into s.profiles called pairs })
-        (cond d (record s { sessions = merged_into s.sessions called pairs }) (record s { others = put_others s.others prefix called pairs }))).profiles name key
+        (cond d (record s { sessions = merged_into s.sessions called pairs }) (record s { others = put_others keeps s.others prefix called pairs }))).profiles name key
         ≡ cond (b && bytes_eq called name) (over key (value_under pairs key) (value_in s.profiles name key)) (value_in s.profiles name key)
     by true d rising = merged_gives s.profiles called pairs name key rising
     by false true rising = refl
@@ -100,11 +100,11 @@ pub record IsKeptValue (keeps : Keeps) (goes : Heading → Bool) (at : Sections 
   pub kept : (text : List ℕ) → goes (heading_of text) ≡ true → keeps.section text ≡ true
   pub default : (text : List ℕ) → is_profile_default (heading_of text).prefix (heading_of text).name ≡ true → keeps.section text ≡ true
   pub same : (s t : Sections) (prefix : Option (List ℕ)) (name : List ℕ) (all some : List (List ℕ × List ℕ)) → AlikePairs keeps all some → at t ≡ at s
-      → at (with_section t prefix name some) ≡ at (with_section s prefix name all)
-  pub other : (s : Sections) (prefix : Option (List ℕ)) (name : List ℕ) (pairs : List (List ℕ × List ℕ)) → goes (record { prefix = prefix; name = name }) ≡ false → at (with_section s prefix name pairs) ≡ at s
+      → at (with_section keeps t prefix name some) ≡ at (with_section everything s prefix name all)
+  pub other : (s : Sections) (prefix : Option (List ℕ)) (name : List ℕ) (pairs : List (List ℕ × List ℕ)) → goes (record { prefix = prefix; name = name }) ≡ false → at (with_section everything s prefix name pairs) ≡ at s
 
 names_same : (keeps : Keeps) (goes : Heading → Bool) (at : Sections → Option (List ℕ)) → IsKeptValue keeps goes at → (kind : EnvConfigFileKind) (overridden : Bool) (all some : Named (List (List ℕ × List ℕ))) → AlikeSections keeps all some
-    → (names : List (List ℕ)) (s t : Sections) → at t ≡ at s → at (with_names t kind overridden some (filter keeps.section names)) ≡ at (with_names s kind overridden all names)
+    → (names : List (List ℕ)) (s t : Sections) → at t ≡ at s → at (with_names keeps t kind overridden some (filter keeps.section names)) ≡ at (with_names everything s kind overridden all names)
 names_same keeps goes at is kind overridden all some alike [] s t e = e
 names_same keeps goes at is kind overridden all some alike (name ∷ names) s t e = by (keeps.section name) refl (names_same keeps goes at is kind overridden all some alike names)
   where
@@ -114,34 +114,34 @@ names_same keeps goes at is kind overridden all some alike (name ∷ names) s t 
     taken : Bool
     taken = is_taken_from kind overridden heading.prefix heading.name
 
-    next : Named (List (List ℕ × List ℕ)) → Sections → Sections
-    next file sections = with_raw sections kind overridden heading (properties_of file name)
+    next : Keeps → Named (List (List ℕ × List ℕ)) → Sections → Sections
+    next keeps file sections = with_raw keeps sections kind overridden heading (properties_of file name)
 
     passes : keeps.section name ≡ false → (b : Bool) → goes heading ≡ b → b ≡ false
     passes lost false it = refl
     passes lost true it = sym (is.kept name it) ∙ lost
 
-    by : (b : Bool) → keeps.section name ≡ b → ((s t : Sections) → at t ≡ at s → at (with_names t kind overridden some (filter keeps.section names)) ≡ at (with_names s kind overridden all names))
-        → at (with_names t kind overridden some (cond b (name ∷ filter keeps.section names) (filter keeps.section names))) ≡ at (with_names (next all s) kind overridden all names)
+    by : (b : Bool) → keeps.section name ≡ b → ((s t : Sections) → at t ≡ at s → at (with_names keeps t kind overridden some (filter keeps.section names)) ≡ at (with_names everything s kind overridden all names))
+        → at (with_names keeps t kind overridden some (cond b (name ∷ filter keeps.section names) (filter keeps.section names))) ≡ at (with_names everything (next everything all s) kind overridden all names)
     by true known more =
         let pairs = found_alike keeps (value_under all.values name) (value_under some.values name) (alike.values name known) in
-        more (next all s) (next some t)
-        (both (λ (x y : Sections). at x ≡ at y) taken (with_section t heading.prefix heading.name (properties_of some name)) t (with_section s heading.prefix heading.name (properties_of all name)) s
+        more (next everything all s) (next keeps some t)
+        (both (λ (x y : Sections). at x ≡ at y) taken (with_section keeps t heading.prefix heading.name (properties_of some name)) t (with_section everything s heading.prefix heading.name (properties_of all name)) s
         (is.same s t heading.prefix heading.name (properties_of all name) (properties_of some name) pairs e) e)
     by false lost more =
         let pairs = properties_of all name in
-        more (next all s) t
-        (either (λ (x : Sections). at t ≡ at x) taken (with_section s heading.prefix heading.name pairs) s
+        more (next everything all s) t
+        (either (λ (x : Sections). at t ≡ at x) taken (with_section everything s heading.prefix heading.name pairs) s
         (e ∙ sym (is.other s heading.prefix heading.name pairs (passes lost (goes heading) refl))) e)
 
 file_same : (keeps : Keeps) (goes : Heading → Bool) (at : Sections → Option (List ℕ)) → IsKeptValue keeps goes at → (kind : EnvConfigFileKind) (all some : Named (List (List ℕ × List ℕ))) → AlikeSections keeps all some
-    → (s t : Sections) → at t ≡ at s → at (with_file t kind some) ≡ at (with_file s kind all)
+    → (s t : Sections) → at t ≡ at s → at (with_file keeps t kind some) ≡ at (with_file everything s kind all)
 unfolding with_file
 file_same keeps goes at is kind all some alike s t e =
     let test : List ℕ → Bool = λ name. is_profile_default (heading_of name).prefix (heading_of name).name in
-    let P : List (List ℕ) → Type 0 = λ names. at (with_names t kind (has_profile_default names) some names) ≡ at (with_names s kind (has_profile_default all.names) all all.names) in
+    let P : List (List ℕ) → Type 0 = λ names. at (with_names keeps t kind (has_profile_default names) some names) ≡ at (with_names everything s kind (has_profile_default all.names) all all.names) in
     subst P alike.names
-    (ap (λ (overridden : Bool). at (with_names t kind overridden some (filter keeps.section all.names))) (any-filter_same test keeps.section true is.default all.names)
+    (ap (λ (overridden : Bool). at (with_names keeps t kind overridden some (filter keeps.section all.names))) (any-filter_same test keeps.section true is.default all.names)
     ∙ names_same keeps goes at is kind (has_profile_default all.names) all some alike all.names s t e)
 
 -- equal faults, or equal values
@@ -157,26 +157,26 @@ files_same keeps goes at is [] s t e = e
 files_same keeps goes at is (file ∷ files) s t e = by (raw everything file.contents) (raw keeps file.contents) (raw_alike keeps file.contents) (files_same keeps goes at is files)
   where
     by : (all some : Result (Named (List (List ℕ × List ℕ))) (ℕ × List ℕ)) → AlikeReads keeps all some → ((s t : Sections) → at t ≡ at s → AlikeMerged at (files_from everything s files) (files_from keeps t files))
-        → AlikeMerged at (after_file file (λ read. files_from everything (with_file s file.kind read) files) all) (after_file file (λ read. files_from keeps (with_file t file.kind read) files) some)
-    by (Ok all) (Ok some) alike more = more (with_file s file.kind all) (with_file t file.kind some) (file_same keeps goes at is file.kind all some alike s t e)
+        → AlikeMerged at (after_file file (λ read. files_from everything (with_file everything s file.kind read) files) all) (after_file file (λ read. files_from keeps (with_file keeps t file.kind read) files) some)
+    by (Ok all) (Ok some) alike more = more (with_file everything s file.kind all) (with_file keeps t file.kind some) (file_same keeps goes at is file.kind all some alike s t e)
     by (Ok all) (Err fault) alike more = absurd alike
     by (Err fault) (Ok some) alike more = absurd alike
     by (Err fault) (Err other) alike more = ap (λ (f : ℕ × List ℕ). record { path = unwrap_or file.path []; line_number = f.0; message = f.1 }) alike
 
 -- ## Values of the selected profile
 
-pub profile_kept : (name : List ℕ) (keys : List (List ℕ)) (key : List ℕ) → is_kept_key keys key ≡ true
-    → IsKeptValue (keys_in (codes "profile") name keys) (has_heading (codes "profile") name) (λ s. value_in s.profiles name key)
-profile_kept name keys key asked = record {
+pub profile_kept : (name : List ℕ) (keys subs : List (List ℕ)) (key : List ℕ) → is_kept_key keys key ≡ true
+    → IsKeptValue (keys_in (codes "profile") name keys subs) (has_heading (codes "profile") name) (λ s. value_in s.profiles name key)
+profile_kept name keys subs key asked = record {
   kept = λ text is. ap (λ (b : Bool). b || is_profile_default (heading_of text).prefix (heading_of text).name) is;
   default = λ text is. ap (λ (b : Bool). has_heading (codes "profile") name (heading_of text) || b) is ∙ or-true (has_heading (codes "profile") name (heading_of text));
   same = λ s t prefix called all some alike e.
       let goes = has_heading (codes "profile") name (record { prefix = prefix; name = called }) in
-      profile_gives t prefix called some name key (λ _. alike.rising_some)
+      profile_gives (keys_in (codes "profile") name keys subs) t prefix called some name key (λ _. alike.rising_some)
       ∙ ap₂ (λ (found before : Option (List ℕ)). cond goes (over key found before) before) (alike.same key asked) e
-      ∙ sym (profile_gives s prefix called all name key (λ _. alike.rising_all));
+      ∙ sym (profile_gives everything s prefix called all name key (λ _. alike.rising_all));
   other = λ s prefix called pairs apart.
       let before = value_in s.profiles name key in
-      profile_gives s prefix called pairs name key (λ is. absurd (false≢true (sym apart ∙ is)))
+      profile_gives everything s prefix called pairs name key (λ is. absurd (false≢true (sym apart ∙ is)))
       ∙ ap (λ (b : Bool). cond b (over key (value_under pairs key) before) before) apart;
 }

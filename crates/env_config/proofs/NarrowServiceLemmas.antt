@@ -7,8 +7,9 @@ use Rattle.std.specs.Option.{option_cmp}
 use Rattle.std.proofs.Math.Bool.{or-true}
 use Rattle.std.proofs.lemmas.Bool.{false≢true}
 use Rattle.std.proofs.lemmas.Slice.Eq.{bytes_eq-Decides}
-use Rattle.env_config.specs.Kept.{has_heading, is_kept_key, keys_in}
+use Rattle.env_config.specs.Kept.{has_heading, is_kept_key, is_kept_sub, keys_in}
 use Rattle.env_config.specs.Line.{is_equals, trimmed}
+use Rattle.env_config.specs.Raw.{Keeps, everything}
 use Rattle.env_config.specs.Sections.{Key, Sections, heading_of, is_identifier, is_profile_default, key_cmp, merged_into, put_at_key, put_others, put_sub, put_subs, value_at_key, value_pieces, with_section}
 use Rattle.env_config.specs.Texts.{text_cmp, value_under}
 use Rattle.env_config.proofs.LaterLemmas.{at_put, key_total}
@@ -46,6 +47,11 @@ tied_property k j is =
     then_first (text_cmp k.property_name j.property_name) (option_cmp text_cmp k.sub_property_name j.sub_property_name)
     (then_second (text_cmp k.section_name j.section_name) (behind_names k j) (then_second (text_cmp k.section_key j.section_key) (behind_prefixes k j) is))
 
+tied_sub : (k j : Key) → is_eq (key_cmp k j) ≡ true → is_eq (option_cmp text_cmp k.sub_property_name j.sub_property_name) ≡ true
+tied_sub k j is =
+    then_second (text_cmp k.property_name j.property_name) (option_cmp text_cmp k.sub_property_name j.sub_property_name)
+    (then_second (text_cmp k.section_name j.section_name) (behind_names k j) (then_second (text_cmp k.section_key j.section_key) (behind_prefixes k j) is))
+
 -- what is told apart by a part
 apart_by : (b : Bool) (d : Bool) → (d ≡ true → b ≡ true) → b ≡ false → d ≡ false
 apart_by b false more is = refl
@@ -57,6 +63,10 @@ apart_by b true more is = sym (more refl) ∙ is
 abbrev sub_at : List ℕ → List ℕ → List ℕ → Option (List ℕ) → Key
 sub_at prefix name key sub = record { section_key = prefix; section_name = name; property_name = key; sub_property_name = sub }
 
+-- sub-properties of the key's name are kept
+abbrev IsKeptAt : Keeps → Key → Type 0
+IsKeptAt keeps k = (sub : List ℕ) → is_eq (option_cmp text_cmp k.sub_property_name (Some sub)) ≡ true → keeps.sub sub ≡ true
+
 -- a value, after the sub-property of a piece was put
 piece_gives : Key → List ℕ → List ℕ → List ℕ → Option (List ℕ) → List ℕ → Option (List ℕ)
 piece_gives k prefix name key before piece =
@@ -67,26 +77,33 @@ pieces_give : Key → List ℕ → List ℕ → List ℕ → Option (List ℕ) �
 pieces_give k prefix name key before [] = before
 pieces_give k prefix name key before (piece ∷ pieces) = pieces_give k prefix name key (piece_gives k prefix name key before piece) pieces
 
-sub_gives : (others : List (Key × List ℕ)) (k : Key) (prefix name key piece : List ℕ) → value_at_key (put_sub others prefix name key piece) k ≡ piece_gives k prefix name key (value_at_key others k) piece
+sub_gives : (keeps : Keeps) (others : List (Key × List ℕ)) (k : Key) → IsKeptAt keeps k → (prefix name key piece : List ℕ) → value_at_key (put_sub keeps others prefix name key piece) k ≡ piece_gives k prefix name key (value_at_key others k) piece
 unfolding piece_gives
-sub_gives others k prefix name key piece = by (nat_lt (position_or_len is_equals piece) (length piece))
+sub_gives keeps others k kept prefix name key piece = by (nat_lt (position_or_len is_equals piece) (length piece))
   where
+    sub : List ℕ
+    sub = trimmed (before_first is_equals piece)
+
     at : Key
-    at = sub_at prefix name key (Some (trimmed (before_first is_equals piece)))
+    at = sub_at prefix name key (Some sub)
 
     value : List ℕ
     value = trimmed (after_first is_equals piece)
 
-    by : (b : Bool) → value_at_key (cond b (put_at_key others at value) others) k ≡ cond b (cond (is_eq (key_cmp k at)) (Some value) (value_at_key others k)) (value_at_key others k)
-    by true = at_put key_cmp key_total others at value k
+    put_or : (c : Bool) → keeps.sub sub ≡ c → value_at_key (cond c (put_at_key others at value) others) k ≡ cond (is_eq (key_cmp k at)) (Some value) (value_at_key others k)
+    put_or true is = at_put key_cmp key_total others at value k
+    put_or false is = sym (ap (λ (b : Bool). cond b (Some value) (value_at_key others k)) (apart_by (keeps.sub sub) (is_eq (key_cmp k at)) (λ tied. kept sub (tied_sub k at tied)) is))
+
+    by : (b : Bool) → value_at_key (cond b (cond (keeps.sub sub) (put_at_key others at value) others) others) k ≡ cond b (cond (is_eq (key_cmp k at)) (Some value) (value_at_key others k)) (value_at_key others k)
+    by true = put_or (keeps.sub sub) refl
     by false = refl
 
-subs_give : (others : List (Key × List ℕ)) (k : Key) (prefix name key : List ℕ) (pieces : List (List ℕ)) → value_at_key (put_subs others prefix name key pieces) k ≡ pieces_give k prefix name key (value_at_key others k) pieces
+subs_give : (keeps : Keeps) (others : List (Key × List ℕ)) (k : Key) → IsKeptAt keeps k → (prefix name key : List ℕ) (pieces : List (List ℕ)) → value_at_key (put_subs keeps others prefix name key pieces) k ≡ pieces_give k prefix name key (value_at_key others k) pieces
 unfolding pieces_give
-subs_give others k prefix name key [] = refl
-subs_give others k prefix name key (piece ∷ pieces) =
-    subs_give (put_sub others prefix name key piece) k prefix name key pieces
-    ∙ ap (λ (before : Option (List ℕ)). pieces_give k prefix name key before pieces) (sub_gives others k prefix name key piece)
+subs_give keeps others k kept prefix name key [] = refl
+subs_give keeps others k kept prefix name key (piece ∷ pieces) =
+    subs_give keeps (put_sub keeps others prefix name key piece) k kept prefix name key pieces
+    ∙ ap (λ (before : Option (List ℕ)). pieces_give k prefix name key before pieces) (sub_gives keeps others k kept prefix name key piece)
 
 -- sub-properties of another key, or in another section
 pieces_apart : (k : Key) (prefix name key : List ℕ) → ((sub : Option (List ℕ)) → is_eq (key_cmp k (sub_at prefix name key sub)) ≡ false) → (before : Option (List ℕ)) (pieces : List (List ℕ))
@@ -116,18 +133,18 @@ either_way : (b : Bool) (x y : Option (List ℕ)) → x ≡ y → cond b x y ≡
 either_way true x y same = same
 either_way false x y same = refl
 
-spread_subs : (others : List (Key × List ℕ)) (k : Key) (prefix name key : List ℕ) (pieces : List (List ℕ)) (b : Bool)
-    → value_at_key (cond b (put_subs others prefix name key pieces) others) k ≡ cond b (pieces_give k prefix name key (value_at_key others k) pieces) (value_at_key others k)
-spread_subs others k prefix name key pieces true = subs_give others k prefix name key pieces
-spread_subs others k prefix name key pieces false = refl
+spread_subs : (keeps : Keeps) (others : List (Key × List ℕ)) (k : Key) → IsKeptAt keeps k → (prefix name key : List ℕ) (pieces : List (List ℕ)) (b : Bool)
+    → value_at_key (cond b (put_subs keeps others prefix name key pieces) others) k ≡ cond b (pieces_give k prefix name key (value_at_key others k) pieces) (value_at_key others k)
+spread_subs keeps others k kept prefix name key pieces true = subs_give keeps others k kept prefix name key pieces
+spread_subs keeps others k kept prefix name key pieces false = refl
 
-others_give : (others : List (Key × List ℕ)) (pairs : List (List ℕ × List ℕ)) (k : Key) → IsRising pairs
-    → value_at_key (put_others others k.section_key k.section_name pairs) k ≡ given k (value_under pairs k.property_name) (value_at_key others k)
+others_give : (keeps : Keeps) (others : List (Key × List ℕ)) (pairs : List (List ℕ × List ℕ)) (k : Key) → IsKeptAt keeps k → IsRising pairs
+    → value_at_key (put_others keeps others k.section_key k.section_name pairs) k ≡ given k (value_under pairs k.property_name) (value_at_key others k)
 unfolding given
-others_give others [] k rising = refl
-others_give others (pair ∷ pairs) k rising =
-    others_give (cond (is_identifier pair.0) (put_subs others k.section_key k.section_name pair.0 (value_pieces pair.1)) others) pairs k rising.1
-    ∙ ap (given k (value_under pairs k.property_name)) (spread_subs others k k.section_key k.section_name pair.0 (value_pieces pair.1) (is_identifier pair.0))
+others_give keeps others [] k kept rising = refl
+others_give keeps others (pair ∷ pairs) k kept rising =
+    others_give keeps (cond (is_identifier pair.0) (put_subs keeps others k.section_key k.section_name pair.0 (value_pieces pair.1)) others) pairs k kept rising.1
+    ∙ ap (given k (value_under pairs k.property_name)) (spread_subs keeps others k kept k.section_key k.section_name pair.0 (value_pieces pair.1) (is_identifier pair.0))
     ∙ by (is_eq (text_cmp k.property_name pair.0)) refl
   where
     before : Option (List ℕ)
@@ -149,14 +166,14 @@ others_give others (pair ∷ pairs) k rising =
         (λ sub. apart_by (is_eq (text_cmp k.property_name pair.0)) (is_eq (key_cmp k (sub_at k.section_key k.section_name pair.0 sub))) (λ tied. tied_property k (sub_at k.section_key k.section_name pair.0 sub) tied) is)
         before (value_pieces pair.1)))
 
-others_apart : (others : List (Key × List ℕ)) (prefix name : List ℕ) (pairs : List (List ℕ × List ℕ)) (k : Key) → ((key : List ℕ) (sub : Option (List ℕ)) → is_eq (key_cmp k (sub_at prefix name key sub)) ≡ false)
-    → value_at_key (put_others others prefix name pairs) k ≡ value_at_key others k
-others_apart others prefix name [] k apart = refl
-others_apart others prefix name (pair ∷ pairs) k apart =
+others_apart : (keeps : Keeps) (others : List (Key × List ℕ)) (prefix name : List ℕ) (pairs : List (List ℕ × List ℕ)) (k : Key) → IsKeptAt keeps k → ((key : List ℕ) (sub : Option (List ℕ)) → is_eq (key_cmp k (sub_at prefix name key sub)) ≡ false)
+    → value_at_key (put_others keeps others prefix name pairs) k ≡ value_at_key others k
+others_apart keeps others prefix name [] k kept apart = refl
+others_apart keeps others prefix name (pair ∷ pairs) k kept apart =
     let before = value_at_key others k in
     let pieces = value_pieces pair.1 in
-    others_apart (cond (is_identifier pair.0) (put_subs others prefix name pair.0 pieces) others) prefix name pairs k apart
-    ∙ spread_subs others k prefix name pair.0 pieces (is_identifier pair.0)
+    others_apart keeps (cond (is_identifier pair.0) (put_subs keeps others prefix name pair.0 pieces) others) prefix name pairs k kept apart
+    ∙ spread_subs keeps others k kept prefix name pair.0 pieces (is_identifier pair.0)
     ∙ either_way (is_identifier pair.0) (pieces_give k prefix name pair.0 before pieces) before (pieces_apart k prefix name pair.0 (apart pair.0) before pieces)
 
 -- ## Services sections
@@ -169,10 +186,10 @@ abbrev names_service : List ℕ → List ℕ → List ℕ → Bool
 names_service name prefix called = bytes_eq prefix (codes "services") && bytes_eq called name
 
 -- what a raw section makes of a sub-property
-service_put : (others : List (Key × List ℕ)) (prefix called : List ℕ) (pairs : List (List ℕ × List ℕ)) (name key : List ℕ) (sub : Option (List ℕ)) → (names_service name prefix called ≡ true → IsRising pairs)
+service_put : (keeps : Keeps) (others : List (Key × List ℕ)) (prefix called : List ℕ) (pairs : List (List ℕ × List ℕ)) (name key : List ℕ) (sub : Option (List ℕ)) → IsKeptAt keeps (service_at name key sub) → (names_service name prefix called ≡ true → IsRising pairs)
     → let k = service_at name key sub in
-    value_at_key (put_others others prefix called pairs) k ≡ cond (names_service name prefix called) (given k (value_under pairs key) (value_at_key others k)) (value_at_key others k)
-service_put others prefix called pairs name key sub rising = by (bytes_eq prefix (codes "services")) (bytes_eq called name) refl refl rising
+    value_at_key (put_others keeps others prefix called pairs) k ≡ cond (names_service name prefix called) (given k (value_under pairs key) (value_at_key others k)) (value_at_key others k)
+service_put keeps others prefix called pairs name key sub kept rising = by (bytes_eq prefix (codes "services")) (bytes_eq called name) refl refl rising
   where
     k : Key
     k = service_at name key sub
@@ -187,20 +204,20 @@ service_put others prefix called pairs name key sub rising = by (bytes_eq prefix
         apart_by (is_eq (text_cmp name called)) (is_eq (key_cmp k (sub_at prefix called key sub))) (λ tied. tied_name k (sub_at prefix called key sub) tied) (tied_is name called ∙ is)
 
     by : (c d : Bool) → bytes_eq prefix (codes "services") ≡ c → bytes_eq called name ≡ d → (c && d ≡ true → IsRising pairs)
-        → value_at_key (put_others others prefix called pairs) k ≡ cond (c && d) (given k (value_under pairs key) (value_at_key others k)) (value_at_key others k)
+        → value_at_key (put_others keeps others prefix called pairs) k ≡ cond (c && d) (given k (value_under pairs key) (value_at_key others k)) (value_at_key others k)
     by true true prefix_is name_is rising =
-        ap₂ (λ (p n : List ℕ). value_at_key (put_others others p n pairs) k) ((bytes_eq-Decides prefix (codes "services")).0 prefix_is) ((bytes_eq-Decides called name).0 name_is)
-        ∙ others_give others pairs k (rising refl)
-    by true false prefix_is name_is rising = others_apart others prefix called pairs k (other_name name_is)
-    by false d prefix_is name_is rising = others_apart others prefix called pairs k (other_prefix prefix_is)
+        ap₂ (λ (p n : List ℕ). value_at_key (put_others keeps others p n pairs) k) ((bytes_eq-Decides prefix (codes "services")).0 prefix_is) ((bytes_eq-Decides called name).0 name_is)
+        ∙ others_give keeps others pairs k kept (rising refl)
+    by true false prefix_is name_is rising = others_apart keeps others prefix called pairs k kept (other_name name_is)
+    by false d prefix_is name_is rising = others_apart keeps others prefix called pairs k kept (other_prefix prefix_is)
 
-service_gives : (s : Sections) (prefix : Option (List ℕ)) (called : List ℕ) (pairs : List (List ℕ × List ℕ)) (name key : List ℕ) (sub : Option (List ℕ))
+service_gives : (keeps : Keeps) (s : Sections) (prefix : Option (List ℕ)) (called : List ℕ) (pairs : List (List ℕ × List ℕ)) (name key : List ℕ) (sub : Option (List ℕ)) → IsKeptAt keeps (service_at name key sub)
     → (has_heading (codes "services") name (record { prefix = prefix; name = called }) ≡ true → IsRising pairs)
     → let k = service_at name key sub in
-    value_at_key (with_section s prefix called pairs).others k
+    value_at_key (with_section keeps s prefix called pairs).others k
     ≡ cond (has_heading (codes "services") name (record { prefix = prefix; name = called })) (given k (value_under pairs key) (value_at_key s.others k)) (value_at_key s.others k)
-service_gives s None called pairs name key sub rising = refl
-service_gives s (Some prefix) called pairs name key sub rising = by (bytes_eq prefix (codes "profile")) (bytes_eq prefix (codes "sso-session")) refl refl
+service_gives keeps s None called pairs name key sub kept rising = refl
+service_gives keeps s (Some prefix) called pairs name key sub kept rising = by (bytes_eq prefix (codes "profile")) (bytes_eq prefix (codes "sso-session")) refl refl
   where
     k : Key
     k = service_at name key sub
@@ -215,24 +232,37 @@ service_gives s (Some prefix) called pairs name key sub rising = by (bytes_eq pr
 
     by : (b d : Bool) → bytes_eq prefix (codes "profile") ≡ b → bytes_eq prefix (codes "sso-session") ≡ d
         → value_at_key (cond b (record s { profiles = merged_into s.profiles called pairs })
-        (cond d (record s { sessions = merged_into s.sessions called pairs }) (record s { others = put_others s.others prefix called pairs }))).others k
+        (cond d (record s { sessions = merged_into s.sessions called pairs }) (record s { others = put_others keeps s.others prefix called pairs }))).others k
         ≡ cond (names_service name prefix called) (given k (value_under pairs key) before) before
     by true d profile session = lost (codes "profile") profile refl
     by false true profile session = lost (codes "sso-session") session refl
-    by false false profile session = service_put s.others prefix called pairs name key sub rising
+    by false false profile session = service_put keeps s.others prefix called pairs name key sub kept rising
 
-pub service_kept : (name : List ℕ) (keys : List (List ℕ)) (key : List ℕ) (sub : Option (List ℕ)) → is_kept_key keys key ≡ true
-    → IsKeptValue (keys_in (codes "services") name keys) (has_heading (codes "services") name) (λ s. value_at_key s.others (service_at name key sub))
-service_kept name keys key sub asked = record {
+-- the sub-property is kept
+sub_kept : (name : List ℕ) (keys subs : List (List ℕ)) (key sub : List ℕ) → is_kept_sub subs sub ≡ true → IsKeptAt (keys_in (codes "services") name keys subs) (service_at name key (Some sub))
+sub_kept name keys subs key sub asked other tied = ap (is_kept_sub subs) (sym (tied_same sub other tied)) ∙ asked
+
+pub service_kept : (name : List ℕ) (keys subs : List (List ℕ)) (key sub : List ℕ) → is_kept_key keys key ≡ true → is_kept_sub subs sub ≡ true
+    → IsKeptValue (keys_in (codes "services") name keys subs) (has_heading (codes "services") name) (λ s. value_at_key s.others (service_at name key (Some sub)))
+service_kept name keys subs key sub asked sub_asked = record {
   kept = λ text is. ap (λ (b : Bool). b || is_profile_default (heading_of text).prefix (heading_of text).name) is;
   default = λ text is. ap (λ (b : Bool). has_heading (codes "services") name (heading_of text) || b) is ∙ or-true (has_heading (codes "services") name (heading_of text));
   same = λ s t prefix called all some alike e.
       let goes = has_heading (codes "services") name (record { prefix = prefix; name = called }) in
-      service_gives t prefix called some name key sub (λ _. alike.rising_some)
-      ∙ ap₂ (λ (found before : Option (List ℕ)). cond goes (given (service_at name key sub) found before) before) (alike.same key asked) e
-      ∙ sym (service_gives s prefix called all name key sub (λ _. alike.rising_all));
+      service_gives (keys_in (codes "services") name keys subs) t prefix called some name key (Some sub) (sub_kept name keys subs key sub sub_asked) (λ _. alike.rising_some)
+      ∙ ap₂ (λ (found before : Option (List ℕ)). cond goes (given (service_at name key (Some sub)) found before) before) (alike.same key asked) e
+      ∙ sym (service_gives everything s prefix called all name key (Some sub) (λ other is. refl) (λ _. alike.rising_all));
   other = λ s prefix called pairs apart.
-      let before = value_at_key s.others (service_at name key sub) in
-      service_gives s prefix called pairs name key sub (λ is. absurd (false≢true (sym apart ∙ is)))
-      ∙ ap (λ (b : Bool). cond b (given (service_at name key sub) (value_under pairs key) before) before) apart;
+      let before = value_at_key s.others (service_at name key (Some sub)) in
+      service_gives everything s prefix called pairs name key (Some sub) (λ other is. refl) (λ is. absurd (false≢true (sym apart ∙ is)))
+      ∙ ap (λ (b : Bool). cond b (given (service_at name key (Some sub)) (value_under pairs key) before) before) apart;
+}
+
+-- where nothing is asked for, the kept sections refuse the lines that all do
+pub nothing_kept : (name : List ℕ) (keys subs : List (List ℕ)) → IsKeptValue (keys_in (codes "services") name keys subs) (has_heading (codes "services") name) (λ s. None)
+nothing_kept name keys subs = record {
+  kept = λ text is. ap (λ (b : Bool). b || is_profile_default (heading_of text).prefix (heading_of text).name) is;
+  default = λ text is. ap (λ (b : Bool). has_heading (codes "services") name (heading_of text) || b) is ∙ or-true (has_heading (codes "services") name (heading_of text));
+  same = λ s t prefix called all some alike e. refl;
+  other = λ s prefix called pairs apart. refl;
 }

@@ -10,7 +10,7 @@ use Rattle.env_config.specs.declared.parse_fault.ParseFault.TheVariants.{Parse, 
 use Rattle.env_config.specs.declared.properties.Properties.{Properties}
 use Rattle.env_config.specs.declared.sections.EnvConfigSections.{EnvConfigSections}
 use Rattle.env_config.specs.EnvConfigSections.{ParsesSections, sections_of, selected_of}
-use Rattle.env_config.specs.Kept.{has_heading, is_kept_key, keys_in}
+use Rattle.env_config.specs.Kept.{has_heading, is_kept_key, is_kept_sub, keys_in}
 use Rattle.env_config.specs.Laws.{value_in}
 use Rattle.env_config.specs.ParseFault.{faulty_line_of}
 use Rattle.env_config.specs.Properties.{others_of}
@@ -20,7 +20,7 @@ use Rattle.env_config.specs.Selected.{GivesSelected, GivesService, ParsesSelecte
 use Rattle.env_config.specs.Value.{id_in_sections, service_sub, with_spaces_as}
 use Rattle.env_config.proofs.LowerLemmas.{lower_lower}
 use Rattle.env_config.proofs.NarrowMergeLemmas.{AlikeMerged, files_same, profile_kept}
-use Rattle.env_config.proofs.NarrowServiceLemmas.{service_kept}
+use Rattle.env_config.proofs.NarrowServiceLemmas.{nothing_kept, service_kept}
 
 -- the line that is refused where some is kept is refused where all is
 refused : (at : Sections → Option (List ℕ)) (full : Result Sections FaultyLine) (line : FaultyLine) → AlikeMerged at full (Err line) → full ≡ Err line
@@ -29,10 +29,10 @@ refused at (Err other) line alike = ap (λ (l : FaultyLine). Err l) (sym alike)
 
 -- ## Keys of the selected profile
 
-keys_alike : (files : List FileText) (name : List ℕ) (keys : List (List ℕ)) (key : List ℕ) → is_kept_key keys key ≡ true
-    → AlikeMerged (λ s. value_in s.profiles name key) (files_from everything no_sections files) (files_from (keys_in (codes "profile") name keys) no_sections files)
-keys_alike files name keys key asked =
-    files_same (keys_in (codes "profile") name keys) (has_heading (codes "profile") name) (λ s. value_in s.profiles name key) (profile_kept name keys key asked) files no_sections no_sections refl
+keys_alike : (files : List FileText) (name : List ℕ) (keys subs : List (List ℕ)) (key : List ℕ) → is_kept_key keys key ≡ true
+    → AlikeMerged (λ s. value_in s.profiles name key) (files_from everything no_sections files) (files_from (keys_in (codes "profile") name keys subs) no_sections files)
+keys_alike files name keys subs key asked =
+    files_same (keys_in (codes "profile") name keys subs) (has_heading (codes "profile") name) (λ s. value_in s.profiles name key) (profile_kept name keys subs key asked) files no_sections no_sections refl
 
 keys_given : (full : Result Sections FaultyLine) (profile : List ℕ) (keys : List (List ℕ)) (some : EnvConfigSections)
     → ((key : List ℕ) → is_kept_key keys key ≡ true → AlikeMerged (λ s. value_in s.profiles profile key) full (Ok (sections_of some))) → selected_of some ≡ profile → GivesSelected full profile keys None some
@@ -40,22 +40,22 @@ keys_given (Err line) profile keys some alike selected = absurd (alike (codes "s
 keys_given (Ok all) profile keys some alike selected =
     (selected, λ key asked. ap (λ (name : List ℕ). value_in (sections_of some).profiles name (lower key)) selected ∙ alike (lower key) asked, tt)
 
-pub keys_parsed : (files : List FileText) (profile name : List ℕ) (keys : List (List ℕ)) (result : Result EnvConfigSections ParseFault) → name ≡ profile
-    → ParsesSections (files_from (keys_in (codes "profile") name keys) no_sections files) profile result → ParsesSelected (sections files) profile keys None result
+pub keys_parsed : (files : List FileText) (profile name : List ℕ) (keys subs : List (List ℕ)) (result : Result EnvConfigSections ParseFault) → name ≡ profile
+    → ParsesSections (files_from (keys_in (codes "profile") name keys subs) no_sections files) profile result → ParsesSelected (sections files) profile keys None result
 unfolding sections
-keys_parsed files profile name keys result named parses =
-    by result (subst (λ (n : List ℕ). ParsesSections (files_from (keys_in (codes "profile") n keys) no_sections files) profile result) named parses)
+keys_parsed files profile name keys subs result named parses =
+    by result (subst (λ (n : List ℕ). ParsesSections (files_from (keys_in (codes "profile") n keys subs) no_sections files) profile result) named parses)
   where
-    by : (result : Result EnvConfigSections ParseFault) → ParsesSections (files_from (keys_in (codes "profile") profile keys) no_sections files) profile result
+    by : (result : Result EnvConfigSections ParseFault) → ParsesSections (files_from (keys_in (codes "profile") profile keys subs) no_sections files) profile result
         → ParsesSelected (files_from everything no_sections files) profile keys None result
     by (Ok some) parses =
         keys_given (files_from everything no_sections files) profile keys some
-        (λ key asked. subst (λ (r : Result Sections FaultyLine). AlikeMerged (λ s. value_in s.profiles profile key) (files_from everything no_sections files) r) parses.0 (keys_alike files profile keys key asked))
+        (λ key asked. subst (λ (r : Result Sections FaultyLine). AlikeMerged (λ s. value_in s.profiles profile key) (files_from everything no_sections files) r) parses.0 (keys_alike files profile keys subs key asked))
         parses.1
     by (Err (Parse error)) parses =
         let at : Sections → Option (List ℕ) = λ s. value_in s.profiles profile (codes "services") in
         refused at (files_from everything no_sections files) (faulty_line_of error)
-        (subst (λ (r : Result Sections FaultyLine). AlikeMerged at (files_from everything no_sections files) r) parses (keys_alike files profile keys (codes "services") refl))
+        (subst (λ (r : Result Sections FaultyLine). AlikeMerged at (files_from everything no_sections files) r) parses (keys_alike files profile keys subs (codes "services") refl))
     by (Err NoMemory) parses = tt
 
 -- ## A service
@@ -67,36 +67,40 @@ asked_service id =
     ap (λ (b : Bool). bytes_eq key (codes "services") || (b || list_any (λ k. bytes_eq key (lower k)) [])) ((bytes_eq-Decides key (lower key)).1 (sym (lower_lower (with_spaces_as (codes "-") id))))
     ∙ or-true (bytes_eq key (codes "services"))
 
-service_alike : (files : List FileText) (services id key : List ℕ)
-    → AlikeMerged (λ s. value_at_key s.others (service_sub services id key)) (files_from everything no_sections files) (files_from (keys_in (codes "services") services (id_in_sections id ∷ [])) no_sections files)
-service_alike files services id key =
-    let keeps = keys_in (codes "services") services (id_in_sections id ∷ []) in
+service_alike : (files : List FileText) (services id : List ℕ) (subs : List (List ℕ)) (key : List ℕ) → is_kept_sub subs key ≡ true
+    → AlikeMerged (λ s. value_at_key s.others (service_sub services id key)) (files_from everything no_sections files) (files_from (keys_in (codes "services") services (id_in_sections id ∷ []) subs) no_sections files)
+service_alike files services id subs key asked =
+    let keeps = keys_in (codes "services") services (id_in_sections id ∷ []) subs in
     files_same keeps (has_heading (codes "services") services) (λ s. value_at_key s.others (service_sub services id key))
-    (service_kept services (id_in_sections id ∷ []) (id_in_sections id) (Some key) (asked_service id)) files no_sections no_sections refl
+    (service_kept services (id_in_sections id ∷ []) subs (id_in_sections id) key (asked_service id) asked) files no_sections no_sections refl
 
-service_given : (full : Result Sections FaultyLine) (services id : List ℕ) (some : Sections) (others : Properties) → others_of others ≡ some.others
-    → ((key : List ℕ) → AlikeMerged (λ s. value_at_key s.others (service_sub services id key)) full (Ok some)) → GivesService full services id others
-service_given (Err line) services id some others is alike = absurd (alike [])
-service_given (Ok all) services id some others is alike = λ key. ap (λ o. value_at_key o (service_sub services id key)) is ∙ alike key
+-- the same lines are refused
+lines_alike : (files : List FileText) (services key : List ℕ) (subs : List (List ℕ)) → AlikeMerged (λ s. None) (files_from everything no_sections files) (files_from (keys_in (codes "services") services (key ∷ []) subs) no_sections files)
+lines_alike files services key subs =
+    files_same (keys_in (codes "services") services (key ∷ []) subs) (has_heading (codes "services") services) (λ s. None) (nothing_kept services (key ∷ []) subs) files no_sections no_sections refl
+
+service_given : (full : Result Sections FaultyLine) (services id : List ℕ) (subs : List (List ℕ)) (some : Sections) (others : Properties) → others_of others ≡ some.others → AlikeMerged (λ s. None) full (Ok some)
+    → ((key : List ℕ) → is_kept_sub subs key ≡ true → AlikeMerged (λ s. value_at_key s.others (service_sub services id key)) full (Ok some)) → GivesService full services subs id others
+service_given (Err line) services id subs some others is taken alike = absurd taken
+service_given (Ok all) services id subs some others is taken alike = λ key asked. ap (λ o. value_at_key o (service_sub services id key)) is ∙ alike key asked
 
 -- the sub-properties of the sections that are kept
-pub service_parsed : (files : List FileText) (profile services id key : List ℕ) (some : EnvConfigSections) → key ≡ id_in_sections id
-    → ParsesSections (files_from (keys_in (codes "services") services (key ∷ [])) no_sections files) profile (Ok some) → ParsesService (sections files) services id (Ok some.others)
+pub service_parsed : (files : List FileText) (profile services id key : List ℕ) (subs : List (List ℕ)) (some : EnvConfigSections) → key ≡ id_in_sections id
+    → ParsesSections (files_from (keys_in (codes "services") services (key ∷ []) subs) no_sections files) profile (Ok some) → ParsesService (sections files) services subs id (Ok some.others)
 unfolding sections
-service_parsed files profile services id key some key_is parses =
+service_parsed files profile services id key subs some key_is parses =
     let full = files_from everything no_sections files in
-    let kept : (key : List ℕ) → Result Sections FaultyLine = λ key. files_from (keys_in (codes "services") services (key ∷ [])) no_sections files in
+    let kept : (key : List ℕ) → Result Sections FaultyLine = λ key. files_from (keys_in (codes "services") services (key ∷ []) subs) no_sections files in
     let read : kept (id_in_sections id) ≡ Ok (sections_of some) = ap kept (sym key_is) ∙ parses.0 in
-    service_given full services id (sections_of some) some.others refl
-    (λ sub. subst (λ (r : Result Sections FaultyLine). AlikeMerged (λ s. value_at_key s.others (service_sub services id sub)) full r) read (service_alike files services id sub))
+    service_given full services id subs (sections_of some) some.others refl
+    (subst (λ (r : Result Sections FaultyLine). AlikeMerged (λ s. None) full r) parses.0 (lines_alike files services key subs))
+    (λ sub asked. subst (λ (r : Result Sections FaultyLine). AlikeMerged (λ s. value_at_key s.others (service_sub services id sub)) full r) read (service_alike files services id subs sub asked))
 
 -- the line that is refused
-pub service_refused : (files : List FileText) (profile services id key : List ℕ) (fault : ParseFault) → key ≡ id_in_sections id
-    → ParsesSections (files_from (keys_in (codes "services") services (key ∷ [])) no_sections files) profile (Err fault) → ParsesService (sections files) services id (Err fault)
+pub service_refused : (files : List FileText) (profile services id key : List ℕ) (subs : List (List ℕ)) (fault : ParseFault)
+    → ParsesSections (files_from (keys_in (codes "services") services (key ∷ []) subs) no_sections files) profile (Err fault) → ParsesService (sections files) services subs id (Err fault)
 unfolding sections
-service_refused files profile services id key NoMemory key_is parses = tt
-service_refused files profile services id key (Parse error) key_is parses =
+service_refused files profile services id key subs NoMemory parses = tt
+service_refused files profile services id key subs (Parse error) parses =
     let full = files_from everything no_sections files in
-    let at : Sections → Option (List ℕ) = λ s. value_at_key s.others (service_sub services id []) in
-    let kept : (key : List ℕ) → Result Sections FaultyLine = λ key. files_from (keys_in (codes "services") services (key ∷ [])) no_sections files in
-    refused at full (faulty_line_of error) (subst (AlikeMerged at full) (ap kept (sym key_is) ∙ parses) (service_alike files services id []))
+    refused (λ s. None) full (faulty_line_of error) (subst (AlikeMerged (λ s. None) full) parses (lines_alike files services key subs))

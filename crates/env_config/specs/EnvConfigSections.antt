@@ -48,8 +48,8 @@ HasCopies sections copy =
 
 -- what is kept of the file's text is merged, whatever the files after it add, or its first faulty line is told
 abbrev pub MergesText : Keeps → Sections → FileText → Sections → Result (Unit {0}) ParseFault → Type 0
-MergesText keeps before file now (Ok _) = (others : Sections → Result Sections FaultyLine) → after_file file (λ read. others (with_file before file.kind read)) (raw keeps file.contents) ≡ others now
-MergesText keeps before file now (Err (Parse error)) = (others : Sections → Result Sections FaultyLine) → after_file file (λ read. others (with_file before file.kind read)) (raw keeps file.contents) ≡ Err (faulty_line_of error)
+MergesText keeps before file now (Ok _) = (others : Sections → Result Sections FaultyLine) → after_file file (λ read. others (with_file keeps before file.kind read)) (raw keeps file.contents) ≡ others now
+MergesText keeps before file now (Err (Parse error)) = (others : Sections → Result Sections FaultyLine) → after_file file (λ read. others (with_file keeps before file.kind read)) (raw keeps file.contents) ≡ Err (faulty_line_of error)
 MergesText keeps before file now (Err NoMemory) = Unit {0}
 
 -- the fault of a file's line

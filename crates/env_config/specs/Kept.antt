@@ -19,10 +19,14 @@ has_heading prefix name heading = bytes_eq (unwrap_or heading.prefix (codes "pro
 abbrev pub is_kept_heading : List ℕ → List ℕ → Heading → Bool
 is_kept_heading prefix name heading = has_heading prefix name heading || is_profile_default heading.prefix heading.name
 
--- these keys of the sections with this prefix and this name
-abbrev pub keys_in : List ℕ → List ℕ → List (List ℕ) → Keeps
-keys_in prefix name keys = record { section = λ text. is_kept_heading prefix name (heading_of text); key = is_kept_key keys }
+-- the sub-property has one of these names
+abbrev pub is_kept_sub : List (List ℕ) → List ℕ → Bool
+is_kept_sub names name = list_any (bytes_eq name) names
+
+-- these keys of the sections with this prefix and this name, and the sub-properties with these names
+abbrev pub keys_in : List ℕ → List ℕ → List (List ℕ) → List (List ℕ) → Keeps
+keys_in prefix name keys subs = record { section = λ text. is_kept_heading prefix name (heading_of text); key = is_kept_key keys; sub = is_kept_sub subs }
 
 abbrev pub keeps_of : Kept → Keeps
 keeps_of All = everything
-keeps_of (Of prefix name keys) = keys_in prefix.now name.now (map (λ k. k.now) keys.now)
+keeps_of (Of prefix name keys subs) = keys_in prefix.now name.now (map (λ k. k.now) keys.now) (map (λ s. s.now) subs.now)

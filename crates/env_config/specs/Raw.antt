@@ -29,13 +29,14 @@ start = record { sections = nothing_named; open_section = None }
 
 -- ## What is kept
 
--- which sections are kept, by the texts between their brackets, and which properties, by their keys
+-- which sections are kept, by the texts between their brackets, which properties, by their keys, and which sub-properties, by their names
 pub record Keeps : Type 0 where
   pub section : List ℕ → Bool
   pub key : List ℕ → Bool
+  pub sub : List ℕ → Bool
 
 abbrev pub everything : Keeps
-everything = record { section = λ _. true; key = λ _. true }
+everything = record { section = λ _. true; key = λ _. true; sub = λ _. true }
 
 -- the section stands among the others, if it is kept
 abbrev pub put_section : Keeps → Named (List (List ℕ × List ℕ)) → List ℕ → List (List ℕ × List ℕ) → Named (List (List ℕ × List ℕ))

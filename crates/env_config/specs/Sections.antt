@@ -98,26 +98,31 @@ value_at_key entries key = lookup (is_at (key_cmp key)) entries
 abbrev pub put_at_key : List (Key × List ℕ) → Key → List ℕ → List (Key × List ℕ)
 put_at_key entries key value = insert_entry key_cmp entries key value
 
--- the sub-property of a piece: nothing where it has no `=`
-abbrev pub put_sub : List (Key × List ℕ) → List ℕ → List ℕ → List ℕ → List ℕ → List (Key × List ℕ)
-put_sub others prefix name key piece =
+-- the sub-property stands at its key, if it is kept
+abbrev pub put_kept_sub : Keeps → List (Key × List ℕ) → List ℕ → List ℕ → List ℕ → List ℕ → List ℕ → List (Key × List ℕ)
+put_kept_sub keeps others prefix name key sub value =
+    if keeps.sub sub then put_at_key others (record { section_key = prefix; section_name = name; property_name = key; sub_property_name = Some sub }) value else others
+
+-- the sub-property of a piece, if it is kept: nothing where it has no `=`
+abbrev pub put_sub : Keeps → List (Key × List ℕ) → List ℕ → List ℕ → List ℕ → List ℕ → List (Key × List ℕ)
+put_sub keeps others prefix name key piece =
     if nat_lt (position_or_len is_equals piece) (length piece)
-    then put_at_key others (record { section_key = prefix; section_name = name; property_name = key; sub_property_name = Some (trimmed (before_first is_equals piece)) }) (trimmed (after_first is_equals piece))
+    then put_kept_sub keeps others prefix name key (trimmed (before_first is_equals piece)) (trimmed (after_first is_equals piece))
     else others
 
-abbrev pub put_subs : List (Key × List ℕ) → List ℕ → List ℕ → List ℕ → List (List ℕ) → List (Key × List ℕ)
-put_subs others prefix name key [] = others
-put_subs others prefix name key (piece ∷ pieces) = put_subs (put_sub others prefix name key piece) prefix name key pieces
+abbrev pub put_subs : Keeps → List (Key × List ℕ) → List ℕ → List ℕ → List ℕ → List (List ℕ) → List (Key × List ℕ)
+put_subs keeps others prefix name key [] = others
+put_subs keeps others prefix name key (piece ∷ pieces) = put_subs keeps (put_sub keeps others prefix name key piece) prefix name key pieces
 
 -- a value is split at LF
 abbrev pub value_pieces : List ℕ → List (List ℕ)
 value_pieces value = slice_split (λ b. nat_eq b line_feed) value
 
--- the sub-properties of each key that is an identifier, piece by piece of its value
-abbrev pub put_others : List (Key × List ℕ) → List ℕ → List ℕ → List (List ℕ × List ℕ) → List (Key × List ℕ)
-put_others others prefix name [] = others
-put_others others prefix name (pair ∷ pairs) =
-    put_others (if is_identifier pair.0 then put_subs others prefix name pair.0 (value_pieces pair.1) else others) prefix name pairs
+-- the sub-properties of each key that is an identifier, piece by piece of its value, as far as they are kept
+abbrev pub put_others : Keeps → List (Key × List ℕ) → List ℕ → List ℕ → List (List ℕ × List ℕ) → List (Key × List ℕ)
+put_others keeps others prefix name [] = others
+put_others keeps others prefix name (pair ∷ pairs) =
+    put_others keeps (if is_identifier pair.0 then put_subs keeps others prefix name pair.0 (value_pieces pair.1) else others) prefix name pairs
 
 -- profiles, sessions, and the sub-properties of all other sections
 pub record Sections : Type 0 where
@@ -129,26 +134,26 @@ abbrev pub no_sections : Sections
 no_sections = record { profiles = nothing_named; sessions = nothing_named; others = [] }
 
 -- a section without prefix is a profile
-abbrev pub with_section : Sections → Option (List ℕ) → List ℕ → List (List ℕ × List ℕ) → Sections
-with_section sections None name pairs = record sections { profiles = merged_into sections.profiles name pairs }
-with_section sections (Some prefix) name pairs =
+abbrev pub with_section : Keeps → Sections → Option (List ℕ) → List ℕ → List (List ℕ × List ℕ) → Sections
+with_section keeps sections None name pairs = record sections { profiles = merged_into sections.profiles name pairs }
+with_section keeps sections (Some prefix) name pairs =
     if bytes_eq prefix (codes "profile") then record sections { profiles = merged_into sections.profiles name pairs }
     else if bytes_eq prefix (codes "sso-session") then record sections { sessions = merged_into sections.sessions name pairs }
-    else record sections { others = put_others sections.others prefix name pairs }
+    else record sections { others = put_others keeps sections.others prefix name pairs }
 
 -- a raw section is merged, or ignored
-abbrev pub with_raw : Sections → EnvConfigFileKind → Bool → Heading → List (List ℕ × List ℕ) → Sections
-with_raw sections kind overridden heading pairs =
-    if is_taken_from kind overridden heading.prefix heading.name then with_section sections heading.prefix heading.name pairs else sections
+abbrev pub with_raw : Keeps → Sections → EnvConfigFileKind → Bool → Heading → List (List ℕ × List ℕ) → Sections
+with_raw keeps sections kind overridden heading pairs =
+    if is_taken_from kind overridden heading.prefix heading.name then with_section keeps sections heading.prefix heading.name pairs else sections
 
-abbrev pub with_names : Sections → EnvConfigFileKind → Bool → Named (List (List ℕ × List ℕ)) → List (List ℕ) → Sections
-with_names sections kind overridden file [] = sections
-with_names sections kind overridden file (name ∷ names) =
-    with_names (with_raw sections kind overridden (heading_of name) (properties_of file name)) kind overridden file names
+abbrev pub with_names : Keeps → Sections → EnvConfigFileKind → Bool → Named (List (List ℕ × List ℕ)) → List (List ℕ) → Sections
+with_names keeps sections kind overridden file [] = sections
+with_names keeps sections kind overridden file (name ∷ names) =
+    with_names keeps (with_raw keeps sections kind overridden (heading_of name) (properties_of file name)) kind overridden file names
 
 -- the raw sections of a file, in the order of their first appearance
-unfoldable pub with_file : Sections → EnvConfigFileKind → Named (List (List ℕ × List ℕ)) → Sections
-with_file sections kind file = with_names sections kind (has_profile_default file.names) file file.names
+unfoldable pub with_file : Keeps → Sections → EnvConfigFileKind → Named (List (List ℕ × List ℕ)) → Sections
+with_file keeps sections kind file = with_names keeps sections kind (has_profile_default file.names) file file.names
 
 -- ## Files
 
@@ -170,7 +175,7 @@ after_file file others (Err fault) = Err (record { path = unwrap_or file.path []
 -- what the files to come add to the sections
 abbrev pub files_from : Keeps → Sections → List FileText → Result Sections FaultyLine
 files_from keeps sections [] = Ok sections
-files_from keeps sections (file ∷ files) = after_file file (λ read. files_from keeps (with_file sections file.kind read) files) (raw keeps file.contents)
+files_from keeps sections (file ∷ files) = after_file file (λ read. files_from keeps (with_file keeps sections file.kind read) files) (raw keeps file.contents)
 
 -- the merged sections of the files, or the first faulty line of the first faulty file
 unfoldable pub sections : List FileText → Result Sections FaultyLine

@@ -7,7 +7,7 @@ use Rattle.env_config.specs.declared.properties.Properties.{Properties}
 use Rattle.env_config.specs.declared.sections.EnvConfigSections.{EnvConfigSections}
 use Rattle.env_config.specs.EnvConfigSections.{selected_of}
 use Rattle.env_config.specs.EnvConfigValue.{chosen_of}
-use Rattle.env_config.specs.Kept.{is_kept_key}
+use Rattle.env_config.specs.Kept.{is_kept_key, is_kept_sub}
 use Rattle.env_config.specs.ParseFault.{faulty_line_of}
 use Rattle.env_config.specs.Properties.{others_of}
 use Rattle.env_config.specs.Sections.{FaultyLine, Sections, value_at_key}
@@ -17,17 +17,17 @@ use Rattle.env_config.specs.Value.{Chosen, in_services, selected_value, service_
 abbrev pub HasKeys : List (List ℕ) → Chosen → Chosen → Type 0
 HasKeys keys all some = (key : List ℕ) → is_kept_key keys (lower key) ≡ true → selected_value some key ≡ selected_value all key
 
--- the service, where there is one, has the values of its own that it has among all sections
-abbrev pub HasService : Option (List ℕ) → Chosen → Chosen → Type 0
-HasService None all some = Unit {0}
-HasService (Some id) all some = (key : List ℕ) → in_services some id key ≡ in_services all id key
+-- the service, where there is one, has the values of its own that it has among all sections, at each of these keys as it is spelled
+abbrev pub HasService : List (List ℕ) → Option (List ℕ) → Chosen → Chosen → Type 0
+HasService keys None all some = Unit {0}
+HasService keys (Some id) all some = (key : List ℕ) → is_kept_sub keys key ≡ true → in_services some id key ≡ in_services all id key
 
 -- ## Answers
 
 abbrev pub GivesSelected : Result Sections FaultyLine → List ℕ → List (List ℕ) → Option (List ℕ) → EnvConfigSections → Type 0
 GivesSelected (Err line) profile keys id some = ⊥
 GivesSelected (Ok all) profile keys id some =
-    (selected_of some ≡ profile) × HasKeys keys (record { sections = all; selected = profile }) (chosen_of some) × HasService id (record { sections = all; selected = profile }) (chosen_of some)
+    (selected_of some ≡ profile) × HasKeys keys (record { sections = all; selected = profile }) (chosen_of some) × HasService keys id (record { sections = all; selected = profile }) (chosen_of some)
 
 -- sections that give what all sections give of the keys and the service, or the first faulty line
 abbrev pub ParsesSelected : Result Sections FaultyLine → List ℕ → List (List ℕ) → Option (List ℕ) → Result EnvConfigSections ParseFault → Type 0
@@ -35,12 +35,12 @@ ParsesSelected read profile keys id (Ok some) = GivesSelected read profile keys 
 ParsesSelected read profile keys id (Err (Parse error)) = read ≡ Err (faulty_line_of error)
 ParsesSelected read profile keys id (Err NoMemory) = Unit {0}
 
-abbrev pub GivesService : Result Sections FaultyLine → List ℕ → List ℕ → Properties → Type 0
-GivesService (Err line) services id others = ⊥
-GivesService (Ok all) services id others = (key : List ℕ) → value_at_key (others_of others) (service_sub services id key) ≡ value_at_key all.others (service_sub services id key)
+abbrev pub GivesService : Result Sections FaultyLine → List ℕ → List (List ℕ) → List ℕ → Properties → Type 0
+GivesService (Err line) services keys id others = ⊥
+GivesService (Ok all) services keys id others = (key : List ℕ) → is_kept_sub keys key ≡ true → value_at_key (others_of others) (service_sub services id key) ≡ value_at_key all.others (service_sub services id key)
 
--- the service's values of a services section, as all sections give them, or the first faulty line
-abbrev pub ParsesService : Result Sections FaultyLine → List ℕ → List ℕ → Result Properties ParseFault → Type 0
-ParsesService read services id (Ok others) = GivesService read services id others
-ParsesService read services id (Err (Parse error)) = read ≡ Err (faulty_line_of error)
-ParsesService read services id (Err NoMemory) = Unit {0}
+-- the service's values of a services section at these keys, as all sections give them, or the first faulty line
+abbrev pub ParsesService : Result Sections FaultyLine → List ℕ → List (List ℕ) → List ℕ → Result Properties ParseFault → Type 0
+ParsesService read services keys id (Ok others) = GivesService read services keys id others
+ParsesService read services keys id (Err (Parse error)) = read ≡ Err (faulty_line_of error)
+ParsesService read services keys id (Err NoMemory) = Unit {0}

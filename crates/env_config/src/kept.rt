@@ -2,21 +2,23 @@ ghost use Rattle.std.specs.Prelude.{◌≡◌, ◌&&◌, codes, bytes_eq, map};
 ghost use Rattle.std.specs.List.{list_any};
 ghost use Rattle.smithy_core.specs.TextPairs.{lower};
 ghost use Rattle.env_config.specs.Heading.{heading_seen};
-ghost use Rattle.env_config.specs.Kept.{has_heading, is_kept_heading, is_kept_key, keeps_of};
+ghost use Rattle.env_config.specs.Kept.{has_heading, is_kept_heading, is_kept_key, is_kept_sub, keeps_of};
 
 use crate::heading::Heading;
 use smithy_core::is_lower_of;
 
-/// Which sections of a text are kept, and which of their keys.
+/// Which sections of a text are kept, which of their keys, and which sub-properties.
 #[derive(Clone, Copy)]
 pub enum Kept<'a> {
     /// All sections with all keys.
     All,
-    /// Of the sections with one prefix and one name these keys, whatever their case, and `services`.
+    /// Of the sections with one prefix and one name these keys, whatever their case, and `services`; and the
+    /// sub-properties with these names.
     Of {
         prefix: &'a str,
         name: &'a str,
         keys: &'a [&'a str],
+        sub_properties: &'a [&'a str],
     },
 }
 
@@ -38,6 +40,16 @@ impl<'a> Kept<'a> {
         match self {
             Kept::All => true,
             Kept::Of { keys, .. } => key == "services" || is_one_of(key, keys),
+        }
+    }
+
+    /// Whether the sub-property with this name is kept.
+    pub fn has_sub_property(&self, name: &str) -> bool
+        ensures { result ≡ (keeps_of self.now).sub name.now }
+    {
+        match self {
+            Kept::All => true,
+            Kept::Of { sub_properties, .. } => is_among(name, sub_properties),
         }
     }
 }
@@ -62,6 +74,18 @@ fn is_one_of(text: &str, keys: &[&str]) -> bool
 {
     for key in keys {
         if is_lower_of(text, key) {
+            return true;
+        }
+    }
+    false
+}
+
+// Whether the text is one of these.
+fn is_among(text: &str, texts: &[&str]) -> bool
+    ensures { result ≡ is_kept_sub (map (λ t. t.now) texts.now) text.now }
+{
+    for other in texts {
+        if text == *other {
             return true;
         }
     }

@@ -1,5 +1,6 @@
 ghost use Rattle.std.specs.Prelude.{◌≡◌, ◌≤◌, ◌∷◌, length, option_map, OnOk, IfOk, IfSome, map, if◌then◌else◌};
 ghost use Rattle.std.specs.String.{string_bytes};
+ghost use Rattle.env_config.specs.Kept.{keeps_of};
 ghost use Rattle.env_config.specs.Texts.{EachValue, named_as, pairs_of, put};
 ghost use Rattle.env_config.specs.Sections.{is_identifier, merged_into, put_identifiers, put_others, put_sub, put_subs, section_properties, value_pieces};
 ghost use Rattle.env_config.specs.Properties.{others_of};
@@ -8,6 +9,7 @@ ghost use Rattle.env_config.specs.Merge.{pieces_left, length_left};
 
 use crate::by_name::ByName;
 use crate::heading::is_identifier;
+use crate::kept::Kept;
 use crate::line::trim;
 use crate::properties::Properties;
 use crate::properties_key::PropertiesKey;
@@ -72,52 +74,63 @@ fn put_pair(properties: &mut BTreeMap<String, Property>, key: String, value: Str
     Ok(())
 }
 
-/// Puts the sub-properties of a raw section with another prefix.
+/// Puts the sub-properties of a raw section with another prefix, as far as they are kept.
 pub fn merge_others(
     alloc: Global,
+    kept: &Kept<'_>,
     others: &mut Properties,
     prefix: &str,
     name: &str,
     pairs: &BTreeMap<String, String>,
 ) -> Mem<()>
-    ensures { OnOk result (others_of others.new ≡ put_others (others_of others.old) prefix.now name.now (pairs_of pairs.now.entries)) }
+    ensures { OnOk result (others_of others.new ≡ put_others (keeps_of kept.now) (others_of others.old) prefix.now name.now (pairs_of pairs.now.entries)) }
 {
     for (key, value) in pairs {
-        put_key(alloc, others, prefix, name, key.as_str(), value.as_str())?;
+        put_key(
+            alloc,
+            kept,
+            others,
+            prefix,
+            name,
+            key.as_str(),
+            value.as_str(),
+        )?;
     }
     Ok(())
 }
 
 fn put_key(
     alloc: Global,
+    kept: &Kept<'_>,
     others: &mut Properties,
     prefix: &str,
     name: &str,
     key: &str,
     value: &str,
 ) -> Mem<()>
-    ensures { OnOk result (others_of others.new ≡ (if is_identifier key.now then put_subs (others_of others.old) prefix.now name.now key.now (value_pieces value.now) else others_of others.old)) }
+    ensures { OnOk result (others_of others.new ≡ (if is_identifier key.now then put_subs (keeps_of kept.now) (others_of others.old) prefix.now name.now key.now (value_pieces value.now) else others_of others.old)) }
 {
     if !is_identifier(key) {
         return Ok(());
     }
-    put_pieces(alloc, others, prefix, name, key, value)
+    put_pieces(alloc, kept, others, prefix, name, key, value)
 }
 
 fn put_pieces(
     alloc: Global,
+    kept: &Kept<'_>,
     others: &mut Properties,
     prefix: &str,
     name: &str,
     key: &str,
     value: &str,
 ) -> Mem<()>
-    ensures { OnOk result (others_of others.new ≡ put_subs (others_of others.old) prefix.now name.now key.now (value_pieces value.now)) }
+    ensures { OnOk result (others_of others.new ≡ put_subs (keeps_of kept.now) (others_of others.old) prefix.now name.now key.now (value_pieces value.now)) }
 {
     let mut rest = Some(value);
     while let Some(text) = rest {
         let (piece, left) = cut_piece(text);
-        put_piece(alloc, others, prefix, name, key, piece)?;
+        put_piece(alloc, kept, others, prefix, name, key, piece)?;
         rest = left;
     }
     Ok(())
@@ -136,22 +149,27 @@ fn cut_piece(text: &str) -> (&str, Option<&str>)
 
 fn put_piece(
     alloc: Global,
+    kept: &Kept<'_>,
     others: &mut Properties,
     prefix: &str,
     name: &str,
     key: &str,
     piece: &str,
 ) -> Mem<()>
-    ensures { OnOk result (others_of others.new ≡ put_sub (others_of others.old) prefix.now name.now key.now piece.now) }
+    ensures { OnOk result (others_of others.new ≡ put_sub (keeps_of kept.now) (others_of others.old) prefix.now name.now key.now piece.now) }
 {
     let Some((sub, value)) = piece.split_once('=') else {
         return Ok(());
     };
+    let sub = trim(sub);
+    if !kept.has_sub_property(sub) {
+        return Ok(());
+    }
     let at = PropertiesKey::new(
         String::from_str(alloc, prefix)?,
         String::from_str(alloc, name)?,
         String::from_str(alloc, key)?,
-        Some(String::from_str(alloc, trim(sub))?),
+        Some(String::from_str(alloc, sub)?),
     );
     others.insert(at, String::from_str(alloc, trim(value))?)
 }

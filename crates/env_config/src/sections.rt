@@ -87,8 +87,9 @@ impl EnvConfigSections {
 
     /// The sections of the files, merged, with the profile of the source selected, as far as these keys and this
     /// service need them: of the selected profile the properties with these keys, whatever their case, and `services`;
-    /// and of the services section that it names the service's own sub-properties. Of all else there may be more or
-    /// less than in the files, so that little memory is taken whatever else the files hold.
+    /// and of the services section that it names the service's own sub-properties with these keys as they are spelled.
+    /// Of all else there may be more or less than in the files, so that little memory is taken whatever else the files
+    /// hold.
     ///
     /// ```rust
     /// let sections = EnvConfigSections::parse_selected(alloc, &source, &["region"], Some("S3"))?;
@@ -115,10 +116,10 @@ impl EnvConfigSections {
 
     // The properties of the selected profile with these keys.
     #[tactic(auto, unfolding(crate::specs::Sections::sections))]
-    fn parse_keys(
+    fn parse_keys<'a>(
         alloc: Global,
-        source: &Source,
-        keys: &[&str],
+        source: &'a Source,
+        keys: &'a [&'a str],
     ) -> Result<EnvConfigSections, ParseFault>
         ensures { ParsesSelected (sections (map file_of source.now.files.items)) (string_bytes source.now.profile) (map (λ k. k.now) keys.now) None result }
     {
@@ -126,11 +127,12 @@ impl EnvConfigSections {
             prefix: "profile",
             name: source.profile.as_str(),
             keys,
+            sub_properties: keys,
         };
         EnvConfigSections::parse_kept(alloc, &kept, source)
     }
 
-    // These sections with the service's own sub-properties.
+    // These sections with the service's own sub-properties with these keys.
     fn with_service(
         mut self,
         alloc: Global,
@@ -144,7 +146,7 @@ impl EnvConfigSections {
         let Some(services) = self.get("services") else {
             return Ok(self);
         };
-        self.others = service_properties(alloc, source, services, id)?;
+        self.others = service_properties(alloc, source, services, keys, id)?;
         Ok(self)
     }
 
@@ -247,7 +249,7 @@ impl EnvConfigSections {
         ensures keys { AreKeyed self.old → OnOk result (AreKeyed self.new) }
     {
         match read_raw(alloc, kept, file.contents.as_str()) {
-            Ok(raw) => Ok(self.merge_file(alloc, file.kind, raw)?),
+            Ok(raw) => Ok(self.merge_file(alloc, kept, file.kind, raw)?),
             Err(RawFault::Line(number, message)) => Err(line_fault(alloc, file, number, message)),
             Err(RawFault::NoMemory) => Err(ParseFault::NoMemory),
         }
@@ -255,16 +257,22 @@ impl EnvConfigSections {
 
     // Merges the raw sections of a file.
     #[tactic(auto, unfolding(crate::specs::Sections::with_file))]
-    fn merge_file(&mut self, alloc: Global, kind: EnvConfigFileKind, raw: ByName<Texts>) -> Mem<()>
+    fn merge_file(
+        &mut self,
+        alloc: Global,
+        kept: &Kept<'_>,
+        kind: EnvConfigFileKind,
+        raw: ByName<Texts>,
+    ) -> Mem<()>
         requires { IsApart raw.names }
-        ensures sections { OnOk result (sections_of self.new ≡ with_file (sections_of self.old) kind raw) }
+        ensures sections { OnOk result (sections_of self.new ≡ with_file (keeps_of kept.now) (sections_of self.old) kind raw) }
         ensures selected { selected_of self.new ≡ selected_of self.old }
         ensures keys { AreKeyed self.old → OnOk result (AreKeyed self.new) }
     {
         let overridden = has_profile_default(raw.names());
         let (names, mut texts) = raw.into_parts();
         for name in &names {
-            self.merge_named(alloc, kind, overridden, &mut texts, name.as_str())?;
+            self.merge_named(alloc, kept, kind, overridden, &mut texts, name.as_str())?;
         }
         Ok(())
     }
@@ -273,12 +281,13 @@ impl EnvConfigSections {
     fn merge_named(
         &mut self,
         alloc: Global,
+        kept: &Kept<'_>,
         kind: EnvConfigFileKind,
         overridden: bool,
         texts: &mut BTreeMap<String, Texts>,
         name: &str,
     ) -> Mem<()>
-        ensures sections { OnOk result (sections_of self.new ≡ with_raw (sections_of self.old) kind overridden (heading_of name.now) (unwrap_or (value_under (by_text texts.old.entries) name.now) [])) }
+        ensures sections { OnOk result (sections_of self.new ≡ with_raw (keeps_of kept.now) (sections_of self.old) kind overridden (heading_of name.now) (unwrap_or (value_under (by_text texts.old.entries) name.now) [])) }
         ensures selected { selected_of self.new ≡ selected_of self.old }
         ensures keys { AreKeyed self.old → OnOk result (AreKeyed self.new) }
         ensures others { OnOk result ((other : List ℕ) → is_eq (text_cmp other name.now) ≡ false → value_under (by_text texts.new.entries) other ≡ value_under (by_text texts.old.entries) other) }
@@ -288,12 +297,18 @@ impl EnvConfigSections {
         if !heading.is_taken_from(kind, overridden) {
             return Ok(());
         }
-        self.merge_section(alloc, heading, pairs)
+        self.merge_section(alloc, kept, heading, pairs)
     }
 
     // Merges a raw section with this heading.
-    fn merge_section(&mut self, alloc: Global, heading: Heading<'_>, pairs: Texts) -> Mem<()>
-        ensures sections { OnOk result (sections_of self.new ≡ with_section (sections_of self.old) (heading_seen heading.entry).prefix (heading_seen heading.entry).name pairs) }
+    fn merge_section(
+        &mut self,
+        alloc: Global,
+        kept: &Kept<'_>,
+        heading: Heading<'_>,
+        pairs: Texts,
+    ) -> Mem<()>
+        ensures sections { OnOk result (sections_of self.new ≡ with_section (keeps_of kept.now) (sections_of self.old) (heading_seen heading.entry).prefix (heading_seen heading.entry).name pairs) }
         ensures selected { selected_of self.new ≡ selected_of self.old }
         ensures keys { AreKeyed self.old → OnOk result (AreKeyed self.new) }
     {
@@ -302,6 +317,7 @@ impl EnvConfigSections {
             Some("sso-session") => merge_into(alloc, &mut self.sessions, heading.name, pairs),
             Some(prefix) => merge_others(
                 alloc,
+                kept,
                 &mut self.others,
                 prefix,
                 heading.name,
@@ -311,22 +327,24 @@ impl EnvConfigSections {
     }
 }
 
-// The sub-properties of the service in this services section.
+// The sub-properties of the service with these keys in this services section.
 #[tactic(auto, unfolding(crate::specs::Sections::sections))]
 fn service_properties(
     alloc: Global,
     source: &Source,
     services: &str,
+    keys: &[&str],
     id: &str,
 ) -> Result<Properties, ParseFault>
-    ensures { ParsesService (sections (map file_of source.now.files.items)) services.now id.now result }
+    ensures { ParsesService (sections (map file_of source.now.files.items)) services.now (map (λ k. k.now) keys.now) id.now result }
 {
     let id = id_in_sections(alloc, id)?;
-    let keys = [id.as_str()];
+    let services_keys = [id.as_str()];
     let kept = Kept::Of {
         prefix: "services",
         name: services,
-        keys: &keys,
+        keys: &services_keys,
+        sub_properties: keys,
     };
     let sections = EnvConfigSections::parse_kept(alloc, &kept, source)?;
     Ok(sections.others)

@@ -1,9 +1,10 @@
 use Rattle.std.proofs.Common.{◌≡◌}
 use Rattle.env_config.specs.Texts.{pairs_of}
+use Rattle.env_config.specs.Kept.{keeps_of}
 use Rattle.env_config.specs.Sections.{put_others}
 use Rattle.env_config.specs.Properties.{others_of}
 use Rattle.env_config.proofs.merge.merge_others.Given as goal
 
 -- the pairs to come give what all pairs give
 abbrev pub invariant-loop-key : goal.invariant-loop-key
-invariant-loop-key l = put_others (others_of l.others) l.prefix l.name (pairs_of l.key-iterator) ≡ put_others (others_of l.fn.others) l.prefix l.name (pairs_of l.pairs.entries)
+invariant-loop-key l = put_others (keeps_of l.kept) (others_of l.others) l.prefix l.name (pairs_of l.key-iterator) ≡ put_others (keeps_of l.kept) (others_of l.fn.others) l.prefix l.name (pairs_of l.pairs.entries)

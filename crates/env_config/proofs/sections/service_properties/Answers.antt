@@ -9,9 +9,9 @@ returns-in_err-sections c =
     let files = map file_of c.args.source.now.files.items in
     let exit = err_from_is_err_and c.from_residual-in_err-sections.result c.from_residual-in_err-sections.ensures.1 in
     rw (exit.1, exit.2)
-    (service_refused files (string_bytes c.args.source.now.profile) c.args.services.now c.args.id.now c.as_str.result.now _ (c.as_str.ensures.value ∙ c.in_ok-id.ensures) c.in_err-sections.ensures.parses)
+    (service_refused files (string_bytes c.args.source.now.profile) c.args.services.now c.args.id.now c.as_str.result.now (map (λ k. k.now) c.args.keys.now) _ c.in_err-sections.ensures.parses)
 
 pub returns : goal.returns
 returns c =
     let files = map file_of c.args.source.now.files.items in
-    service_parsed files (string_bytes c.args.source.now.profile) c.args.services.now c.args.id.now c.as_str.result.now c.in_ok-sections.sections (c.as_str.ensures.value ∙ c.in_ok-id.ensures) c.in_ok-sections.ensures.parses
+    service_parsed files (string_bytes c.args.source.now.profile) c.args.services.now c.args.id.now c.as_str.result.now (map (λ k. k.now) c.args.keys.now) c.in_ok-sections.sections (c.as_str.ensures.value ∙ c.in_ok-id.ensures) c.in_ok-sections.ensures.parses

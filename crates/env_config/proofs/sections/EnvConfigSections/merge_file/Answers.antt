@@ -1,4 +1,5 @@
 use Rattle.std.proofs.Common.{◌≡◌, ◌∙◌, ◌+◌, ◌∷◌, ap, sym, refl, subst, List, ℕ, [], map, drop, string_bytes}
+use Rattle.env_config.specs.Kept.{keeps_of}
 use Rattle.env_config.specs.Sections.{with_names}
 use Rattle.env_config.specs.Texts.{IsApart, Named, by_text, value_under}
 use Rattle.env_config.specs.EnvConfigSections.{sections_of}
@@ -7,14 +8,15 @@ use Rattle.env_config.proofs.sections.EnvConfigSections.merge_file.Goals as goal
 
 pub loop-name-init : goal.loop-name-init
 loop-name-init c =
+    let keeps = keeps_of c.args.kept.now in
     let raw = c.args.raw in
     let texts : Named (List (List ℕ × List ℕ)) = record { names = []; values = by_text c.into_parts-names.result.1.entries } in
     let overridden = c.has_profile_default-overridden.result in
     let before = sections_of c.args.self.now in
     let names : map string_bytes c.deref-name-items.result.now ≡ raw.names = ap (map string_bytes) c.deref-name-items.ensures.value ∙ c.into_parts-names.ensures.names in
     record {
-      to_come = ap (with_names before c.args.kind overridden texts) names
-          ∙ names_alike before c.args.kind overridden raw texts raw.names
+      to_come = ap (with_names keeps before c.args.kind overridden texts) names
+          ∙ names_alike keeps before c.args.kind overridden raw texts raw.names
           (all_always (λ (name : List ℕ). value_under texts.values name ≡ value_under raw.values name) (λ name. ap (λ (values : List (List ℕ × List (List ℕ × List ℕ))). value_under values name) c.into_parts-names.ensures.values) raw.names);
       apart = subst IsApart (sym names) c.requires;
       selected = refl;
@@ -23,6 +25,7 @@ loop-name-init c =
 
 pub loop-name-preserved : goal.loop-name-preserved
 loop-name-preserved c =
+    let keeps = keeps_of c.args.kept.now in
     let items = c.deref-name-items.result.now in
     let name = c.as_str.result.now in
     let rest = map string_bytes (drop (c.loop-name.name-index + 1) items) in
@@ -33,8 +36,8 @@ loop-name-preserved c =
     let texts : Named (List (List ℕ × List ℕ)) = record { names = []; values = by_text c.loop-name.texts.entries } in
     let left : Named (List (List ℕ × List ℕ)) = record { names = []; values = by_text c.merge_named.new.texts.entries } in
     record {
-      to_come = name_merged before (sections_of c.merge_named.new.self) c.args.kind overridden texts left name rest c.in_ok-merge_named.ensures.sections c.in_ok-merge_named.ensures.others apart
-          ∙ sym (ap (with_names before c.args.kind overridden texts) front)
+      to_come = name_merged keeps before (sections_of c.merge_named.new.self) c.args.kind overridden texts left name rest c.in_ok-merge_named.ensures.sections c.in_ok-merge_named.ensures.others apart
+          ∙ sym (ap (with_names keeps before c.args.kind overridden texts) front)
           ∙ c.loop-name.invariant.to_come;
       apart = apart.1;
       selected = c.merge_named.ensures.selected ∙ c.loop-name.invariant.selected;
