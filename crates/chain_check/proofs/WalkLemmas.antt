@@ -43,7 +43,7 @@ on_alike f g signer signature place bytes (fault kind) is same = refl
 on_alike f g signer signature place bytes (begins message rest) is same =
     tested_alike f g place rest (frame_test signer signature place message) (λ stand. same stand rest (shorter bytes message rest is))
 
-nothing_first : first_of [] ≡ nothing
+pub nothing_first : first_of [] ≡ nothing
 unfolding first_of
 nothing_first = refl
 
@@ -121,13 +121,13 @@ event_passes events signer signature next place bytes rest message event first i
     tested events signer signature place bytes rest message (Ok (record { event = Some event; signature = next })) first is ∙ rw joined refl
 
 -- the closing frame passes
-closing_passes : (events : List Parts) (signer : Signer) (signature next : List ℕ) (place : ℕ) (bytes rest : List ℕ) (message : Parts)
+pub closing_passes : (events : List Parts) (signer : Signer) (signature next : List ℕ) (place : ℕ) (bytes rest : List ℕ) (message : Parts)
     → first_of bytes ≡ begins message rest → frame_test signer signature place message ≡ Ok (record { event = None; signature = next })
     → walk_outcome events (walk signer (before signature place) bytes) ≡ walk_outcome events (after_closing (place + 1) rest)
 closing_passes events signer signature next place bytes rest message first is =
     tested events signer signature place bytes rest message (Ok (record { event = None; signature = next })) first is
 
-closes : (events : List Parts) (place : ℕ) (rest : List ℕ) → length rest ≡ 0 → walk_outcome events (after_closing place rest) ≡ Ok events
+pub closes : (events : List Parts) (place : ℕ) (rest : List ℕ) → length rest ≡ 0 → walk_outcome events (after_closing place rest) ≡ Ok events
 closes events place [] none = ap Ok (append-nil events)
 closes events place (byte ∷ rest) none = absurd (omega arith)
 
@@ -206,7 +206,7 @@ inner_other payload event len some is framed other =
     by_test true test = absurd (other ((bytes_eq-Decides (frame event) payload).0 test))
     by_test false test = framed_by payload event len false some is framed test
 
-inner_whole : (payload : List ℕ) (event : Parts) (len : ℕ) → 0 < length payload → read payload ≡ Ok (event, len) → unframed event ≡ None
+pub inner_whole : (payload : List ℕ) (event : Parts) (len : ℕ) → 0 < length payload → read payload ≡ Ok (event, len) → unframed event ≡ None
     → frame event ≡ payload → inner_event payload ≡ Some (Some event)
 inner_whole payload event len some is framed same =
     framed_by payload event len true some is framed ((bytes_eq-Decides (frame event) payload).1 same)
@@ -215,7 +215,7 @@ pub ruleset inner = (inner_unread, inner_unframed)
 
 -- ## What a link carries
 
-link_carried : (signer : Signer) (signature bytes : List ℕ) (at : Instant) → carried (link_message signer signature bytes at).headers ≡ Some (link_code signer signature bytes at, floor_secs at)
+pub link_carried : (signer : Signer) (signature bytes : List ℕ) (at : Instant) → carried (link_message signer signature bytes at).headers ≡ Some (link_code signer signature bytes at, floor_secs at)
 unfolding link_message
 link_carried signer signature bytes at =
     let long : (length (link_code signer signature bytes at) == 32) ≡ true = eq-eqb _ _ (length-link_code signer signature bytes at) in rw long refl

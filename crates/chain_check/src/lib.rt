@@ -5,7 +5,9 @@
 #![tactic(auto)]
 
 mod chain_fault;
+mod laws;
 mod walk;
 
 pub use crate::chain_fault::{ChainFault, ChainPart};
+pub use crate::laws::written_chains_are_accepted;
 pub use crate::walk::check_chain;
