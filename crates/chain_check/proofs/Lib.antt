@@ -1,2 +1,5 @@
+pub mod AcceptedLemmas
+pub mod NumberLemmas
+pub mod SpelledLemmas
 pub mod WalkLemmas
 pub mod WrittenLemmas

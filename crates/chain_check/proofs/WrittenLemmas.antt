@@ -1,9 +1,8 @@
 -- A chain that was written is accepted.
-use Rattle.std.proofs.Common.{◌≡◌, ℕ, zero, suc, ◌+◌, ◌<◌, nat_lt, ◌/◌, ◌*◌, ℤ, pos, ◌+ℤ◌, ◌*ℤ◌, Bool, true, false, List, [], ◌∷◌, ◌++◌, length, map, All, Option, Some, None, Result, Ok, refl, sym, ap, ◌∙◌, append-nil, append_assoc, arith}
-use Rattle.std.specs.Prelude.{◌==◌, ◌&&◌, IsUtf8, codes, if◌then◌else◌}
+use Rattle.std.proofs.Common.{◌≡◌, ℕ, zero, suc, ◌+◌, nat_lt, ◌/◌, ◌*◌, ℤ, pos, ◌+ℤ◌, ◌*ℤ◌, Bool, true, false, List, [], ◌∷◌, ◌++◌, length, map, All, Option, Some, None, Ok, refl, sym, ap, ◌∙◌, append-nil, append_assoc, arith}
+use Rattle.std.specs.Prelude.{◌&&◌, codes, if◌then◌else◌}
 use Rattle.std.specs.Int.{w64, cast_unsigned, saturate_signed, to_be_bytes}
 use Rattle.std.specs.List.{AllByRecursion, concat}
-use Rattle.std.specs.Option.{option_or}
 use Rattle.std.specs.Ordering.{int_eq}
 use Rattle.std.proofs.lemmas.Bool.Decides.{nat_tests}
 use Rattle.std.proofs.lemmas.Int.{ints}
@@ -16,8 +15,8 @@ use Rattle.smithy_core.specs.Header.{Header}
 use Rattle.smithy_core.specs.Message.{Parts}
 use Rattle.smithy_core.specs.Moment.{Instant, floor_ms, floor_secs, floored}
 use Rattle.smithy_core.specs.declared.header.HeaderValue.{HeaderValue}
-use Rattle.smithy_core.specs.declared.header.HeaderValue.TheVariants.{Bool as Truth, Byte, Int16, Int32, Int64, ByteArray, String as Text, Timestamp, Uuid}
-use Rattle.eventstream.specs.Frame.{block, first_unspelled, frame, frame_len, spelling, unframed, unfit_lengths, unspelled, unspelled_value, value_spelling}
+use Rattle.smithy_core.specs.declared.header.HeaderValue.TheVariants.{ByteArray, Timestamp}
+use Rattle.eventstream.specs.Frame.{block, first_unspelled, frame, spelling, unframed, unfit_lengths, unspelled, unspelled_value, value_spelling}
 use Rattle.eventstream.specs.Key.{Signer}
 use Rattle.eventstream.specs.Kind.{timestamp_kind}
 use Rattle.eventstream.specs.Laws.{IsProper, IsProperHeader, floored_header, floored_message, floored_value}
@@ -30,7 +29,7 @@ use Rattle.eventstream.proofs.FrameLemmas.{frame_again, length-frame}
 use Rattle.eventstream.proofs.ReadingLemmas.{frame_first}
 use Rattle.eventstream.proofs.RoundLemmas.{both_none}
 use Rattle.chain_check.specs.Chain.{IsChained}
-use Rattle.chain_check.specs.Walk.{Passed, before, chain_events, frame_test, inner_event, signed_moment, walk, walk_outcome}
+use Rattle.chain_check.specs.Walk.{before, chain_events, frame_test, inner_event, signed_moment, walk, walk_outcome}
 use Rattle.chain_check.proofs.WalkLemmas.{closes, closing_passes, event_passes, inner_whole, link_carried, starts, test_passes}
 
 -- ## Messages with moments in whole milliseconds
@@ -84,11 +83,11 @@ floored_framed m framed =
 
 -- ## Links
 
-abbrev all_ascii : List ℕ → Bool
+abbrev pub all_ascii : List ℕ → Bool
 all_ascii [] = true
 all_ascii (b ∷ bytes) = nat_lt b 128 && all_ascii bytes
 
-is_ascii : (bytes : List ℕ) → all_ascii bytes ≡ true → IsAscii bytes
+pub is_ascii : (bytes : List ℕ) → all_ascii bytes ≡ true → IsAscii bytes
 is_ascii [] all = λ i. omega arith
 is_ascii (b ∷ bytes) all = by_first (nat_lt b 128) refl all (is_ascii bytes)
   where

@@ -3,6 +3,7 @@ ghost use Rattle.smithy_core.specs.Civil.{IsInYears};
 ghost use Rattle.sigv4.specs.Output.{signed_output};
 ghost use Rattle.sigv4.specs.Params.{secret_of, signer_of, v4_identity, v4_time};
 ghost use Rattle.smithy_core.specs.Identity.{IsCredentials};
+ghost use Rattle.chain_check.specs.Chain.{TellsChain};
 ghost use Rattle.chain_check.specs.Walk.{AnswersChain, IsLink, ReadsEvent, SignsAgain, SignsEvent, TakesFrame, TestsFrame, carried, carried_code, carried_date, carried_parts, chain_events, chain_signer, frame_test, signed_moment};
 
 use crate::chain_fault::{ChainFault, ChainPart};
@@ -17,6 +18,9 @@ use std::alloc::Global;
 /// The events of the chain of signed frames that the bytes are: one frame for each, and an empty one last, each signed
 /// over the signature before it, the first over the seed, in lower-case hexadecimal. No signature is trusted: each is
 /// recomputed from the secret, the frame's own date, the region and the service's name.
+///
+/// Events are answered exactly where the bytes are the frames of their chain, one after another, for the moments that
+/// those frames carry. The moments in their own headers are whole milliseconds.
 ///
 /// ```rust
 /// match check_chain(alloc, bytes, seed, secret, "us-east-1", "transcribe") {
@@ -42,7 +46,8 @@ pub fn check_chain(
     region: &str,
     name: &str,
 ) -> Result<Vec<Message>, ChainFault>
-    ensures { AnswersChain (chain_events (record { secret = secret.now; region = region.now; name = name.now }) seed.now bytes.now) result }
+    ensures answer { AnswersChain (chain_events (record { secret = secret.now; region = region.now; name = name.now }) seed.now bytes.now) result }
+    ensures exact { TellsChain (record { secret = secret.now; region = region.now; name = name.now }) seed.now bytes.now result }
 {
     let secret = String::from_str(alloc, secret)?;
     let credentials = Credentials::new(String::new(alloc), secret, None, None);
