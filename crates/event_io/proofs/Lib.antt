@@ -1,3 +1,5 @@
 mod AdapterLemmas
 pub mod ChainLemmas
+mod DrainLemmas
+mod LawLemmas
 mod ReceiverLemmas

@@ -19,6 +19,7 @@ use Rattle.event_io.specs.Frames.{TakesFrames, data_in, data_of, idle_count, mos
 use Rattle.event_io.specs.Receiver.{IsCause, LacksFrame, Pulls, PullsFront, PullsOne, Reads, StopsAt, TakesTurns, taken_bytes}
 use Rattle.event_io.specs.ResponseFault.{is_want_kind}
 use Rattle.event_io.specs.Stop.{TellsStop, stop_of}
+use Rattle.smithy_core.specs.declared.raw_message.RawMessage.TheVariants.{Decoded, Invalid}
 use Rattle.smithy_core.specs.declared.sdk_error.SdkError.TheVariants.{ConstructionFailure, DispatchFailure, NoMemory, ResponseError, ServiceError}
 use Rattle.eventstream.specs.declared.unmarshall.UnmarshallMessage as UnmarshallMessage
 use Rattle.event_io.specs.declared.received.Received.{Received}
@@ -48,23 +49,23 @@ takes_one frame (Some left) None takes = takes
 takes_one frame (Some left) (Some rest) takes = takes
 
 -- none
-takes_none : (before : Option (List FramePart)) → TakesFrames [] before before
+pub takes_none : (before : Option (List FramePart)) → TakesFrames [] before before
 takes_none None = refl
 takes_none (Some left) = refl
 
 -- some and then others
-takes_more : (frames more : List FramePart) (before between now : Option (List FramePart)) → TakesFrames frames before between → TakesFrames more between now
+pub takes_more : (frames more : List FramePart) (before between now : Option (List FramePart)) → TakesFrames frames before between → TakesFrames more between now
     → TakesFrames (frames ++ more) before now
 takes_more frames more None between now first second = subst (λ (left : Option (List FramePart)). TakesFrames more left now) first second
 takes_more frames more (Some left) None now first second = absurd first
 takes_more frames more (Some left) (Some middle) None first second = absurd second
 takes_more frames more (Some left) (Some middle) (Some rest) first second = first ∙ ap (λ (after : List FramePart). frames ++ after) second ∙ sym (append_assoc frames more rest)
 
-idle_more : (frames more : List FramePart) → idle_count (frames ++ more) ≡ idle_count frames + idle_count more
+pub idle_more : (frames more : List FramePart) → idle_count (frames ++ more) ≡ idle_count frames + idle_count more
 idle_more frames more = sum_by-append one_if_idle frames more
 
 -- a count that rose later rose since
-rose_before : (before between now : ℕ) → before ≤ between → RoseOrStands between now → RoseOrStands before now
+pub rose_before : (before between now : ℕ) → before ≤ between → RoseOrStands between now → RoseOrStands before now
 rose_before before between now less (inl rose) = inl (omega arith)
 rose_before before between now less (inr stands) = inr stands
 
@@ -506,3 +507,60 @@ module _ {F U : Type 0} (source : FrameSource.Ghosts F) where
         (λ (why : Option Stop). Reads source why (λ message. Tries answers kind message (kept_message new) result) old new × KeepsNone why new)
         (sym (tried_no_stop answers kind front.message result says))
         (reads_message source (λ message. Tries answers kind message (kept_message new) result) old between new front pulls (says, keeps) same left, tt)
+
+-- ## What is said of a message
+
+finds_weaker : (why : Option Stop) (said also : Parts → Type 0) (bytes left : List ℕ) → ((message : Parts) → said message → also message) → Finds why said bytes left
+    → Finds why also bytes left
+finds_weaker (Some why) said also bytes left weaker found = found
+finds_weaker None said also bytes left weaker found = (found.0, weaker found.0 found.1, found.2)
+
+cuts_weaker : (why : Option Stop) (ends : Bool) (said also : Parts → Type 0) (before now : Rest) → ((message : Parts) → said message → also message) → Cuts why ends said before now
+    → Cuts why ends also before now
+cuts_weaker (Some why) ends said also before now weaker cuts = cuts
+cuts_weaker None ends said also before now weaker cuts = (cuts.0, weaker cuts.0 cuts.1, cuts.2, cuts.3, cuts.4)
+
+module _ {M E : Type 0} (answers others : Parts → Result (Parts × M) Error → Type 0)
+    (weaker : (message : Parts) (answer : Result (Parts × M) Error) → answers message answer → others message answer) (kind : InitialMessageType) where
+  tries_weaker : (message : Parts) (result : Result (Tried M) (ReceiveError E)) → TriesMessage answers kind message result → TriesMessage others kind message result
+  tries_weaker message (Ok (tried.Initial first beside)) says = (weaker message (Ok (first, beside)) says.0, says.1)
+  tries_weaker message (Ok tried.Other) says = (says.0, weaker message (Ok says.0) says.1, says.2)
+  tries_weaker message (Ok tried.End) says = absurd says
+  tries_weaker message (Ok tried.NotYet) says = absurd says
+  tries_weaker message (Ok tried.OutOfTurns) says = absurd says
+  tries_weaker message (Err (ConstructionFailure refusal)) says = absurd says
+  tries_weaker message (Err DispatchFailure) says = absurd says
+  tries_weaker message (Err NoMemory) says = absurd says
+  tries_weaker message (Err (ServiceError error raw)) says = absurd says
+  tries_weaker message (Err (ResponseError (Frame error) raw)) says = absurd says
+  tries_weaker message (Err (ResponseError (UnexpectedEndOfStream end) raw)) says = absurd says
+  tries_weaker message (Err (ResponseError (Unmarshall error) raw)) says = absurd says
+  tries_weaker message (Err (ResponseError (Preprocessor error) (Decoded raw))) says = absurd says
+  tries_weaker message (Err (ResponseError (Preprocessor error) (Invalid (Some bytes)))) says = absurd says
+  tries_weaker message (Err (ResponseError (Preprocessor error) (Invalid None))) says = weaker message (Err error) says
+
+  module _ {F U : Type 0} (source : FrameSource.Ghosts F) where
+    -- what holds for a preprocessor holds for one of which less is told
+    pub first_weaker : (kept : Option Parts) (over : Bool) (old new : Receiver F U) (result : Result (Tried M) (ReceiveError E))
+        → TriesFirst source answers kind kept over old new result → TriesFirst source others kind kept over old new result
+    first_weaker (Some message) over old new result (nothing_taken, inl tries) = (nothing_taken, inl (tries_weaker message result tries.0, tries.1))
+    first_weaker (Some message) over old new result (nothing_taken, inr want) = (nothing_taken, inr want)
+    first_weaker None true old new result tries = tries
+    first_weaker None false old new result tries = (
+      record {
+        frames = tries.0.frames;
+        taken = tries.0.taken;
+        found = finds_weaker (tried_stop result) (λ message. Tries answers kind message (kept_message new) result) (λ message. Tries others kind message (kept_message new) result)
+            (taken_bytes old ++ data_of tries.0.frames) (taken_bytes new) (λ message says. (tries_weaker message result says.0, says.1)) tries.0.found;
+        cause = tries.0.cause;
+        turns = tries.0.turns;
+      },
+      tries.1,
+    )
+
+    pub any_cut_weaker : (old new : Receiver F U) (result : Result (Tried M) (ReceiveError E))
+        → Cuts (tried_stop result) (terminates result) (λ message. Tries answers kind message (kept_message new) result) (rest_of source old) (rest_of source new)
+        → Cuts (tried_stop result) (terminates result) (λ message. Tries others kind message (kept_message new) result) (rest_of source old) (rest_of source new)
+    any_cut_weaker old new result cuts =
+        cuts_weaker (tried_stop result) (terminates result) (λ message. Tries answers kind message (kept_message new) result)
+        (λ message. Tries others kind message (kept_message new) result) (rest_of source old) (rest_of source new) (λ message says. (tries_weaker message result says.0, says.1)) cuts

@@ -1,9 +1,11 @@
 pub mod Adapter
 pub mod AdapterFault
 pub mod Chain
+pub mod Drain
 pub mod EventSource
 pub mod Frames
 pub mod Initial
+pub mod Laws
 pub mod Received
 pub mod Receiver
 pub mod ResponseFault

@@ -153,6 +153,10 @@ abbrev pub Hands : {U T E : Type 0} → UnmarshallMessage.Ghosts U T E → U →
 Hands unmarshaller by message (Ok answer) = Unmarshals unmarshaller by message answer × TellsWantOfMemory answer
 Hands unmarshaller by message (Err back) = back ≡ message
 
+-- a preprocessor that leaves messages as they are, and makes nothing beside
+abbrev pub LeavesMessage : Parts → Result (Parts × Unit {0}) Error → Type 0
+LeavesMessage message answer = answer ≡ Ok (message, tt)
+
 -- what is answered of a first message by what the preprocessor answered for it
 abbrev pub TriesMessage : {M E : Type 0} → (Parts → Result (Parts × M) Error → Type 0) → InitialMessageType → Parts → Result (Tried M) (ReceiveError E) → Type 0
 TriesMessage answers kind message (Ok (tried.Initial first beside)) = answers message (Ok (first, beside)) × (is_initial kind first ≡ true)
@@ -205,10 +209,6 @@ module _ {F U : Type 0} where
     pub nothing_kept : kept_message receiver ≡ None
     pub goes_on : is_terminated receiver ≡ false
 
-  -- the unmarshaller stays
-  abbrev pub KeepsUnmarshaller : Receiver F U → Receiver F U → Type 0
-  KeepsUnmarshaller old new = unmarshaller_of new ≡ unmarshaller_of old
-
   -- nothing is taken
   pub record TakesNothing (old new : Receiver F U) : Type 0 where
     pub source_stays : frames_of new ≡ frames_of old
@@ -218,6 +218,12 @@ module _ {F U : Type 0} where
     -- what a receiver has still to read
     abbrev pub rest_of : Receiver F U → Rest
     rest_of receiver = if is_terminated receiver then terminated else rest_after (taken_bytes receiver) (source.left (frames_of receiver))
+
+    -- the unmarshaller stays, and the counts of waits and of faults don't fall
+    pub record KeepsOthers (old new : Receiver F U) : Type 0 where
+      pub unmarshaller_stays : unmarshaller_of new ≡ unmarshaller_of old
+      pub waits : source.waits (frames_of old) ≤ source.waits (frames_of new)
+      pub faults : source.faults (frames_of old) ≤ source.faults (frames_of new)
 
     -- a call takes these frames of the source, and finds a message in the bytes that were taken before and their data, or why there is none
     pub record Reads (why : Option Stop) (said : Parts → Type 0) (old new : Receiver F U) : Type 0 where

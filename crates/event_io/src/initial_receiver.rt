@@ -1,7 +1,7 @@
-ghost use Rattle.std.specs.Prelude.{◌≡◌, ◌≤◌, ◌⊎◌, ◌||◌, Err, None, option_copied};
+ghost use Rattle.std.specs.Prelude.{◌≡◌, ◌⊎◌, ◌||◌, Err, None, option_copied};
 ghost use Rattle.smithy_core.specs.declared.sdk_error.SdkError.TheVariants.{NoMemory};
 ghost use Rattle.event_io.specs.Received.{first_named, is_initial, is_text};
-ghost use Rattle.event_io.specs.Receiver.{Cuts, KeepsNone, Reads, TellsWantOfMemory, Tries, TriesFirst, TriesKept, TriesMessage, frames_of, is_no_memory, is_terminated, kept_by, kept_message, rest_of, terminates, tried_stop, unmarshaller_of};
+ghost use Rattle.event_io.specs.Receiver.{Cuts, KeepsNone, KeepsOthers, Reads, TellsWantOfMemory, Tries, TriesFirst, TriesKept, TriesMessage, is_no_memory, is_terminated, kept_by, kept_message, rest_of, terminates, tried_stop, unmarshaller_of};
 
 use crate::received::{InitialMessageType, Tried};
 use crate::receiver::{Receiver, is_last};
@@ -30,9 +30,7 @@ impl<F: FrameSource, U: UnmarshallMessage> Receiver<F, U> {
         ensures any_cut { kept_message self.old ≡ None → Cuts (tried_stop result) (terminates result)
             (λ message. Tries (λ first answer. P.post preprocessor first answer) message_type message (kept_message self.new) result) (rest_of F.FrameSource self.old) (rest_of F.FrameSource self.new) }
         ensures terminated { is_terminated self.new ≡ (is_terminated self.old || terminates result) }
-        ensures unmarshaller { unmarshaller_of self.new ≡ unmarshaller_of self.old }
-        ensures waits { F.FrameSource.waits (frames_of self.old) ≤ F.FrameSource.waits (frames_of self.new) }
-        ensures faults { F.FrameSource.faults (frames_of self.old) ≤ F.FrameSource.faults (frames_of self.new) }
+        ensures others { KeepsOthers F.FrameSource self.old self.new }
         ensures want { TellsWantOfMemory result }
     {
         let answer = self.try_first(message_type, preprocessor);
@@ -51,9 +49,7 @@ impl<F: FrameSource, U: UnmarshallMessage> Receiver<F, U> {
         requires { P.IsAlwaysCallable preprocessor }
         ensures tries { TriesFirst F.FrameSource (λ message answer. P.post preprocessor message answer) message_type (kept_message self.old) (is_terminated self.old) self.old self.new result }
         ensures open { is_terminated self.new ≡ is_terminated self.old }
-        ensures unmarshaller { unmarshaller_of self.new ≡ unmarshaller_of self.old }
-        ensures waits { F.FrameSource.waits (frames_of self.old) ≤ F.FrameSource.waits (frames_of self.new) }
-        ensures faults { F.FrameSource.faults (frames_of self.old) ≤ F.FrameSource.faults (frames_of self.new) }
+        ensures others { KeepsOthers F.FrameSource self.old self.new }
         ensures want { TellsWantOfMemory result }
     {
         match self.kept.take() {
@@ -101,9 +97,7 @@ impl<F: FrameSource, U: UnmarshallMessage> Receiver<F, U> {
         ensures reads { Reads F.FrameSource (tried_stop result) (λ message. Tries (λ first answer. P.post preprocessor first answer) message_type message (kept_message self.new) result) self.old self.new }
         ensures kept { KeepsNone (tried_stop result) self.new }
         ensures open { is_terminated self.new ≡ is_terminated self.old }
-        ensures unmarshaller { unmarshaller_of self.new ≡ unmarshaller_of self.old }
-        ensures waits { F.FrameSource.waits (frames_of self.old) ≤ F.FrameSource.waits (frames_of self.new) }
-        ensures faults { F.FrameSource.faults (frames_of self.old) ≤ F.FrameSource.faults (frames_of self.new) }
+        ensures others { KeepsOthers F.FrameSource self.old self.new }
         ensures want { TellsWantOfMemory result }
     {
         let Front { message, len } = match self.find() {

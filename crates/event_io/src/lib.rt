@@ -5,14 +5,17 @@
 //! (`specs/Adapter.antt`); that the items are taken in order (`specs/EventSource.antt`); that the signer is asked once for the
 //! message that ends the stream; and that each other answer comes only for its cause. Of a [`Receiver`] it is promised that
 //! each call answers the kept message, or else the next one of the bytes that came and are to come, in whatever pieces, as its
-//! unmarshaller makes it an event, or why there is none, and that no other answer loses a byte (`specs/Receiver.antt`).
+//! unmarshaller makes it an event, or why there is none, and that no other answer loses a byte (`specs/Receiver.antt`); and
+//! of [`receive_all`] that it takes the first messages of these bytes, and tells why it takes no more (`specs/Drain.antt`).
 #![tactic(auto)]
 
 mod adapter;
 mod adapter_fault;
+mod drain;
 mod event_source;
 mod initial;
 mod initial_receiver;
+mod laws;
 mod received;
 mod receiver;
 mod response_fault;
@@ -22,8 +25,10 @@ mod stream_error;
 
 pub use crate::adapter::{MessageStreamAdapter, Next, take_moment};
 pub use crate::adapter_fault::AdapterFault;
+pub use crate::drain::{Drained, receive_all};
 pub use crate::event_source::{EventPolled, EventSource, ListEvents};
 pub use crate::initial::{EventOrInitial, EventOrInitialMarshaller};
+pub use crate::laws::{calls_join, chains_read_back};
 pub use crate::received::{InitialMessageType, Received, Tried};
 pub use crate::receiver::Receiver;
 pub use crate::response_fault::{ReceiverError, ResponseFault};

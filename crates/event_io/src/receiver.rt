@@ -1,8 +1,8 @@
-ghost use Rattle.std.specs.Prelude.{◌≡◌, ℕ, ◌^◌, ◌<◌, ◌≤◌, ◌||◌, length, Option, Result, None, Some};
+ghost use Rattle.std.specs.Prelude.{◌≡◌, ℕ, ◌^◌, ◌<◌, ◌||◌, length, Option, Result, None, Some};
 ghost use Rattle.smithy_core.specs.Message.{Parts};
 ghost use Rattle.smithy_core.specs.declared.outside.frame_part.FramePart.TheVariants.{Data};
 ghost use Rattle.event_io.specs.Frames.{one_if_idle};
-ghost use Rattle.event_io.specs.Receiver.{Cuts, Hands, IsNew, LacksFrame, PullsFront, PullsOne, Reads, Receives, ReceivesKept, TellsWantOfMemory, Unmarshals, ends_reading, frames_of, is_terminated, kept_message, recv_stop, rest_of, taken_bytes, terminates, unmarshaller_of};
+ghost use Rattle.event_io.specs.Receiver.{Cuts, Hands, IsNew, KeepsOthers, LacksFrame, PullsFront, PullsOne, Reads, Receives, ReceivesKept, TellsWantOfMemory, Unmarshals, ends_reading, is_terminated, kept_message, recv_stop, rest_of, taken_bytes, terminates, unmarshaller_of};
 ghost use Rattle.event_io.specs.Stop.{IsEnd};
 
 use crate::received::Received;
@@ -63,9 +63,7 @@ impl<F: FrameSource, U: UnmarshallMessage> Receiver<F, U> {
         ensures any_cut { kept_message self.old ≡ None → Cuts (recv_stop result) (terminates result) (λ message. Unmarshals U.UnmarshallMessage (unmarshaller_of self.old) message result)
             (rest_of F.FrameSource self.old) (rest_of F.FrameSource self.new) }
         ensures terminated { is_terminated self.new ≡ (is_terminated self.old || terminates result) }
-        ensures unmarshaller { unmarshaller_of self.new ≡ unmarshaller_of self.old }
-        ensures waits { F.FrameSource.waits (frames_of self.old) ≤ F.FrameSource.waits (frames_of self.new) }
-        ensures faults { F.FrameSource.faults (frames_of self.old) ≤ F.FrameSource.faults (frames_of self.new) }
+        ensures others { KeepsOthers F.FrameSource self.old self.new }
         ensures want { TellsWantOfMemory result }
     {
         let answer = self.receive();
@@ -77,9 +75,7 @@ impl<F: FrameSource, U: UnmarshallMessage> Receiver<F, U> {
     fn receive(&mut self) -> Result<Received<U::Output>, ReceiveError<U::Error>>
         ensures receives { Receives F.FrameSource U.UnmarshallMessage (kept_message self.old) (is_terminated self.old) self.old self.new result }
         ensures open { is_terminated self.new ≡ is_terminated self.old }
-        ensures unmarshaller { unmarshaller_of self.new ≡ unmarshaller_of self.old }
-        ensures waits { F.FrameSource.waits (frames_of self.old) ≤ F.FrameSource.waits (frames_of self.new) }
-        ensures faults { F.FrameSource.faults (frames_of self.old) ≤ F.FrameSource.faults (frames_of self.new) }
+        ensures others { KeepsOthers F.FrameSource self.old self.new }
         ensures want { TellsWantOfMemory result }
     {
         match self.kept.take() {
@@ -114,9 +110,7 @@ impl<F: FrameSource, U: UnmarshallMessage> Receiver<F, U> {
         ensures reads { Reads F.FrameSource (recv_stop result) (λ message. Unmarshals U.UnmarshallMessage (unmarshaller_of self.old) message result) self.old self.new }
         ensures kept { kept_message self.new ≡ kept_message self.old }
         ensures open { is_terminated self.new ≡ is_terminated self.old }
-        ensures unmarshaller { unmarshaller_of self.new ≡ unmarshaller_of self.old }
-        ensures waits { F.FrameSource.waits (frames_of self.old) ≤ F.FrameSource.waits (frames_of self.new) }
-        ensures faults { F.FrameSource.faults (frames_of self.old) ≤ F.FrameSource.faults (frames_of self.new) }
+        ensures others { KeepsOthers F.FrameSource self.old self.new }
         ensures want { TellsWantOfMemory result }
     {
         let Front { message, len } = match self.find() {
