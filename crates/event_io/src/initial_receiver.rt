@@ -1,7 +1,7 @@
 ghost use Rattle.std.specs.Prelude.{◌≡◌, ◌⊎◌, ◌||◌, Err, None, option_copied};
 ghost use Rattle.smithy_core.specs.declared.sdk_error.SdkError.TheVariants.{NoMemory};
 ghost use Rattle.event_io.specs.Received.{first_named, is_initial, is_text};
-ghost use Rattle.event_io.specs.Receiver.{Cuts, KeepsNone, KeepsOthers, Reads, TellsWantOfMemory, Tries, TriesFirst, TriesKept, TriesMessage, is_no_memory, is_terminated, kept_by, kept_message, rest_of, terminates, tried_stop, unmarshaller_of};
+ghost use Rattle.event_io.specs.Receiver.{Cuts, KeepsNone, KeepsOthers, LeavesMessage, Reads, TellsWantOfMemory, Tries, TriesFirst, TriesKept, TriesMessage, is_no_memory, is_terminated, kept_by, kept_message, rest_of, terminates, tried_stop, unmarshaller_of};
 
 use crate::received::{InitialMessageType, Tried};
 use crate::receiver::{Receiver, is_last};
@@ -11,6 +11,26 @@ use eventstream::{Error, UnmarshallMessage};
 use smithy_core::{FrameSource, Header, HeaderValue, Message, RawMessage, SdkError};
 
 impl<F: FrameSource, U: UnmarshallMessage> Receiver<F, U> {
+    /// The first message, where it begins the stream, as its first header `:event-type` tells. Else it is kept, and comes first
+    /// at the next call.
+    ///
+    /// # Errors
+    ///
+    /// As [`Receiver::recv`] has them, but for those of the unmarshaller, which isn't asked.
+    pub fn try_recv_initial(
+        &mut self,
+        message_type: InitialMessageType,
+    ) -> Result<Tried<()>, SdkError<U::Error, ResponseFault, RawMessage>>
+        ensures tries { TriesFirst F.FrameSource LeavesMessage message_type (kept_message self.old) (is_terminated self.old) self.old self.new result }
+        ensures any_cut { kept_message self.old ≡ None → Cuts (tried_stop result) (terminates result) (λ message. Tries LeavesMessage message_type message (kept_message self.new) result)
+            (rest_of F.FrameSource self.old) (rest_of F.FrameSource self.new) }
+        ensures terminated { is_terminated self.new ≡ (is_terminated self.old || terminates result) }
+        ensures others { KeepsOthers F.FrameSource self.old self.new }
+        ensures want { TellsWantOfMemory result }
+    {
+        self.try_recv_initial_with_preprocessor(message_type, left_as_it_is)
+    }
+
     /// What the preprocessor makes of the first message, where that begins the stream, as its first header `:event-type`
     /// tells. Else the message itself is kept, and comes first at the next call.
     ///
@@ -112,6 +132,13 @@ impl<F: FrameSource, U: UnmarshallMessage> Receiver<F, U> {
         self.kept = kept_by(message, &answer);
         answer
     }
+}
+
+// A preprocessor that makes nothing beside.
+fn left_as_it_is(message: Message) -> Result<(Message, ()), Error>
+    ensures { LeavesMessage message result }
+{
+    Ok((message, ()))
 }
 
 // What the preprocessor makes of a copy of the message.
