@@ -1,4 +1,5 @@
 pub mod AgainLemmas
+pub mod ByNameLemmas
 pub mod CanonicalLemmas
 pub mod CopyLemmas
 pub mod DigestLemmas

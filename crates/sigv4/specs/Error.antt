@@ -8,7 +8,7 @@ use Rattle.eventstream.specs.declared.error.ErrorKind.TheVariants.{NoMemory as N
 use Rattle.smithy_http.specs.declared.uri_fault.UriFault.{UriFault}
 use Rattle.smithy_http.specs.declared.uri_fault.UriFault.TheVariants as target
 use Rattle.sigv4.specs.declared.error.SigningError.{SigningError}
-use Rattle.sigv4.specs.declared.error.SigningError.TheVariants.{FailedToEncodeMessage, InvalidHeaderName, InvalidHeaderValue, InvalidTokenName, InvalidUri, MissingExpires, MissingHost, MomentOutOfRange, NoMemory, UnsupportedIdentityType}
+use Rattle.sigv4.specs.declared.error.SigningError.TheVariants.{FailedToEncodeMessage, InvalidHeaderName, InvalidHeaderValue, InvalidTokenName, InvalidUri, MissingExpires, MissingHost, MomentOutOfRange, NoMemory, SignerNotWired, UnsupportedIdentityType}
 use Rattle.sigv4.specs.declared.error.ValuePlace.{ValuePlace}
 use Rattle.sigv4.specs.declared.error.ValuePlace.TheVariants.{Header, Host, Token, PayloadHash, Authorization}
 
@@ -45,6 +45,7 @@ error_text MissingExpires = codes "missing expiry"
 error_text UnsupportedIdentityType = codes "only AWS credentials are supported for signing"
 error_text (FailedToEncodeMessage error) = codes "failed to encode message: " ++ encoding_text (error_kind error)
 error_text (MomentOutOfRange t) = codes "moment " ++ (signed_decimal t.secs ++ codes " is outside the years 0 to 9999")
+error_text SignerNotWired = codes "the signer isn't wired"
 error_text NoMemory = codes "no memory"
 
 -- the errors are the same, and so are the texts of an encoding that failed

@@ -2,6 +2,8 @@ pub mod Again
 pub mod Body
 pub mod Canonical
 pub mod CanonicalHeaders
+pub mod Chunk
+pub mod ChunkTold
 pub mod Error
 pub mod EventStream
 pub mod Host

@@ -45,6 +45,8 @@ pub enum SigningError {
     FailedToEncodeMessage(eventstream::Error),
     /// The moment lies outside the years 0 to 9999.
     MomentOutOfRange(Moment),
+    /// The signer of chunks waits for another one, or there is none.
+    SignerNotWired,
     /// Memory ran out.
     NoMemory,
 }
@@ -68,6 +70,7 @@ impl SigningError {
                 SigningError::FailedToEncodeMessage(error.try_clone()?)
             }
             SigningError::MomentOutOfRange(moment) => SigningError::MomentOutOfRange(*moment),
+            SigningError::SignerNotWired => SigningError::SignerNotWired,
             SigningError::NoMemory => SigningError::NoMemory,
         })
     }
@@ -116,6 +119,7 @@ impl fmt::Display for SigningError {
                 let secs = moment.secs();
                 write!(f, "moment {secs} is outside the years 0 to 9999")
             }
+            SigningError::SignerNotWired => f.write_str("the signer isn't wired"),
             SigningError::NoMemory => f.write_str("no memory"),
         }
     }

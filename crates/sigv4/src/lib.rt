@@ -11,6 +11,8 @@
 //! [`event_stream::sign_empty_message`] answer the next link of a chain, or exactly the first reason why
 //! there is none (`specs/EventStream.antt`). A key that is at hand needn't be derived anew: [`sign_with_key`],
 //! [`event_stream::sign_message_with_key`] and [`event_stream::sign_empty_message_with_key`] answer the same under it.
+//! An upload in chunks goes on from its request's signature: [`v4::sign_chunk`] and [`v4::sign_trailer`] answer the signatures of
+//! a chunk and of the trailers (`specs/Chunk.antt`), and a [`SignChunk`] makes one over the other (`specs/ChunkTold.antt`).
 //! A builder gives back its parts or names the first that is missing (`specs/Params.antt`).
 #![tactic(auto)]
 
@@ -18,6 +20,8 @@ mod body;
 mod canonical;
 mod canonical_headers;
 mod canonical_query;
+mod chunk;
+mod chunk_signer;
 mod credentials;
 mod digest;
 mod error;
@@ -48,6 +52,7 @@ mod trim;
 pub mod v4;
 
 pub use crate::body::SignableBody;
+pub use crate::chunk_signer::SignChunk;
 pub use crate::error::{SigningError, ValuePlace};
 pub use crate::header::{Header, HeaderPairs};
 pub use crate::instructions::SigningInstructions;
