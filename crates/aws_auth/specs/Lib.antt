@@ -1,3 +1,4 @@
+pub mod ChunkSigner
 pub mod Endpoint
 pub mod Error
 pub mod Inputs

@@ -3,9 +3,13 @@
 //! The layer above is promised that [`SigV4Signer::sign_http_request`] makes the signed request of its case and two signers that
 //! go on from its signature, or leaves the request and answers exactly the first test that fails (`specs/Signer.antt`); the
 //! region, the name, the settings, the payload and the moment of the case are chosen as `specs/Inputs.antt` says. The signer of
-//! the messages that follow makes the links of the chain from that signature on (`specs/MessageSigner.antt`).
+//! the messages that follow makes the links of the chain from that signature on (`specs/MessageSigner.antt`). The signer of
+//! chunks makes the signatures of an upload, each over the one before it (`specs/ChunkSigner.antt`), and so does a
+//! [`ChunkDeferredSigner`] once it is wired.
 #![tactic(auto)]
 
+mod chunk_deferred_signer;
+mod chunk_signer;
 mod endpoint;
 mod error;
 mod inputs;
@@ -19,6 +23,7 @@ mod scheme;
 mod settings;
 mod signer;
 
+pub use crate::chunk_deferred_signer::ChunkDeferredSigner;
 pub use crate::endpoint::EndpointField;
 pub use crate::error::SigV4SigningError;
 pub use crate::inputs::SigningInputs;

@@ -15,11 +15,11 @@ use std::marker::Model;
 /// Contracts see the last signature, what is signed for, and the key that is kept for the day, if any.
 #[derive(Drop)]
 pub struct SigV4MessageSigner<S> {
-    running_signature: String,
-    identity: Identity,
-    region: Region,
-    name: SigningName,
-    time: Moment,
+    pub(crate) running_signature: String,
+    pub(crate) identity: Identity,
+    pub(crate) region: Region,
+    pub(crate) name: SigningName,
+    pub(crate) time: Moment,
     settings: S,
     kept: Option<KeptKey>,
 }
