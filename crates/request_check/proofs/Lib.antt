@@ -1,0 +1,4 @@
+pub mod CutLemmas
+pub mod ReadingLemmas
+pub mod SealLemmas
+pub mod StampLemmas

@@ -1,0 +1,32 @@
+ghost use Rattle.std.specs.Prelude.{◌≡◌};
+ghost use Rattle.std.specs.List.{list_all};
+ghost use Rattle.request_check.specs.SealTexts.{has_space, is_lower_digit, is_signature};
+
+/// Whether the text is a signature: 64 hexadecimal digits in lower case.
+#[tactic(auto, unfolding(crate::specs::SealTexts::is_signature))]
+pub(crate) fn is_signature(text: &str) -> bool
+    ensures { result ≡ is_signature text.now }
+{
+    text.len() == 64 && are_lower_digits(text.as_bytes())
+}
+
+// Hexadecimal digits in lower case.
+fn are_lower_digits(text: &[u8]) -> bool
+    ensures { result ≡ list_all is_lower_digit text.now }
+{
+    text.iter().all(|b| is_lower_digit(*b))
+}
+
+fn is_lower_digit(b: u8) -> bool
+    ensures { result ≡ is_lower_digit b }
+{
+    matches!(b, b'0'..=b'9' | b'a'..=b'f')
+}
+
+/// Whether the text holds a space.
+#[tactic(auto, unfolding(crate::specs::SealTexts::has_space))]
+pub(crate) fn has_space(text: &str) -> bool
+    ensures { result ≡ has_space text.now }
+{
+    text.as_bytes().iter().any(|b| *b == b' ')
+}
