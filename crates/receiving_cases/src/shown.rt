@@ -1,0 +1,144 @@
+//! What answers show.
+use crate::parts::unknown;
+use bytes::Bytes;
+use event_io::{Drained, InitialMessageType, Received, ReceiverError, ResponseFault, Tried};
+use eventstream::{Error, ErrorKind, write_message_to};
+use smithy_core::{Mem, Message, RawMessage, SdkError};
+use std::alloc::Global;
+use std::fmt;
+
+/// An event that tells what it is.
+pub trait Shown {
+    fn shown(&self, alloc: Global) -> Mem<String>;
+}
+
+impl Shown for String {
+    fn shown(&self, alloc: Global) -> Mem<String> {
+        format!(in alloc; "{self:?}")
+    }
+}
+
+impl Shown for Message {
+    fn shown(&self, alloc: Global) -> Mem<String> {
+        framed(alloc, self)
+    }
+}
+
+/// The event, or the name of the answer.
+pub fn received<T: Shown + fmt::Debug, E: fmt::Debug>(
+    alloc: Global,
+    answer: &Result<Received<T>, SdkError<E, ResponseFault, RawMessage>>,
+) -> Mem<String> {
+    match answer {
+        Ok(Received::Event(event)) => event.shown(alloc),
+        Ok(received) => format!(in alloc; "{received:?}"),
+        Err(error) => refused(alloc, error),
+    }
+}
+
+/// The message that begins the stream and what was made beside, or the name of the answer.
+pub fn tried<M: fmt::Debug, E: fmt::Debug>(
+    alloc: Global,
+    answer: &Result<Tried<M>, SdkError<E, ResponseFault, RawMessage>>,
+) -> Mem<String> {
+    match answer {
+        Ok(Tried::Initial(message, made)) => {
+            let frame = framed(alloc, message)?;
+            format!(in alloc; "Initial {frame} {made:?}")
+        }
+        Ok(tried) => format!(in alloc; "{tried:?}"),
+        Err(error) => refused(alloc, error),
+    }
+}
+
+/// Why no more messages were taken.
+pub fn drained<E: fmt::Debug>(
+    alloc: Global,
+    answer: &Result<Drained, SdkError<E, ResponseFault, RawMessage>>,
+) -> Mem<String> {
+    match answer {
+        Ok(drained) => format!(in alloc; "{drained:?}"),
+        Err(error) => refused(alloc, error),
+    }
+}
+
+// The error, and the bytes behind it.
+fn refused<E: fmt::Debug>(
+    alloc: Global,
+    error: &SdkError<E, ResponseFault, RawMessage>,
+) -> Mem<String> {
+    match error {
+        SdkError::ResponseError { source, raw } => {
+            let raw = told(alloc, raw)?;
+            format!(in alloc; "{source:?} {raw}")
+        }
+        SdkError::ServiceError { source, raw } => {
+            let raw = told(alloc, raw)?;
+            format!(in alloc; "ServiceError {source:?} {raw}")
+        }
+        error => format!(in alloc; "{error:?}"),
+    }
+}
+
+// The frame of the message, or the bytes that are told.
+fn told(alloc: Global, raw: &RawMessage) -> Mem<String> {
+    match raw {
+        RawMessage::Decoded(message) => {
+            let frame = framed(alloc, message)?;
+            format!(in alloc; "Decoded {frame}")
+        }
+        RawMessage::Invalid(Some(bytes)) => {
+            let digits = hex::encode(alloc, bytes.as_slice())?;
+            format!(in alloc; "Invalid {digits}")
+        }
+        RawMessage::Invalid(None) => String::from_str(alloc, "Invalid"),
+    }
+}
+
+/// The frame of a message, or why it has none.
+pub fn framed(alloc: Global, message: &Message) -> Mem<String> {
+    let mut frame = Vec::new(alloc);
+    match write_message_to(alloc, message, &mut frame) {
+        Ok(()) => hex::encode(alloc, frame.as_slice()),
+        Err(error) => format!(in alloc; "{error:?}"),
+    }
+}
+
+/// What the copy of an answer or a fault shows, and what is printed of a fault.
+pub fn copied(alloc: Global, words: &[&str]) -> Mem<String> {
+    match words {
+        ["Received", text] => {
+            let copy = Received::Event(String::from_str(alloc, text)?).try_clone()?;
+            format!(in alloc; "{copy:?}")
+        }
+        ["Tried", text] => {
+            let payload = Bytes::copy_from_slice(alloc, text.as_bytes())?;
+            let copy = Tried::Initial(Message::new(alloc, payload), 7u8).try_clone()?;
+            tried::<u8, Error>(alloc, &Ok(copy))
+        }
+        ["ResponseFault", name] => fault(alloc, &fault_of(name).try_clone()?),
+        _ => unknown(alloc),
+    }
+}
+
+fn fault(alloc: Global, fault: &ResponseFault) -> Mem<String> {
+    format!(in alloc; "{fault:?}: {fault}")
+}
+
+fn fault_of(name: &str) -> ResponseFault {
+    let error = Error::from(ErrorKind::InvalidMessageLength);
+    match name {
+        "Frame" => ResponseFault::Frame(error),
+        "Unmarshall" => ResponseFault::Unmarshall(error),
+        "Preprocessor" => ResponseFault::Preprocessor(error),
+        _ => ResponseFault::UnexpectedEndOfStream(ReceiverError),
+    }
+}
+
+/// Which message begins a stream.
+pub fn message_type(word: &str) -> InitialMessageType {
+    match word {
+        "request" => InitialMessageType::Request,
+        _ => InitialMessageType::Response,
+    }
+}
