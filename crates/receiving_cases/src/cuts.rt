@@ -1,10 +1,10 @@
 //! Streams that are cut in each way.
 use crate::frames::Frames;
-use crate::parts::{push, unknown};
+use crate::parts::push;
 use crate::shown::received;
 use crate::unmarshalling::Texts;
 use bytes::Bytes;
-use case_lines::bytes_of_hex;
+use case_lines::{bytes_of_hex, unknown};
 use event_io::{Received, Receiver};
 use smithy_core::{CalmFrames, Mem};
 use std::alloc::Global;

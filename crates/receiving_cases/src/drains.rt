@@ -1,9 +1,10 @@
 ghost use Rattle.std.specs.Prelude.{◌≡◌, None};
 ghost use Rattle.event_io.specs.Receiver.{kept_message};
 
-use crate::parts::{halves, push};
+use crate::parts::push;
 use crate::shown::{drained, framed};
 use crate::sources::source_of;
+use case_lines::halves;
 use event_io::{Receiver, receive_all};
 use eventstream::IdentityUnmarshaller;
 use smithy_core::{FrameSource, Mem, Message};

@@ -11,7 +11,7 @@ mod shown;
 mod sources;
 mod unmarshalling;
 
-use case_lines::{Answers, run_cases};
+use case_lines::{Answers, run_cases, unknown};
 use smithy_core::Mem;
 use std::alloc::Global;
 use std::io;
@@ -31,7 +31,7 @@ impl Answers for Calls {
             ["receive_all", words @ ..] => drains::answer(alloc, words),
             ["cuts", words @ ..] => cuts::answer(alloc, words),
             ["copy", words @ ..] => shown::copied(alloc, words),
-            _ => parts::unknown(alloc),
+            _ => unknown(alloc),
         }
     }
 }

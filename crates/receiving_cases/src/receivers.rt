@@ -1,9 +1,10 @@
 //! Calls of receivers.
-use crate::parts::{halves, push, unknown};
+use crate::parts::push;
 use crate::preprocessing::{beginning, marking, refusing};
 use crate::shown::{Shown, message_type, received, tried};
 use crate::sources::source_of;
 use crate::unmarshalling::{Payloads, Texts};
+use case_lines::{halves, unknown};
 use event_io::Receiver;
 use eventstream::{IdentityUnmarshaller, UnmarshallMessage};
 use smithy_core::{FaultyFrames, Mem};

@@ -1,6 +1,6 @@
 //! What answers show.
-use crate::parts::unknown;
 use bytes::Bytes;
+use case_lines::unknown;
 use event_io::{Drained, InitialMessageType, Received, ReceiverError, ResponseFault, Tried};
 use eventstream::{Error, ErrorKind, write_message_to};
 use smithy_core::{Mem, Message, RawMessage, SdkError};

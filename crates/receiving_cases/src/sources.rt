@@ -1,8 +1,7 @@
 //! Sources of frames, each by the words that tell its polls.
 use crate::frames::Frames;
-use crate::parts::halves;
 use bytes::Bytes;
-use case_lines::bytes_of_hex;
+use case_lines::{bytes_of_hex, halves};
 use smithy_core::{FaultyFrames, Headers, Mem};
 use std::alloc::Global;
 

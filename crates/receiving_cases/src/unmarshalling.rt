@@ -1,5 +1,5 @@
 //! What messages are as events.
-use crate::parts::halves;
+use case_lines::halves;
 use eventstream::{Error, UnmarshallMessage, UnmarshalledMessage};
 use smithy_core::{Mem, Message};
 use std::alloc::Global;
