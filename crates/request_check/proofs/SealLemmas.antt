@@ -1,5 +1,5 @@
 -- Seals that are made of texts, and the one seal of a request.
-use Rattle.std.proofs.Common.{◌≡◌, ℕ, Bool, Bor, true, false, List, [], ◌∷◌, ◌++◌, Option, Some, None, refl, sym, ap, ◌∙◌, true≢false, subst, unwrap_or, Ok, Err}
+use Rattle.std.proofs.Common.{◌≡◌, ℕ, Bool, Bor, true, false, List, [], ◌++◌, Option, Some, None, refl, sym, ap, ◌∙◌, true≢false, subst, unwrap_or, Ok, Err}
 use Rattle.std.specs.Prelude.{IfOk, Result, codes, string_bytes}
 use Rattle.std.proofs.lemmas.List.{append_cancel_right}
 use Rattle.http_uri.specs.Grammar.{query_of}
@@ -7,7 +7,6 @@ use Rattle.http_uri.specs.Uri.{Spells, SpellsNone, uri_authority, uri_data, uri_
 use Rattle.http_uri.specs.declared.uri.Uri.{Uri}
 use Rattle.http_uri.proofs.Theorems.{Spells_unique}
 use Rattle.eventstream.specs.Key.{scope}
-use Rattle.smithy_core.specs.Civil.{stamp}
 use Rattle.smithy_core.specs.Moment.{Instant}
 use Rattle.smithy_core.specs.TextPairs.{first_value}
 use Rattle.smithy_core.specs.declared.request.HttpRequest.{HttpRequest}
@@ -19,9 +18,8 @@ use Rattle.sigv4.specs.declared.settings.SignatureLocation.TheVariants.{Headers,
 use Rattle.request_check.specs.Carried.{CutsScope, IsAuthorization, IsCarried, IsFirst, MakesSeal, ReadsAuthorization, ReadsParameters, TellsHeaderSeal, TellsTargetSeal}
 use Rattle.request_check.specs.Cuts.{CutsEnd}
 use Rattle.request_check.specs.SealTexts.{has_space, is_signature}
-use Rattle.request_check.specs.Sealed.{HasOneSeal, IsSealedAt, IsUnsealed, SealParts, SealsHeaders, SealsParameters, SealsTarget, TellsSeal, sealed_credential}
-use Rattle.request_check.specs.Stamped.{IsWholeSecond, ReadsStamp}
-use Rattle.request_check.specs.declared.authorization.Authorization.{Authorization}
+use Rattle.request_check.specs.Sealed.{HasOneSeal, IsSealedAt, IsUnsealed, SealParts, SealsHeaders, SealsParameters, TellsSeal, sealed_credential}
+use Rattle.request_check.specs.Stamped.{ReadsStamp}
 use Rattle.request_check.specs.declared.seal.Carried.{Carried}
 use Rattle.request_check.proofs.ReadingLemmas.{read_once}
 use Rattle.request_check.proofs.StampLemmas.{stamped_once}

@@ -1,17 +1,17 @@
 -- A moment, read back from its stamp.
-use Rattle.std.proofs.Common.{◌≡◌, ℕ, ◌+◌, ◌*◌, ◌/◌, ◌%◌, ◌<◌, ◌≤◌, List, [], ◌∷◌, length, take, drop, Option, Some, None, refl, sym, ap, ◌∙◌, arith, ℤ, pos, ◌+ℤ◌, ◌*ℤ◌}
+use Rattle.std.proofs.Common.{◌≡◌, ℕ, ◌+◌, ◌*◌, ◌/◌, ◌%◌, ◌<◌, ◌≤◌, List, length, take, drop, Some, None, refl, sym, ap, ◌∙◌, arith, ℤ, pos, ◌+ℤ◌}
 use Rattle.std.specs.Prelude.{negsuc, unsigned_abs, ◌≤ℤ◌}
 use Rattle.std.proofs.Common.{to_z, w8, w16}
 use Rattle.std.proofs.lemmas.Int.{to_z_pos}
-use Rattle.jiff_core.specs.Calendar.{IsDate, days_from_civil, day_count, days_in_month, days_of_years, days_of_months}
+use Rattle.jiff_core.specs.Calendar.{IsDate, day_count, days_of_years, days_of_months}
 use Rattle.jiff_core.proofs.SignedLemmas.{signed_arith}
-use Rattle.jiff_core.proofs.CalendarLemmas.{days_from_civil-day_count, days_in_month_bounds}
-use Rattle.smithy_core.specs.Civil.{IsInYears, civil_after, civil_of, day_after, stamp, year_seconds}
+use Rattle.jiff_core.proofs.CalendarLemmas.{days_from_civil-day_count}
+use Rattle.smithy_core.specs.Civil.{IsInYears, civil_after, civil_of, stamp, year_seconds}
 use Rattle.smithy_core.specs.CivilText.{FitsDigits, date_of, stamp_of, two_digits}
 use Rattle.smithy_core.specs.Moment.{Instant}
 use Rattle.smithy_core.specs.declared.civil_text.Civil.{Civil}
 use Rattle.smithy_core.proofs.DayLemmas.{civil_fits, day_after_is, year_bound}
-use Rattle.request_check.specs.Stamped.{FindsMoment, IsNumber, IsOnlyCivil, IsShort, IsWholeSecond, ReadsStamp, at_civil, second_of_day}
+use Rattle.request_check.specs.Stamped.{FindsMoment, IsNumber, IsOnlyCivil, IsShort, IsWholeSecond, ReadsStamp, at_civil}
 
 first_is : day_count (pos 0) 1 1 ≡ 3652425
 unfolding day_count days_of_years days_of_months

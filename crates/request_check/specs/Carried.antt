@@ -1,7 +1,6 @@
 -- The texts that carry a seal, read.
 use Rattle.std.specs.Prelude.{◌≡◌, ℕ, true, false, List, ◌++◌, codes, Option, Some, None}
 use Rattle.std.specs.Borrow.{Bor}
-use Rattle.eventstream.specs.Key.{scope}
 use Rattle.http_uri.specs.Uri.{Spells, SpellsNone}
 use Rattle.http_uri.specs.declared.uri.Uri.{Uri}
 use Rattle.smithy_core.specs.Civil.{stamp}

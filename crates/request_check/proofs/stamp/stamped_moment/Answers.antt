@@ -1,4 +1,4 @@
-use Rattle.std.proofs.Common.{◌≡◌, length, arith}
+use Rattle.std.proofs.Common.{arith}
 use Rattle.request_check.proofs.StampLemmas.{unstamped_length, unstamped_none, unstamped_other}
 use Rattle.request_check.proofs.stamp.stamped_moment.Goals as goal
 

@@ -1,0 +1,13 @@
+-- What errors of the layer below become.
+use Rattle.sigv4.specs.declared.error.SigningError.{SigningError}
+use Rattle.sigv4.specs.declared.error.SigningError.TheVariants.{NoMemory as NoRoom}
+use Rattle.request_check.specs.declared.check.CheckRequestFault.{CheckRequestFault}
+use Rattle.request_check.specs.declared.check.CheckRequestFault.TheVariants.{NoMemory, Signing}
+
+abbrev pub fault_for : SigningError → SigningError → CheckRequestFault
+fault_for NoRoom error = NoMemory
+fault_for _ error = Signing error
+
+-- want of memory stays what it is
+abbrev pub fault_of : SigningError → CheckRequestFault
+fault_of error = fault_for error error
