@@ -15,7 +15,7 @@ use Rattle.sigv4.specs.Error.{target_error}
 use Rattle.sigv4.specs.Refusal.{unfit_headers, unfit_host}
 use Rattle.sigv4.specs.Settings.{Settings}
 use Rattle.sigv4.specs.declared.error.SigningError.{SigningError}
-use Rattle.sigv4.specs.declared.error.SigningError.TheVariants.{FailedToEncodeMessage, InvalidHeaderName, InvalidHeaderValue, InvalidTokenName, InvalidUri, MissingExpires, MissingHost, MomentOutOfRange, NoMemory, UnsupportedIdentityType}
+use Rattle.sigv4.specs.declared.error.SigningError.TheVariants.{FailedToEncodeMessage, InvalidHeaderName, InvalidHeaderValue, InvalidTokenName, InvalidUri, MissingExpires, MissingHost, MomentOutOfRange, NoMemory, SignerNotWired, UnsupportedIdentityType}
 use Rattle.sigv4.specs.declared.settings.SignatureLocation.{SignatureLocation}
 use Rattle.sigv4.specs.declared.settings.SignatureLocation.TheVariants.{Headers, QueryParams}
 use Rattle.request_check.specs.Faults.{fault_of}
@@ -56,6 +56,7 @@ is_room MissingExpires = false
 is_room UnsupportedIdentityType = false
 is_room (FailedToEncodeMessage error) = false
 is_room (MomentOutOfRange at) = false
+is_room SignerNotWired = false
 
 refused : (sent : HttpRequest) (error : SigningError) → is_room error ≡ false → ReadsSent sent (Err error) → RefusesSent sent error
 refused sent error other (inl refuses) = refuses
@@ -74,6 +75,7 @@ unchecked sent settings payload signer seal MissingExpires sealed reads = (seal,
 unchecked sent settings payload signer seal UnsupportedIdentityType sealed reads = (seal, sealed, refused sent UnsupportedIdentityType refl reads)
 unchecked sent settings payload signer seal (FailedToEncodeMessage inner) sealed reads = (seal, sealed, refused sent (FailedToEncodeMessage inner) refl reads)
 unchecked sent settings payload signer seal (MomentOutOfRange at) sealed reads = (seal, sealed, refused sent (MomentOutOfRange at) refl reads)
+unchecked sent settings payload signer seal SignerNotWired sealed reads = (seal, sealed, refused sent SignerNotWired refl reads)
 
 -- a seal's moment lies in the years 0 to 9999
 pub sealed_in_years : (request : HttpRequest) (region name : List ℕ) (seal : SealParts) → IsSealed request region name seal → IsInYears seal.at

@@ -6,6 +6,7 @@ use aws_auth::{
     OverrideError, SigV4MessageSigner, SigV4OperationSigningConfig, SigV4SessionTokenNameOverride,
     SigV4Signer, SigV4SigningError, Signed, SigningInputs, SigningOptions,
 };
+use bytes::Bytes;
 use case_lines::unknown;
 use event_io::{ListEvents, MessageStreamAdapter, Next};
 use eventstream::{DeferredSigner, IdentityMarshaller};
@@ -91,6 +92,7 @@ fn frames_of(
     events: Vec<Message>,
     clock: &mut ListClock,
 ) -> Mem<String> {
+    let most = events.len().saturating_add(1);
     let mut deferred = DeferredSigner::new();
     deferred.wire(Box::new(alloc, signer)?);
     let mut adapter = MessageStreamAdapter::new(
@@ -102,11 +104,18 @@ fn frames_of(
     );
     let mut moments = Vec::new(alloc);
     let mut text = String::new(alloc);
-    while let Ok(Next::Frame(frame)) = adapter.poll_next(clock, &mut moments) {
-        text.push_str(hex::encode(alloc, frame.as_slice())?.as_str())?;
-        text.push_str("\\n")?;
+    for _ in 0..most {
+        match adapter.poll_next(clock, &mut moments) {
+            Ok(Next::Frame(frame)) => push_frame(alloc, &mut text, &frame)?,
+            _ => break,
+        }
     }
     Ok(text)
+}
+
+fn push_frame(alloc: Global, text: &mut String, frame: &Bytes) -> Mem<()> {
+    text.push_str(hex::encode(alloc, frame.as_slice())?.as_str())?;
+    text.push_str("\\n")
 }
 
 fn items_of(alloc: Global, events: Vec<Message>) -> Mem<ListEvents<Message, Message>> {
