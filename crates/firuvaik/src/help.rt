@@ -8,9 +8,9 @@ firuvaik signs a request and streams its events as a chain of signed frames.
 usage: firuvaik stream --name NAME [--at N] [--raw] [--skew MILLISECONDS]
          [--omit-token] [--token-name NAME] [--query --expires SECONDS]
          [--sha256] [--unsigned] [--single-encode] [--no-normalize] PROFILE
-         | firuvaik settings PROFILE | firuvaik --help | firuvaik --version
+         | settings PROFILE | gen SEED COUNT | --help | --version
   PROFILE: [--service-id ID] [--config PATH] [--credentials PATH]
-
+gen streams COUNT generated events into memory, checks and measures the stream.
 The first NAME is the service's signing name. N is the moment in seconds since
 1970-01-01T00:00:00Z, else the clock's. stream prints signed head and frames,
 --raw frames as bytes, settings what is selected. Input (settings: TEXT lines):

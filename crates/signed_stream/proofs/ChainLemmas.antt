@@ -1,5 +1,5 @@
 -- A chain that is written frame by frame, up to the first one that is refused.
-use Rattle.std.proofs.Common.{◌≡◌, ℕ, suc, ◌+◌, ◌-◌, ◌<◌, ◌≤◌, inl, inr, Bool, true, false, List, [], ◌∷◌, ◌++◌, Option, Some, None, option_map, length, take, refl, sym, ap, subst, ◌∙◌, arith, append-nil}
+use Rattle.std.proofs.Common.{◌≡◌, ℕ, suc, ◌+◌, ◌-◌, ◌≤◌, Bool, true, false, List, [], ◌∷◌, ◌++◌, Option, Some, None, option_map, length, take, refl, sym, ap, ◌∙◌, arith, append-nil}
 use Rattle.std.specs.Prelude.{if◌then◌else◌}
 use Rattle.std.specs.Option.{option_or}
 use Rattle.std.proofs.lemmas.List.{append_assoc}
@@ -7,8 +7,7 @@ use Rattle.smithy_core.specs.Civil.{IsInYears, is_in_years}
 use Rattle.smithy_core.specs.Moment.{Instant}
 use Rattle.smithy_core.specs.Outside.{Gains, GainsPrefix, GainsRest}
 use Rattle.smithy_core.specs.Message.{Parts}
-use Rattle.smithy_core.proofs.GainLemmas.{gains_front, gains_join, gains_last, gains_nothing, prefix_at_start, prefix_join, prefix_within}
-use Rattle.eventstream.specs.Error.{error_kind}
+use Rattle.smithy_core.proofs.GainLemmas.{gains_front, gains_join, gains_last, gains_nothing, prefix_join, prefix_within}
 use Rattle.eventstream.specs.Frame.{frame, unframed}
 use Rattle.eventstream.specs.Key.{Signer}
 use Rattle.eventstream.specs.Link.{begun, link_message, link_signature}
@@ -21,7 +20,8 @@ use Rattle.eventstream.proofs.LinkLemmas.{link_framed}
 use Rattle.eventstream.proofs.UnframedLemmas.{unframed_fault}
 use Rattle.event_io.specs.Chain.{next_bytes, next_unsigned}
 use Rattle.signed_stream.specs.declared.form.Form.{Form}
-use Rattle.signed_stream.specs.Chain.{IsChained, Refusal, chain_text, fault_at, first_refusal, frames_text, link_text, outside_years, refusal_at, refusal_fault, streamed_text, text_before, unframed_at, unlinked}
+use Rattle.chain_check.specs.Chain.{IsChained}
+use Rattle.signed_stream.specs.Chain.{Refusal, chain_text, fault_at, first_refusal, frames_text, link_text, outside_years, refusal_at, refusal_fault, streamed_text, text_before, unframed_at, unlinked}
 use Rattle.signed_stream.specs.Halt.{Halt, Halts, fails, refuses, unless_refused, wants}
 use Rattle.signed_stream.specs.Sending.{IsNext, IsSignFault, next_refused, sign_halt}
 use Rattle.signed_stream.specs.Status.{RunFault, moment_out_of_range}

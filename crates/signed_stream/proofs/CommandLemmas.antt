@@ -1,15 +1,16 @@
 -- A command that was read.
-use Rattle.signed_stream.specs.Options.{commanded}
-use Rattle.signed_stream.specs.Running.{EndsAsAsked, IsOfCommand}
+use Rattle.std.proofs.Common.{◌≡◌, true, refl}
+use Rattle.signed_stream.specs.Options.{input_commanded}
+use Rattle.signed_stream.specs.Running.{EndsAsAsked, IsOfCommand, reads_input}
 use Rattle.signed_stream.specs.Status.{Ending}
-use Rattle.signed_stream.specs.declared.command.Command.{Command as Commanded}
-use Rattle.signed_stream.specs.declared.command.Command.TheVariants.{Stream, Settings}
-use Rattle.signed_stream.proofs.RunLemmas.{IsCommand, of_command}
+use Rattle.signed_stream.specs.declared.command.InputCommand.{InputCommand}
+use Rattle.signed_stream.specs.declared.command.InputCommand.TheVariants.{Stream, Settings}
+use Rattle.signed_stream.proofs.RunLemmas.{of_command}
 
-pub is_command : (command : Commanded) → IsCommand (commanded command)
-is_command (Stream words) = tt
-is_command (Settings options) = tt
+pub reads : (command : InputCommand) → reads_input (input_commanded command) ≡ true
+reads (Stream words) = refl
+reads (Settings options) = refl
 
 -- it ends for no word
-pub asks_command : (command : Commanded) (end : Ending) → IsOfCommand end → EndsAsAsked (commanded command) end
-asks_command command end of = of_command (commanded command) end (is_command command) of
+pub asks_command : (command : InputCommand) (end : Ending) → IsOfCommand end → EndsAsAsked (input_commanded command) end
+asks_command command end of = of_command (input_commanded command) end (reads command) of

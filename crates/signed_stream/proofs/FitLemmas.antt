@@ -1,6 +1,6 @@
 -- How a job and profile texts go as planned.
-use Rattle.std.proofs.Common.{◌≡◌, ℕ, List, [], ◌∷◌, ◌++◌, length, replicate, Option, Some, None, refl, sym, ap, ◌∙◌, subst}
-use Rattle.std.specs.Prelude.{Result, Ok, Err, string_bytes}
+use Rattle.std.proofs.Common.{◌≡◌, ℕ, List, [], ◌∷◌, length, replicate, Option, Some, None, refl, sym, ap, ◌∙◌, subst}
+use Rattle.std.specs.Prelude.{Result, Ok, Err}
 use Rattle.smithy_core.specs.Clock.{ClockState, GivesNext}
 use Rattle.smithy_core.specs.Given.{Gives}
 use Rattle.smithy_core.specs.Moment.{Instant}
@@ -9,12 +9,12 @@ use Rattle.smithy_core.proofs.GivenLemmas.{given_last}
 use Rattle.env_config.specs.Files.{Place}
 use Rattle.env_config.specs.Loading.{selected_profile}
 use Rattle.env_config.specs.Sections.{FileText}
-use Rattle.signed_stream.specs.Carriers.{Goes, GoesForJob, GoesForTexts, IsAfterTexts}
+use Rattle.signed_stream.specs.Carriers.{GoesForJob, GoesForTexts, IsAfterTexts}
 use Rattle.signed_stream.specs.Command.{Wanted}
 use Rattle.signed_stream.specs.Halt.{Halt, Sends, ended, fails, halt_of, halted, refuses, wants}
 use Rattle.signed_stream.specs.Job.{JobParts}
 use Rattle.signed_stream.specs.Options.{IsOptionsOf, wanted_of}
-use Rattle.signed_stream.specs.Plan.{FilesRead, GoesAsPlanned, IsNeeded, Plan, Supplied, TargetRead, loaded, plan_end, unread}
+use Rattle.signed_stream.specs.Plan.{FilesRead, GoesAsPlanned, Plan, Supplied, TargetRead, loaded, plan_end, unread}
 use Rattle.signed_stream.specs.ProfileOptions.{ProfileWanted}
 use Rattle.signed_stream.specs.ProfileTexts.{ProfileTexts}
 use Rattle.signed_stream.specs.Running.{OfClock}
@@ -22,10 +22,9 @@ use Rattle.signed_stream.specs.Settings.{Selected}
 use Rattle.signed_stream.specs.Shown.{shown_settings}
 use Rattle.signed_stream.specs.Sources.{selection, source_places}
 use Rattle.signed_stream.specs.Status.{Ending, could_not_read_file, output_fault}
-use Rattle.signed_stream.specs.Stream.{GaveJob, job_texts, selected_plan}
+use Rattle.signed_stream.specs.Stream.{job_texts}
 use Rattle.signed_stream.specs.Streaming.{Streams, TakesFor, stream_plan, stream_wanted}
 use Rattle.signed_stream.specs.declared.command.options.StreamWords.{StreamWords}
-use Rattle.signed_stream.specs.declared.form.Form.{Form}
 use Rattle.signed_stream.specs.declared.status.StreamFault.{StreamFault}
 use Rattle.signed_stream.specs.declared.status.StreamFault.TheVariants as faults
 use Rattle.signed_stream.specs.declared.streaming.StreamOptions.{StreamOptions}

@@ -20,8 +20,11 @@ use Rattle.env_config.specs.Sections.{FileText}
 use Rattle.signed_stream.specs.declared.form.Form.{Form}
 use Rattle.signed_stream.specs.declared.status.StreamFault.{StreamFault}
 use Rattle.signed_stream.specs.Case.{job_case, request_moment}
-use Rattle.signed_stream.specs.Chain.{IsChained, Refusal, first_refusal}
-use Rattle.signed_stream.specs.Command.{Command, Wanted, bad_word, show_settings, stream, unbuilt_word}
+use Rattle.chain_check.specs.Chain.{IsChained}
+use Rattle.signed_stream.specs.Chain.{Refusal, first_refusal}
+use Rattle.signed_stream.specs.Command.{Command, Wanted, bad_word, generate, show_settings, stream, unbuilt_word}
+use Rattle.signed_stream.specs.Generate.{generate_plan, shown_stream}
+use Rattle.signed_stream.specs.Generator.{drawn_events}
 use Rattle.signed_stream.specs.ProfileOptions.{ProfileWanted}
 use Rattle.signed_stream.specs.Job.{JobParts, job}
 use Rattle.signed_stream.specs.Plan.{EndsAsPlanned, FilesRead, GoesAsPlanned, Plan, TargetSpells, Supplied, TargetRead, accepted, loaded, most_input, stops, unaccepted, unloaded, unread, unreadable, writes}
@@ -232,6 +235,7 @@ has_done gave env (show_settings wanted) bytes given before now runs = by_length
         → GoesAsPlanned (if large then stops job_too_large else settings_plan env wanted given (profile_texts bytes)) done before now → HasShown gave env wanted bytes given before now
     by_length true is goes = absurd (stops_undone _ before now (λ e. cc) goes)
     by_length false is goes = done_texts gave env wanted bytes (profile_texts bytes) given before now (grind (arith, nat_tests)) refl runs.supplied goes
+has_done gave env (generate seed count) bytes given before now runs = runs.goes.gains
 
 pub has_done_where : (gave : List Place → FilesRead → Type 0) (env : List (List ℕ × List ℕ)) (command : Command) (bytes : List ℕ) (given : Supplied) (answer : Ending) (before now : Option (List ℕ)) → answer ≡ done
     → RunsAsPlanned gave env command bytes given answer before now → HasDone gave env command bytes given before now
@@ -299,14 +303,20 @@ completes_job gave env wanted bytes given other later answer input files moments
     completes_stream input.texts (selected_profile env) env wanted input.read other.target given.moments later answer input.supplied.target valid given.target found.target
     (rw (large, input.spelled, are) at goes)
 
+-- what is generated completes
+generated_completes : (seed count : ℕ) (answer : Ending) → EndsAsPlanned (generate_plan seed count) answer → Completes answer
+generated_completes seed count answer goes = written_completes (shown_stream (drawn_events count seed)) true answer goes
+
 -- what can be done with these files is done
 pub completes : (gave : List Place → FilesRead → Type 0) (env : List (List ℕ × List ℕ)) (command : Command) (bytes : List ℕ) (given other : Supplied) (later : List Instant) (answer : Ending) (before now : Option (List ℕ))
     → RunsAsPlanned gave env command bytes given answer before now → other.files ≡ given.files → other.moments ≡ given.moments ++ later → CanBeDone gave env command bytes other → Completes answer
+unfolding command_plan
 completes gave env (bad_word place) bytes given other later answer before now runs files moments can = absurd can
 completes gave env (unbuilt_word place) bytes given other later answer before now runs files moments can = absurd can
 completes gave env (stream wanted) bytes given other later answer before now runs files moments can =
     let found : GaveJob gave wanted can.read given = rw can.spelled at runs.supplied in
     completes_job gave env wanted bytes given other later answer can files moments found runs.goes.ends
+completes gave env (generate seed count) bytes given other later answer before now runs files moments can = generated_completes seed count answer runs.goes.ends
 completes gave env (show_settings wanted) bytes given other later answer before now runs files moments can = completes_shown gave env wanted bytes given other answer can files runs.goes.ends
 
 -- ## The library's call

@@ -2,7 +2,8 @@
 use Rattle.std.proofs.Common.{◌≡◌, ℕ, ◌<◌, ◌≤◌, ◌||◌, List, [], ◌∷◌, length, get_or, drop, map, refl, ap, arith}
 use Rattle.std.specs.List.{list_any}
 use Rattle.env_config.specs.declared.source.EnvConfigFileKind.{EnvConfigFileKind}
-use Rattle.signed_stream.specs.Command.{bad_word, command}
+use Rattle.signed_stream.specs.Command.{after_seed, bad_word, command, counted, generator_from, seeded}
+use Rattle.signed_stream.specs.Numbers.{natural_below}
 use Rattle.signed_stream.specs.ProfileOptions.{is_same_kind, kind_of, place_of}
 use Rattle.signed_stream.specs.declared.command.profile.NamedFile.{NamedFile}
 
@@ -14,6 +15,25 @@ command_empty text (word ∷ words) h = absurd (omega arith)
 pub command_first : {A : Type 0} (text : A → List ℕ) (words : List A) (word : A) → word ≡ get_or words 0 word → 1 ≤ length words → command (map text words) ≡ command (text word ∷ map text (drop 1 words))
 command_first text [] word here h = absurd (omega arith)
 command_first text (first ∷ words) word here h = rw here refl
+
+-- the words of `gen`, one by one
+pub generator_empty : {A : Type 0} (text : A → List ℕ) (words : List A) → length words < 1 → generator_from (map text words) ≡ bad_word 2
+generator_empty text [] h = refl
+generator_empty text (word ∷ words) h = absurd (omega arith)
+
+pub generator_first : {A : Type 0} (text : A → List ℕ) (words : List A) (word : A) → word ≡ get_or words 0 word → 1 ≤ length words
+    → generator_from (map text words) ≡ after_seed (natural_below 18446744073709551616 (text word)) (map text (drop 1 words))
+generator_first text [] word here h = absurd (omega arith)
+generator_first text (first ∷ words) word here h = rw here refl
+
+pub seeded_empty : {A : Type 0} (seed : ℕ) (text : A → List ℕ) (words : List A) → length words < 1 → seeded seed (map text words) ≡ bad_word 3
+seeded_empty seed text [] h = refl
+seeded_empty seed text (word ∷ words) h = absurd (omega arith)
+
+pub seeded_first : {A : Type 0} (seed : ℕ) (text : A → List ℕ) (words : List A) (word : A) → word ≡ get_or words 0 word → 1 ≤ length words
+    → seeded seed (map text words) ≡ counted seed (natural_below 100001 (text word)) (map text (drop 1 words))
+seeded_first seed text [] word here h = absurd (omega arith)
+seeded_first seed text (first ∷ words) word here h = rw here refl
 
 -- the kinds of named files are those of their places
 pub kind_named : (kind : EnvConfigFileKind) (files : List NamedFile) → list_any (λ place. is_same_kind kind (kind_of place)) (map place_of files) ≡ list_any (λ file. is_same_kind kind file.kind) files

@@ -5,7 +5,7 @@ use Rattle.std.proofs.lemmas.List.{append_assoc}
 use Rattle.smithy_core.specs.Given.{GivesEach}
 use Rattle.smithy_core.specs.Message.{Parts}
 use Rattle.smithy_core.specs.Moment.{Instant}
-use Rattle.smithy_core.specs.Outside.{Gains, GainsPrefix, RoseOrStands}
+use Rattle.smithy_core.specs.Outside.{Gains, RoseOrStands}
 use Rattle.smithy_core.specs.declared.outside.clock.Clock as Clock
 use Rattle.smithy_core.specs.declared.sdk_error.SdkError.TheVariants as sdk
 use Rattle.smithy_core.proofs.GainLemmas.{gains_nothing, prefix_at_start}
@@ -25,7 +25,7 @@ use Rattle.event_io.specs.declared.adapter_fault.AdapterFault.TheVariants.{Marsh
 use Rattle.event_io.specs.declared.event_source.EventSource as EventSource
 use Rattle.signed_stream.specs.Chain.{first_refusal, frame_text, link_text}
 use Rattle.signed_stream.specs.Halt.{Halt, Halts, halt_of, refuses, unless_refused, wants}
-use Rattle.signed_stream.specs.Sending.{IsChainAnswer, SendsChain, TellsAnswer, answer_halt, next_refused, sign_halt}
+use Rattle.signed_stream.specs.Sending.{IsChainAnswer, SendsChain, TellsAnswer, next_refused}
 use Rattle.signed_stream.specs.Status.{RunFault}
 use Rattle.signed_stream.specs.declared.form.Form.{Form}
 use Rattle.signed_stream.specs.declared.status.StreamFault.{StreamFault}

@@ -1,5 +1,5 @@
 -- How a run goes as planned, and what it keeps.
-use Rattle.std.proofs.Common.{◌≡◌, ℕ, suc, ◌+◌, ◌<◌, ◌≤◌, inl, inr, Bool, true, false, nat_lt, List, [], ◌∷◌, ◌++◌, length, replicate, Option, Some, None, option_map, refl, ◌∙◌, arith}
+use Rattle.std.proofs.Common.{◌≡◌, ℕ, ◌+◌, ◌<◌, ◌≤◌, inl, inr, Bool, true, false, nat_lt, List, [], ◌∷◌, ◌++◌, length, replicate, Option, Some, None, option_map, refl, ◌∙◌, arith}
 use Rattle.std.specs.Prelude.{if◌then◌else◌, Result, Ok, Err}
 use Rattle.std.specs.Option.{option_or}
 use Rattle.std.proofs.lemmas.Bool.Decides.{nat_tests}
@@ -22,12 +22,14 @@ use Rattle.signed_stream.specs.declared.form.Form.{Form}
 use Rattle.signed_stream.specs.Carriers.{GoesForBytes, GoesForInput, GoesForJob, GoesForTexts, IsAfterInput}
 use Rattle.signed_stream.specs.Case.{job_case, request_moment}
 use Rattle.signed_stream.specs.Chain.{Refusal, fault_at, first_refusal, outside_years, refusal_at, unframed_at, unlinked}
-use Rattle.signed_stream.specs.Command.{Command, Wanted, bad_word, show_settings, stream, unbuilt_word}
+use Rattle.signed_stream.specs.Command.{Command, Wanted, bad_word, generate, show_settings, stream, unbuilt_word}
+use Rattle.signed_stream.specs.Generate.{generate_plan, shown_stream}
+use Rattle.signed_stream.specs.Generator.{drawn_events}
 use Rattle.signed_stream.specs.ProfileOptions.{ProfileWanted}
 use Rattle.signed_stream.specs.Job.{JobParts, job}
-use Rattle.signed_stream.specs.Plan.{EndsAsPlanned, FilesRead, GainsAsPlanned, GoesAsPlanned, IsNeeded, Plan, Supplied, TargetRead, accepted, plan_end, most_input, stops, unaccepted, unloaded, unread, writes}
+use Rattle.signed_stream.specs.Plan.{EndsAsPlanned, FilesRead, GainsAsPlanned, GoesAsPlanned, Plan, Supplied, TargetRead, accepted, plan_end, most_input, stops, unaccepted, unloaded, unread, writes}
 use Rattle.signed_stream.specs.ProfileTexts.{ProfileTexts, profile_texts}
-use Rattle.signed_stream.specs.Running.{EndsAsAsked, Gave, IsOfCommand, KeepsOutput, OfClock, RunsAsPlanned, TakesMoments, Unless, UnlessCommand, comes_late, command_plan, may_be_in_years, may_be_of_frame, read_plan}
+use Rattle.signed_stream.specs.Running.{EndsAsAsked, Gave, IsOfCommand, KeepsOutput, OfClock, RunsAsPlanned, TakesMoments, TellsInput, Unless, UnlessCommand, When, comes_late, command_plan, may_be_in_years, may_be_of_frame, read_plan, reads_input}
 use Rattle.signed_stream.specs.Settings.{Selected}
 use Rattle.signed_stream.specs.ShowSettings.{GaveTexts, settings_plan, shown_plan}
 use Rattle.signed_stream.specs.Shown.{shown_settings}
@@ -244,12 +246,16 @@ keeps_texts : (env : List (List ℕ × List ℕ)) (wanted : ProfileWanted) (give
 keeps_texts env wanted given answer before now (Ok texts) goes = keeps_shown wanted answer before now (selection env wanted.service_id given.files) goes
 keeps_texts env wanted given answer before now (Err place) goes = keeps_same (comes_late (show_settings wanted)) answer before now goes.gains
 
+pub keeps_generated : (seed count : ℕ) (answer : Ending) (before now : Option (List ℕ)) → GoesAsPlanned (generate_plan seed count) answer before now → KeepsOutput (comes_late (generate seed count)) answer before now
+keeps_generated seed count answer before now goes = keeps_written (comes_late (generate seed count)) (shown_stream (drawn_events count seed)) done answer before now tt goes
+
 pub keeps_bytes : (gave : List Place → FilesRead → Type 0) (clock : List Instant → Type 0) (env : List (List ℕ × List ℕ)) (command : Command) (bytes : List ℕ) (answer : Ending) (before now : Option (List ℕ))
     → GoesForBytes gave clock env command bytes answer before now → KeepsOutput (comes_late command) answer before now
 keeps_bytes gave clock env (bad_word place) bytes answer before now found = keeps_same (comes_late (bad_word place)) answer before now found.goes.gains
 keeps_bytes gave clock env (unbuilt_word place) bytes answer before now found = keeps_same (comes_late (unbuilt_word place)) answer before now found.goes.gains
 keeps_bytes gave clock env (stream wanted) bytes answer before now found = keeps_reading gave clock env wanted found.given answer before now (job bytes) found.moments found.goes
 keeps_bytes gave clock env (show_settings wanted) bytes answer before now found = keeps_texts env wanted found.given answer before now (profile_texts bytes) found.goes
+keeps_bytes gave clock env (generate seed count) bytes answer before now found = keeps_generated seed count answer before now found.goes
 
 -- ## The bytes of the input
 
@@ -285,12 +291,14 @@ module _ (gave : List Place → FilesRead → Type 0) (free : (places : List Pla
   takes_none (bad_word place) = (refl, unasked)
   takes_none (unbuilt_word place) = (refl, unasked)
   takes_none (show_settings wanted) = (refl, unasked)
+  takes_none (generate seed count) = (refl, unasked)
   takes_none (stream wanted) = unasked_at clock unasked wanted.at
 
   -- an outside that has given nothing, which is always so
   gave_nothing : (command : Command) (bytes : List ℕ) → Gave gave command bytes nothing_given
   gave_nothing (bad_word place) bytes = tt
   gave_nothing (unbuilt_word place) bytes = tt
+  gave_nothing (generate seed count) bytes = tt
   gave_nothing (stream wanted) bytes = by_reading (job bytes)
     where
       by_reading : (reading : Result JobParts ℕ) → GaveReading gave wanted reading nothing_given
@@ -350,6 +358,10 @@ pub all_read : (left : Option (List ℕ)) (read bytes : List ℕ) → IsAllOf le
 all_read None read bytes all told = cc
 all_read (Some told_bytes) read bytes all told = all ∙ (let e : Some told_bytes ≡ Some bytes = told in cc)
 
+-- a command that reads the input goes with the bytes that it tells
+told_read : (command : Command) (left : Option (List ℕ)) (bytes : List ℕ) → reads_input command ≡ true → TellsInput command left bytes → left ≡ Some bytes
+told_read command left bytes reads told = rw reads at told
+
 -- its plan
 plan_of_read : (env : List (List ℕ × List ℕ)) (command : Command) (bytes : List ℕ) (given : Supplied) → length bytes ≤ most_input → command_plan env command bytes given ≡ read_plan env command bytes given
 unfolding command_plan
@@ -363,12 +375,13 @@ plan_of_read env command bytes given short = by_command command
     by_command (unbuilt_word place) = refl
     by_command (stream wanted) = rw within refl
     by_command (show_settings wanted) = rw within refl
+    by_command (generate seed count) = refl
 
 -- an answer as planned for its bytes goes as planned for an input that was read to its end
 pub read_runs : (gave : List Place → FilesRead → Type 0) (clock : List Instant → Type 0) (env : List (List ℕ × List ℕ)) (command : Command) (left : Option (List ℕ)) (read : List ℕ) (answer : Ending) (before now : Option (List ℕ))
-    → IsAllOf left read → length read ≤ most_input → GoesForBytes gave clock env command read answer before now → GoesForInput gave clock env command left answer before now
-read_runs gave clock env command left read answer before now all short found =
-    (found.given, found.moments, λ bytes told. rw (← all_read left read bytes all told) runs)
+    → reads_input command ≡ true → IsAllOf left read → length read ≤ most_input → GoesForBytes gave clock env command read answer before now → GoesForInput gave clock env command left answer before now
+read_runs gave clock env command left read answer before now reads all short found =
+    (found.given, found.moments, λ bytes told. rw (← all_read left read bytes all (told_read command left bytes reads told)) runs)
   where
     plans : (moments : List Instant) → command_plan env command read (record found.given { moments = moments }) ≡ read_plan env command read (record found.given { moments = moments })
     plans moments = plan_of_read env command read (record found.given { moments = moments }) short
@@ -383,15 +396,9 @@ read_runs gave clock env command left read answer before now all short found =
       needed = λ front t rest is. ends front ∙ found.needed front t rest is;
     }
 
--- the words are a command
-abbrev pub IsCommand : Command → Type 0
-IsCommand (bad_word place) = ⊥
-IsCommand (unbuilt_word place) = ⊥
-IsCommand command = Unit {0}
-
 -- the plan of an input that is too large
 plan_too_large : (env : List (List ℕ × List ℕ)) (command : Command) (left : Option (List ℕ)) (bytes : List ℕ) (given : Supplied)
-    → IsCommand command → IsLongerThan left most_input → left ≡ Some bytes → command_plan env command bytes given ≡ stops job_too_large
+    → reads_input command ≡ true → IsLongerThan left most_input → left ≡ Some bytes → command_plan env command bytes given ≡ stops job_too_large
 unfolding command_plan
 plan_too_large env command None bytes given is long told = cc
 plan_too_large env command (Some told_bytes) bytes given is long told = by_command command is
@@ -402,16 +409,17 @@ plan_too_large env command (Some told_bytes) bytes given is long told = by_comma
     large : nat_lt most_input (length bytes) ≡ true
     large = let past : most_input < length bytes = rw (← same) long in grind (arith, nat_tests)
 
-    by_command : (command : Command) → IsCommand command → command_plan env command bytes given ≡ stops job_too_large
-    by_command (bad_word place) is = absurd is
-    by_command (unbuilt_word place) is = absurd is
+    by_command : (command : Command) → reads_input command ≡ true → command_plan env command bytes given ≡ stops job_too_large
+    by_command (bad_word place) is = cc
+    by_command (unbuilt_word place) is = cc
+    by_command (generate seed count) is = cc
     by_command (stream wanted) is = rw large refl
     by_command (show_settings wanted) is = rw large refl
 
 module _ (gave : List Place → FilesRead → Type 0) (free : (places : List Place) → gave places unloaded) (clock : List Instant → Type 0) (unasked : clock []) where
   -- with nothing given
   nothing_runs : (env : List (List ℕ × List ℕ)) (command : Command) (left : Option (List ℕ)) (answer : Ending) (held : Option (List ℕ))
-      → ((bytes : List ℕ) → left ≡ Some bytes → GoesAsPlanned (command_plan env command bytes nothing_given) answer held held) → GoesForInput gave clock env command left answer held held
+      → ((bytes : List ℕ) → TellsInput command left bytes → GoesAsPlanned (command_plan env command bytes nothing_given) answer held held) → GoesForInput gave clock env command left answer held held
   nothing_runs env command left answer held goes = (
     nothing_given,
     takes_none gave free clock unasked command,
@@ -422,10 +430,10 @@ module _ (gave : List Place → FilesRead → Type 0) (free : (places : List Pla
     },
   )
 
-  pub too_large_runs : (env : List (List ℕ × List ℕ)) (command : Command) (left : Option (List ℕ)) (held : Option (List ℕ)) → IsCommand command → IsLongerThan left most_input
+  pub too_large_runs : (env : List (List ℕ × List ℕ)) (command : Command) (left : Option (List ℕ)) (held : Option (List ℕ)) → reads_input command ≡ true → IsLongerThan left most_input
       → GoesForInput gave clock env command left job_too_large held held
   too_large_runs env command left held is long =
-      nothing_runs env command left job_too_large held (λ bytes told. rw (plan_too_large env command left bytes nothing_given is long told) (goes_stopped job_too_large held))
+      nothing_runs env command left job_too_large held (λ bytes told. rw (plan_too_large env command left bytes nothing_given is long (told_read command left bytes is told)) (goes_stopped job_too_large held))
 
   pub read_fault_runs : (env : List (List ℕ × List ℕ)) (command : Command) (left : Option (List ℕ)) (held : Option (List ℕ)) → GoesForInput gave clock env command left read_fault held held
   read_fault_runs env command left held = nothing_runs env command left read_fault held (λ bytes told. goes_read_fault (command_plan env command bytes nothing_given) held)
@@ -446,17 +454,45 @@ module _ (gave : List Place → FilesRead → Type 0) (free : (places : List Pla
   unfolding command_plan
   unbuilt_word_runs env command place left held is = rw is (nothing_runs env (unbuilt_word place) left (not_built place) held (λ bytes told. goes_stopped (not_built place) held))
 
+-- a generated job, for which nothing is asked
+module _ (gave : List Place → FilesRead → Type 0) (free : (places : List Place) → gave places unloaded) (clock : List Instant → Type 0) (unasked : clock []) where
+  pub generated_runs : (env : List (List ℕ × List ℕ)) (seed count : ℕ) (left : Option (List ℕ)) (answer : Ending) (before now : Option (List ℕ)) → GoesAsPlanned (generate_plan seed count) answer before now
+      → GoesForInput gave clock env (generate seed count) left answer before now
+  unfolding command_plan
+  generated_runs env seed count left answer before now goes = (
+    nothing_given,
+    (refl, unasked),
+    λ bytes told. record {
+      supplied = tt;
+      goes = goes;
+      needed = λ front t rest is. absurd (no_moment front t rest is);
+    },
+  )
+
 pub holds_untouched : (command : Command) (P : Type 0) → P → UnlessCommand command P
 holds_untouched (bad_word place) P holds = holds
 holds_untouched (unbuilt_word place) P holds = holds
 holds_untouched (stream wanted) P holds = tt
 holds_untouched (show_settings wanted) P holds = tt
+holds_untouched (generate seed count) P holds = tt
 
-pub command_touches : (command : Command) (P : Type 0) → IsCommand command → UnlessCommand command P
-command_touches (bad_word place) P is = absurd is
-command_touches (unbuilt_word place) P is = absurd is
+pub command_touches : (command : Command) (P : Type 0) → reads_input command ≡ true → UnlessCommand command P
+command_touches (bad_word place) P is = cc
+command_touches (unbuilt_word place) P is = cc
 command_touches (stream wanted) P is = tt
 command_touches (show_settings wanted) P is = tt
+command_touches (generate seed count) P is = cc
+
+-- what holds in any case
+pub holds_unless : (test : Bool) (P : Type 0) → P → Unless test P
+holds_unless test P holds = unless test P holds
+
+pub holds_when : (test : Bool) (P : Type 0) → P → When test P
+holds_when true P holds = holds
+holds_when false P holds = tt
+
+pub reads_touched : (command : Command) (P : Type 0) → reads_input command ≡ true → Unless (reads_input command) P
+reads_touched command P is = rw is tt
 
 -- an input that isn't read
 pub unread_rest : (left : Option (List ℕ)) → IsRestOf left left
@@ -468,12 +504,14 @@ asked_no_memory (bad_word place) = inr refl
 asked_no_memory (unbuilt_word place) = inr refl
 asked_no_memory (stream wanted) = tt
 asked_no_memory (show_settings wanted) = tt
+asked_no_memory (generate seed count) = tt
 
-pub of_command : (command : Command) (end : Ending) → IsCommand command → IsOfCommand end → EndsAsAsked command end
-of_command (bad_word place) end is of = absurd is
-of_command (unbuilt_word place) end is of = absurd is
+pub of_command : (command : Command) (end : Ending) → reads_input command ≡ true → IsOfCommand end → EndsAsAsked command end
+of_command (bad_word place) end is of = cc
+of_command (unbuilt_word place) end is of = cc
 of_command (stream wanted) end is of = of
 of_command (show_settings wanted) end is of = of
+of_command (generate seed count) end is of = cc
 
 pub after_input : (end : Ending) → IsAfterInput end → IsOfCommand end
 after_input done of = tt
@@ -487,4 +525,4 @@ after_input (not_built place) of = absurd of
 after_input job_too_large of = absurd of
 after_input read_fault of = absurd of
 
-pub ruleset words_of_runs = (keeps_same, holds_untouched, unread_rest, asked_no_memory)
+pub ruleset words_of_runs = (keeps_same, holds_untouched, holds_unless, holds_when, unread_rest, asked_no_memory)

@@ -1,11 +1,11 @@
 -- A run that says how it ended: the end stays, or want of memory takes its place.
-use Rattle.std.proofs.Common.{◌≡◌, ℕ, ◌≤◌, ◌⊎◌, inl, inr, Bool, List, Option, refl, sym, ◌∙◌}
+use Rattle.std.proofs.Common.{◌≡◌, ℕ, ◌≤◌, ◌⊎◌, inl, inr, Bool, true, false, List, Option, refl, sym, ◌∙◌}
 use Rattle.smithy_core.specs.Outside.{RoseOrStands}
 use Rattle.smithy_core.proofs.GainLemmas.{prefix_at_start, prefix_from_whole}
 use Rattle.env_config.specs.Files.{Place}
 use Rattle.signed_stream.specs.Command.{Command}
 use Rattle.signed_stream.specs.Plan.{FilesRead, GainsAsPlanned, GoesAsPlanned, Plan, Supplied, stops, writes}
-use Rattle.signed_stream.specs.Running.{CountsReads, CountsWrites, EndsAsAsked, KeepsDisk, KeepsOutput, RunsAsPlanned, command_plan}
+use Rattle.signed_stream.specs.Running.{CountsReads, CountsWrites, EndsAsAsked, KeepsDisk, KeepsOutput, RunsAsPlanned, When, command_plan}
 use Rattle.signed_stream.specs.Status.{Ending, RunFault, bad_job, bad_words, could_not_read_file, done, job_too_large, no_memory, not_built, output_fault, read_fault, refused}
 use Rattle.signed_stream.proofs.RunLemmas.{asked_no_memory, goes_no_memory}
 
@@ -54,6 +54,11 @@ said_disk end answer before now keeps (inr is) = rw is tt
 pub said_is : (end answer told : Ending) → IsSaid end answer → answer ≡ told → (told ≡ no_memory → ⊥) → end ≡ told
 said_is end answer told (inl is) reached other = sym is ∙ reached
 said_is end answer told (inr is) reached other = absurd (other (sym reached ∙ is))
+
+-- what holds where the run is done holds where it says so
+pub said_when : (test : Bool) (end answer : Ending) (P : Type 0) → When test (end ≡ done → P) → IsSaid end answer → When test (answer ≡ done → P)
+said_when true end answer P ends said = λ is. ends (said_is end answer done said is (λ e. cc))
+said_when false end answer P ends said = tt
 
 -- ## The counts
 

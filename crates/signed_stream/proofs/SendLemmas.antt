@@ -14,6 +14,7 @@ use Rattle.signed_stream.specs.declared.status.StreamFault.{StreamFault}
 use Rattle.signed_stream.specs.Chain.{Refusal, refusal_fault, streamed_text}
 use Rattle.signed_stream.specs.Halt.{Halt, Halts, Sends, ended, fails, halt_of, halted, refuses, wants}
 use Rattle.signed_stream.specs.Plan.{GoesAsPlanned, writes}
+use Rattle.signed_stream.specs.Running.{IsOfOutput}
 use Rattle.signed_stream.specs.Sending.{IsWhole, SendsAll, SendsChain}
 use Rattle.signed_stream.specs.Status.{RunFault, done}
 use Rattle.signed_stream.specs.Written.{signed_head, written_stream, written_before, written_end, written_until}
@@ -88,3 +89,13 @@ text_goes text before now (Err told) sends = by_halt (halt_of told) sends
     by_halt (refuses told) halts = let wrong : None ≡ Some told = halts.0 in cc
     by_halt fails halts = record { ends = inr (inr (inl refl)); gains = halts }
     by_halt wants halts = record { ends = inr (inr (inr refl)); gains = halts }
+
+-- which ends for no more than the output and memory
+pub text_ends : {T : Type 0} (text : List ℕ) (before now : Option (List ℕ)) (answer : Result T StreamFault) → Sends None text before now answer → IsOfOutput (ended answer)
+text_ends text before now (Ok x) sends = tt
+text_ends text before now (Err told) sends = by_halt (halt_of told) sends
+  where
+    by_halt : (halt : Halt) → Halts None text before now halt → IsOfOutput (halted halt)
+    by_halt (refuses told) halts = let wrong : None ≡ Some told = halts.0 in cc
+    by_halt fails halts = tt
+    by_halt wants halts = tt

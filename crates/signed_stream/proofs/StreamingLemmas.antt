@@ -1,5 +1,5 @@
 -- How a request that is signed and its events go as planned.
-use Rattle.std.proofs.Common.{◌≡◌, ◌==◌, ℕ, ◌+◌, ◌<◌, ◌≤◌, inl, inr, Bool, true, false, List, [], ◌∷◌, ◌++◌, length, Option, Some, None, option_map, refl, sym, ap, ◌∙◌, subst, arith}
+use Rattle.std.proofs.Common.{◌≡◌, ◌==◌, ℕ, ◌+◌, ◌≤◌, inr, Bool, true, false, List, [], ◌∷◌, ◌++◌, length, Option, Some, None, refl, sym, ap, ◌∙◌, subst, arith}
 use Rattle.std.specs.Prelude.{Result, Ok, Err, string_bytes, if◌then◌else◌}
 use Rattle.std.specs.Option.{option_or}
 use Rattle.std.proofs.lemmas.Bool.Decides.{nat_tests}
@@ -18,12 +18,11 @@ use Rattle.signed_stream.specs.Chain.{first_refusal}
 use Rattle.signed_stream.specs.Command.{Wanted}
 use Rattle.signed_stream.specs.Halt.{Halt, ended, fails, halt_of, halted, refuses, wants}
 use Rattle.signed_stream.specs.Job.{JobParts}
-use Rattle.signed_stream.specs.Plan.{GoesAsPlanned, IsNeeded, Plan, TargetRead, TargetSpells, accepted, plan_end, stops, unaccepted, unread}
+use Rattle.signed_stream.specs.Plan.{GoesAsPlanned, IsNeeded, Plan, TargetRead, TargetSpells, accepted, stops, unaccepted, unread}
 use Rattle.signed_stream.specs.Sending.{SendsAll}
-use Rattle.signed_stream.specs.Settings.{GivesSettings, Selected, selected_of, settings}
+use Rattle.signed_stream.specs.Settings.{GivesSettings, Selected, settings}
 use Rattle.signed_stream.specs.Sign.{IsSigned, SealsFor, Unsigned, case_fault, request_fault, target_fault}
-use Rattle.signed_stream.specs.Sources.{or_refused, when_selected}
-use Rattle.signed_stream.specs.Status.{RunFault, invalid_uri, missing_credentials, missing_signing_region, moment_out_of_range, no_memory, parse_error, refused, settings_ending}
+use Rattle.signed_stream.specs.Status.{RunFault, invalid_uri, missing_credentials, missing_signing_region, moment_out_of_range, parse_error, refused, settings_ending}
 use Rattle.signed_stream.specs.Stream.{case_plan, request_plan, selected_plan, target_plan}
 use Rattle.signed_stream.specs.Streaming.{CompletesStream, Streams, stream_plan}
 use Rattle.signed_stream.specs.Written.{case_refusal, head_text}

@@ -15,8 +15,10 @@ use Rattle.env_config.specs.Sections.{FaultyLine, FileText, Sections, sections}
 use Rattle.signed_stream.specs.declared.form.Form.{Form}
 use Rattle.signed_stream.specs.Case.{job_case, request_moment}
 use Rattle.signed_stream.specs.Chain.{Refusal}
-use Rattle.signed_stream.specs.Command.{Command, bad_word, show_settings, stream, unbuilt_word, Wanted}
+use Rattle.signed_stream.specs.Command.{Command, bad_word, generate, show_settings, stream, unbuilt_word, Wanted}
 use Rattle.signed_stream.specs.Job.{JobParts, job}
+use Rattle.signed_stream.specs.Generate.{shown_stream}
+use Rattle.signed_stream.specs.Generator.{drawn_events}
 use Rattle.signed_stream.specs.Plan.{EndsAsPlanned, FilesRead, Plan, TargetSpells, Supplied, TargetRead, accepted, loaded, most_input, stops, unaccepted, unloaded, unread, unreadable, writes}
 use Rattle.signed_stream.specs.Running.{IfStreams, RunsAsPlanned, command_plan}
 use Rattle.signed_stream.specs.Settings.{Selected, selected_or_missing, settings, settings_from}
@@ -139,16 +141,17 @@ job_refused gave env wanted given (Ok j) found goes =
     selection_refused env wanted.profile.service_id (selected_plan j wanted given.target given.moments) (TargetIsUnfit wanted j) given.files
     (λ selected ends. selected_refused j wanted selected given.target given.moments found.target ends) goes
 
+-- what is written whole isn't refused
+written_unrefused : (text : List ℕ) → EndsAsPlanned (writes text done) (refused invalid_uri) → ⊥
+written_unrefused text (inl is) = cc
+written_unrefused text (inr (inl is)) = cc
+written_unrefused text (inr (inr (inl is))) = cc
+written_unrefused text (inr (inr (inr is))) = cc
+
 -- what is shown isn't refused for a target
 shown_unrefused : (env : List (List ℕ × List ℕ)) (wanted : ProfileWanted) (given : Supplied) (reading : Result ProfileTexts ℕ) → EndsAsPlanned (settings_plan env wanted given reading) (refused invalid_uri) → ⊥
 shown_unrefused env wanted given (Err place) goes = other_stop _ (λ e. cc) goes
-shown_unrefused env wanted given (Ok texts) goes = selection_refused env wanted.service_id shown_plan ⊥ given.files (λ selected ends. by_end (shown_settings selected) ends) goes
-  where
-    by_end : (text : List ℕ) → EndsAsPlanned (writes text done) (refused invalid_uri) → ⊥
-    by_end text (inl is) = cc
-    by_end text (inr (inl is)) = cc
-    by_end text (inr (inr (inl is))) = cc
-    by_end text (inr (inr (inr is))) = cc
+shown_unrefused env wanted given (Ok texts) goes = selection_refused env wanted.service_id shown_plan ⊥ given.files (λ selected ends. written_unrefused (shown_settings selected) ends) goes
 
 -- a run that is refused for its target has read a job whose target isn't accepted, or takes no parameters
 run_refused : (gave : List Place → FilesRead → Type 0) (env : List (List ℕ × List ℕ)) (command : Command) (bytes : List ℕ) (given : Supplied) (before now : Option (List ℕ))
@@ -166,6 +169,7 @@ run_refused gave env (show_settings wanted) bytes given before now runs = by_len
     by_length : (large : Bool) → EndsAsPlanned (if large then stops job_too_large else settings_plan env wanted given (profile_texts bytes)) (refused invalid_uri) → ⊥
     by_length true goes = other_stop _ (λ e. cc) goes
     by_length false goes = shown_unrefused env wanted given (profile_texts bytes) goes
+run_refused gave env (generate seed count) bytes given before now runs = written_unrefused (shown_stream (drawn_events count seed)) runs.goes.ends
 
 pub run_refused_where : (gave : List Place → FilesRead → Type 0) (env : List (List ℕ × List ℕ)) (command : Command) (bytes : List ℕ) (given : Supplied) (answer : Ending) (before now : Option (List ℕ)) → answer ≡ refused invalid_uri
     → RunsAsPlanned gave env command bytes given answer before now → IfStreams command (λ wanted. ReadsUnfitTarget wanted (job bytes))

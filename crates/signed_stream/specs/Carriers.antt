@@ -1,6 +1,6 @@
 -- What the functions below `run` promise to one another, and what carries the proofs of its promises. A reader of those needs none of it: they are in
 -- Running, and what they rest on in Plan, Stream and ShowSettings.
-use Rattle.std.specs.Prelude.{◌≡◌, ℕ, List, Option, Some, Result, Ok, Err}
+use Rattle.std.specs.Prelude.{◌≡◌, ℕ, List, Option, Result, Ok, Err}
 use Rattle.smithy_core.specs.Moment.{Instant}
 use Rattle.env_config.specs.Files.{Place}
 use Rattle.signed_stream.specs.Command.{Command, Wanted}
@@ -8,7 +8,7 @@ use Rattle.signed_stream.specs.ProfileOptions.{ProfileWanted}
 use Rattle.signed_stream.specs.Job.{JobParts}
 use Rattle.signed_stream.specs.Plan.{FilesRead, GoesAsPlanned, IsNeeded, Plan, Supplied}
 use Rattle.signed_stream.specs.ProfileTexts.{ProfileTexts}
-use Rattle.signed_stream.specs.Running.{Gave, OfClock, RunsAsPlanned, TakesMoments, read_plan}
+use Rattle.signed_stream.specs.Running.{Gave, OfClock, RunsAsPlanned, TakesMoments, TellsInput, read_plan}
 use Rattle.signed_stream.specs.Settings.{Selected, selected_of}
 use Rattle.signed_stream.specs.ShowSettings.{GaveTexts, settings_plan}
 use Rattle.signed_stream.specs.Sources.{selection, source_places}
@@ -34,7 +34,7 @@ module _ (gave : List Place → FilesRead → Type 0) (clock : List Instant → 
   -- as planned for what the outside gave for an input, where it tells its bytes
   abbrev pub GoesForInput : Command → Option (List ℕ) → Ending → Option (List ℕ) → Option (List ℕ) → Type 0
   GoesForInput command left answer before now =
-      (given : Supplied) × TakesMoments clock command given.moments × ((bytes : List ℕ) → left ≡ Some bytes → RunsAsPlanned gave env command bytes given answer before now)
+      (given : Supplied) × TakesMoments clock command given.moments × ((bytes : List ℕ) → TellsInput command left bytes → RunsAsPlanned gave env command bytes given answer before now)
 
   -- as planned for a job
   abbrev pub GoesForJob : Wanted → JobParts → Ending → Option (List ℕ) → Option (List ℕ) → Type 0

@@ -1,9 +1,9 @@
 -- The chain of events as it is written, and the first event that is refused.
-use Rattle.std.specs.Prelude.{◌≡◌, ℕ, ◌+◌, ◌-◌, if◌then◌else◌, List, [], ◌∷◌, take, Option, Some, None, option_map}
+use Rattle.std.specs.Prelude.{ℕ, ◌+◌, ◌-◌, if◌then◌else◌, List, [], ◌∷◌, take, Option, Some, None, option_map}
 use Rattle.std.specs.List.{flat_map}
 use Rattle.std.specs.Option.{option_or}
 use Rattle.hex.specs.Hex.{encode_lower}
-use Rattle.smithy_core.specs.Civil.{IsInYears, is_in_years}
+use Rattle.smithy_core.specs.Civil.{is_in_years}
 use Rattle.smithy_core.specs.Moment.{Instant}
 use Rattle.smithy_core.specs.Message.{Parts}
 use Rattle.smithy_core.specs.Text.{line}
@@ -34,16 +34,6 @@ link_text form signer signature bytes at = frame_text form (frame (link_message 
 -- the chain of the events at their moments
 unfoldable pub chain_text : Form → Signer → List Parts → List Instant → List ℕ → List ℕ
 chain_text form signer events moments signature = frames_text form (chain signer events moments signature)
-
--- each frame of the chain is defined, those of the events, of their signed messages and of the closing one; each moment lies in the years, and there
--- is one more than events
-abbrev pub IsChained : Signer → List Parts → List Instant → List ℕ → Type 0
-IsChained signer events [] signature = ⊥
-IsChained signer [] (at ∷ []) signature = IsInYears at × (unframed (link_message signer signature [] at) ≡ None)
-IsChained signer [] (at ∷ moments) signature = ⊥
-IsChained signer (event ∷ events) (at ∷ moments) signature =
-    (unframed event ≡ None) × IsInYears at × (unframed (link_message signer signature (frame event) at) ≡ None)
-    × IsChained signer events moments (link_signature signer signature (frame event) at)
 
 -- ## Refusals
 

@@ -24,7 +24,7 @@ is_raw HexLines = false
 
 -- a command that isn't built
 abbrev pub is_later_command : List ℕ → Bool
-is_later_command word = list_any (bytes_eq word) (codes "check" ∷ codes "chunk" ∷ codes "gen" ∷ [])
+is_later_command word = list_any (bytes_eq word) (codes "check" ∷ codes "chunk" ∷ [])
 
 -- what `stream` is asked for: the name of the service, the moment that all have, where it isn't the clock that gives them, how to sign, the name of the
 -- session token, by how many milliseconds the service's clock is ahead, in which form to write, and the profile
@@ -47,6 +47,8 @@ pub data Command : Type 0 where
   stream : Wanted → Command
   -- to show what the profile gives
   show_settings : ProfileWanted → Command
+  -- to stream a generated job into memory and check it: with this seed so many events
+  generate : ℕ → ℕ → Command
 
 -- ## `stream`
 
@@ -179,6 +181,29 @@ abbrev pub settings_from : ℕ → ProfileGiven → List (List ℕ) → Command
 settings_from place given [] = settings_command place given.profile given.awaited
 settings_from place given (word ∷ words) = after_word place (λ more. settings_from (place + 1) more words) (take_profile_word given given.awaited word)
 
+-- ## `gen`
+
+-- after a seed and a count: they are over
+abbrev pub counted : ℕ → Option ℕ → List (List ℕ) → Command
+counted seed None words = bad_word 3
+counted seed (Some count) [] = generate seed count
+counted seed (Some count) (word ∷ words) = bad_word 4
+
+-- after a seed of 64 bits: the count, at most 100,000
+abbrev pub seeded : ℕ → List (List ℕ) → Command
+seeded seed [] = bad_word 3
+seeded seed (word ∷ words) = counted seed (natural_below 100001 word) words
+
+-- goes on, where the first word is a seed
+abbrev pub after_seed : Option ℕ → List (List ℕ) → Command
+after_seed None words = bad_word 2
+after_seed (Some seed) words = seeded seed words
+
+-- the words after `gen`: a seed and a count
+abbrev pub generator_from : List (List ℕ) → Command
+generator_from [] = bad_word 2
+generator_from (word ∷ words) = after_seed (natural_below 18446744073709551616 word) words
+
 -- ## Commands
 
 -- the command that the words spell, or the place of the first word that is bad or not built
@@ -187,5 +212,6 @@ command [] = bad_word 1
 command (word ∷ words) =
     if bytes_eq word (codes "stream") then options_from 2 no_options words
     else if bytes_eq word (codes "settings") then settings_from 2 no_profile_given words
+    else if bytes_eq word (codes "gen") then generator_from words
     else if is_later_command word then unbuilt_word 1
     else bad_word 1

@@ -5,6 +5,8 @@ pub mod Command
 pub mod Draft
 pub mod EventHeader
 pub mod Fault
+pub mod Generate
+pub mod Generator
 pub mod Halt
 pub mod Job
 pub mod Lines

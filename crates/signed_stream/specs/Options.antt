@@ -1,10 +1,13 @@
 -- What the readers of the words answer.
 use Rattle.std.specs.Prelude.{◌≡◌, ℕ, Option, Some, None, option_map, Result, Ok, Err, string_bytes}
 use Rattle.std.specs.Option.{option_copied}
-use Rattle.signed_stream.specs.Command.{Command, bad_word, unbuilt_word, stream, show_settings, Options, ProfileGiven, WordTaken, Wanted, options, ends}
+use Rattle.signed_stream.specs.Command.{Command, bad_word, unbuilt_word, generate, stream, show_settings, Options, ProfileGiven, WordTaken, Wanted, options, ends}
 use Rattle.signed_stream.specs.ProfileOptions.{profile_wanted}
 use Rattle.signed_stream.specs.declared.command.Command.{Command as Commanded}
-use Rattle.signed_stream.specs.declared.command.Command.TheVariants.{Stream, Settings}
+use Rattle.signed_stream.specs.declared.command.Command.TheVariants.{Generate, OfInput}
+use Rattle.signed_stream.specs.declared.command.InputCommand.{InputCommand}
+use Rattle.signed_stream.specs.declared.command.InputCommand.TheVariants.{Stream, Settings}
+use Rattle.signed_stream.specs.declared.command.generator.GeneratorWords.{GeneratorWords}
 use Rattle.signed_stream.specs.declared.command.WordsFault.{WordsFault}
 use Rattle.signed_stream.specs.declared.command.WordsFault.TheVariants.{BadWord, NotBuilt, NoMemory}
 use Rattle.signed_stream.specs.declared.command.options.StreamWords.{StreamWords}
@@ -33,10 +36,15 @@ pub record IsOptionsOf (words : StreamWords) (options : StreamOptions) : Type 0 
   pub token_name : option_map string_bytes options.token_name ≡ option_copied words.token_name
   pub skew_millis : options.skew_millis ≡ words.skew_millis
 
+-- the command that is asked for of the input
+abbrev pub input_commanded : InputCommand → Command
+input_commanded (Stream words) = stream (wanted_of words)
+input_commanded (Settings profile) = show_settings (profile_wanted profile)
+
 -- the command that is asked for
 abbrev pub commanded : Commanded → Command
-commanded (Stream words) = stream (wanted_of words)
-commanded (Settings profile) = show_settings (profile_wanted profile)
+commanded (Generate words) = generate words.seed words.count
+commanded (OfInput command) = input_commanded command
 
 -- the fault is why the words are no command that is built, unless memory ran out
 abbrev pub TellsWordsFault : Command → WordsFault → Type 0
@@ -53,6 +61,11 @@ ReadsWords command (Err fault) = TellsWordsFault command fault
 abbrev pub ReadsStream : Command → Result StreamWords WordsFault → Type 0
 ReadsStream command (Ok words) = command ≡ stream (wanted_of words)
 ReadsStream command (Err fault) = TellsWordsFault command fault
+
+-- the words of `gen`, likewise
+abbrev pub ReadsGenerator : Command → Result GeneratorWords WordsFault → Type 0
+ReadsGenerator command (Ok words) = command ≡ generate words.seed words.count
+ReadsGenerator command (Err fault) = TellsWordsFault command fault
 
 -- the words of `settings`, likewise
 abbrev pub ReadsProfile : Command → Result ProfileOptions WordsFault → Type 0

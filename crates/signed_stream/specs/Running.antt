@@ -5,7 +5,9 @@ use Rattle.smithy_core.specs.Moment.{Instant}
 use Rattle.smithy_core.specs.Outside.{Gains, RoseOrStands}
 use Rattle.env_config.specs.Files.{Place}
 use Rattle.signed_stream.specs.Case.{request_moment}
-use Rattle.signed_stream.specs.Command.{Command, Wanted, bad_word, show_settings, stream, unbuilt_word}
+use Rattle.signed_stream.specs.Command.{Command, Wanted, bad_word, generate, show_settings, stream, unbuilt_word}
+use Rattle.signed_stream.specs.Generate.{generate_plan, shown_stream}
+use Rattle.signed_stream.specs.Generator.{drawn_events}
 use Rattle.signed_stream.specs.Job.{job}
 use Rattle.signed_stream.specs.Plan.{FilesRead, GoesAsPlanned, IsNeeded, Plan, Supplied, stops, unless_large, unreadable}
 use Rattle.signed_stream.specs.ProfileTexts.{profile_texts}
@@ -23,6 +25,7 @@ Gave gave (bad_word place) bytes given = Unit {0}
 Gave gave (unbuilt_word place) bytes given = Unit {0}
 Gave gave (stream wanted) bytes given = GaveReading gave wanted (job bytes) given
 Gave gave (show_settings wanted) bytes given = GaveTexts gave wanted (profile_texts bytes) given
+Gave gave (generate seed count) bytes given = Unit {0}
 
 -- with what a command reads of an input's bytes
 abbrev pub read_plan : List (List ℕ × List ℕ) → Command → List ℕ → Supplied → Plan
@@ -30,11 +33,29 @@ read_plan env (bad_word place) bytes given = stops (bad_words place)
 read_plan env (unbuilt_word place) bytes given = stops (not_built place)
 read_plan env (stream wanted) bytes given = job_plan env wanted given (job bytes)
 read_plan env (show_settings wanted) bytes given = settings_plan env wanted given (profile_texts bytes)
+read_plan env (generate seed count) bytes given = generate_plan seed count
+
+-- whether a command reads the input
+abbrev pub reads_input : Command → Bool
+reads_input (bad_word place) = false
+reads_input (unbuilt_word place) = false
+reads_input (generate seed count) = false
+reads_input command = true
+
+-- where the test passes
+abbrev pub When : Bool → Type 0 → Type 0
+When true P = P
+When false P = Unit {0}
+
+-- the input tells these bytes; where the command reads none, any will do
+abbrev pub TellsInput : Command → Option (List ℕ) → List ℕ → Type 0
+TellsInput command left bytes = When (reads_input command) (left ≡ Some bytes)
 
 -- what follows from the words, the variables, the input's bytes and what the outside gave; words that are no command end the run before the input is asked
 unfoldable pub command_plan : List (List ℕ × List ℕ) → Command → List ℕ → Supplied → Plan
 command_plan env (bad_word place) bytes given = stops (bad_words place)
 command_plan env (unbuilt_word place) bytes given = stops (not_built place)
+command_plan env (generate seed count) bytes given = generate_plan seed count
 command_plan env command bytes given = unless_large bytes (read_plan env command bytes given)
 
 -- the moments of a stream: those that the clock gave, or one and the same, for which the clock isn't asked; `clock` tells what the clock gave
@@ -61,10 +82,18 @@ IsOfCommand (bad_words place) = ⊥
 IsOfCommand (not_built place) = ⊥
 IsOfCommand end = Unit {0}
 
--- where the words are no command, it ends so, or for want of memory; no other run ends for a word
+-- the ends of a run that only writes: none for input, files or settings
+abbrev pub IsOfOutput : Ending → Type 0
+IsOfOutput done = Unit {0}
+IsOfOutput output_fault = Unit {0}
+IsOfOutput no_memory = Unit {0}
+IsOfOutput end = ⊥
+
+-- where the words are no command, it ends so, or for want of memory; no other run ends for a word, and none that only writes for what it doesn't ask
 abbrev pub EndsAsAsked : Command → Ending → Type 0
 EndsAsAsked (bad_word place) answer = (answer ≡ bad_words place) ⊎ (answer ≡ no_memory)
 EndsAsAsked (unbuilt_word place) answer = (answer ≡ not_built place) ⊎ (answer ≡ no_memory)
+EndsAsAsked (generate seed count) answer = IsOfOutput answer
 EndsAsAsked command answer = IsOfCommand answer
 
 -- where the words are no command
@@ -146,12 +175,14 @@ NamesUnreadable gave command path = ⊥
 abbrev pub HasDone : (List Place → FilesRead → Type 0) → List (List ℕ × List ℕ) → Command → List ℕ → Supplied → Option (List ℕ) → Option (List ℕ) → Type 0
 HasDone gave env (stream wanted) bytes given before now = (input : IsStreamable gave env wanted bytes given) × Gains before now (streamed input)
 HasDone gave env (show_settings wanted) bytes given before now = (input : IsShowable gave env wanted bytes given) × Gains before now (shown_settings input.selected)
+HasDone gave env (generate seed count) bytes given before now = Gains before now (shown_stream (drawn_events count seed))
 HasDone gave env command bytes given before now = ⊥
 
 -- what can be done with what the outside gave
 abbrev pub CanBeDone : (List Place → FilesRead → Type 0) → List (List ℕ × List ℕ) → Command → List ℕ → Supplied → Type 0
 CanBeDone gave env (stream wanted) bytes given = IsStreamable gave env wanted bytes given
 CanBeDone gave env (show_settings wanted) bytes given = IsShowable gave env wanted bytes given
+CanBeDone gave env (generate seed count) bytes given = Unit {0}
 CanBeDone gave env command bytes given = ⊥
 
 -- the run is done; a fault of the outside or want of memory may come in between
@@ -169,16 +200,16 @@ pub record SinkChange : Type 0 where
 -- was `reads_before` and is `reads_now`.
 pub record Ran (gave : List Place → FilesRead → Type 0) (clock : List Instant → Type 0) (env : List (List ℕ × List ℕ)) (command : Command) (left : Option (List ℕ)) (given : Supplied) (answer : Ending) (reads_before reads_now : ℕ) (out err : SinkChange) : Type 0 where
   -- where it is done, the headline
-  pub headline : (bytes : List ℕ) → left ≡ Some bytes → answer ≡ done → HasDone gave env command bytes given out.held_before out.held_now
+  pub headline : (bytes : List ℕ) → TellsInput command left bytes → answer ≡ done → HasDone gave env command bytes given out.held_before out.held_now
   -- what can be done with these files, at the moments that were taken and any later ones, is done
-  pub complete : (bytes : List ℕ) → left ≡ Some bytes → (other : Supplied) → other.files ≡ given.files → (later : List Instant) → other.moments ≡ given.moments ++ later
+  pub complete : (bytes : List ℕ) → TellsInput command left bytes → (other : Supplied) → other.files ≡ given.files → (later : List Instant) → other.moments ≡ given.moments ++ later
       → CanBeDone gave env command bytes other → Completes answer
   -- it ended as the words ask
   pub ended : EndsAsAsked command answer
   -- its moments are those of the clock, or the one that the words name
   pub moments : TakesMoments clock command given.moments
   -- where the input tells its bytes, it ended and the output gained as planned
-  pub planned : (bytes : List ℕ) → left ≡ Some bytes → RunsAsPlanned gave env command bytes given answer out.held_before out.held_now
+  pub planned : (bytes : List ℕ) → TellsInput command left bytes → RunsAsPlanned gave env command bytes given answer out.held_before out.held_now
   -- what the output keeps also where it doesn't
   pub kept : KeepsOutput (comes_late command) answer out.held_before out.held_now
   -- a file that couldn't be read is one that the words name

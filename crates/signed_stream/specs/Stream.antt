@@ -1,5 +1,5 @@
 -- The command `stream`: what a job asks of a run, and when it can be streamed.
-use Rattle.std.specs.Prelude.{◌≡◌, ℕ, ◌+◌, ◌≤◌, ◌⊎◌, true, if◌then◌else◌, List, [], ◌∷◌, length, Result, Ok, Err, Option, Some, None}
+use Rattle.std.specs.Prelude.{◌≡◌, ℕ, ◌≤◌, ◌⊎◌, true, if◌then◌else◌, List, [], ◌∷◌, length, Result, Ok, Err, Option, Some, None}
 use Rattle.smithy_core.specs.Civil.{IsInYears, is_in_years}
 use Rattle.smithy_core.specs.Moment.{Instant}
 use Rattle.smithy_core.specs.Message.{Parts}
@@ -13,7 +13,7 @@ use Rattle.env_config.specs.Files.{Place}
 use Rattle.env_config.specs.Loading.{selected_profile}
 use Rattle.env_config.specs.Sections.{FileText}
 use Rattle.signed_stream.specs.Case.{job_case, request_moment}
-use Rattle.signed_stream.specs.Chain.{IsChained}
+use Rattle.chain_check.specs.Chain.{IsChained}
 use Rattle.signed_stream.specs.Command.{Wanted}
 use Rattle.signed_stream.specs.Job.{JobParts, job}
 use Rattle.signed_stream.specs.Plan.{FilesRead, Plan, TargetSpells, Supplied, TargetRead, accepted, loaded, most_input, stops, unaccepted, unread, writes}

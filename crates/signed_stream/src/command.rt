@@ -1,11 +1,14 @@
 ghost use Rattle.std.specs.Prelude.{map};
 ghost use Rattle.std.specs.String.{string_bytes};
-ghost use Rattle.signed_stream.specs.Command.{command, no_options, no_profile_given, options_from, settings_from};
+ghost use Rattle.signed_stream.specs.Command.{command, generator_from, no_options, no_profile_given, options_from, settings_from};
 ghost use Rattle.signed_stream.specs.Options.{ReadsProfile, ReadsStream, ReadsWords};
 
+mod generator;
 mod options;
 mod profile;
 
+pub use crate::command::generator::GeneratorWords;
+use crate::command::generator::read_generator;
 use crate::command::options::GivenOptions;
 pub use crate::command::options::StreamWords;
 use crate::command::profile::GivenProfile;
@@ -15,6 +18,15 @@ use std::alloc::{AllocError, Global};
 /// A command with its options.
 #[derive(Drop)]
 pub enum Command<'a> {
+    /// Streams a generated job into memory, and checks it.
+    Generate(GeneratorWords),
+    /// Does what is asked for with the input.
+    OfInput(InputCommand<'a>),
+}
+
+/// A command that reads the input, with its options.
+#[derive(Drop)]
+pub enum InputCommand<'a> {
     /// Streams the job that the input spells.
     Stream(StreamWords<'a>),
     /// Shows what the profile gives.
@@ -55,9 +67,10 @@ pub fn read_words<'a>(alloc: Global, words: &'a [String]) -> Result<Command<'a>,
         return Err(WordsFault::BadWord(1));
     };
     match first.as_str() {
-        "stream" => Ok(Command::Stream(read_options(alloc, rest)?)),
-        "settings" => Ok(Command::Settings(read_profile(alloc, rest)?)),
-        "check" | "chunk" | "gen" => Err(WordsFault::NotBuilt(1)),
+        "stream" => Ok(Command::OfInput(InputCommand::Stream(read_options(alloc, rest)?))),
+        "settings" => Ok(Command::OfInput(InputCommand::Settings(read_profile(alloc, rest)?))),
+        "gen" => Ok(Command::Generate(read_generator(rest)?)),
+        "check" | "chunk" => Err(WordsFault::NotBuilt(1)),
         _ => Err(WordsFault::BadWord(1)),
     }
 }

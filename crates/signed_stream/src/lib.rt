@@ -16,6 +16,8 @@
 mod chain;
 mod command;
 mod form;
+mod generate;
+mod generator;
 mod job;
 mod numbers;
 mod running;

@@ -51,6 +51,15 @@ pub fn parse_nanos(text: &str) -> Option<u32>
     (nanos < 1_000_000_000).then_some(nanos)
 }
 
+/// The count that a text spells, where it is at most 100,000.
+#[tactic(auto, using(crate::proofs::NumberLemmas::below), unfolding(crate::specs::Numbers::natural_below))]
+pub fn parse_count(text: &str) -> Option<u64>
+    ensures { result ≡ natural_below 100001 text.now }
+{
+    let count = parse_u64(text)?;
+    (count <= 100_000).then_some(count)
+}
+
 /// The natural number that a text spells, where a `u64` holds it.
 #[tactic(auto, using(crate::proofs::NumberLemmas::below))]
 pub fn parse_u64(text: &str) -> Option<u64>

@@ -4,15 +4,16 @@ ghost use Rattle.smithy_core.specs.Outside.{IsAtEnd, IsRestOf, RoseOrStands};
 ghost use Rattle.signed_stream.specs.Carriers.{GoesForBytes, GoesForInput, IsAfterInput};
 ghost use Rattle.signed_stream.specs.Command.{command};
 ghost use Rattle.signed_stream.specs.Job.{job};
-ghost use Rattle.signed_stream.specs.Options.{commanded};
+ghost use Rattle.signed_stream.specs.Options.{input_commanded};
 ghost use Rattle.signed_stream.specs.Plan.{Supplied};
 ghost use Rattle.smithy_core.specs.Given.{Gives};
-ghost use Rattle.signed_stream.specs.Running.{EndsAsAsked, IfStreams, KeepsDisk, KeepsOutput, NamesUnreadable, Ran, UnlessCommand, comes_late};
+ghost use Rattle.signed_stream.specs.Running.{EndsAsAsked, IfStreams, KeepsDisk, KeepsOutput, NamesUnreadable, Ran, Unless, UnlessCommand, When, comes_late, reads_input};
 ghost use Rattle.signed_stream.specs.Sources.{DiskGives};
 ghost use Rattle.signed_stream.specs.Status.{could_not_read_file, done, ending_of, invalid_uri, output_fault, read_fault, refused};
 ghost use Rattle.signed_stream.specs.Stream.{ReadsUnfitTarget};
 
-use crate::command::{Command, WordsFault, read_words};
+use crate::command::{Command, InputCommand, WordsFault, read_words};
+use crate::generate::show_generated;
 use crate::job::{JobFault, read_job, read_profile_texts};
 use crate::saying::say;
 use crate::show_settings::show_settings;
@@ -67,16 +68,15 @@ pub fn run<S: ByteSource, D: Disk, C: Clock, K: ByteSink, E: ByteSink>(
     ensures target { ending_of result ≡ refused invalid_uri → (bytes : List ℕ) → S.left input.old ≡ Some bytes
         → IfStreams (command (map string_bytes words.now)) (λ wanted. ReadsUnfitTarget wanted (job bytes)) }
 
-    // Where the words are no command, input and output are as they were.
-    ensures untouched { UnlessCommand (command (map string_bytes words.now))
-        ((S.left input.new ≡ S.left input.old) × (S.faults input.new ≡ S.faults input.old)
-        × (K.held out.new ≡ K.held out.old) × (K.faults out.new ≡ K.faults out.old)) }
+    // Where the words are no command, the output is as it was; and so is the input where they ask for none.
+    ensures untouched { UnlessCommand (command (map string_bytes words.now)) ((K.held out.new ≡ K.held out.old) × (K.faults out.new ≡ K.faults out.old)) }
+    ensures unread { Unless (reads_input (command (map string_bytes words.now))) ((S.left input.new ≡ S.left input.old) × (S.faults input.new ≡ S.faults input.old)) }
 
     // The disk was asked only once the input was read and is a job; its files are as they were.
     ensures disk { KeepsDisk (ending_of result) disk.old disk.new × (D.files disk.new ≡ D.files disk.old) }
 
-    // The input was read to its end, a rest of it is left, and no count fell.
-    ensures outside { (ending_of result ≡ done → IsAtEnd (S.left input.new)) × IsRestOf (S.left input.old) (S.left input.new)
+    // An input that is read was read to its end, a rest of it is left, and no count fell.
+    ensures outside { When (reads_input (command (map string_bytes words.now))) (ending_of result ≡ done → IsAtEnd (S.left input.new)) × IsRestOf (S.left input.old) (S.left input.new)
         × (S.faults input.old ≤ S.faults input.new) × (D.faults disk.old ≤ D.faults disk.new) × (K.faults out.old ≤ K.faults out.new)
         × (E.faults err.old ≤ E.faults err.new) }
 {
@@ -105,15 +105,17 @@ fn answer<S: ByteSource, D: Disk, C: Clock, K: ByteSink>(
     ensures read_steady { (ending_of result ≡ read_fault → ⊥) → S.faults input.new ≡ S.faults input.old }
     ensures output_failed { ending_of result ≡ output_fault → RoseOrStands (K.faults out.old) (K.faults out.new) }
     ensures output_steady { (ending_of result ≡ output_fault → ⊥) → K.faults out.new ≡ K.faults out.old }
-    ensures untouched { UnlessCommand (command (map string_bytes words.now))
-        ((S.left input.new ≡ S.left input.old) × (S.faults input.new ≡ S.faults input.old)
-        × (K.held out.new ≡ K.held out.old) × (K.faults out.new ≡ K.faults out.old)) }
+    ensures untouched { UnlessCommand (command (map string_bytes words.now)) ((K.held out.new ≡ K.held out.old) × (K.faults out.new ≡ K.faults out.old)) }
+    ensures unread { Unless (reads_input (command (map string_bytes words.now))) ((S.left input.new ≡ S.left input.old) × (S.faults input.new ≡ S.faults input.old)) }
     ensures disk { KeepsDisk (ending_of result) disk.old disk.new × (D.files disk.new ≡ D.files disk.old) }
-    ensures outside { (ending_of result ≡ done → IsAtEnd (S.left input.new)) × IsRestOf (S.left input.old) (S.left input.new)
+    ensures outside { When (reads_input (command (map string_bytes words.now))) (ending_of result ≡ done → IsAtEnd (S.left input.new)) × IsRestOf (S.left input.old) (S.left input.new)
         × (S.faults input.old ≤ S.faults input.new) × (D.faults disk.old ≤ D.faults disk.new) × (K.faults out.old ≤ K.faults out.new) }
 {
     match read_words(alloc, words) {
-        Ok(command) => answer_command(alloc, command, env, input, disk, clock, out),
+        Ok(Command::Generate(words)) => show_generated(alloc, words, out),
+        Ok(Command::OfInput(command)) => {
+            answer_command(alloc, command, env, input, disk, clock, out)
+        }
         Err(WordsFault::BadWord(place)) => Status::BadWords(place),
         Err(WordsFault::NotBuilt(place)) => Status::NotBuilt(place),
         Err(WordsFault::NoMemory) => Status::NoMemory,
@@ -124,19 +126,19 @@ fn answer<S: ByteSource, D: Disk, C: Clock, K: ByteSink>(
 #[tactic(auto, using(crate::proofs::CommandLemmas::asks_command, crate::proofs::RunLemmas::after_input))]
 fn answer_command<S: ByteSource, D: Disk, C: Clock, K: ByteSink>(
     alloc: Global,
-    command: Command<'_>,
+    command: InputCommand<'_>,
     env: &Env,
     input: &mut S,
     disk: &mut D,
     clock: &mut C,
     out: &mut K,
 ) -> Status
-    ensures asked { EndsAsAsked (commanded command.entry) (ending_of result) }
+    ensures asked { EndsAsAsked (input_commanded command.entry) (ending_of result) }
     ensures planned { GoesForInput (DiskGives D.answers D.faults (D.files disk.old) env.now disk.old disk.new) (λ taken. Gives C.Clock clock.old taken clock.new) env.now
-        (commanded command.entry) (S.left input.old) (ending_of result) (K.held out.old) (K.held out.new) }
-    ensures kept { KeepsOutput (comes_late (commanded command.entry)) (ending_of result) (K.held out.old) (K.held out.new) }
+        (input_commanded command.entry) (S.left input.old) (ending_of result) (K.held out.old) (K.held out.new) }
+    ensures kept { KeepsOutput (comes_late (input_commanded command.entry)) (ending_of result) (K.held out.old) (K.held out.new) }
     ensures named { (path : List ℕ) → ending_of result ≡ could_not_read_file path
-        → NamesUnreadable (DiskGives D.answers D.faults (D.files disk.old) env.now disk.old disk.new) (commanded command.entry) path }
+        → NamesUnreadable (DiskGives D.answers D.faults (D.files disk.old) env.now disk.old disk.new) (input_commanded command.entry) path }
     ensures read_failed { ending_of result ≡ read_fault → RoseOrStands (S.faults input.old) (S.faults input.new) }
     ensures read_steady { (ending_of result ≡ read_fault → ⊥) → S.faults input.new ≡ S.faults input.old }
     ensures output_failed { ending_of result ≡ output_fault → RoseOrStands (K.faults out.old) (K.faults out.new) }
@@ -156,7 +158,7 @@ fn answer_command<S: ByteSource, D: Disk, C: Clock, K: ByteSink>(
 // Does what the command asks for on the bytes of the input, and answers how it ended.
 fn answer_bytes<D: Disk, C: Clock, K: ByteSink>(
     alloc: Global,
-    command: Command<'_>,
+    command: InputCommand<'_>,
     bytes: &[u8],
     env: &Env,
     disk: &mut D,
@@ -165,9 +167,9 @@ fn answer_bytes<D: Disk, C: Clock, K: ByteSink>(
 ) -> Status
     ensures end { IsAfterInput (ending_of result) }
     ensures planned { GoesForBytes (DiskGives D.answers D.faults (D.files disk.old) env.now disk.old disk.new) (λ taken. Gives C.Clock clock.old taken clock.new) env.now
-        (commanded command.entry) bytes.now (ending_of result) (K.held out.old) (K.held out.new) }
+        (input_commanded command.entry) bytes.now (ending_of result) (K.held out.old) (K.held out.new) }
     ensures named { (path : List ℕ) → ending_of result ≡ could_not_read_file path
-        → NamesUnreadable (DiskGives D.answers D.faults (D.files disk.old) env.now disk.old disk.new) (commanded command.entry) path }
+        → NamesUnreadable (DiskGives D.answers D.faults (D.files disk.old) env.now disk.old disk.new) (input_commanded command.entry) path }
     ensures disk { KeepsDisk (ending_of result) disk.old disk.new }
     ensures same { D.files disk.new ≡ D.files disk.old }
     ensures output_failed { ending_of result ≡ output_fault → RoseOrStands (K.faults out.old) (K.faults out.new) }
@@ -175,12 +177,12 @@ fn answer_bytes<D: Disk, C: Clock, K: ByteSink>(
     ensures count { (D.faults disk.old ≤ D.faults disk.new) × (K.faults out.old ≤ K.faults out.new) }
 {
     match command {
-        Command::Stream(words) => match read_job(alloc, bytes) {
+        InputCommand::Stream(words) => match read_job(alloc, bytes) {
             Ok(job) => stream_job(alloc, job, words, env, disk, clock, out),
             Err(JobFault::BadLine(place)) => Status::BadJob(place),
             Err(JobFault::NoMemory) => Status::NoMemory,
         },
-        Command::Settings(options) => match read_profile_texts(alloc, bytes) {
+        InputCommand::Settings(options) => match read_profile_texts(alloc, bytes) {
             Ok(texts) => show_settings(alloc, texts, options, env, disk, out),
             Err(JobFault::BadLine(place)) => Status::BadJob(place),
             Err(JobFault::NoMemory) => Status::NoMemory,

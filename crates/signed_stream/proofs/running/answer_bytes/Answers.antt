@@ -1,10 +1,9 @@
 use Rattle.smithy_core.specs.Given.{Gives}
 use Rattle.smithy_core.proofs.GivenLemmas.{given_none}
-use Rattle.signed_stream.specs.Options.{commanded, wanted_of}
+use Rattle.signed_stream.specs.Options.{input_commanded, wanted_of}
 use Rattle.signed_stream.specs.ProfileOptions.{profile_wanted}
 use Rattle.signed_stream.specs.ProfileTexts.{texts_of}
 use Rattle.signed_stream.specs.Sources.{DiskGives}
-use Rattle.signed_stream.specs.Status.{ending_of}
 use Rattle.signed_stream.proofs.RunLemmas.{bytes_no_memory, job_is_bad, job_was_read, texts_are_bad, texts_were_read}
 use Rattle.signed_stream.proofs.running.answer_bytes.Goals as goal
 
@@ -17,7 +16,7 @@ returns-in-Ok-clause-planned g c =
 pub returns-in-Stream-clause-planned : goal.returns-in-Stream-clause-planned
 returns-in-Stream-clause-planned g c =
     bytes_no_memory (DiskGives g.D.Disk.answers g.D.Disk.faults (g.D.Disk.files c.args.disk.now) c.args.env.now c.args.disk.now c.args.disk.now) (λ places. tt)
-    (λ taken. Gives g.C.Clock c.args.clock.now taken c.args.clock.now) (given_none g.C.Clock c.args.clock.now) c.args.env.now (commanded c.args.command) c.args.bytes.now (g.K.ByteSink.held c.args.out.now)
+    (λ taken. Gives g.C.Clock c.args.clock.now taken c.args.clock.now) (given_none g.C.Clock c.args.clock.now) c.args.env.now (input_commanded c.args.command) c.args.bytes.now (g.K.ByteSink.held c.args.out.now)
 
 pub returns-in-Err-BadLine-clause-planned : goal.returns-in-Err-BadLine-clause-planned
 returns-in-Err-BadLine-clause-planned g c =
@@ -43,4 +42,4 @@ returns-in-Err-BadLine-read_profile_texts-clause-planned g c =
 pub returns-clause-planned : goal.returns-clause-planned
 returns-clause-planned g c =
     bytes_no_memory (DiskGives g.D.Disk.answers g.D.Disk.faults (g.D.Disk.files c.args.disk.now) c.args.env.now c.args.disk.now c.args.disk.now) (λ places. tt)
-    (λ taken. Gives g.C.Clock c.args.clock.now taken c.args.clock.now) (given_none g.C.Clock c.args.clock.now) c.args.env.now (commanded c.args.command) c.args.bytes.now (g.K.ByteSink.held c.args.out.now)
+    (λ taken. Gives g.C.Clock c.args.clock.now taken c.args.clock.now) (given_none g.C.Clock c.args.clock.now) c.args.env.now (input_commanded c.args.command) c.args.bytes.now (g.K.ByteSink.held c.args.out.now)

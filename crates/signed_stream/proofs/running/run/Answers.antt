@@ -1,11 +1,12 @@
-use Rattle.std.proofs.Common.{◌≡◌, List, ℕ, Some, map}
+use Rattle.std.proofs.Common.{List, ℕ, map}
 use Rattle.std.specs.Prelude.{string_bytes}
 use Rattle.signed_stream.specs.Command.{command}
-use Rattle.signed_stream.specs.Running.{RunsAsPlanned}
+use Rattle.signed_stream.specs.Running.{RunsAsPlanned, TellsInput}
 use Rattle.signed_stream.specs.Sources.{DiskGives}
 use Rattle.signed_stream.specs.Status.{ending_of}
 use Rattle.signed_stream.proofs.HeadlineLemmas.{completes, has_done_where}
-use Rattle.signed_stream.proofs.SaidLemmas.{said_asked, said_is, said_keeps, said_reads, said_runs, said_writes}
+use Rattle.signed_stream.proofs.RunLemmas.{holds_when}
+use Rattle.signed_stream.proofs.SaidLemmas.{said_asked, said_is, said_keeps, said_reads, said_runs, said_when, said_writes}
 use Rattle.signed_stream.proofs.UriLemmas.{run_refused_where}
 use Rattle.signed_stream.proofs.running.run.Goals as goal
 
@@ -15,7 +16,7 @@ returns-clause-headline g c =
     let said = c.say.ensures.answer in
     let gave = DiskGives g.D.Disk.answers g.D.Disk.faults (g.D.Disk.files c.args.disk.now) c.args.env.now c.args.disk.now c.answer-status.new.disk in
     let given = answer.planned.0 in
-    let runs : (bytes : List ℕ) → g.S.ByteSource.left c.args.input.now ≡ Some bytes
+    let runs : (bytes : List ℕ) → TellsInput (command (map string_bytes c.args.words.now)) (g.S.ByteSource.left c.args.input.now) bytes
     → RunsAsPlanned gave c.args.env.now (command (map string_bytes c.args.words.now)) bytes given (ending_of c.say.result) (g.K.ByteSink.held c.args.out.now) (g.K.ByteSink.held c.answer-status.new.out) =
     λ bytes told. said_runs gave _ _ _ _ _ _ _ _ (answer.planned.2 bytes told) said in (
       given,
@@ -36,4 +37,9 @@ returns-clause-headline g c =
 pub returns-clause-target : goal.returns-clause-target
 returns-clause-target g c = λ is bytes told.
     run_refused_where (DiskGives g.D.Disk.answers g.D.Disk.faults (g.D.Disk.files c.args.disk.now) c.args.env.now c.args.disk.now c.answer-status.new.disk) _ _ bytes _ _ _ _ is
-    (said_runs _ _ _ _ _ _ _ _ _ (c.answer-status.ensures.planned.2 bytes told) c.say.ensures.answer)
+    (said_runs _ _ _ _ _ _ _ _ _ (c.answer-status.ensures.planned.2 bytes (holds_when _ _ told)) c.say.ensures.answer)
+
+pub returns-clause-outside : goal.returns-clause-outside
+returns-clause-outside g c =
+    let answer = c.answer-status.ensures in
+    (said_when _ _ _ _ answer.outside.0 c.say.ensures.answer, answer.outside.1, answer.outside.2, answer.outside.3, answer.outside.4, c.say.ensures.count)

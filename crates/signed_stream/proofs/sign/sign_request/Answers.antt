@@ -1,4 +1,4 @@
-use Rattle.std.proofs.Common.{option_map, refl, rules, ap, ◌∙◌}
+use Rattle.std.proofs.Common.{option_map, refl, rules, ap}
 use Rattle.std.specs.Prelude.{string_bytes}
 use Rattle.aws_auth.specs.Inputs.{chosen}
 use Rattle.signed_stream.specs.Sign.{GivesName}

@@ -1,10 +1,9 @@
-use Rattle.std.proofs.Common.{◌≡◌, [], map, refl, sym, subst, ◌∙◌, append-nil}
+use Rattle.std.proofs.Common.{◌≡◌, [], map, sym, subst, append-nil}
 use Rattle.std.proofs.lemmas.Result.{err_from_is_err_and}
 use Rattle.std.specs.Prelude.{Ok, Err, string_bytes}
 use Rattle.std.specs.Option.{option_copied}
 use Rattle.smithy_core.proofs.GivenLemmas.{each_given, given_none}
 use Rattle.env_config.specs.Source.{file_of}
-use Rattle.signed_stream.specs.Halt.{halt_of}
 use Rattle.signed_stream.specs.Plan.{unread}
 use Rattle.signed_stream.specs.Settings.{GivesSettings, selected_of, settings}
 use Rattle.signed_stream.specs.Streaming.{job_with, stream_wanted}
