@@ -1,1 +1,10 @@
+mod BodyLemmas
+mod FillLemmas
+mod PullLemmas
+mod TurnLemmas
+mod CutLemmas
 mod DigitLemmas
+mod MadeLemmas
+mod SignLemmas
+mod TrailerLemmas
+mod NewLemmas

@@ -1,12 +1,24 @@
-//! Bodies in the encoding aws-chunked: how they are encoded, how long their texts are, and why a body goes no further.
+//! Bodies in the encoding aws-chunked: their data in chunks, signed or not, and trailers behind it.
 //!
-//! The layer above is promised that [`AwsChunkedBodyOptions::encoded_length`] is how long the text of a body is, by the declared
-//! lengths of its data and its trailers (`specs/Options.antt`).
+//! The layer above is promised that the frames of [`AwsChunkedBody::poll_frame`] make up the text of the data and the trailers
+//! (`specs/Text.antt`), whatever the pieces in which the data comes: each call answers the front of the text that is due and leaves
+//! the rest (`specs/Body.antt`), or tells why there is none. [`AwsChunkedBodyOptions::encoded_length`] is how long the text is
+//! (`specs/Options.antt`).
 #![tactic(auto)]
 
+mod body;
 mod error;
+mod made_text;
 mod options;
+mod phase;
+mod poll_frame;
+mod signing;
+mod stop;
+mod taking;
+mod text;
+mod trailers;
 
+pub use crate::body::{AwsChunkedBody, ChunkNext};
 pub use crate::error::AwsChunkedBodyError;
 pub use crate::options::AwsChunkedBodyOptions;
 

@@ -1,19 +1,19 @@
 //! Tells how long texts are.
 use crate::parts::number_of;
 use aws_chunked::AwsChunkedBodyOptions;
-use case_lines::{has_part, part};
+use case_lines::part;
 use smithy_core::Mem;
 use std::alloc::Global;
 
-// The options of the parts `length N`, `size N`, `signed` and `declared N,N..`.
-fn options_of(alloc: Global, parts: &[&str]) -> Mem<AwsChunkedBodyOptions> {
+/// The options of the parts `length N`, `size N`, `signed` and `declared N,N..`.
+pub fn options_of(alloc: Global, parts: &[&str]) -> Mem<AwsChunkedBodyOptions> {
     let mut options = AwsChunkedBodyOptions::new(number_of(parts, "length", 0), Vec::new(alloc));
     for length in part(parts, "declared").unwrap_or("").split(',') {
         if let Ok(length) = length.parse() {
             options = options.with_trailer_len(length)?;
         }
     }
-    let options = options.signed_chunked_encoding(has_part(parts, "signed"));
+    let options = options.signed_chunked_encoding(part(parts, "signed").is_some());
     match part(parts, "size").unwrap_or("").parse() {
         Ok(size) if 1 <= size && size <= 4_294_967_295 => Ok(options.with_chunk_size(size)),
         _ => Ok(options),

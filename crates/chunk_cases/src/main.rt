@@ -1,6 +1,8 @@
-//! Answers cases on chunks that are signed and on the lengths of bodies in chunks: `stdin` says what each line means.
+//! Answers cases on chunks that are signed and on bodies in chunks: `stdin` says what each line means.
 #![tactic(auto)]
 
+mod bodies;
+mod frames;
 mod lengths;
 mod parts;
 mod signers;
@@ -26,6 +28,8 @@ impl Answers for Calls {
             ["trailer", signature, pairs @ ..] => signing::trailer(alloc, signature, pairs),
             ["signer", name, steps @ ..] => signing::steps(alloc, name, steps),
             ["length", parts @ ..] => lengths::answer(alloc, parts),
+            ["text", parts @ ..] => bodies::text(alloc, parts),
+            ["digest", parts @ ..] => bodies::digest(alloc, parts),
             _ => unknown(alloc),
         }
     }

@@ -1,0 +1,460 @@
+-- What a body makes is what was due, and why it makes nothing.
+use Rattle.std.proofs.Common.{◌≡◌, ℕ, ◌⊎◌, inl, inr, ◌+◌, ◌<◌, ◌≤◌, min, Bool, List, [], ◌∷◌, ◌++◌, length, drop, Option, None, Some, refl, ap, sym, subst, ◌∙◌, arith}
+use Rattle.std.specs.Prelude.{Result, Ok, Err, IfSome, option_map, string_bytes}
+use Rattle.std.specs.List.{flat_map}
+use Rattle.std.proofs.lemmas.List.{length-append, take-append-drop}
+use Rattle.sigv4.specs.declared.chunk_signer.SignChunk as SignChunk
+use Rattle.sigv4.specs.declared.error.SigningError.{SigningError}
+use Rattle.smithy_core.specs.declared.outside.frame_source.FrameSource as FrameSource
+use Rattle.smithy_core.specs.declared.outside.frame_part.FramePart.{FramePart}
+use Rattle.aws_chunked.specs.Body.{Answers, AreTurns, CanMake, Causes, Counts, Gathers, HasCause, HasLengths, HasTrailerLengths, actual_length, IsAtHand, IsClosed, IsFirst, Keeps, MakesChunk, MakesFirst, MakesTail, Readies, Rest, TakesDue, TakesText, TakesTurns, Trailer, answer_of, data_left, due, first_piece, held_bytes, idle_count, listed, parts_due, parts_left, ready_bytes, rest_with, total_of}
+use Rattle.aws_chunked.specs.Options.{counted, declared_length}
+use Rattle.aws_chunked.specs.Signing.{ChunkAnswers, FailsPart, MakesPart, TrailerAnswers, has_signature}
+use Rattle.aws_chunked.specs.Text.{Part, chunk, chunk_text, crlf, cut, cut_within, head_text, last_line, tail, tail_text, trailer_line}
+use Rattle.aws_chunked.specs.declared.body.AwsChunkedBody.{AwsChunkedBody}
+use Rattle.aws_chunked.specs.declared.body.ChunkNext.{ChunkNext}
+use Rattle.aws_chunked.specs.declared.body.ChunkNext.TheVariants as next
+use Rattle.aws_chunked.specs.declared.error.AwsChunkedBodyError.{AwsChunkedBodyError}
+use Rattle.aws_chunked.specs.declared.error.AwsChunkedBodyError.TheVariants as fault
+use Rattle.aws_chunked.specs.declared.stop.Stop.{Stop}
+use Rattle.aws_chunked.specs.declared.stop.Stop.TheVariants as stop
+use Rattle.aws_chunked.specs.declared.phase.Phase.{Phase}
+use Rattle.aws_chunked.specs.declared.phase.Phase.TheVariants as phase
+use Rattle.aws_chunked.proofs.BodyLemmas.{chunk_due, closed_due, due_kept, front_due, parts_chunk, piece_length, tail_due}
+use Rattle.aws_chunked.proofs.PullLemmas.{counts_of}
+use Rattle.aws_chunked.proofs.SignLemmas.{signs_error}
+use Rattle.aws_chunked.proofs.TurnLemmas.{idle_none, left_none}
+
+-- a text that ends with the end of a line has some bytes
+ends_some : (text front : List ℕ) → text ≡ front ++ crlf → 0 < length text
+ends_some text front is = let long : length text ≡ length front + 2 = ap length is ∙ length-append front crlf in omega arith
+
+-- a part has some text
+part_some : {G : Type 0} (signer : SignChunk.Ghosts G) (is_signed : Bool) (part : Part) (old : Option G) (text : List ℕ) (new : Option G)
+    → MakesPart signer is_signed part old text new → 0 < length text
+unfolding chunk_text tail_text
+part_some signer is_signed (chunk piece) old text new made = ends_some text (head_text (length piece) (option_map string_bytes made.0) ++ piece) made.2
+part_some signer is_signed (tail trailers) old text new made =
+    ends_some text (head_text 0 (option_map string_bytes made.0) ++ flat_map trailer_line trailers ++ last_line (option_map string_bytes made.2)) made.5
+
+-- ---- over frames that may not be told
+
+parts_step : (before now : List FramePart → Rest) (part : Part) (left : Option (List FramePart))
+    → ((frames : List FramePart) → (before frames).parts ≡ part ∷ (now frames).parts)
+    → option_map (λ (rest : Rest). rest.parts) (option_map before left)
+    ≡ option_map (λ (parts : List Part). part ∷ parts) (option_map (λ (rest : Rest). rest.parts) (option_map now left))
+parts_step before now part None same = refl
+parts_step before now part (Some frames) same = ap Some (same frames)
+
+totals_same : (before now : List FramePart → Rest) (left : Option (List FramePart)) → ((frames : List FramePart) → (now frames).total ≡ (before frames).total)
+    → option_map (λ (rest : Rest). rest.total) (option_map now left) ≡ option_map (λ (rest : Rest). rest.total) (option_map before left)
+totals_same before now None same = refl
+totals_same before now (Some frames) same = ap Some (same frames)
+
+if_parts : (now : List FramePart → Rest) (left : Option (List FramePart)) (P : List Part → Type 0) → ((frames : List FramePart) → P (now frames).parts)
+    → IfSome (option_map (λ (rest : Rest). rest.parts) (option_map now left)) P
+if_parts now None P holds = tt
+if_parts now (Some frames) P holds = holds frames
+
+if_total : (now : List FramePart → Rest) (left : Option (List FramePart)) (P : ℕ → Type 0) → ((frames : List FramePart) → P (now frames).total)
+    → IfSome (option_map (λ (rest : Rest). rest.total) (option_map now left)) P
+if_total now None P holds = tt
+if_total now (Some frames) P holds = holds frames
+
+ended : (at : Phase) (size : ℕ) (held : List ℕ) → 0 < size → CanMake at size held → held ≡ [] → at ≡ phase.Ended
+ended phase.Data size held some can none = absurd (omega (arith, can.0, can.1, ap length none))
+ended phase.Trailers size held some can none = absurd (omega (arith, can, ap length none))
+ended phase.Ended size held some can none = refl
+ended phase.Closed size held some can none = absurd can
+
+tail_left : (size : ℕ) (held : List ℕ) (kept : Option (List Trailer)) (frames : List FramePart) → held ≡ []
+    → parts_left phase.Ended size held kept frames ≡ tail (listed kept) ∷ []
+unfolding cut cut_within
+tail_left size held kept frames none = ap (λ (bytes : List ℕ). parts_left phase.Ended size bytes kept frames) none
+
+ended_total : (at : Phase) (taken : ℕ) (frames : List FramePart) → (at ≡ phase.Trailers) ⊎ (at ≡ phase.Ended)
+    → counted (taken + length (data_left at frames)) ≡ counted taken
+ended_total at taken frames (inl is) =
+    ap (λ (p : Phase). counted (taken + length (data_left p frames))) is ∙ ap counted (omega arith)
+ended_total at taken frames (inr is) =
+    ap (λ (p : Phase). counted (taken + length (data_left p frames))) is ∙ ap counted (omega arith)
+
+pub some_bytes : (bytes : List ℕ) → (bytes ≡ [] → ⊥) → 0 < length bytes
+some_bytes [] some = absurd (some refl)
+some_bytes (byte ∷ bytes) some = omega arith
+
+abbrev NotEnd : Result ChunkNext AwsChunkedBodyError → Type 0
+NotEnd (Ok next.End) = ⊥
+NotEnd _ = Unit {0}
+
+not_end : (result : Result ChunkNext AwsChunkedBodyError) → result ≡ Ok next.End → NotEnd result → ⊥
+not_end result is other = subst NotEnd is other
+
+not_fault : (error : AwsChunkedBodyError) → Err error ≡ Ok next.End → ⊥
+not_fault error is = subst NotEnd is tt
+
+module _ {F G : Type 0} (source : FrameSource.Ghosts F) (signer : SignChunk.Ghosts G) where
+  -- ---- what is made
+
+  parts_made : (old new : AwsChunkedBody F G) (part : Part) → new.source ≡ old.source
+      → ((frames : List FramePart) → (rest_with old frames).parts ≡ part ∷ (rest_with new frames).parts)
+      → parts_due source old ≡ option_map (λ (parts : List Part). part ∷ parts) (parts_due source new)
+  parts_made old new part source_is same =
+      parts_step (rest_with old) (rest_with new) part (source.left old.source) same
+      ∙ ap (λ (f : F). option_map (λ (parts : List Part). part ∷ parts) (option_map (λ (rest : Rest). rest.parts) (option_map (rest_with new) (source.left f)))) (sym source_is)
+
+  total_made : (old new : AwsChunkedBody F G) → new.source ≡ old.source → ((frames : List FramePart) → (rest_with new frames).total ≡ (rest_with old frames).total)
+      → total_of source new ≡ total_of source old
+  total_made old new source_is same =
+      ap (λ (f : F). option_map (λ (rest : Rest). rest.total) (option_map (rest_with new) (source.left f))) source_is
+      ∙ totals_same (rest_with old) (rest_with new) (source.left old.source) same
+
+  chunk_first : (old new : AwsChunkedBody F G) → IsAtHand old → 0 < old.options.chunk_size → 0 < length (held_bytes old)
+      → MakesChunk signer old new (Ok tt) → MakesFirst source signer old new (ready_bytes new)
+  chunk_first old new at_hand some full made =
+      let size = old.options.chunk_size in
+      let piece = first_piece old in
+      let long : length piece ≡ min (length (held_bytes old)) size = piece_length size (held_bytes old) in
+      let whole : 0 < length piece = omega (arith, long, some, full) in
+      let source_is : new.source ≡ old.source = ap (λ (body : AwsChunkedBody F G). body.source) made.2 in
+      record {
+        part = chunk piece;
+        made = made.0;
+        parts = parts_made old new (chunk piece) source_is (λ (frames : List FramePart).
+            parts_chunk old.phase size (held_bytes old) piece (held_bytes new) old.trailers frames some whole at_hand long made.1
+            ∙ ap (λ (parts : List Part). chunk piece ∷ parts) (sym (ap (λ (body : AwsChunkedBody F G). parts_left body.phase body.options.chunk_size (held_bytes new) body.trailers frames) made.2)));
+        total = total_made old new source_is (λ (frames : List FramePart).
+            ap (λ (body : AwsChunkedBody F G). counted (body.taken + length (data_left body.phase frames))) made.2);
+        lengths = tt;
+      }
+
+  tail_first : (old new : AwsChunkedBody F G) → held_bytes old ≡ [] → IsAtHand old → 0 < old.options.chunk_size
+      → (held_bytes old ≡ [] → old.taken ≡ old.options.stream_length) → MakesTail signer old new (Ok tt) → MakesFirst source signer old new (ready_bytes new)
+  tail_first old new none at_hand some taken made =
+      let size = old.options.chunk_size in
+      let last = tail (listed old.trailers) in
+      let ends : old.phase ≡ phase.Ended = ended old.phase size (held_bytes old) some at_hand none in
+      let source_is : new.source ≡ old.source = ap (λ (body : AwsChunkedBody F G). body.source) made.2 in
+      record {
+        part = last;
+        made = made.0;
+        parts = parts_made old new last source_is (λ (frames : List FramePart).
+            ap (λ (at : Phase). parts_left at size (held_bytes old) old.trailers frames) ends
+            ∙ tail_left size (held_bytes old) old.trailers frames none
+            ∙ ap (λ (parts : List Part). last ∷ parts) (sym (ap (λ (body : AwsChunkedBody F G). (rest_with body frames).parts) made.2)));
+        total = total_made old new source_is (λ (frames : List FramePart).
+            ap (λ (body : AwsChunkedBody F G). counted (body.taken + length (data_left body.phase frames))) made.2
+            ∙ sym (ap (λ (at : Phase). counted (old.taken + length (data_left at frames))) ends));
+        lengths = subst (λ (body : AwsChunkedBody F G). HasLengths last body) (sym made.2) (taken none, made.1);
+      }
+
+  first_later : (old mid new : AwsChunkedBody F G) (text : List ℕ) → Keeps source old mid → MakesFirst source signer mid new text → MakesFirst source signer old new text
+  first_later old mid new text keeps first = record {
+    part = first.part;
+    made = subst (λ (body : AwsChunkedBody F G). MakesPart signer body.options.is_signed first.part body.signer text new.signer) keeps.others first.made;
+    parts = sym (ap (option_map (λ (rest : Rest). rest.parts)) keeps.rest) ∙ first.parts;
+    total = first.total ∙ ap (option_map (λ (rest : Rest). rest.total)) keeps.rest;
+    lengths = first.lengths;
+  }
+
+  turns_kept : (P : ℕ → Type 0) (old mid new : AwsChunkedBody F G) → TakesTurns source P old mid → new.source ≡ mid.source → TakesTurns source P old new
+  turns_kept P old mid new turns source_is = record {
+    frames = turns.frames;
+    taken = turns.taken ∙ ap (λ (f : F). option_map (λ (rest : List FramePart). turns.frames ++ rest) (source.left f)) (sym source_is);
+    turns = turns.turns;
+  }
+
+  counts_kept : (old mid new : AwsChunkedBody F G) → Counts source old mid → new.source ≡ mid.source → new.options ≡ mid.options → Counts source old new
+  counts_kept old mid new counts source_is options = record {
+    waits = subst (λ (f : F). source.waits old.source ≤ source.waits f) (sym source_is) counts.waits;
+    faults = subst (λ (f : F). source.faults old.source ≤ source.faults f) (sym source_is) counts.faults;
+    options = options ∙ counts.options;
+  }
+
+  pub made_ready : (old mid new : AwsChunkedBody F G) → ready_bytes old ≡ [] → Gathers source old mid (Ok tt)
+      → (0 < length (held_bytes mid) → MakesChunk signer mid new (Ok tt)) → (held_bytes mid ≡ [] → MakesTail signer mid new (Ok tt))
+      → Readies source signer old new (Ok tt)
+  made_ready old mid new none gathers as_chunk as_tail = by (held_bytes mid) refl
+    where
+      keeps : Keeps source old mid
+      keeps = gathers.0
+
+      clear : ready_bytes mid ≡ []
+      clear = ap (λ (body : AwsChunkedBody F G). ready_bytes body) gathers.0.others ∙ none
+
+      by : (held : List ℕ) → held_bytes mid ≡ held → Readies source signer old new (Ok tt)
+      by [] is =
+          let made = as_tail is in
+          let source_is : new.source ≡ mid.source = ap (λ (body : AwsChunkedBody F G). body.source) made.2 in (
+            counts_kept old mid new (counts_of source old mid gathers.0) source_is (ap (λ (body : AwsChunkedBody F G). body.options) made.2),
+            tail_due source signer mid new clear is gathers.1 gathers.2 made ∙ due_kept source old mid gathers.0,
+            part_some signer mid.options.is_signed (tail (listed mid.trailers)) mid.signer (ready_bytes new) new.signer made.0,
+            turns_kept (λ (count : ℕ). count < 65536) old mid new gathers.4 source_is,
+            inr (none, first_later old mid new (ready_bytes new) gathers.0 (tail_first mid new is gathers.1 gathers.2 gathers.3 made)),
+          )
+      by (byte ∷ bytes) is =
+          let full : 0 < length (held_bytes mid) = omega (arith, ap length is) in
+          let made = as_chunk full in
+          let source_is : new.source ≡ mid.source = ap (λ (body : AwsChunkedBody F G). body.source) made.2 in (
+            counts_kept old mid new (counts_of source old mid gathers.0) source_is (ap (λ (body : AwsChunkedBody F G). body.options) made.2),
+            chunk_due source signer mid new clear gathers.1 gathers.2 full made ∙ due_kept source old mid gathers.0,
+            part_some signer mid.options.is_signed (chunk (first_piece mid)) mid.signer (ready_bytes new) new.signer made.0,
+            turns_kept (λ (count : ℕ). count < 65536) old mid new gathers.4 source_is,
+            inr (none, first_later old mid new (ready_bytes new) gathers.0 (chunk_first mid new gathers.1 gathers.2 full made)),
+          )
+
+  pub clear_after : (old mid : AwsChunkedBody F G) → Gathers source old mid (Ok tt) → ready_bytes old ≡ [] → ready_bytes mid ≡ []
+  clear_after old mid gathers none = ap (λ (body : AwsChunkedBody F G). ready_bytes body) gathers.0.others ∙ none
+
+  turns_not : (P : ℕ → Type 0) (old new : AwsChunkedBody F G) → new ≡ old → P 0 → TakesTurns source P old new
+  turns_not P old new is zero_is = record {
+    frames = [];
+    taken = left_none (source.left old.source) ∙ ap (λ (body : AwsChunkedBody F G). option_map (λ (rest : List FramePart). [] ++ rest) (source.left body.source)) (sym is);
+    turns = subst P (sym (idle_none old.phase)) zero_is;
+  }
+
+  counts_not : (old new : AwsChunkedBody F G) → new ≡ old → Counts source old new
+  counts_not old new is = subst (λ (body : AwsChunkedBody F G). Counts source old body) (sym is) (record { waits = omega arith; faults = omega arith; options = refl })
+
+  -- text is ready
+  pub stays_ready : (body : AwsChunkedBody F G) → 0 < length (ready_bytes body) → Readies source signer body body (Ok tt)
+  stays_ready body some =
+      (counts_not body body refl, refl, some, turns_not (λ (count : ℕ). count < 65536) body body refl (omega arith), inl refl)
+
+  -- ---- why nothing is made
+
+  first_kept : (old mid : AwsChunkedBody F G) (part : Part) → Keeps source old mid → IsFirst source signer mid part → IsFirst source signer old part
+  first_kept old mid part keeps first =
+      subst (λ (rest : Option Rest). IfSome (option_map (λ (r : Rest). r.parts) rest) (λ (parts : List Part). (more : List Part) × (parts ≡ part ∷ more))) keeps.rest first
+
+  chunk_is_first : (old : AwsChunkedBody F G) → IsAtHand old → 0 < old.options.chunk_size → 0 < length (held_bytes old) → IsFirst source signer old (chunk (first_piece old))
+  chunk_is_first old at_hand some full =
+      let size = old.options.chunk_size in
+      let piece = first_piece old in
+      let long : length piece ≡ min (length (held_bytes old)) size = piece_length size (held_bytes old) in
+      let whole : 0 < length piece = omega (arith, long, some, full) in
+      let left = drop (min (length (held_bytes old)) size) (held_bytes old) in
+      let is : held_bytes old ≡ piece ++ left = sym (take-append-drop (min (length (held_bytes old)) size) (held_bytes old)) in
+      if_parts (rest_with old) (source.left old.source) (λ (parts : List Part). (more : List Part) × (parts ≡ chunk piece ∷ more))
+      (λ (frames : List FramePart). (
+        parts_left old.phase size left old.trailers frames,
+        parts_chunk old.phase size (held_bytes old) piece left old.trailers frames some whole at_hand long is,
+      ))
+
+  tail_is_first : (old : AwsChunkedBody F G) → held_bytes old ≡ [] → IsAtHand old → 0 < old.options.chunk_size → IsFirst source signer old (tail (listed old.trailers))
+  tail_is_first old none at_hand some =
+      let size = old.options.chunk_size in
+      let ends : old.phase ≡ phase.Ended = ended old.phase size (held_bytes old) some at_hand none in
+      if_parts (rest_with old) (source.left old.source) (λ (parts : List Part). (more : List Part) × (parts ≡ tail (listed old.trailers) ∷ more))
+      (λ (frames : List FramePart). (
+        [],
+        ap (λ (at : Phase). parts_left at size (held_bytes old) old.trailers frames) ends ∙ tail_left size (held_bytes old) old.trailers frames none,
+      ))
+
+  abbrev MayCause : AwsChunkedBody F G → AwsChunkedBody F G → AwsChunkedBodyError → Type 0
+  MayCause old new error =
+      (error ≡ fault.NoMemory)
+      ⊎ ((actual : ℕ) × (expected : ℕ) × (error ≡ fault.ReportedTrailerLengthMismatch actual expected) × Causes source signer old new (Err (fault.ReportedTrailerLengthMismatch actual expected)))
+      ⊎ ((why : SigningError) × (error ≡ fault.FailedToSign why) × Causes source signer old new (Err (fault.FailedToSign why)))
+
+  causes_of : (old new : AwsChunkedBody F G) (error : AwsChunkedBodyError) → MayCause old new error → Causes source signer old new (Err error)
+  causes_of old new error (inl is) = subst (λ (e : AwsChunkedBodyError). Causes source signer old new (Err e)) (sym is) tt
+  causes_of old new error (inr (inl told)) = subst (λ (e : AwsChunkedBodyError). Causes source signer old new (Err e)) (sym told.2) told.3
+  causes_of old new error (inr (inr told)) = subst (λ (e : AwsChunkedBodyError). Causes source signer old new (Err e)) (sym told.1) told.2
+
+  fails_for : (old mid new : AwsChunkedBody F G) (part : Part) (error : AwsChunkedBodyError) → Keeps source old mid → IsFirst source signer mid part
+      → FailsPart signer mid.options.is_signed part mid.signer error new.signer
+      → (error ≡ fault.NoMemory) ⊎ ((why : SigningError) × (error ≡ fault.FailedToSign why)) → MayCause old new error
+  fails_for old mid new part error keeps first fails (inl is) = inl is
+  fails_for old mid new part error keeps first fails (inr told) =
+      inr (inr (
+        told.0,
+        told.1,
+        (
+          part,
+          subst (λ (body : AwsChunkedBody F G). FailsPart signer body.options.is_signed part body.signer (fault.FailedToSign told.0) new.signer) keeps.others
+              (subst (λ (e : AwsChunkedBodyError). FailsPart signer mid.options.is_signed part mid.signer e new.signer) told.1 fails),
+          first_kept old mid part keeps first,
+        ),
+      ))
+
+  fault_chunk : (old mid new : AwsChunkedBody F G) (error : AwsChunkedBodyError) → Gathers source old mid (Ok tt) → 0 < length (held_bytes mid)
+      → MakesChunk signer mid new (Err error) → MayCause old new error
+  fault_chunk old mid new error gathers full (inl is, others) = inl is
+  fault_chunk old mid new error gathers full (inr fails, others) =
+      fails_for old mid new (chunk (first_piece mid)) error gathers.0 (chunk_is_first mid gathers.1 gathers.2 full) fails
+      (signs_error (ChunkAnswers signer (first_piece mid)) mid.options.is_signed mid.signer new.signer error fails)
+
+  fault_tail : (old mid new : AwsChunkedBody F G) (error : AwsChunkedBodyError) → Gathers source old mid (Ok tt) → held_bytes mid ≡ []
+      → MakesTail signer mid new (Err error) → MayCause old new error
+  fault_tail old mid new error gathers none (inl is, others) = inl is
+  fault_tail old mid new error gathers none (inr (inl lacks), others) =
+      let actual = counted (actual_length mid.options.is_signed lacks.0) in
+      let expected = counted (declared_length mid.options.trailer_lengths) in
+      inr (inl (
+        actual,
+        expected,
+        lacks.2,
+        (
+          subst (λ (body : AwsChunkedBody F G). HasTrailerLengths body (Err (fault.ReportedTrailerLengthMismatch actual expected))) (sym others)
+              (lacks.0, lacks.1, refl, lacks.3),
+          ap (λ (body : AwsChunkedBody F G). body.taken) others ∙ gathers.3 none ∙ sym (ap (λ (body : AwsChunkedBody F G). body.options.stream_length) others),
+          first_kept old mid (tail (listed new.trailers)) gathers.0
+              (subst (λ (kept : Option (List Trailer)). IsFirst source signer mid (tail (listed kept))) (sym (ap (λ (body : AwsChunkedBody F G). body.trailers) others))
+              (tail_is_first mid none gathers.1 gathers.2)),
+        ),
+      ))
+  fault_tail old mid new error gathers none (inr (inr fails), others) =
+      fails_for old mid new (tail (listed mid.trailers)) error gathers.0 (tail_is_first mid none gathers.1 gathers.2) fails (by fails)
+    where
+      by : FailsPart signer mid.options.is_signed (tail (listed mid.trailers)) mid.signer error new.signer
+          → (error ≡ fault.NoMemory) ⊎ ((why : SigningError) × (error ≡ fault.FailedToSign why))
+      by (inl first) = signs_error (ChunkAnswers signer []) mid.options.is_signed mid.signer new.signer error first
+      by (inr last) =
+          signs_error (TrailerAnswers signer (listed mid.trailers)) (has_signature mid.options.is_signed (listed mid.trailers)) last.1 new.signer error last.3
+
+  pub made_fault : (old mid new : AwsChunkedBody F G) (error : AwsChunkedBodyError) → Gathers source old mid (Ok tt)
+      → (0 < length (held_bytes mid) → MakesChunk signer mid new (Err error)) → (held_bytes mid ≡ [] → MakesTail signer mid new (Err error))
+      → Readies source signer old new (Err (stop.Fault error))
+  made_fault old mid new error gathers as_chunk as_tail = by (held_bytes mid) refl
+    where
+      few : (at : AwsChunkedBodyError) (count : ℕ) → count < 65536 → AreTurns (Err at) count
+      few (fault.StreamLengthMismatch actual expected) count is = is
+      few (fault.ReportedTrailerLengthMismatch actual expected) count is = is
+      few (fault.FailedToSign why) count is = is
+      few fault.SourceFault count is = is
+      few fault.NoMemory count is = omega (arith, is)
+
+      ends : new.source ≡ mid.source → new.options ≡ mid.options → MayCause old new error → Readies source signer old new (Err (stop.Fault error))
+      ends source_is options cause =
+          let turns = turns_kept (λ (count : ℕ). count < 65536) old mid new gathers.4 source_is in (
+            (counts_kept old mid new (counts_of source old mid gathers.0) source_is options, causes_of old new error cause),
+            record { frames = turns.frames; taken = turns.taken; turns = few error (idle_count old.phase turns.frames) turns.turns },
+          )
+
+      by : (held : List ℕ) → held_bytes mid ≡ held → Readies source signer old new (Err (stop.Fault error))
+      by [] is =
+          let made = as_tail is in
+          ends (ap (λ (body : AwsChunkedBody F G). body.source) made.1) (ap (λ (body : AwsChunkedBody F G). body.options) made.1) (fault_tail old mid new error gathers is made)
+      by (byte ∷ bytes) is =
+          let full : 0 < length (held_bytes mid) = omega (arith, ap length is) in
+          let made = as_chunk full in
+          ends (ap (λ (body : AwsChunkedBody F G). body.source) made.1) (ap (λ (body : AwsChunkedBody F G). body.options) made.1) (fault_chunk old mid new error gathers full made)
+
+  cause_gathered : (old mid : AwsChunkedBody F G) (error : AwsChunkedBodyError) → Gathers source old mid (Err (stop.Fault error)) → Causes source signer old mid (Err error)
+  cause_gathered old mid (fault.StreamLengthMismatch actual expected) gathers = (
+    gathers.1.1,
+    subst (λ (rest : Option Rest). IfSome (option_map (λ (r : Rest). r.total) rest) (λ (total : ℕ). total ≡ counted actual)) gathers.1.0.rest
+        (if_total (rest_with mid) (source.left mid.source) (λ (total : ℕ). total ≡ counted actual)
+        (λ (frames : List FramePart). ended_total mid.phase mid.taken frames gathers.1.2 ∙ ap counted (sym gathers.1.1.0))),
+  )
+  cause_gathered old mid (fault.ReportedTrailerLengthMismatch actual expected) gathers = absurd gathers.1
+  cause_gathered old mid (fault.FailedToSign why) gathers = absurd gathers.1
+  cause_gathered old mid fault.SourceFault gathers = gathers.1
+  cause_gathered old mid fault.NoMemory gathers = tt
+
+  pub gathered_not : (old mid : AwsChunkedBody F G) (why : Stop) → Gathers source old mid (Err why) → Readies source signer old mid (Err why)
+  gathered_not old mid stop.End gathers = absurd gathers.1
+  gathered_not old mid stop.NotYet gathers = (gathers.1.0, (gathers.0, (gathers.1.1, gathers.1.2)), gathers.2)
+  gathered_not old mid stop.OutOfTurns gathers = (gathers.1, (gathers.0, tt), gathers.2)
+  gathered_not old mid (stop.Fault error) gathers = ((gathers.0, cause_gathered old mid error gathers), gathers.2)
+
+  -- ---- what a call answers
+
+  pub stopped_due : (old new : AwsChunkedBody F G) (why : Stop) → Readies source signer old new (Err why) → TakesDue (due source old) (due source new) (answer_of why)
+  stopped_due old new stop.End told = (ap (λ (body : AwsChunkedBody F G). due source body) told.0, closed_due source new told.1)
+  stopped_due old new stop.NotYet told = due_kept source old new told.0
+  stopped_due old new stop.OutOfTurns told = due_kept source old new told.0
+  stopped_due old new (stop.Fault error) told = tt
+
+  pub stopped_answers : (old new : AwsChunkedBody F G) (why : Stop) → Readies source signer old new (Err why) → Answers source signer old new (answer_of why)
+  stopped_answers old new stop.End told = told.0
+  stopped_answers old new stop.NotYet told = told.0
+  stopped_answers old new stop.OutOfTurns told = told.0
+  stopped_answers old new (stop.Fault error) told = tt
+
+  pub stopped_cause : (old new : AwsChunkedBody F G) (why : Stop) → Readies source signer old new (Err why) → HasCause source signer old new (answer_of why)
+  stopped_cause old new stop.End told = (counts_not old new told.0, tt)
+  stopped_cause old new stop.NotYet told = told.1
+  stopped_cause old new stop.OutOfTurns told = told.1
+  stopped_cause old new (stop.Fault error) told = told.0
+
+  pub stopped_turns : (old new : AwsChunkedBody F G) (why : Stop) → Readies source signer old new (Err why) → TakesTurns source (AreTurns (answer_of why)) old new
+  stopped_turns old new stop.End told = turns_not (AreTurns (answer_of stop.End)) old new told.0 (omega arith)
+  stopped_turns old new stop.NotYet told = told.2
+  stopped_turns old new stop.OutOfTurns told = told.2
+  stopped_turns old new (stop.Fault error) told = told.1
+
+  pub stopped_end : (old new : AwsChunkedBody F G) (why : Stop) → Readies source signer old new (Err why) → answer_of why ≡ Ok next.End → IsClosed new
+  stopped_end old new stop.End told is = told.1
+  stopped_end old new stop.NotYet told is = absurd (not_end (Ok next.NotYet) is tt)
+  stopped_end old new stop.OutOfTurns told is = absurd (not_end (Ok next.OutOfTurns) is tt)
+  stopped_end old new (stop.Fault error) told is = absurd (not_fault error is)
+
+  pub front_taken_due : (old mid new : AwsChunkedBody F G) (piece : List ℕ) → Readies source signer old mid (Ok tt) → ready_bytes mid ≡ piece ++ ready_bytes new
+      → 0 < length piece → new ≡ record mid { ready = ready_bytes new } → TakesDue (due source old) (due source new) (Ok (next.Frame piece))
+  front_taken_due old mid new piece readies is some others =
+      (subst (λ (before : Option (List ℕ)). TakesText piece before (due source new)) readies.1 (front_due source mid new piece is others), some)
+
+  pub front_answers : (old mid new : AwsChunkedBody F G) (piece : List ℕ) → Readies source signer old mid (Ok tt) → ready_bytes mid ≡ piece ++ ready_bytes new
+      → new ≡ record mid { ready = ready_bytes new } → Answers source signer old new (Ok (next.Frame piece))
+  front_answers old mid new piece readies is others = (ready_bytes mid, is, by readies.4)
+    where
+      by : (mid ≡ old) ⊎ ((ready_bytes old ≡ []) × MakesFirst source signer old mid (ready_bytes mid))
+          → ((ready_bytes mid ≡ ready_bytes old) × (new ≡ record old { ready = ready_bytes new }))
+          ⊎ ((ready_bytes old ≡ []) × MakesFirst source signer old new (ready_bytes mid))
+      by (inl same) = inl (ap (λ (body : AwsChunkedBody F G). ready_bytes body) same, others ∙ ap (λ (body : AwsChunkedBody F G). record body { ready = ready_bytes new }) same)
+      by (inr (none, first)) = inr (
+        none,
+        subst (λ (body : AwsChunkedBody F G). MakesFirst source signer old body (ready_bytes mid)) (sym others) (record {
+          part = first.part;
+          made = first.made;
+          parts = first.parts ∙ ap (option_map (λ (parts : List Part). first.part ∷ parts)) (parts_ready (source.left mid.source));
+          total = totals_ready (source.left mid.source) ∙ first.total;
+          lengths = lengths_ready first.part first.lengths;
+        }),
+      )
+        where
+          parts_ready : (left : Option (List FramePart)) → option_map (λ (rest : Rest). rest.parts) (option_map (rest_with mid) left)
+              ≡ option_map (λ (rest : Rest). rest.parts) (option_map (rest_with (record mid { ready = ready_bytes new })) left)
+          parts_ready None = refl
+          parts_ready (Some frames) = refl
+
+          totals_ready : (left : Option (List FramePart)) → option_map (λ (rest : Rest). rest.total) (option_map (rest_with (record mid { ready = ready_bytes new })) left)
+              ≡ option_map (λ (rest : Rest). rest.total) (option_map (rest_with mid) left)
+          totals_ready None = refl
+          totals_ready (Some frames) = refl
+
+          lengths_ready : (part : Part) → HasLengths part mid → HasLengths part (record mid { ready = ready_bytes new })
+          lengths_ready (chunk piece) has = has
+          lengths_ready (tail trailers) has = has
+
+  pub front_cause : (old mid new : AwsChunkedBody F G) (piece : List ℕ) → Readies source signer old mid (Ok tt) → new ≡ record mid { ready = ready_bytes new }
+      → HasCause source signer old new (Ok (next.Frame piece))
+  front_cause old mid new piece readies others =
+      (counts_kept old mid new readies.0 (ap (λ (body : AwsChunkedBody F G). body.source) others) (ap (λ (body : AwsChunkedBody F G). body.options) others), tt)
+
+  pub front_turns : (old mid new : AwsChunkedBody F G) (piece : List ℕ) → Readies source signer old mid (Ok tt) → new ≡ record mid { ready = ready_bytes new }
+      → TakesTurns source (AreTurns (Ok (next.Frame piece))) old new
+  front_turns old mid new piece readies others =
+      turns_kept (AreTurns (Ok (next.Frame piece))) old mid new readies.3 (ap (λ (body : AwsChunkedBody F G). body.source) others)
+
+  -- ---- a body that was closed
+
+  pub closed_cause : (old mid new : AwsChunkedBody F G) (error : AwsChunkedBodyError) → HasCause source signer old mid (Err error)
+      → new ≡ record mid { phase = phase.Closed; ready = [] } → HasCause source signer old new (Err error)
+  closed_cause old mid new error told is = subst (λ (body : AwsChunkedBody F G). HasCause source signer old body (Err error)) (sym is) (counts, by error told.1)
+    where
+      counts : Counts source old (record mid { phase = phase.Closed; ready = [] })
+      counts = record { waits = told.0.waits; faults = told.0.faults; options = told.0.options }
+
+      by : (at : AwsChunkedBodyError) → Causes source signer old mid (Err at) → Causes source signer old (record mid { phase = phase.Closed; ready = [] }) (Err at)
+      by (fault.StreamLengthMismatch actual expected) cause = cause
+      by (fault.ReportedTrailerLengthMismatch actual expected) cause = cause
+      by (fault.FailedToSign why) cause = cause
+      by fault.SourceFault cause = cause
+      by fault.NoMemory cause = cause
+
+  pub closed_turns : (old mid new : AwsChunkedBody F G) (error : AwsChunkedBodyError) → TakesTurns source (AreTurns (Err error)) old mid
+      → new ≡ record mid { phase = phase.Closed; ready = [] } → TakesTurns source (AreTurns (Err error)) old new
+  closed_turns old mid new error turns is = turns_kept (AreTurns (Err error)) old mid new turns (ap (λ (body : AwsChunkedBody F G). body.source) is)

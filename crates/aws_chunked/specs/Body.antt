@@ -1,0 +1,428 @@
+-- What contracts see of a body: the text that is due of it, and what each call takes of that text and of its source.
+use Rattle.std.specs.Prelude.{◌≡◌, ℕ, ◌+◌, ◌<◌, ◌≤◌, ◌⊎◌, Bool, true, false, List, [], ◌∷◌, ◌++◌, length, map, sum, bytes_eq, ◌==◌, min, take, Option, IfSome, Some, None, option_map, Result, Ok, Err, if◌then◌else◌}
+use Rattle.std.specs.List.{list_any}
+use Rattle.smithy_core.specs.Outside.{RoseOrStands}
+use Rattle.smithy_core.specs.TextPairs.{inserted, lower}
+use Rattle.smithy_core.specs.declared.outside.frame_part.FramePart.{FramePart}
+use Rattle.smithy_core.specs.declared.outside.frame_part.FramePart.TheVariants as frame
+use Rattle.smithy_core.specs.declared.outside.frame_source.FrameSource as FrameSource
+use Rattle.aws_chunked.specs.Options.{Options, counted, declared_length}
+use Rattle.sigv4.specs.declared.chunk_signer.SignChunk as SignChunk
+use Rattle.aws_chunked.specs.Signing.{FailsPart, MakesPart, has_signature}
+use Rattle.aws_chunked.specs.Text.{Part, chunk, parts_of, parts_text, tail, trailer_line}
+use Rattle.aws_chunked.specs.declared.body.AwsChunkedBody.{AwsChunkedBody}
+use Rattle.aws_chunked.specs.declared.body.ChunkNext.{ChunkNext}
+use Rattle.aws_chunked.specs.declared.body.ChunkNext.TheVariants.{Frame, NotYet, OutOfTurns, End}
+use Rattle.aws_chunked.specs.declared.error.AwsChunkedBodyError.{AwsChunkedBodyError}
+use Rattle.aws_chunked.specs.declared.error.AwsChunkedBodyError.TheVariants.{FailedToSign, NoMemory, ReportedTrailerLengthMismatch, SourceFault, StreamLengthMismatch}
+use Rattle.aws_chunked.specs.declared.phase.Phase.{Phase}
+use Rattle.aws_chunked.specs.declared.phase.Phase.TheVariants as phase
+use Rattle.aws_chunked.specs.declared.stop.Stop.{Stop}
+use Rattle.aws_chunked.specs.declared.stop.Stop.TheVariants as stop
+
+-- ## Frames
+
+abbrev pub Trailer : Type 0
+Trailer = List ℕ × List ℕ
+
+-- the data of a body: that of the frames before the first trailers
+abbrev pub data_before : List FramePart → List ℕ
+data_before [] = []
+data_before (frame.Data piece ∷ frames) = piece ++ data_before frames
+data_before (frame.Trailers trailers ∷ frames) = []
+
+-- a name is among those of the trailers
+abbrev pub is_named : List ℕ → List Trailer → Bool
+is_named name trailers = list_any (λ trailer. bytes_eq trailer.0 name) trailers
+
+-- a trailer takes the place of all of its name, or stands behind the others, where its name came before in its frame
+abbrev pub put_after : List Trailer → List Trailer → List ℕ → List ℕ → List Trailer
+put_after before kept name value = if is_named name before then kept ++ (name, value) ∷ [] else inserted kept name value
+
+-- the trailers with those of a later frame, of which these came before the others; names are kept in lower case
+abbrev pub merged_after : List Trailer → List Trailer → List Trailer → List Trailer
+merged_after before kept [] = kept
+merged_after before kept (trailer ∷ trailers) =
+    merged_after (before ++ (lower trailer.0, trailer.1) ∷ []) (put_after before kept (lower trailer.0) trailer.1) trailers
+
+-- the trailers with those of a later frame
+abbrev pub merged : List Trailer → List Trailer → List Trailer
+merged kept trailers = merged_after [] kept trailers
+
+-- the trailers so far, if any came, with those of one more frame
+abbrev pub with_frame : Option (List Trailer) → List Trailer → List Trailer
+with_frame None trailers = trailers
+with_frame (Some kept) trailers = merged kept trailers
+
+-- the trailers so far, if any came, with those of the frames
+abbrev pub trailers_from : Option (List Trailer) → List FramePart → Option (List Trailer)
+trailers_from kept [] = kept
+trailers_from kept (frame.Data piece ∷ frames) = trailers_from kept frames
+trailers_from kept (frame.Trailers trailers ∷ frames) = trailers_from (Some (with_frame kept trailers)) frames
+
+-- the trailers, of which there are none where none came
+abbrev pub listed : Option (List Trailer) → List Trailer
+listed None = []
+listed (Some trailers) = trailers
+
+-- ## What is due
+
+-- the data that frames still bring
+abbrev pub data_left : Phase → List FramePart → List ℕ
+data_left phase.Data frames = data_before frames
+data_left _ frames = []
+
+-- the trailers with those that frames still bring
+abbrev pub trailers_left : Phase → Option (List Trailer) → List FramePart → Option (List Trailer)
+trailers_left phase.Data kept frames = trailers_from kept frames
+trailers_left phase.Trailers kept frames = trailers_from kept frames
+trailers_left _ kept frames = kept
+
+-- the parts of the text that aren't made yet, with so much data held
+abbrev pub parts_left : Phase → ℕ → List ℕ → Option (List Trailer) → List FramePart → List Part
+parts_left phase.Closed size held kept frames = []
+parts_left at size held kept frames = parts_of size (held ++ data_left at frames) (listed (trailers_left at kept frames))
+
+-- the text that was made and isn't answered yet, the parts that aren't made yet, and how much data there is in all
+pub record Rest : Type 0 where
+  pub ready : List ℕ
+  pub parts : List Part
+  pub total : ℕ
+
+-- the text of what is left, without signatures
+unfoldable pub rest_text : Rest → List ℕ
+rest_text rest = rest.ready ++ parts_text rest.parts
+
+-- the text, where it is told and unsigned
+abbrev pub text_due : Bool → Option Rest → Option (List ℕ)
+text_due true rest = None
+text_due false rest = option_map rest_text rest
+
+-- these bytes are the front of the text that was due, and the rest is due now
+abbrev pub TakesText : List ℕ → Option (List ℕ) → Option (List ℕ) → Type 0
+TakesText bytes None now = now ≡ None
+TakesText bytes (Some text) None = ⊥
+TakesText bytes (Some text) (Some rest) = text ≡ bytes ++ rest
+
+-- nothing is due
+abbrev pub IsNothing : Option (List ℕ) → Type 0
+IsNothing None = Unit {0}
+IsNothing (Some text) = text ≡ []
+
+-- a frame is the front of what was due, and isn't empty; the end comes with nothing due; where nothing came nothing is taken
+abbrev pub TakesDue : Option (List ℕ) → Option (List ℕ) → Result ChunkNext AwsChunkedBodyError → Type 0
+TakesDue before now (Ok (Frame bytes)) = TakesText bytes before now × (0 < length bytes)
+TakesDue before now (Ok NotYet) = now ≡ before
+TakesDue before now (Ok OutOfTurns) = now ≡ before
+TakesDue before now (Ok End) = (now ≡ before) × IsNothing now
+TakesDue before now (Err error) = Unit {0}
+
+-- why nothing can be made, as an answer
+abbrev pub answer_of : Stop → Result ChunkNext AwsChunkedBodyError
+answer_of stop.End = Ok End
+answer_of stop.NotYet = Ok NotYet
+answer_of stop.OutOfTurns = Ok OutOfTurns
+answer_of (stop.Fault error) = Err error
+
+-- the data that is held after a piece more: after the first trailers data is ignored
+abbrev pub held_after : Phase → List ℕ → List ℕ → List ℕ
+held_after phase.Data held piece = held ++ piece
+held_after _ held piece = held
+
+-- how much data was counted after a piece more
+abbrev pub taken_after : Phase → ℕ → List ℕ → ℕ
+taken_after phase.Data taken piece = counted (taken + length piece)
+taken_after _ taken piece = taken
+
+-- how many frames without data a piece is: one where it is empty, or comes after the first trailers
+abbrev pub idle_in : Phase → List ℕ → ℕ
+idle_in phase.Data piece = if length piece == 0 then 1 else 0
+idle_in _ piece = 1
+
+-- how many of the frames have no data: each after the first trailers counts as one
+abbrev pub idle_count : Phase → List FramePart → ℕ
+idle_count phase.Data [] = 0
+idle_count phase.Data (frame.Data piece ∷ frames) = idle_in phase.Data piece + idle_count phase.Data frames
+idle_count phase.Data (frame.Trailers trailers ∷ frames) = 1 + length frames
+idle_count _ frames = length frames
+
+-- how far a body has come after the frames
+abbrev pub phase_after : Phase → List FramePart → Phase
+phase_after phase.Data [] = phase.Data
+phase_after phase.Data (frame.Data piece ∷ frames) = phase_after phase.Data frames
+phase_after phase.Data (frame.Trailers trailers ∷ frames) = phase.Trailers
+phase_after at frames = at
+
+-- how many frames without data a call takes: 65,536 exactly where it is out of turns
+abbrev pub AreTurns : Result ChunkNext AwsChunkedBodyError → ℕ → Type 0
+AreTurns (Ok OutOfTurns) count = count ≡ 65536
+AreTurns (Err NoMemory) count = count ≤ 65536
+AreTurns result count = count < 65536
+
+-- how long the lines of trailers are
+abbrev pub lines_length : List Trailer → ℕ
+lines_length trailers = sum (map (λ trailer. length (trailer_line trailer)) trailers)
+
+-- the same, with the line of their signature, where there is one
+abbrev pub actual_length : Bool → List Trailer → ℕ
+actual_length is_signed trailers = lines_length trailers + (if has_signature is_signed trailers then 90 else 0)
+
+-- a part can be made of so much data that is held: a whole chunk, or, once the data has ended, the last one, or the end of the text
+abbrev pub CanMake : Phase → ℕ → List ℕ → Type 0
+CanMake phase.Data size held = (0 < size) × (size ≤ length held)
+CanMake phase.Trailers size held = 0 < length held
+CanMake phase.Ended size held = Unit {0}
+CanMake phase.Closed size held = ⊥
+
+-- ## A body
+
+module _ {F G : Type 0} where
+  -- the source of a body
+  abbrev pub source_of : AwsChunkedBody F G → F
+  source_of body = body.source
+
+  -- how a body is encoded
+  abbrev pub options_in : AwsChunkedBody F G → Options
+  options_in body = body.options
+
+  -- how much data is held
+  abbrev pub held_bytes : AwsChunkedBody F G → List ℕ
+  held_bytes body = body.held.bytes
+
+  -- the text that was made and isn't answered yet
+  abbrev pub ready_bytes : AwsChunkedBody F G → List ℕ
+  ready_bytes body = body.ready
+
+  -- nothing more is read, nor answered
+  pub record IsClosed (body : AwsChunkedBody F G) : Type 0 where
+    pub over : body.phase ≡ phase.Closed
+    pub answered : ready_bytes body ≡ []
+
+  -- a body that has taken nothing
+  pub record IsNew (source : F) (options : Options) (body : AwsChunkedBody F G) : Type 0 where
+    pub reads_from : body.source ≡ source
+    pub encoded : body.options ≡ options
+    pub no_signer : body.signer ≡ None
+    pub starts : body.phase ≡ phase.Data
+    pub nothing_held : held_bytes body ≡ []
+    pub nothing_ready : ready_bytes body ≡ []
+    pub nothing_counted : body.taken ≡ 0
+    pub no_trailers : body.trailers ≡ None
+
+  -- what is left of a body whose source has these frames left
+  abbrev pub rest_with : AwsChunkedBody F G → List FramePart → Rest
+  rest_with body frames = record {
+    ready = ready_bytes body;
+    parts = parts_left body.phase body.options.chunk_size (held_bytes body) body.trailers frames;
+    total = counted (body.taken + length (data_left body.phase frames));
+  }
+
+  -- only the source, the data that is held and the trailers change, and how far the body has come
+  abbrev pub OthersStay : AwsChunkedBody F G → AwsChunkedBody F G → Type 0
+  OthersStay old new = new ≡ record old { source = new.source; phase = new.phase; held = new.held; taken = new.taken; trailers = new.trailers }
+
+  -- only the signer changes
+  abbrev pub ChangesSigner : AwsChunkedBody F G → AwsChunkedBody F G → Type 0
+  ChangesSigner old new = new ≡ record old { signer = new.signer }
+
+  -- a body after a piece of data
+  abbrev pub with_data : AwsChunkedBody F G → List ℕ → AwsChunkedBody F G
+  with_data body piece = record body { taken = taken_after body.phase body.taken piece }
+
+  -- a body that may read on
+  abbrev pub GoesOn : AwsChunkedBody F G → Type 0
+  GoesOn body = (body.phase ≡ phase.Data) ⊎ (body.phase ≡ phase.Trailers)
+
+  -- a body that isn't closed
+  abbrev pub IsOpen : AwsChunkedBody F G → Type 0
+  IsOpen body = body.phase ≡ phase.Closed → ⊥
+
+  -- a part of the text can be made
+  abbrev pub IsAtHand : AwsChunkedBody F G → Type 0
+  IsAtHand body = CanMake body.phase body.options.chunk_size (held_bytes body)
+
+  -- the data has the declared length, or it is told which one it has
+  abbrev pub HasLength : AwsChunkedBody F G → Result (Unit {0}) AwsChunkedBodyError → Type 0
+  HasLength body (Ok _) = body.taken ≡ body.options.stream_length
+  HasLength body (Err error) =
+      (error ≡ StreamLengthMismatch body.taken body.options.stream_length) × (body.taken ≡ body.options.stream_length → ⊥)
+
+  -- the data has ended
+  abbrev pub HasEnded : AwsChunkedBody F G → Type 0
+  HasEnded body = (body.phase ≡ phase.Trailers) ⊎ (body.phase ≡ phase.Ended)
+
+  -- all of the data was taken, it is in the parts that were made, and it hasn't the declared length
+  abbrev pub LacksLength : AwsChunkedBody F G → ℕ → ℕ → Type 0
+  LacksLength body actual expected =
+      (actual ≡ body.taken) × (expected ≡ body.options.stream_length) × (actual ≡ expected → ⊥) × (held_bytes body ≡ [])
+
+  -- whether a part can be made, or why there is none: before the end of the text the length of the data is compared
+  abbrev pub Tests : AwsChunkedBody F G → Result Bool AwsChunkedBodyError → Type 0
+  Tests body (Ok true) = IsAtHand body × (0 < body.options.chunk_size) × (held_bytes body ≡ [] → body.taken ≡ body.options.stream_length)
+  Tests body (Ok false) = (length (held_bytes body) < body.options.chunk_size) × (body.options.chunk_size ≤ 4294967295) × GoesOn body
+  Tests body (Err (StreamLengthMismatch actual expected)) = LacksLength body actual expected × HasEnded body
+  Tests body (Err error) = ⊥
+
+  -- the lines of the trailers, where some came, have the declared lengths, or it is told which one they have
+  abbrev pub HasTrailerLengths : AwsChunkedBody F G → Result (Unit {0}) AwsChunkedBodyError → Type 0
+  HasTrailerLengths body (Ok _) =
+      IfSome body.trailers (λ trailers. counted (actual_length body.options.is_signed trailers) ≡ counted (declared_length body.options.trailer_lengths))
+  HasTrailerLengths body (Err error) = (trailers : List Trailer) × (body.trailers ≡ Some trailers)
+      × (error ≡ ReportedTrailerLengthMismatch (counted (actual_length body.options.is_signed trailers)) (counted (declared_length body.options.trailer_lengths)))
+      × (counted (actual_length body.options.is_signed trailers) ≡ counted (declared_length body.options.trailer_lengths) → ⊥)
+
+  -- the first piece of the data that is held
+  abbrev pub first_piece : AwsChunkedBody F G → List ℕ
+  first_piece body = take (min (length (held_bytes body)) body.options.chunk_size) (held_bytes body)
+
+  -- the end of the text comes only where the data and the lines of the trailers have the declared lengths
+  abbrev pub HasLengths : Part → AwsChunkedBody F G → Type 0
+  HasLengths (chunk piece) body = Unit {0}
+  HasLengths (tail trailers) body = (body.taken ≡ body.options.stream_length) × HasTrailerLengths body (Ok tt)
+
+  module _ (signer : SignChunk.Ghosts G) where
+    -- a chunk of the data that is held is made, or there is none for a reason
+    abbrev pub MakesChunk : AwsChunkedBody F G → AwsChunkedBody F G → Result (Unit {0}) AwsChunkedBodyError → Type 0
+    MakesChunk old new (Ok _) =
+        MakesPart signer old.options.is_signed (chunk (first_piece old)) old.signer (ready_bytes new) new.signer
+        × (held_bytes old ≡ first_piece old ++ held_bytes new)
+        × (new ≡ record old { signer = new.signer; held = new.held; ready = new.ready })
+    MakesChunk old new (Err error) =
+        ((error ≡ NoMemory) ⊎ FailsPart signer old.options.is_signed (chunk (first_piece old)) old.signer error new.signer)
+        × (new ≡ record old { signer = new.signer; held = new.held; ready = new.ready })
+
+    -- the end of the text is made, where the lines of the trailers have the declared lengths, or there is none for a reason
+    abbrev pub MakesTail : AwsChunkedBody F G → AwsChunkedBody F G → Result (Unit {0}) AwsChunkedBodyError → Type 0
+    MakesTail old new (Ok _) =
+        MakesPart signer old.options.is_signed (tail (listed old.trailers)) old.signer (ready_bytes new) new.signer
+        × HasTrailerLengths old (Ok tt)
+        × (new ≡ record old { signer = new.signer; phase = phase.Closed; ready = new.ready })
+    MakesTail old new (Err error) =
+        ((error ≡ NoMemory) ⊎ HasTrailerLengths old (Err error)
+        ⊎ FailsPart signer old.options.is_signed (tail (listed old.trailers)) old.signer error new.signer)
+        × (new ≡ record old { signer = new.signer; ready = new.ready })
+
+  module _ (source : FrameSource.Ghosts F) where
+    -- what is left of a body, where its source tells its frames
+    abbrev pub rest_of : AwsChunkedBody F G → Option Rest
+    rest_of body = option_map (rest_with body) (source.left body.source)
+
+    -- the parts of the text that aren't made yet, and how much data there is in all, where the source tells its frames
+    abbrev pub parts_due : AwsChunkedBody F G → Option (List Part)
+    parts_due body = option_map (λ (rest : Rest). rest.parts) (rest_of body)
+
+    abbrev pub total_of : AwsChunkedBody F G → Option ℕ
+    total_of body = option_map (λ (rest : Rest). rest.total) (rest_of body)
+
+    -- the text that is due of an unsigned body, where its source tells its frames
+    unfoldable pub due : AwsChunkedBody F G → Option (List ℕ)
+    due body = text_due body.options.is_signed (rest_of body)
+
+    -- what is taken of the source is still left
+    pub record Keeps (old new : AwsChunkedBody F G) : Type 0 where
+      pub rest : rest_of new ≡ rest_of old
+      pub others : OthersStay old new
+      pub waits : source.waits old.source ≤ source.waits new.source
+      pub faults : source.faults old.source ≤ source.faults new.source
+
+    -- what is counted of the source never falls, and the encoding stays
+    pub record Counts (old new : AwsChunkedBody F G) : Type 0 where
+      pub waits : source.waits old.source ≤ source.waits new.source
+      pub faults : source.faults old.source ≤ source.faults new.source
+      pub options : new.options ≡ old.options
+
+    -- frames are taken of the source, and so many of them have no data
+    pub record TakesTurns (AreSo : ℕ → Type 0) (old new : AwsChunkedBody F G) : Type 0 where
+      pub frames : List FramePart
+      pub taken : source.left old.source ≡ option_map (λ rest. frames ++ rest) (source.left new.source)
+      pub turns : AreSo (idle_count old.phase frames)
+
+    -- a frame without data counts, and another brings some, or the source has ended
+    abbrev pub Nears : ℕ → AwsChunkedBody F G → AwsChunkedBody F G → Type 0
+    Nears idle old new =
+        ((idle ≡ 1) × (length (held_bytes old) ≤ length (held_bytes new)))
+        ⊎ ((idle ≡ 0) × (length (held_bytes old) < length (held_bytes new)))
+        ⊎ ((idle ≡ 0) × (new.phase ≡ phase.Ended) × (length (held_bytes old) ≤ length (held_bytes new)))
+
+    -- frames are taken, so many of them without data, and what they bring is still left
+    pub record Takes (frames : List FramePart) (old new : AwsChunkedBody F G) : Type 0 where
+      pub keeps : Keeps old new
+      pub taken : source.left old.source ≡ option_map (λ rest. frames ++ rest) (source.left new.source)
+      pub at : (new.phase ≡ phase_after old.phase frames) ⊎ (new.phase ≡ phase.Ended)
+      pub on : IsOpen new
+
+    -- why nothing can be made
+    abbrev pub StopsFor : AwsChunkedBody F G → AwsChunkedBody F G → Stop → Type 0
+    StopsFor old new stop.End = ⊥
+    StopsFor old new stop.NotYet =
+        Keeps old new × RoseOrStands (source.waits old.source) (source.waits new.source) × (length (held_bytes new) < new.options.chunk_size)
+    StopsFor old new stop.OutOfTurns = Keeps old new
+    StopsFor old new (stop.Fault SourceFault) = RoseOrStands (source.faults old.source) (source.faults new.source)
+    StopsFor old new (stop.Fault (StreamLengthMismatch actual expected)) = Keeps old new × LacksLength new actual expected × HasEnded new
+    StopsFor old new (stop.Fault NoMemory) = Unit {0}
+    StopsFor old new (stop.Fault error) = ⊥
+
+    -- a frame is taken, if the source has one, and what it brings is still left; or none is taken for a reason
+    abbrev pub Pulls : AwsChunkedBody F G → AwsChunkedBody F G → Result ℕ Stop → Type 0
+    Pulls old new (Ok idle) = (frames : List FramePart) × Takes frames old new × (idle ≡ idle_count old.phase frames) × Nears idle old new
+    Pulls old new (Err stop.OutOfTurns) = ⊥
+    Pulls old new (Err (stop.Fault NoMemory)) = Counts old new × TakesTurns (λ count. count ≤ 1) old new
+    Pulls old new (Err why) = Counts old new × StopsFor old new why × TakesTurns (λ count. count ≡ 0) old new
+
+    -- frames are taken until a part can be made, and what they bring is still left; or none can be made for a reason
+    abbrev pub Gathers : AwsChunkedBody F G → AwsChunkedBody F G → Result (Unit {0}) Stop → Type 0
+    Gathers old new (Ok _) =
+        Keeps old new × IsAtHand new × (0 < new.options.chunk_size) × (held_bytes new ≡ [] → new.taken ≡ new.options.stream_length)
+        × TakesTurns (λ count. count < 65536) old new
+    Gathers old new (Err why) = Counts old new × StopsFor old new why × TakesTurns (AreTurns (answer_of why)) old new
+
+  module _ (source : FrameSource.Ghosts F) (signer : SignChunk.Ghosts G) where
+    -- the text of the first part that is due is made, with its signatures where the body is signed
+    pub record MakesFirst (old new : AwsChunkedBody F G) (text : List ℕ) : Type 0 where
+      pub part : Part
+      pub made : MakesPart signer old.options.is_signed part old.signer text new.signer
+      pub parts : parts_due source old ≡ option_map (λ rest. part ∷ rest) (parts_due source new)
+      pub total : total_of source new ≡ total_of source old
+      pub lengths : HasLengths part new
+
+    -- what a call answers: bytes of text that was made, or, where there is none, of that of the first part; where nothing comes the
+    -- frames that were taken are still due; the end changes nothing
+    abbrev pub Answers : AwsChunkedBody F G → AwsChunkedBody F G → Result ChunkNext AwsChunkedBodyError → Type 0
+    Answers old new (Ok (Frame bytes)) = (text : List ℕ) × (text ≡ bytes ++ ready_bytes new)
+        × (((text ≡ ready_bytes old) × (new ≡ record old { ready = ready_bytes new })) ⊎ ((ready_bytes old ≡ []) × MakesFirst old new text))
+    Answers old new (Ok NotYet) = Keeps source old new
+    Answers old new (Ok OutOfTurns) = Keeps source old new
+    Answers old new (Ok End) = new ≡ old
+    Answers old new (Err error) = Unit {0}
+
+    -- the part is the first that was due
+    abbrev pub IsFirst : AwsChunkedBody F G → Part → Type 0
+    IsFirst body part = IfSome (parts_due source body) (λ parts. (rest : List Part) × (parts ≡ part ∷ rest))
+
+    -- why a call gives no more
+    abbrev pub Causes : AwsChunkedBody F G → AwsChunkedBody F G → Result ChunkNext AwsChunkedBodyError → Type 0
+    Causes old new (Ok NotYet) =
+        RoseOrStands (source.waits old.source) (source.waits new.source) × (length (held_bytes new) < new.options.chunk_size)
+    Causes old new (Err SourceFault) = RoseOrStands (source.faults old.source) (source.faults new.source)
+    Causes old new (Err (StreamLengthMismatch actual expected)) =
+        LacksLength new actual expected × IfSome (total_of source old) (λ total. total ≡ counted actual)
+    Causes old new (Err (ReportedTrailerLengthMismatch actual expected)) =
+        HasTrailerLengths new (Err (ReportedTrailerLengthMismatch actual expected)) × (new.taken ≡ new.options.stream_length)
+        × IsFirst old (tail (listed new.trailers))
+    Causes old new (Err (FailedToSign why)) =
+        (part : Part) × FailsPart signer old.options.is_signed part old.signer (FailedToSign why) new.signer × IsFirst old part
+    Causes old new result = Unit {0}
+
+    -- what a call takes of its source, and why it gives no more
+    abbrev pub HasCause : AwsChunkedBody F G → AwsChunkedBody F G → Result ChunkNext AwsChunkedBodyError → Type 0
+    HasCause old new result = Counts source old new × Causes old new result
+
+    -- some text is ready, or none can be made for a reason; what is due stays
+    abbrev pub Readies : AwsChunkedBody F G → AwsChunkedBody F G → Result (Unit {0}) Stop → Type 0
+    Readies old new (Ok _) =
+        Counts source old new × (due source new ≡ due source old) × (0 < length (ready_bytes new))
+        × TakesTurns source (λ count. count < 65536) old new
+        × ((new ≡ old) ⊎ ((ready_bytes old ≡ []) × MakesFirst old new (ready_bytes new)))
+    Readies old new (Err stop.End) = (new ≡ old) × IsClosed new
+    Readies old new (Err (stop.Fault error)) = HasCause old new (Err error) × TakesTurns source (AreTurns (Err error)) old new
+    Readies old new (Err why) = Keeps source old new × HasCause old new (answer_of why) × TakesTurns source (AreTurns (answer_of why)) old new

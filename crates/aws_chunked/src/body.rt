@@ -1,0 +1,103 @@
+ghost use Rattle.std.specs.Prelude.{◌≡◌, ◌↔◌, IsTrue, None, Some, false, length, option_map};
+ghost use Rattle.aws_chunked.specs.Body.{IsClosed, IsNew, data_before, due, listed, parts_due, total_of, trailers_from};
+ghost use Rattle.aws_chunked.specs.Options.{counted, data_length, encoded_length, fitting};
+ghost use Rattle.aws_chunked.specs.Text.{chunked_text, parts_of};
+
+use crate::made_text::MadeText;
+use crate::options::AwsChunkedBodyOptions;
+use crate::phase::Phase;
+use bytes::Bytes;
+use seg_buf::SegBuf;
+use smithy_core::{FrameSource, Headers};
+use std::alloc::Global;
+
+/// The next that a body gives.
+#[derive(Drop)]
+pub enum ChunkNext {
+    /// Some bytes of the text.
+    Frame(Bytes),
+    /// Nothing has come yet.
+    NotYet,
+    /// This call took 65,536 frames without data. The next one goes on.
+    OutOfTurns,
+    /// The text has ended, or the body is closed.
+    End,
+}
+
+/// A body in the encoding aws-chunked, over a source of frames. Of its two polls one body uses one.
+#[derive(Drop)]
+pub struct AwsChunkedBody<F, G> {
+    pub(crate) alloc: Global,
+    pub(crate) options: AwsChunkedBodyOptions,
+    pub(crate) source: F,
+    pub(crate) signer: Option<G>,
+    pub(crate) phase: Phase,
+    // The data that was taken and isn't cut yet.
+    pub(crate) held: SegBuf,
+    // The text that was made and isn't answered yet.
+    pub(crate) ready: MadeText,
+    // How many bytes of data were taken.
+    pub(crate) taken: u64,
+    // The trailers so far, once some came.
+    pub(crate) trailers: Option<Headers>,
+}
+
+impl<F: FrameSource, G> AwsChunkedBody<F, G> {
+    /// The body of a source, of which nothing was taken.
+    pub fn new(alloc: Global, body: F, options: AwsChunkedBodyOptions) -> AwsChunkedBody<F, G>
+        ensures starts { IsNew body options result }
+        ensures due { options.is_signed ≡ false → due F.FrameSource result
+            ≡ option_map (λ frames. chunked_text options.chunk_size (data_before frames) (listed (trailers_from None frames))) (F.FrameSource.left body) }
+        ensures parts { parts_due F.FrameSource result
+            ≡ option_map (λ frames. parts_of options.chunk_size (data_before frames) (listed (trailers_from None frames))) (F.FrameSource.left body) }
+        ensures total { total_of F.FrameSource result ≡ option_map (λ frames. counted (length (data_before frames))) (F.FrameSource.left body) }
+    {
+        AwsChunkedBody {
+            alloc,
+            options,
+            source: body,
+            signer: None,
+            phase: Phase::Data,
+            held: SegBuf::new(alloc),
+            ready: MadeText::new(alloc),
+            taken: 0,
+            trailers: None,
+        }
+    }
+}
+
+impl<F, G> AwsChunkedBody<F, G> {
+    /// Whether all was answered, or there was a fault.
+    pub fn is_end_stream(&self) -> bool
+        ensures { IsTrue result ↔ IsClosed self.now }
+    {
+        self.phase == Phase::Closed && self.ready.is_empty()
+    }
+
+    /// How long the whole text is, by the declared lengths, where the number fits.
+    pub fn size_hint(&self) -> Option<u64>
+        ensures { result ≡ fitting (encoded_length self.now.options) }
+    {
+        self.options.checked_encoded_length()
+    }
+
+    /// How long the whole text of the other form is, in which data is passed on as it comes, by the declared lengths, where the
+    /// number fits.
+    pub fn data_size_hint(&self) -> Option<u64>
+        ensures { result ≡ fitting (data_length self.now.options) }
+    {
+        self.options.checked_data_length()
+    }
+}
+
+impl<F, G: Drop> AwsChunkedBody<F, G> {
+    /// With this signer of chunks and trailers.
+    pub fn with_signer(self, signer: G) -> AwsChunkedBody<F, G>
+        ensures { result ≡ record self { signer = Some signer } }
+    {
+        AwsChunkedBody {
+            signer: Some(signer),
+            ..self
+        }
+    }
+}

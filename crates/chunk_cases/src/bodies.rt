@@ -1,0 +1,87 @@
+//! Polls bodies.
+use crate::frames::GivenFrames;
+use crate::lengths::options_of;
+use crate::parts::push;
+use crate::signers::published_signer;
+use aws_auth::ChunkDeferredSigner;
+use aws_chunked::{AwsChunkedBody, AwsChunkedBodyError, ChunkNext};
+use bytes::Bytes;
+use case_lines::part;
+use mac_core::sha256_hex;
+use smithy_core::Mem;
+use std::alloc::Global;
+
+// How often a body is polled at most.
+const MOST_POLLS: u32 = 1000;
+
+type Body = AwsChunkedBody<GivenFrames, ChunkDeferredSigner>;
+
+// The body of the frames and the options that parts name, and of the signer: `unwired`, or one that goes on from a signature.
+fn body_of(alloc: Global, parts: &[&str]) -> Mem<Body> {
+    let source = GivenFrames::of(alloc, parts)?;
+    let body = AwsChunkedBody::new(alloc, source, options_of(alloc, parts)?);
+    match part(parts, "signer") {
+        Some("unwired") => Ok(body.with_signer(ChunkDeferredSigner::new())),
+        Some(signature) => {
+            let mut signer = ChunkDeferredSigner::new();
+            signer.wire(Box::new(alloc, published_signer(alloc, signature)?)?);
+            Ok(body.with_signer(signer))
+        }
+        None => Ok(body),
+    }
+}
+
+/// The whole text, and then each other answer up to the end, and once more.
+pub fn text(alloc: Global, parts: &[&str]) -> Mem<String> {
+    let (text, others) = polled(alloc, &mut body_of(alloc, parts)?)?;
+    let mut found = escaped(alloc, text.as_slice())?;
+    push(&mut found, others.as_str())?;
+    Ok(found)
+}
+
+/// The length of the whole text, its digest, and then each other answer.
+pub fn digest(alloc: Global, parts: &[&str]) -> Mem<String> {
+    let (text, others) = polled(alloc, &mut body_of(alloc, parts)?)?;
+    let digest = sha256_hex(alloc, text.as_slice())?;
+    format!(in alloc; "{} {digest} | {others}", text.len())
+}
+
+fn polled(alloc: Global, body: &mut Body) -> Mem<(Vec<u8>, String)> {
+    let mut text = Vec::new(alloc);
+    let mut others = String::new(alloc);
+    for _ in 0..MOST_POLLS {
+        match body.poll_frame() {
+            Ok(ChunkNext::Frame(bytes)) => text.extend_from_slice(bytes.as_slice())?,
+            Ok(ChunkNext::End) => {
+                push(&mut others, ended(body))?;
+                break;
+            }
+            answer => push(&mut others, shown(alloc, answer)?.as_str())?,
+        }
+    }
+    Ok((text, others))
+}
+
+fn ended(body: &Body) -> &'static str {
+    if body.is_end_stream() {
+        "End"
+    } else {
+        "End of an open body"
+    }
+}
+
+// The text, with its line ends as `\r\n`.
+fn escaped(alloc: Global, bytes: &[u8]) -> Mem<String> {
+    let text = String::from_utf8_lossy(alloc, bytes)?;
+    text.as_str().replace(alloc, "\r\n", "\\r\\n")
+}
+
+fn shown(alloc: Global, answer: Result<ChunkNext, AwsChunkedBodyError>) -> Mem<String> {
+    match answer {
+        Ok(ChunkNext::Frame(bytes)) => escaped(alloc, bytes.as_slice()),
+        Ok(ChunkNext::NotYet) => String::from_str(alloc, "NotYet"),
+        Ok(ChunkNext::OutOfTurns) => String::from_str(alloc, "OutOfTurns"),
+        Ok(ChunkNext::End) => String::from_str(alloc, "End"),
+        Err(error) => format!(in alloc; "{error:?}"),
+    }
+}
