@@ -8,32 +8,34 @@ use aws_chunked::{AwsChunkedBody, AwsChunkedBodyError, ChunkNext};
 use bytes::Bytes;
 use case_lines::part;
 use mac_core::sha256_hex;
+use sigv4::SignChunk;
 use smithy_core::Mem;
 use std::alloc::Global;
 
 // How often a body is polled at most.
 const MOST_POLLS: u32 = 1000;
 
-type Body = AwsChunkedBody<GivenFrames, ChunkDeferredSigner>;
-
-// The body of the frames and the options that parts name, and of the signer: `unwired`, or one that goes on from a signature.
-fn body_of(alloc: Global, parts: &[&str]) -> Mem<Body> {
+// What the polls of a body of the frames and the options that parts name answer, and of the signer: `unwired`, or one that
+// goes on from a signature.
+fn polled_of(alloc: Global, parts: &[&str]) -> Mem<(Vec<u8>, String)> {
     let source = GivenFrames::of(alloc, parts)?;
     let body = AwsChunkedBody::new(alloc, source, options_of(alloc, parts)?);
     match part(parts, "signer") {
-        Some("unwired") => Ok(body.with_signer(ChunkDeferredSigner::new())),
-        Some(signature) => {
-            let mut signer = ChunkDeferredSigner::new();
-            signer.wire(Box::new(alloc, published_signer(alloc, signature)?)?);
-            Ok(body.with_signer(signer))
-        }
-        None => Ok(body),
+        Some("unwired") => polled(alloc, body.with_signer(ChunkDeferredSigner::new())),
+        Some(signature) => of_signer(alloc, parts, signature),
+        None => polled(alloc, body),
     }
+}
+
+fn of_signer(alloc: Global, parts: &[&str], signature: &str) -> Mem<(Vec<u8>, String)> {
+    let source = GivenFrames::of(alloc, parts)?;
+    let body = AwsChunkedBody::new(alloc, source, options_of(alloc, parts)?);
+    polled(alloc, body.with_signer(published_signer(alloc, signature)?))
 }
 
 /// The whole text, and then each other answer up to the end, and once more.
 pub fn text(alloc: Global, parts: &[&str]) -> Mem<String> {
-    let (text, others) = polled(alloc, &mut body_of(alloc, parts)?)?;
+    let (text, others) = polled_of(alloc, parts)?;
     let mut found = escaped(alloc, text.as_slice())?;
     push(&mut found, others.as_str())?;
     Ok(found)
@@ -41,19 +43,23 @@ pub fn text(alloc: Global, parts: &[&str]) -> Mem<String> {
 
 /// The length of the whole text, its digest, and then each other answer.
 pub fn digest(alloc: Global, parts: &[&str]) -> Mem<String> {
-    let (text, others) = polled(alloc, &mut body_of(alloc, parts)?)?;
+    let (text, others) = polled_of(alloc, parts)?;
     let digest = sha256_hex(alloc, text.as_slice())?;
     format!(in alloc; "{} {digest} | {others}", text.len())
 }
 
-fn polled(alloc: Global, body: &mut Body) -> Mem<(Vec<u8>, String)> {
+fn polled<G: SignChunk>(
+    alloc: Global,
+    body: AwsChunkedBody<GivenFrames, G>,
+) -> Mem<(Vec<u8>, String)> {
+    let mut body = body;
     let mut text = Vec::new(alloc);
     let mut others = String::new(alloc);
     for _ in 0..MOST_POLLS {
         match body.poll_frame() {
             Ok(ChunkNext::Frame(bytes)) => text.extend_from_slice(bytes.as_slice())?,
             Ok(ChunkNext::End) => {
-                push(&mut others, ended(body))?;
+                push(&mut others, ended(body.is_end_stream()))?;
                 break;
             }
             answer => push(&mut others, shown(alloc, answer)?.as_str())?,
@@ -62,8 +68,8 @@ fn polled(alloc: Global, body: &mut Body) -> Mem<(Vec<u8>, String)> {
     Ok((text, others))
 }
 
-fn ended(body: &Body) -> &'static str {
-    if body.is_end_stream() {
+fn ended(is_closed: bool) -> &'static str {
+    if is_closed {
         "End"
     } else {
         "End of an open body"
