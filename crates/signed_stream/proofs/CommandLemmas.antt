@@ -4,11 +4,12 @@ use Rattle.signed_stream.specs.Options.{input_commanded}
 use Rattle.signed_stream.specs.Running.{EndsAsAsked, IsOfCommand, reads_input}
 use Rattle.signed_stream.specs.Status.{Ending}
 use Rattle.signed_stream.specs.declared.command.InputCommand.{InputCommand}
-use Rattle.signed_stream.specs.declared.command.InputCommand.TheVariants.{Stream, Settings}
+use Rattle.signed_stream.specs.declared.command.InputCommand.TheVariants.{Check, Stream, Settings}
 use Rattle.signed_stream.proofs.RunLemmas.{of_command}
 
 pub reads : (command : InputCommand) → reads_input (input_commanded command) ≡ true
 reads (Stream words) = refl
+reads (Check words) = refl
 reads (Settings options) = refl
 
 -- it ends for no word

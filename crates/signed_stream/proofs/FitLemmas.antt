@@ -9,14 +9,16 @@ use Rattle.smithy_core.proofs.GivenLemmas.{given_last}
 use Rattle.env_config.specs.Files.{Place}
 use Rattle.env_config.specs.Loading.{selected_profile}
 use Rattle.env_config.specs.Sections.{FileText}
-use Rattle.signed_stream.specs.Carriers.{GoesForJob, GoesForTexts, IsAfterTexts}
-use Rattle.signed_stream.specs.Command.{Wanted}
+use Rattle.signed_stream.specs.Carriers.{GoesForJob, GoesForRecord, GoesForTexts, IsAfterTexts}
+use Rattle.signed_stream.specs.CheckRecord.{CarriesSeal, check_signer, sealed_plan}
+use Rattle.signed_stream.specs.Command.{CheckWanted, Wanted}
 use Rattle.signed_stream.specs.Halt.{Halt, Sends, ended, fails, halt_of, halted, refuses, wants}
 use Rattle.signed_stream.specs.Job.{JobParts}
 use Rattle.signed_stream.specs.Options.{IsOptionsOf, wanted_of}
-use Rattle.signed_stream.specs.Plan.{FilesRead, GoesAsPlanned, Plan, Supplied, TargetRead, loaded, plan_end, unread}
+use Rattle.signed_stream.specs.Plan.{FilesRead, GoesAsPlanned, Plan, SealRead, Supplied, TargetRead, loaded, plan_end, unread, unsought}
 use Rattle.signed_stream.specs.ProfileOptions.{ProfileWanted}
 use Rattle.signed_stream.specs.ProfileTexts.{ProfileTexts}
+use Rattle.signed_stream.specs.Record.{RecordParts}
 use Rattle.signed_stream.specs.Running.{OfClock}
 use Rattle.signed_stream.specs.Settings.{Selected}
 use Rattle.signed_stream.specs.Shown.{shown_settings}
@@ -133,7 +135,7 @@ module _ (gave : List Place → FilesRead → Type 0) (clock : List Instant → 
       → gave (source_places wanted.profile.files (job_texts j)) (loaded texts)
       → TakesFor (OfClock clock wanted.at) j.target (stream_plan texts profile env wanted k) answer before now → GoesForJob gave clock env wanted j answer before now
   job_goes j k texts profile answer before now same is loads goes = record {
-    given = record { files = loaded texts; moments = goes.moments; target = goes.target };
+    given = record { files = loaded texts; moments = goes.moments; target = goes.target; seal = unsought };
     found = record { files = loads; target = goes.spelled };
     moments = goes.given;
     goes = subst (λ plan. GoesAsPlanned plan answer before now) (plans goes.moments) goes.goes;
@@ -150,7 +152,7 @@ module _ (gave : List Place → FilesRead → Type 0) (clock : List Instant → 
   pub job_unselected : (j : JobParts) (files : FilesRead) (end : Ending) (held : Option (List ℕ)) → OfClock clock wanted.at []
       → gave (source_places wanted.profile.files (job_texts j)) files → selection env wanted.profile.service_id files ≡ Err end → GoesForJob gave clock env wanted j end held held
   job_unselected j files end held unasked loads selects = record {
-    given = record { files = files; moments = []; target = unread };
+    given = record { files = files; moments = []; target = unread; seal = unsought };
     found = record { files = loads; target = tt };
     moments = unasked;
     goes = rw selects (goes_stopped end held);
@@ -161,13 +163,28 @@ module _ (gave : List Place → FilesRead → Type 0) (clock : List Instant → 
 
 -- what the outside gave for profile texts
 abbrev files_given : FilesRead → Supplied
-files_given files = record { files = files; moments = []; target = unread }
+files_given files = record { files = files; moments = []; target = unread; seal = unsought }
 
 pub texts_shown : {T : Type 0} (gave : List Place → FilesRead → Type 0) (env : List (List ℕ × List ℕ)) (wanted : ProfileWanted) (texts : ProfileTexts) (files : FilesRead) (selected : Selected) (answer : Result T StreamFault) (before now : Option (List ℕ))
     → gave (source_places wanted.files texts) files → selection env wanted.service_id files ≡ Ok selected → Sends None (shown_settings selected) before now answer
     → GoesForTexts gave env wanted texts (ended answer) before now
 texts_shown gave env wanted texts files selected answer before now loads selects sends =
     (files_given files, loads, rw selects (text_goes (shown_settings selected) before now answer sends))
+
+-- what the outside gave for a record
+abbrev record_given : FilesRead → SealRead → Supplied
+record_given files seal = record { files = files; moments = []; target = unread; seal = seal }
+
+pub record_sealed : (gave : List Place → FilesRead → Type 0) (env : List (List ℕ × List ℕ)) (wanted : CheckWanted) (parts : RecordParts) (files : FilesRead) (selected : Selected) (seal : SealRead) (answer : Ending) (before now : Option (List ℕ))
+    → gave (source_places wanted.profile.files parts.texts) files → selection env wanted.profile.service_id files ≡ Ok selected → CarriesSeal parts.headers parts.target selected.region wanted.name seal
+    → GoesAsPlanned (sealed_plan (check_signer wanted selected) parts.chain seal) answer before now → GoesForRecord gave env wanted parts answer before now
+record_sealed gave env wanted parts files selected seal answer before now loads selects carries goes =
+    (record_given files seal, record { files = loads; seal = rw selects carries }, rw selects goes)
+
+pub record_unselected : (gave : List Place → FilesRead → Type 0) (env : List (List ℕ × List ℕ)) (wanted : CheckWanted) (parts : RecordParts) (files : FilesRead) (end : Ending) (held : Option (List ℕ))
+    → gave (source_places wanted.profile.files parts.texts) files → selection env wanted.profile.service_id files ≡ Err end → GoesForRecord gave env wanted parts end held held
+record_unselected gave env wanted parts files end held loads selects =
+    (record_given files unsought, record { files = loads; seal = rw selects tt }, rw selects (goes_stopped end held))
 
 pub texts_unselected : (gave : List Place → FilesRead → Type 0) (env : List (List ℕ × List ℕ)) (wanted : ProfileWanted) (texts : ProfileTexts) (files : FilesRead) (end : Ending) (held : Option (List ℕ))
     → gave (source_places wanted.files texts) files → selection env wanted.service_id files ≡ Err end → GoesForTexts gave env wanted texts end held held

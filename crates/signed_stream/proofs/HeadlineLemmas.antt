@@ -1,5 +1,5 @@
 -- A run that is done has streamed, and what is valid is done.
-use Rattle.std.proofs.Common.{◌≡◌, ◌==◌, ℕ, ◌+◌, ◌≤◌, ◌⊎◌, inl, inr, Bool, true, false, List, [], ◌∷◌, ◌++◌, Option, Some, None, option_map, nat_lt, length, refl, sym, subst, ◌∙◌, arith}
+use Rattle.std.proofs.Common.{◌≡◌, ◌==◌, ℕ, ◌+◌, ◌≤◌, ◌⊎◌, inl, inr, Bool, true, false, List, [], ◌∷◌, ◌++◌, Option, Some, None, option_map, nat_lt, length, refl, sym, ap, subst, ◌∙◌, arith}
 use Rattle.std.specs.Prelude.{if◌then◌else◌, Result, Ok, Err, IfOk, string_bytes}
 use Rattle.std.specs.Option.{option_or}
 use Rattle.std.proofs.lemmas.Bool.{eqb-true}
@@ -10,6 +10,7 @@ use Rattle.smithy_core.specs.Outside.{Gains}
 use Rattle.smithy_core.specs.Message.{Parts}
 use Rattle.smithy_core.specs.declared.request.HttpRequest.{HttpRequest}
 use Rattle.smithy_http.specs.Target.{Target}
+use Rattle.sigv4.specs.Query.{Pair}
 use Rattle.sigv4.specs.Request.{Case}
 use Rattle.sigv4.specs.Refusal.{unfit, unfit_signed_target}
 use Rattle.sigv4.specs.Signed.{signature_of}
@@ -20,15 +21,23 @@ use Rattle.env_config.specs.Sections.{FileText}
 use Rattle.signed_stream.specs.declared.form.Form.{Form}
 use Rattle.signed_stream.specs.declared.status.StreamFault.{StreamFault}
 use Rattle.signed_stream.specs.Case.{job_case, request_moment}
-use Rattle.chain_check.specs.Chain.{IsChained}
+use Rattle.chain_check.specs.Chain.{IsChainOf, IsChained}
+use Rattle.chain_check.proofs.AcceptedLemmas.{accepted_chain}
 use Rattle.signed_stream.specs.Chain.{Refusal, first_refusal}
-use Rattle.signed_stream.specs.Command.{Command, Wanted, bad_word, generate, show_settings, stream, unbuilt_word}
+use Rattle.signed_stream.specs.CheckRecord.{CarriesSeal, GaveRecord, GaveRecordParts, IsSound, check_plan, check_signer, checked_plan, sealed_plan, shown_events}
+use Rattle.signed_stream.specs.Command.{CheckWanted, Command, Wanted, bad_word, check_record, generate, show_settings, stream, unbuilt_word}
 use Rattle.signed_stream.specs.Generate.{generate_plan, shown_stream}
 use Rattle.signed_stream.specs.Generator.{drawn_events}
 use Rattle.signed_stream.specs.ProfileOptions.{ProfileWanted}
 use Rattle.signed_stream.specs.Job.{JobParts, job}
-use Rattle.signed_stream.specs.Plan.{EndsAsPlanned, FilesRead, GoesAsPlanned, Plan, TargetSpells, Supplied, TargetRead, accepted, loaded, most_input, stops, unaccepted, unloaded, unread, unreadable, writes}
+use Rattle.signed_stream.specs.Plan.{EndsAsPlanned, FilesRead, GoesAsPlanned, Plan, SealRead, sealed_over, unsealed, unsought, TargetSpells, Supplied, TargetRead, accepted, loaded, most_input, stops, unaccepted, unloaded, unread, unreadable, writes}
 use Rattle.signed_stream.specs.ProfileTexts.{ProfileTexts, profile_texts}
+use Rattle.request_check.specs.Sealed.{SealParts}
+use Rattle.chain_check.specs.Walk.{chain_events}
+use Rattle.chain_check.specs.declared.chain_fault.ChainFault.{ChainFault}
+use Rattle.eventstream.specs.Key.{Signer}
+use Rattle.signed_stream.specs.Record.{RecordParts, spelled_record}
+use Rattle.signed_stream.proofs.RecordLemmas.{spelled_bytes}
 use Rattle.signed_stream.specs.Running.{CanBeDone, Completes, HasDone, RunsAsPlanned, command_plan}
 use Rattle.signed_stream.specs.Settings.{Selected, settings}
 use Rattle.signed_stream.specs.ShowSettings.{GaveTexts, IsShowable, settings_plan, shown_plan}
@@ -217,6 +226,50 @@ done_texts gave env wanted bytes (Ok texts) given before now short spelled found
     } in
     (input, has.goes.gains)
 
+-- an input whose record passes
+abbrev HasChecked : (List Place → FilesRead → Type 0) → List (List ℕ × List ℕ) → CheckWanted → List ℕ → Supplied → Option (List ℕ) → Option (List ℕ) → Type 0
+HasChecked gave env wanted bytes given before now =
+    (input : IsSound gave env wanted bytes given) × IsChainOf (check_signer wanted input.selected) input.signature input.read.chain input.events × Gains before now (shown_events input.events)
+
+-- a chain that passes over a seal
+record HasPassed (signer : Signer) (chain : List ℕ) (seal : SealRead) (before now : Option (List ℕ)) : Type 0 where
+  signature : List ℕ
+  events : List Parts
+  sealed : seal ≡ sealed_over signature
+  chained : chain_events signer signature chain ≡ Ok events
+  gains : Gains before now (shown_events events)
+
+done_seal : (signer : Signer) (chain : List ℕ) (seal : SealRead) (before now : Option (List ℕ)) → GoesAsPlanned (sealed_plan signer chain seal) done before now → HasPassed signer chain seal before now
+done_seal signer chain unsought before now goes = absurd (stops_undone _ before now (λ e. cc) goes)
+done_seal signer chain unsealed before now goes = absurd (stops_undone _ before now (λ e. cc) goes)
+done_seal signer chain (sealed_over signature) before now goes = by_events (chain_events signer signature chain) refl goes
+  where
+    by_events : (outcome : Result (List Parts) ChainFault) → chain_events signer signature chain ≡ outcome → GoesAsPlanned (checked_plan outcome) done before now → HasPassed signer chain (sealed_over signature) before now
+    by_events (Ok events) is goes = record { signature = signature; events = events; sealed = refl; chained = is; gains = goes.gains }
+    by_events (Err told) is goes = absurd (stops_undone _ before now (λ e. cc) goes)
+
+done_record : (gave : List Place → FilesRead → Type 0) (env : List (List ℕ × List ℕ)) (wanted : CheckWanted) (bytes : List ℕ) (reading : Result RecordParts ℕ) (given : Supplied) (before now : Option (List ℕ))
+    → length bytes ≤ most_input → spelled_record bytes ≡ reading → GaveRecord gave env wanted reading given → GoesAsPlanned (check_plan env wanted given reading) done before now → HasChecked gave env wanted bytes given before now
+done_record gave env wanted bytes (Err place) given before now short spelled found goes = absurd (stops_undone _ before now (λ e. cc) goes)
+done_record gave env wanted bytes (Ok parts) given before now short spelled found goes =
+    let has = done_files env wanted.profile.service_id given.files (λ selected. sealed_plan (check_signer wanted selected) parts.chain given.seal) before now goes in
+    let passed = done_seal (check_signer wanted has.selected) parts.chain given.seal before now has.goes in
+    let input : IsSound gave env wanted bytes given = record {
+      read = parts;
+      texts = has.texts;
+      selected = has.selected;
+      signature = passed.signature;
+      events = passed.events;
+      short = short;
+      spelled = spelled;
+      supplied = found;
+      files = has.all;
+      settled = has.settled;
+      sealed = passed.sealed;
+      chained = passed.chained;
+    } in
+    (input, accepted_chain _ passed.signature parts.chain passed.events (spelled_bytes bytes parts spelled) passed.chained, passed.gains)
+
 -- a run that is done has done what it was asked
 has_done : (gave : List Place → FilesRead → Type 0) (env : List (List ℕ × List ℕ)) (command : Command) (bytes : List ℕ) (given : Supplied) (before now : Option (List ℕ)) → RunsAsPlanned gave env command bytes given done before now
     → HasDone gave env command bytes given before now
@@ -235,6 +288,12 @@ has_done gave env (show_settings wanted) bytes given before now runs = by_length
         → GoesAsPlanned (if large then stops job_too_large else settings_plan env wanted given (profile_texts bytes)) done before now → HasShown gave env wanted bytes given before now
     by_length true is goes = absurd (stops_undone _ before now (λ e. cc) goes)
     by_length false is goes = done_texts gave env wanted bytes (profile_texts bytes) given before now (grind (arith, nat_tests)) refl runs.supplied goes
+has_done gave env (check_record wanted) bytes given before now runs = by_length (nat_lt most_input (length bytes)) refl runs.goes
+  where
+    by_length : (large : Bool) → nat_lt most_input (length bytes) ≡ large
+        → GoesAsPlanned (if large then stops job_too_large else check_plan env wanted given (spelled_record bytes)) done before now → HasChecked gave env wanted bytes given before now
+    by_length true is goes = absurd (stops_undone _ before now (λ e. cc) goes)
+    by_length false is goes = done_record gave env wanted bytes (spelled_record bytes) given before now (grind (arith, nat_tests)) refl runs.supplied goes
 has_done gave env (generate seed count) bytes given before now runs = runs.goes.gains
 
 pub has_done_where : (gave : List Place → FilesRead → Type 0) (env : List (List ℕ × List ℕ)) (command : Command) (bytes : List ℕ) (given : Supplied) (answer : Ending) (before now : Option (List ℕ)) → answer ≡ done
@@ -307,6 +366,29 @@ completes_job gave env wanted bytes given other later answer input files moments
 generated_completes : (seed count : ℕ) (answer : Ending) → EndsAsPlanned (generate_plan seed count) answer → Completes answer
 generated_completes seed count answer goes = written_completes (shown_stream (drawn_events count seed)) true answer goes
 
+-- the seal that a request carries is one
+seal_is : (headers : List Pair) (target region name : List ℕ) (seal : SealRead) (signature : List ℕ) → CarriesSeal headers target region name seal → CarriesSeal headers target region name (sealed_over signature)
+    → (seal ≡ unsought) ⊎ (seal ≡ sealed_over signature)
+seal_is headers target region name unsought signature told other = inl refl
+seal_is headers target region name unsealed signature told other = absurd (told other.0 other.1)
+seal_is headers target region name (sealed_over own) signature told other =
+    inr (ap sealed_over (sym told.2 ∙ sym (ap (λ (seal : SealParts). seal.signature) (told.3 other.0 other.1)) ∙ other.2))
+
+-- what passes completes
+completes_record : (gave : List Place → FilesRead → Type 0) (env : List (List ℕ × List ℕ)) (wanted : CheckWanted) (bytes : List ℕ) (given other : Supplied) (answer : Ending) (input : IsSound gave env wanted bytes other)
+    → other.files ≡ given.files → GaveRecordParts gave env wanted input.read given → EndsAsPlanned (command_plan env (check_record wanted) bytes given) answer → Completes answer
+unfolding command_plan
+completes_record gave env wanted bytes given other answer input files found goes =
+    let large : nat_lt most_input (length bytes) ≡ false = (let short = input.short in grind (arith, nat_tests)) in
+    let are : given.files ≡ loaded input.texts = sym files ∙ input.files in
+    let told : CarriesSeal input.read.headers input.read.target input.selected.region wanted.name given.seal = rw (are, input.settled) at found.seal in
+    let carried : CarriesSeal input.read.headers input.read.target input.selected.region wanted.name (sealed_over input.signature) = rw (input.files, input.settled, input.sealed) at input.supplied.seal in
+    by_seal (seal_is input.read.headers input.read.target input.selected.region wanted.name given.seal input.signature told carried) (rw (large, input.spelled, are, input.settled) at goes)
+  where
+    by_seal : (given.seal ≡ unsought) ⊎ (given.seal ≡ sealed_over input.signature) → EndsAsPlanned (sealed_plan (check_signer wanted input.selected) input.read.chain given.seal) answer → Completes answer
+    by_seal (inl is) goes = stopped_completes answer (rw is at goes)
+    by_seal (inr is) goes = written_completes (shown_events input.events) true answer (rw (is, input.chained) at goes)
+
 -- what can be done with these files is done
 pub completes : (gave : List Place → FilesRead → Type 0) (env : List (List ℕ × List ℕ)) (command : Command) (bytes : List ℕ) (given other : Supplied) (later : List Instant) (answer : Ending) (before now : Option (List ℕ))
     → RunsAsPlanned gave env command bytes given answer before now → other.files ≡ given.files → other.moments ≡ given.moments ++ later → CanBeDone gave env command bytes other → Completes answer
@@ -316,6 +398,9 @@ completes gave env (unbuilt_word place) bytes given other later answer before no
 completes gave env (stream wanted) bytes given other later answer before now runs files moments can =
     let found : GaveJob gave wanted can.read given = rw can.spelled at runs.supplied in
     completes_job gave env wanted bytes given other later answer can files moments found runs.goes.ends
+completes gave env (check_record wanted) bytes given other later answer before now runs files moments can =
+    let found : GaveRecordParts gave env wanted can.read given = rw can.spelled at runs.supplied in
+    completes_record gave env wanted bytes given other answer can files found runs.goes.ends
 completes gave env (generate seed count) bytes given other later answer before now runs files moments can = generated_completes seed count answer runs.goes.ends
 completes gave env (show_settings wanted) bytes given other later answer before now runs files moments can = completes_shown gave env wanted bytes given other answer can files runs.goes.ends
 

@@ -55,7 +55,7 @@ lines_last (b ∷ c ∷ bytes) some none = by_lf (lines_last (c ∷ bytes) (omeg
     by_lf again false h = ap (onto_first_line b) (again (omega arith))
 
 -- no bytes are no lines
-lines_end : (bytes : List ℕ) → length bytes ≡ 0 → job_lines bytes ≡ []
+pub lines_end : (bytes : List ℕ) → length bytes ≡ 0 → job_lines bytes ≡ []
 unfolding job_lines
 lines_end [] none = refl
 lines_end (b ∷ bytes) none = absurd (omega arith)

@@ -19,23 +19,27 @@ use Rattle.env_config.specs.Files.{Place}
 use Rattle.sigv4.specs.Request.{Case}
 use Rattle.sigv4.specs.Signed.{signature_of}
 use Rattle.signed_stream.specs.declared.form.Form.{Form}
-use Rattle.signed_stream.specs.Carriers.{GoesForBytes, GoesForInput, GoesForJob, GoesForTexts, IsAfterInput}
+use Rattle.signed_stream.specs.Carriers.{GoesForBytes, GoesForInput, GoesForJob, GoesForRecord, GoesForTexts, IsAfterInput}
 use Rattle.signed_stream.specs.Case.{job_case, request_moment}
 use Rattle.signed_stream.specs.Chain.{Refusal, fault_at, first_refusal, outside_years, refusal_at, unframed_at, unlinked}
-use Rattle.signed_stream.specs.Command.{Command, Wanted, bad_word, generate, show_settings, stream, unbuilt_word}
+use Rattle.signed_stream.specs.CheckRecord.{GaveRecord, check_plan, check_signer, checked_plan, sealed_plan, shown_events}
+use Rattle.signed_stream.specs.Command.{CheckWanted, Command, Wanted, bad_word, check_record, generate, show_settings, stream, unbuilt_word}
 use Rattle.signed_stream.specs.Generate.{generate_plan, shown_stream}
 use Rattle.signed_stream.specs.Generator.{drawn_events}
 use Rattle.signed_stream.specs.ProfileOptions.{ProfileWanted}
 use Rattle.signed_stream.specs.Job.{JobParts, job}
-use Rattle.signed_stream.specs.Plan.{EndsAsPlanned, FilesRead, GainsAsPlanned, GoesAsPlanned, Plan, Supplied, TargetRead, accepted, plan_end, most_input, stops, unaccepted, unloaded, unread, writes}
+use Rattle.signed_stream.specs.Plan.{EndsAsPlanned, FilesRead, GainsAsPlanned, GoesAsPlanned, Plan, SealRead, Supplied, sealed_over, unsealed, TargetRead, accepted, plan_end, most_input, stops, unaccepted, unloaded, unread, unsought, writes}
 use Rattle.signed_stream.specs.ProfileTexts.{ProfileTexts, profile_texts}
+use Rattle.chain_check.specs.Walk.{chain_events}
+use Rattle.chain_check.specs.declared.chain_fault.ChainFault.{ChainFault}
+use Rattle.signed_stream.specs.Record.{RecordParts, spelled_record}
 use Rattle.signed_stream.specs.Running.{EndsAsAsked, Gave, IsOfCommand, KeepsOutput, OfClock, RunsAsPlanned, TakesMoments, TellsInput, Unless, UnlessCommand, When, comes_late, command_plan, may_be_in_years, may_be_of_frame, read_plan, reads_input}
 use Rattle.signed_stream.specs.Settings.{Selected}
 use Rattle.signed_stream.specs.ShowSettings.{GaveTexts, settings_plan, shown_plan}
 use Rattle.signed_stream.specs.Shown.{shown_settings}
 use Rattle.signed_stream.specs.Sign.{case_fault}
 use Rattle.signed_stream.specs.Sources.{selection, when_selected}
-use Rattle.signed_stream.specs.Status.{Ending, RunFault, bad_job, bad_words, could_not_read_file, done, header_value_too_long, headers_too_long, invalid_header_name_length, job_too_large, message_too_long, moment_out_of_range, no_memory, not_built, output_fault, payload_too_long, read_fault, refused, timestamp_value_too_large}
+use Rattle.signed_stream.specs.Status.{Ending, RunFault, bad_job, bad_words, check_failed, could_not_read_file, done, header_value_too_long, headers_too_long, invalid_header_name_length, job_too_large, message_too_long, moment_out_of_range, no_memory, not_built, output_fault, payload_too_long, read_fault, refused, timestamp_value_too_large}
 use Rattle.signed_stream.specs.Stream.{GaveReading, case_plan, job_plan, request_plan, selected_plan, target_plan}
 use Rattle.signed_stream.specs.Written.{case_refusal, written_end, written_until}
 
@@ -71,6 +75,7 @@ keeps_same late (bad_words place) before now same = same
 keeps_same late job_too_large before now same = same
 keeps_same late (bad_job place) before now same = same
 keeps_same late read_fault before now same = same
+keeps_same late (check_failed fault) before now same = same
 keeps_same late (could_not_read_file path) before now same = same
 keeps_same late (not_built place) before now same = same
 
@@ -214,6 +219,7 @@ keeps_later false (bad_words place) before now keeps = keeps
 keeps_later false job_too_large before now keeps = keeps
 keeps_later false (bad_job place) before now keeps = keeps
 keeps_later false read_fault before now keeps = keeps
+keeps_later false (check_failed fault) before now keeps = keeps
 keeps_later false (could_not_read_file path) before now keeps = keeps
 keeps_later false (not_built place) before now keeps = keeps
 
@@ -246,6 +252,25 @@ keeps_texts : (env : List (List ℕ × List ℕ)) (wanted : ProfileWanted) (give
 keeps_texts env wanted given answer before now (Ok texts) goes = keeps_shown wanted answer before now (selection env wanted.service_id given.files) goes
 keeps_texts env wanted given answer before now (Err place) goes = keeps_same (comes_late (show_settings wanted)) answer before now goes.gains
 
+keeps_checked : (wanted : CheckWanted) (answer : Ending) (before now : Option (List ℕ)) (outcome : Result (List Parts) ChainFault) → GoesAsPlanned (checked_plan outcome) answer before now → KeepsOutput (comes_late (check_record wanted)) answer before now
+keeps_checked wanted answer before now (Ok events) goes = keeps_written (comes_late (check_record wanted)) (shown_events events) done answer before now tt goes
+keeps_checked wanted answer before now (Err told) goes = keeps_same (comes_late (check_record wanted)) answer before now goes.gains
+
+keeps_sealed : (wanted : CheckWanted) (signer : Signer) (chain : List ℕ) (seal : SealRead) (answer : Ending) (before now : Option (List ℕ)) → GoesAsPlanned (sealed_plan signer chain seal) answer before now → KeepsOutput (comes_late (check_record wanted)) answer before now
+keeps_sealed wanted signer chain unsought answer before now goes = keeps_same (comes_late (check_record wanted)) answer before now goes.gains
+keeps_sealed wanted signer chain unsealed answer before now goes = keeps_same (comes_late (check_record wanted)) answer before now goes.gains
+keeps_sealed wanted signer chain (sealed_over signature) answer before now goes = keeps_checked wanted answer before now (chain_events signer signature chain) goes
+
+keeps_record : (env : List (List ℕ × List ℕ)) (wanted : CheckWanted) (given : Supplied) (answer : Ending) (before now : Option (List ℕ)) (reading : Result RecordParts ℕ)
+    → GoesAsPlanned (check_plan env wanted given reading) answer before now → KeepsOutput (comes_late (check_record wanted)) answer before now
+keeps_record env wanted given answer before now (Ok parts) goes = by_selection (selection env wanted.profile.service_id given.files) goes
+  where
+    by_selection : (outcome : Result Selected Ending) → GoesAsPlanned (when_selected (λ selected. sealed_plan (check_signer wanted selected) parts.chain given.seal) outcome) answer before now
+        → KeepsOutput (comes_late (check_record wanted)) answer before now
+    by_selection (Ok selected) goes = keeps_sealed wanted (check_signer wanted selected) parts.chain given.seal answer before now goes
+    by_selection (Err end) goes = keeps_same (comes_late (check_record wanted)) answer before now goes.gains
+keeps_record env wanted given answer before now (Err place) goes = keeps_same (comes_late (check_record wanted)) answer before now goes.gains
+
 pub keeps_generated : (seed count : ℕ) (answer : Ending) (before now : Option (List ℕ)) → GoesAsPlanned (generate_plan seed count) answer before now → KeepsOutput (comes_late (generate seed count)) answer before now
 keeps_generated seed count answer before now goes = keeps_written (comes_late (generate seed count)) (shown_stream (drawn_events count seed)) done answer before now tt goes
 
@@ -255,13 +280,14 @@ keeps_bytes gave clock env (bad_word place) bytes answer before now found = keep
 keeps_bytes gave clock env (unbuilt_word place) bytes answer before now found = keeps_same (comes_late (unbuilt_word place)) answer before now found.goes.gains
 keeps_bytes gave clock env (stream wanted) bytes answer before now found = keeps_reading gave clock env wanted found.given answer before now (job bytes) found.moments found.goes
 keeps_bytes gave clock env (show_settings wanted) bytes answer before now found = keeps_texts env wanted found.given answer before now (profile_texts bytes) found.goes
+keeps_bytes gave clock env (check_record wanted) bytes answer before now found = keeps_record env wanted found.given answer before now (spelled_record bytes) found.goes
 keeps_bytes gave clock env (generate seed count) bytes answer before now found = keeps_generated seed count answer before now found.goes
 
 -- ## The bytes of the input
 
 -- what the outside gave where neither files nor target were read, and no moment was taken
 abbrev pub nothing_given : Supplied
-nothing_given = record { files = unloaded; moments = []; target = unread }
+nothing_given = record { files = unloaded; moments = []; target = unread; seal = unsought }
 
 -- no moment stands in no list
 pub no_moment : (front : List Instant) (t : Instant) (rest : List Instant) → [] ≡ front ++ t ∷ rest → ⊥
@@ -292,19 +318,25 @@ module _ (gave : List Place → FilesRead → Type 0) (free : (places : List Pla
   takes_none (unbuilt_word place) = (refl, unasked)
   takes_none (show_settings wanted) = (refl, unasked)
   takes_none (generate seed count) = (refl, unasked)
+  takes_none (check_record wanted) = (refl, unasked)
   takes_none (stream wanted) = unasked_at clock unasked wanted.at
 
   -- an outside that has given nothing, which is always so
-  gave_nothing : (command : Command) (bytes : List ℕ) → Gave gave command bytes nothing_given
-  gave_nothing (bad_word place) bytes = tt
-  gave_nothing (unbuilt_word place) bytes = tt
-  gave_nothing (generate seed count) bytes = tt
-  gave_nothing (stream wanted) bytes = by_reading (job bytes)
+  gave_nothing : (env : List (List ℕ × List ℕ)) (command : Command) (bytes : List ℕ) → Gave gave env command bytes nothing_given
+  gave_nothing env (bad_word place) bytes = tt
+  gave_nothing env (unbuilt_word place) bytes = tt
+  gave_nothing env (generate seed count) bytes = tt
+  gave_nothing env (stream wanted) bytes = by_reading (job bytes)
     where
       by_reading : (reading : Result JobParts ℕ) → GaveReading gave wanted reading nothing_given
       by_reading (Ok j) = record { files = free _; target = tt }
       by_reading (Err place) = tt
-  gave_nothing (show_settings wanted) bytes = by_reading (profile_texts bytes)
+  gave_nothing env (check_record wanted) bytes = by_reading (spelled_record bytes)
+    where
+      by_reading : (reading : Result RecordParts ℕ) → GaveRecord gave env wanted reading nothing_given
+      by_reading (Ok parts) = record { files = free _; seal = tt }
+      by_reading (Err place) = tt
+  gave_nothing env (show_settings wanted) bytes = by_reading (profile_texts bytes)
     where
       by_reading : (reading : Result ProfileTexts ℕ) → GaveTexts gave wanted reading nothing_given
       by_reading (Ok texts) = free _
@@ -313,7 +345,7 @@ module _ (gave : List Place → FilesRead → Type 0) (free : (places : List Pla
   pub bytes_no_memory : (env : List (List ℕ × List ℕ)) (command : Command) (bytes : List ℕ) (held : Option (List ℕ)) → GoesForBytes gave clock env command bytes no_memory held held
   bytes_no_memory env command bytes held = record {
     given = nothing_given;
-    found = gave_nothing command bytes;
+    found = gave_nothing env command bytes;
     moments = takes_none command;
     goes = goes_no_memory (read_plan env command bytes nothing_given) held;
     needed = λ front t rest is. absurd (no_moment front t rest is);
@@ -351,6 +383,28 @@ module _ (gave : List Place → FilesRead → Type 0) (free : (places : List Pla
     needed = λ front t rest is. absurd (no_moment front t rest is);
   }
 
+  -- as planned for an input that is no record
+  pub record_is_bad : (env : List (List ℕ × List ℕ)) (wanted : CheckWanted) (bytes : List ℕ) (place : ℕ) (held : Option (List ℕ)) → spelled_record bytes ≡ Err place
+      → GoesForBytes gave clock env (check_record wanted) bytes (bad_job place) held held
+  record_is_bad env wanted bytes place held is = record {
+    given = nothing_given;
+    found = rw is tt;
+    moments = (refl, unasked);
+    goes = rw is (goes_stopped (bad_job place) held);
+    needed = λ front t rest is. absurd (no_moment front t rest is);
+  }
+
+  -- as planned for a record that was read
+  pub record_was_read : (env : List (List ℕ × List ℕ)) (wanted : CheckWanted) (bytes : List ℕ) (parts : RecordParts) (answer : Ending) (before now : Option (List ℕ)) → spelled_record bytes ≡ Ok parts
+      → GoesForRecord gave env wanted parts answer before now → GoesForBytes gave clock env (check_record wanted) bytes answer before now
+  record_was_read env wanted bytes parts answer before now is goes = record {
+    given = record goes.0 { moments = [] };
+    found = rw is (record { files = goes.1.files; seal = goes.1.seal });
+    moments = (refl, unasked);
+    goes = rw is goes.2;
+    needed = λ front t rest is. absurd (no_moment front t rest is);
+  }
+
 -- ## The input
 
 -- an input that tells its bytes was read to its end
@@ -376,6 +430,7 @@ plan_of_read env command bytes given short = by_command command
     by_command (stream wanted) = rw within refl
     by_command (show_settings wanted) = rw within refl
     by_command (generate seed count) = refl
+    by_command (check_record wanted) = rw within refl
 
 -- an answer as planned for its bytes goes as planned for an input that was read to its end
 pub read_runs : (gave : List Place → FilesRead → Type 0) (clock : List Instant → Type 0) (env : List (List ℕ × List ℕ)) (command : Command) (left : Option (List ℕ)) (read : List ℕ) (answer : Ending) (before now : Option (List ℕ))
@@ -413,6 +468,7 @@ plan_too_large env command (Some told_bytes) bytes given is long told = by_comma
     by_command (bad_word place) is = cc
     by_command (unbuilt_word place) is = cc
     by_command (generate seed count) is = cc
+    by_command (check_record wanted) is = rw large refl
     by_command (stream wanted) is = rw large refl
     by_command (show_settings wanted) is = rw large refl
 
@@ -424,7 +480,7 @@ module _ (gave : List Place → FilesRead → Type 0) (free : (places : List Pla
     nothing_given,
     takes_none gave free clock unasked command,
     λ bytes told. record {
-      supplied = gave_nothing gave free clock unasked command bytes;
+      supplied = gave_nothing gave free clock unasked env command bytes;
       goes = goes bytes told;
       needed = λ front t rest is. absurd (no_moment front t rest is);
     },
@@ -475,6 +531,7 @@ holds_untouched (unbuilt_word place) P holds = holds
 holds_untouched (stream wanted) P holds = tt
 holds_untouched (show_settings wanted) P holds = tt
 holds_untouched (generate seed count) P holds = tt
+holds_untouched (check_record wanted) P holds = tt
 
 pub command_touches : (command : Command) (P : Type 0) → reads_input command ≡ true → UnlessCommand command P
 command_touches (bad_word place) P is = cc
@@ -482,6 +539,7 @@ command_touches (unbuilt_word place) P is = cc
 command_touches (stream wanted) P is = tt
 command_touches (show_settings wanted) P is = tt
 command_touches (generate seed count) P is = cc
+command_touches (check_record wanted) P is = tt
 
 -- what holds in any case
 pub holds_unless : (test : Bool) (P : Type 0) → P → Unless test P
@@ -505,6 +563,7 @@ asked_no_memory (unbuilt_word place) = inr refl
 asked_no_memory (stream wanted) = tt
 asked_no_memory (show_settings wanted) = tt
 asked_no_memory (generate seed count) = tt
+asked_no_memory (check_record wanted) = tt
 
 pub of_command : (command : Command) (end : Ending) → reads_input command ≡ true → IsOfCommand end → EndsAsAsked command end
 of_command (bad_word place) end is of = cc
@@ -512,12 +571,14 @@ of_command (unbuilt_word place) end is of = cc
 of_command (stream wanted) end is of = of
 of_command (show_settings wanted) end is of = of
 of_command (generate seed count) end is of = cc
+of_command (check_record wanted) end is of = of
 
 pub after_input : (end : Ending) → IsAfterInput end → IsOfCommand end
 after_input done of = tt
 after_input (bad_job place) of = tt
 after_input (could_not_read_file path) of = tt
 after_input (refused fault) of = tt
+after_input (check_failed fault) of = tt
 after_input output_fault of = tt
 after_input no_memory of = tt
 after_input (bad_words place) of = absurd of

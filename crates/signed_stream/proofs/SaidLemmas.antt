@@ -6,7 +6,7 @@ use Rattle.env_config.specs.Files.{Place}
 use Rattle.signed_stream.specs.Command.{Command}
 use Rattle.signed_stream.specs.Plan.{FilesRead, GainsAsPlanned, GoesAsPlanned, Plan, Supplied, stops, writes}
 use Rattle.signed_stream.specs.Running.{CountsReads, CountsWrites, EndsAsAsked, KeepsDisk, KeepsOutput, RunsAsPlanned, When, command_plan}
-use Rattle.signed_stream.specs.Status.{Ending, RunFault, bad_job, bad_words, could_not_read_file, done, job_too_large, no_memory, not_built, output_fault, read_fault, refused}
+use Rattle.signed_stream.specs.Status.{Ending, RunFault, bad_job, bad_words, check_failed, could_not_read_file, done, job_too_large, no_memory, not_built, output_fault, read_fault, refused}
 use Rattle.signed_stream.proofs.RunLemmas.{asked_no_memory, goes_no_memory}
 
 -- the answer is the end, or want of memory
@@ -28,6 +28,7 @@ cut_short (writes text whole) (bad_words place) before now gains = rw gains (pre
 cut_short (writes text whole) job_too_large before now gains = rw gains (prefix_at_start before text)
 cut_short (writes text whole) (bad_job place) before now gains = rw gains (prefix_at_start before text)
 cut_short (writes text whole) read_fault before now gains = rw gains (prefix_at_start before text)
+cut_short (writes text whole) (check_failed fault) before now gains = rw gains (prefix_at_start before text)
 cut_short (writes text whole) (could_not_read_file path) before now gains = rw gains (prefix_at_start before text)
 cut_short (writes text whole) (not_built place) before now gains = rw gains (prefix_at_start before text)
 
@@ -73,6 +74,7 @@ said_reads end answer before now (inl is) grew rose stayed = rw is (by_end end r
     by_end job_too_large rose stayed = stayed (λ e. cc)
     by_end (bad_job place) rose stayed = stayed (λ e. cc)
     by_end (refused fault) rose stayed = stayed (λ e. cc)
+    by_end (check_failed fault) rose stayed = stayed (λ e. cc)
     by_end output_fault rose stayed = stayed (λ e. cc)
     by_end (could_not_read_file path) rose stayed = stayed (λ e. cc)
     by_end (not_built place) rose stayed = stayed (λ e. cc)
@@ -90,6 +92,7 @@ said_writes end answer before now (inl is) grew rose stayed = rw is (by_end end 
     by_end (bad_job place) rose stayed = stayed (λ e. cc)
     by_end read_fault rose stayed = stayed (λ e. cc)
     by_end (refused fault) rose stayed = stayed (λ e. cc)
+    by_end (check_failed fault) rose stayed = stayed (λ e. cc)
     by_end (could_not_read_file path) rose stayed = stayed (λ e. cc)
     by_end (not_built place) rose stayed = stayed (λ e. cc)
 said_writes end answer before now (inr is) grew rose stayed = rw is grew

@@ -15,11 +15,16 @@ use Rattle.env_config.specs.Sections.{FaultyLine, FileText, Sections, sections}
 use Rattle.signed_stream.specs.declared.form.Form.{Form}
 use Rattle.signed_stream.specs.Case.{job_case, request_moment}
 use Rattle.signed_stream.specs.Chain.{Refusal}
-use Rattle.signed_stream.specs.Command.{Command, bad_word, generate, show_settings, stream, unbuilt_word, Wanted}
+use Rattle.signed_stream.specs.CheckRecord.{check_plan, check_signer, checked_plan, sealed_plan, shown_events}
+use Rattle.chain_check.specs.Walk.{chain_events}
+use Rattle.chain_check.specs.declared.chain_fault.ChainFault.{ChainFault}
+use Rattle.eventstream.specs.Key.{Signer}
+use Rattle.signed_stream.specs.Record.{RecordParts, spelled_record}
+use Rattle.signed_stream.specs.Command.{CheckWanted, Command, bad_word, check_record, generate, show_settings, stream, unbuilt_word, Wanted}
 use Rattle.signed_stream.specs.Job.{JobParts, job}
 use Rattle.signed_stream.specs.Generate.{shown_stream}
 use Rattle.signed_stream.specs.Generator.{drawn_events}
-use Rattle.signed_stream.specs.Plan.{EndsAsPlanned, FilesRead, Plan, TargetSpells, Supplied, TargetRead, accepted, loaded, most_input, stops, unaccepted, unloaded, unread, unreadable, writes}
+use Rattle.signed_stream.specs.Plan.{EndsAsPlanned, FilesRead, Plan, SealRead, sealed_over, unsealed, unsought, TargetSpells, Supplied, TargetRead, accepted, loaded, most_input, stops, unaccepted, unloaded, unread, unreadable, writes}
 use Rattle.signed_stream.specs.Running.{IfStreams, RunsAsPlanned, command_plan}
 use Rattle.signed_stream.specs.Settings.{Selected, selected_or_missing, settings, settings_from}
 use Rattle.signed_stream.specs.ShowSettings.{settings_plan, shown_plan}
@@ -153,6 +158,22 @@ shown_unrefused : (env : List (List ℕ × List ℕ)) (wanted : ProfileWanted) (
 shown_unrefused env wanted given (Err place) goes = other_stop _ (λ e. cc) goes
 shown_unrefused env wanted given (Ok texts) goes = selection_refused env wanted.service_id shown_plan ⊥ given.files (λ selected ends. written_unrefused (shown_settings selected) ends) goes
 
+-- nor is a record
+seal_unrefused : (signer : Signer) (chain : List ℕ) (seal : SealRead) → EndsAsPlanned (sealed_plan signer chain seal) (refused invalid_uri) → ⊥
+seal_unrefused signer chain unsought goes = other_stop _ (λ e. cc) goes
+seal_unrefused signer chain unsealed goes = other_stop _ (λ e. cc) goes
+seal_unrefused signer chain (sealed_over signature) goes = by_events (chain_events signer signature chain) goes
+  where
+    by_events : (outcome : Result (List Parts) ChainFault) → EndsAsPlanned (checked_plan outcome) (refused invalid_uri) → ⊥
+    by_events (Ok events) goes = written_unrefused (shown_events events) goes
+    by_events (Err told) goes = other_stop _ (λ e. cc) goes
+
+record_unrefused : (env : List (List ℕ × List ℕ)) (wanted : CheckWanted) (given : Supplied) (reading : Result RecordParts ℕ) → EndsAsPlanned (check_plan env wanted given reading) (refused invalid_uri) → ⊥
+record_unrefused env wanted given (Err place) goes = other_stop _ (λ e. cc) goes
+record_unrefused env wanted given (Ok parts) goes =
+    selection_refused env wanted.profile.service_id (λ selected. sealed_plan (check_signer wanted selected) parts.chain given.seal) ⊥ given.files
+    (λ selected ends. seal_unrefused (check_signer wanted selected) parts.chain given.seal ends) goes
+
 -- a run that is refused for its target has read a job whose target isn't accepted, or takes no parameters
 run_refused : (gave : List Place → FilesRead → Type 0) (env : List (List ℕ × List ℕ)) (command : Command) (bytes : List ℕ) (given : Supplied) (before now : Option (List ℕ))
     → RunsAsPlanned gave env command bytes given (refused invalid_uri) before now → IfStreams command (λ wanted. ReadsUnfitTarget wanted (job bytes))
@@ -169,6 +190,11 @@ run_refused gave env (show_settings wanted) bytes given before now runs = by_len
     by_length : (large : Bool) → EndsAsPlanned (if large then stops job_too_large else settings_plan env wanted given (profile_texts bytes)) (refused invalid_uri) → ⊥
     by_length true goes = other_stop _ (λ e. cc) goes
     by_length false goes = shown_unrefused env wanted given (profile_texts bytes) goes
+run_refused gave env (check_record wanted) bytes given before now runs = by_length (nat_lt most_input (length bytes)) runs.goes.ends
+  where
+    by_length : (large : Bool) → EndsAsPlanned (if large then stops job_too_large else check_plan env wanted given (spelled_record bytes)) (refused invalid_uri) → ⊥
+    by_length true goes = other_stop _ (λ e. cc) goes
+    by_length false goes = record_unrefused env wanted given (spelled_record bytes) goes
 run_refused gave env (generate seed count) bytes given before now runs = written_unrefused (shown_stream (drawn_events count seed)) runs.goes.ends
 
 pub run_refused_where : (gave : List Place → FilesRead → Type 0) (env : List (List ℕ × List ℕ)) (command : Command) (bytes : List ℕ) (given : Supplied) (answer : Ending) (before now : Option (List ℕ)) → answer ≡ refused invalid_uri

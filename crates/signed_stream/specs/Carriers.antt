@@ -3,16 +3,18 @@
 use Rattle.std.specs.Prelude.{◌≡◌, ℕ, List, Option, Result, Ok, Err}
 use Rattle.smithy_core.specs.Moment.{Instant}
 use Rattle.env_config.specs.Files.{Place}
-use Rattle.signed_stream.specs.Command.{Command, Wanted}
+use Rattle.signed_stream.specs.CheckRecord.{GaveRecord, check_plan}
+use Rattle.signed_stream.specs.Command.{CheckWanted, Command, Wanted}
 use Rattle.signed_stream.specs.ProfileOptions.{ProfileWanted}
 use Rattle.signed_stream.specs.Job.{JobParts}
 use Rattle.signed_stream.specs.Plan.{FilesRead, GoesAsPlanned, IsNeeded, Plan, Supplied}
 use Rattle.signed_stream.specs.ProfileTexts.{ProfileTexts}
+use Rattle.signed_stream.specs.Record.{RecordParts}
 use Rattle.signed_stream.specs.Running.{Gave, OfClock, RunsAsPlanned, TakesMoments, TellsInput, read_plan}
 use Rattle.signed_stream.specs.Settings.{Selected, selected_of}
 use Rattle.signed_stream.specs.ShowSettings.{GaveTexts, settings_plan}
 use Rattle.signed_stream.specs.Sources.{selection, source_places}
-use Rattle.signed_stream.specs.Status.{Ending, bad_job, could_not_read_file, done, ending_of, no_memory, output_fault, refused}
+use Rattle.signed_stream.specs.Status.{Ending, bad_job, check_failed, could_not_read_file, done, ending_of, no_memory, output_fault, refused}
 use Rattle.signed_stream.specs.Stream.{GaveJob, job_plan}
 use Rattle.signed_stream.specs.declared.settings.Settings.{Settings}
 use Rattle.signed_stream.specs.declared.status.Status.{Status}
@@ -29,7 +31,7 @@ pub record Goes (supplied : Supplied → Type 0) (taken : List Instant → Type 
 module _ (gave : List Place → FilesRead → Type 0) (clock : List Instant → Type 0) (env : List (List ℕ × List ℕ)) where
   -- as planned for what a command reads of these bytes
   abbrev pub GoesForBytes : Command → List ℕ → Ending → Option (List ℕ) → Option (List ℕ) → Type 0
-  GoesForBytes command bytes = Goes (Gave gave command bytes) (TakesMoments clock command) (λ given. read_plan env command bytes given)
+  GoesForBytes command bytes = Goes (Gave gave env command bytes) (TakesMoments clock command) (λ given. read_plan env command bytes given)
 
   -- as planned for what the outside gave for an input, where it tells its bytes
   abbrev pub GoesForInput : Command → Option (List ℕ) → Ending → Option (List ℕ) → Option (List ℕ) → Type 0
@@ -45,11 +47,17 @@ abbrev pub GoesForTexts : (List Place → FilesRead → Type 0) → List (List �
 GoesForTexts gave env wanted texts answer before now =
     (given : Supplied) × GaveTexts gave wanted (Ok texts) given × GoesAsPlanned (settings_plan env wanted given (Ok texts)) answer before now
 
+-- as planned for a record, which takes no moment
+abbrev pub GoesForRecord : (List Place → FilesRead → Type 0) → List (List ℕ × List ℕ) → CheckWanted → RecordParts → Ending → Option (List ℕ) → Option (List ℕ) → Type 0
+GoesForRecord gave env wanted parts answer before now =
+    (given : Supplied) × GaveRecord gave env wanted (Ok parts) given × GoesAsPlanned (check_plan env wanted given (Ok parts)) answer before now
+
 -- the ends once a job or texts were read
 abbrev pub IsAfterTexts : Ending → Type 0
 IsAfterTexts done = Unit {0}
 IsAfterTexts (could_not_read_file path) = Unit {0}
 IsAfterTexts (refused fault) = Unit {0}
+IsAfterTexts (check_failed fault) = Unit {0}
 IsAfterTexts output_fault = Unit {0}
 IsAfterTexts no_memory = Unit {0}
 IsAfterTexts end = ⊥

@@ -1,5 +1,5 @@
 -- The words of the command line.
-use Rattle.std.specs.Prelude.{ℕ, ◌+◌, Bool, true, false, not, ◌&&◌, if◌then◌else◌, List, [], ◌∷◌, codes, bytes_eq, Option, Some, None, is_some, ℤ}
+use Rattle.std.specs.Prelude.{ℕ, ◌+◌, Bool, true, false, not, ◌&&◌, if◌then◌else◌, List, [], ◌∷◌, codes, bytes_eq, Option, Some, None, is_some, option_map, ℤ}
 use Rattle.std.specs.List.{list_any}
 use Rattle.std.specs.Int.{w64}
 use Rattle.smithy_core.specs.Moment.{Instant}
@@ -11,6 +11,8 @@ use Rattle.aws_auth.specs.declared.options.SigningOptions.{SigningOptions}
 use Rattle.aws_auth.specs.declared.payload.PayloadSigningOverride.TheVariants.{UnsignedPayload}
 use Rattle.signed_stream.specs.Numbers.{natural_below, number}
 use Rattle.signed_stream.specs.ProfileOptions.{ProfileWanted, nothing_wanted, profile_option, names_file, stands, with_profile_option}
+use Rattle.signed_stream.specs.declared.command.check.CheckOption.{CheckOption}
+use Rattle.signed_stream.specs.declared.command.check.CheckOption.TheVariants.{Name as NameOfCheck, OfProfile as OfProfileOfCheck}
 use Rattle.signed_stream.specs.declared.command.options.Valued.{Valued}
 use Rattle.signed_stream.specs.declared.command.options.Valued.TheVariants.{Name, At, Expires, TokenName, Skew, OfProfile}
 use Rattle.signed_stream.specs.declared.command.profile.ProfileOption.{ProfileOption}
@@ -24,7 +26,7 @@ is_raw HexLines = false
 
 -- a command that isn't built
 abbrev pub is_later_command : List ℕ → Bool
-is_later_command word = list_any (bytes_eq word) (codes "check" ∷ codes "chunk" ∷ [])
+is_later_command word = list_any (bytes_eq word) (codes "chunk" ∷ [])
 
 -- what `stream` is asked for: the name of the service, the moment that all have, where it isn't the clock that gives them, how to sign, the name of the
 -- session token, by how many milliseconds the service's clock is ahead, in which form to write, and the profile
@@ -37,6 +39,11 @@ pub record Wanted : Type 0 where
   pub form : Form
   pub profile : ProfileWanted
 
+-- what `check` is asked for: the name of the service, and the profile
+pub record CheckWanted : Type 0 where
+  pub name : List ℕ
+  pub profile : ProfileWanted
+
 -- what the words ask for
 pub data Command : Type 0 where
   -- the word at this place is bad
@@ -47,6 +54,8 @@ pub data Command : Type 0 where
   stream : Wanted → Command
   -- to show what the profile gives
   show_settings : ProfileWanted → Command
+  -- to check a record
+  check_record : CheckWanted → Command
   -- to stream a generated job into memory and check it: with this seed so many events
   generate : ℕ → ℕ → Command
 
@@ -172,7 +181,7 @@ settings_command place profile None = show_settings profile
 settings_command place profile (Some option) = bad_word place
 
 -- goes on, where the word at a place isn't bad
-abbrev pub after_word : ℕ → (ProfileGiven → Command) → Option ProfileGiven → Command
+abbrev pub after_word : {A : Type 0} → ℕ → (A → Command) → Option A → Command
 after_word place others None = bad_word place
 after_word place others (Some given) = others given
 
@@ -180,6 +189,53 @@ after_word place others (Some given) = others given
 abbrev pub settings_from : ℕ → ProfileGiven → List (List ℕ) → Command
 settings_from place given [] = settings_command place given.profile given.awaited
 settings_from place given (word ∷ words) = after_word place (λ more. settings_from (place + 1) more words) (take_profile_word given given.awaited word)
+
+-- ## `check`
+
+-- what the words so far gave, and the option that waits for its value
+pub record CheckGiven : Type 0 where
+  pub name : Option (List ℕ)
+  pub profile : ProfileWanted
+  pub awaited : Option CheckOption
+
+-- no options
+abbrev pub no_check_given : CheckGiven
+no_check_given = record { name = None; profile = nothing_wanted; awaited = None }
+
+-- the option that a word names
+unfoldable pub check_option : List ℕ → Option CheckOption
+check_option word = if bytes_eq word (codes "--name") then Some NameOfCheck else option_map OfProfileOfCheck (profile_option word)
+
+-- the option stood
+abbrev pub stands_in_check : CheckGiven → CheckOption → Bool
+stands_in_check given NameOfCheck = is_some given.name
+stands_in_check given (OfProfileOfCheck option) = stands given.profile option
+
+-- what was given with an option of this value more
+abbrev pub with_check_option : CheckGiven → CheckOption → List ℕ → CheckGiven
+with_check_option given NameOfCheck value = record given { name = Some value; awaited = None }
+with_check_option given (OfProfileOfCheck option) value = record given { profile = with_profile_option given.profile option value; awaited = None }
+
+-- an option, which stands once
+abbrev pub await_check : CheckGiven → Option CheckOption → Option CheckGiven
+await_check given None = None
+await_check given (Some option) = if stands_in_check given option then None else Some (record given { awaited = Some option })
+
+-- a word: the value of the option that waits for one, or else an option; or it is bad
+abbrev pub take_check_word : CheckGiven → Option CheckOption → List ℕ → Option CheckGiven
+take_check_word given None word = await_check given (check_option word)
+take_check_word given (Some option) word = Some (with_check_option given option word)
+
+-- the words are over: the command, or the place after the last word
+abbrev pub check_command : ℕ → ProfileWanted → Option (List ℕ) → Option CheckOption → Command
+check_command place profile (Some name) None = check_record (record { name = name; profile = profile })
+check_command place profile None None = bad_word place
+check_command place profile name (Some option) = bad_word place
+
+-- the words from a place on, after those that gave this
+abbrev pub check_from : ℕ → CheckGiven → List (List ℕ) → Command
+check_from place given [] = check_command place given.profile given.name given.awaited
+check_from place given (word ∷ words) = after_word place (λ more. check_from (place + 1) more words) (take_check_word given given.awaited word)
 
 -- ## `gen`
 
@@ -212,6 +268,7 @@ command [] = bad_word 1
 command (word ∷ words) =
     if bytes_eq word (codes "stream") then options_from 2 no_options words
     else if bytes_eq word (codes "settings") then settings_from 2 no_profile_given words
+    else if bytes_eq word (codes "check") then check_from 2 no_check_given words
     else if bytes_eq word (codes "gen") then generator_from words
     else if is_later_command word then unbuilt_word 1
     else bad_word 1

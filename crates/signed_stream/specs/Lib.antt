@@ -1,6 +1,7 @@
 pub mod Carriers
 pub mod Case
 pub mod Chain
+pub mod CheckRecord
 pub mod Command
 pub mod Draft
 pub mod EventHeader
@@ -15,6 +16,7 @@ pub mod Options
 pub mod Plan
 pub mod ProfileOptions
 pub mod ProfileTexts
+pub mod Record
 pub mod Running
 pub mod Saying
 pub mod Sending

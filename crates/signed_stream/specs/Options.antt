@@ -1,17 +1,19 @@
 -- What the readers of the words answer.
 use Rattle.std.specs.Prelude.{◌≡◌, ℕ, Option, Some, None, option_map, Result, Ok, Err, string_bytes}
 use Rattle.std.specs.Option.{option_copied}
-use Rattle.signed_stream.specs.Command.{Command, bad_word, unbuilt_word, generate, stream, show_settings, Options, ProfileGiven, WordTaken, Wanted, options, ends}
+use Rattle.signed_stream.specs.Command.{CheckGiven, CheckWanted, Command, bad_word, check_record, unbuilt_word, generate, stream, show_settings, Options, ProfileGiven, WordTaken, Wanted, options, ends}
 use Rattle.signed_stream.specs.ProfileOptions.{profile_wanted}
 use Rattle.signed_stream.specs.declared.command.Command.{Command as Commanded}
 use Rattle.signed_stream.specs.declared.command.Command.TheVariants.{Generate, OfInput}
 use Rattle.signed_stream.specs.declared.command.InputCommand.{InputCommand}
-use Rattle.signed_stream.specs.declared.command.InputCommand.TheVariants.{Stream, Settings}
+use Rattle.signed_stream.specs.declared.command.InputCommand.TheVariants.{Check, Stream, Settings}
 use Rattle.signed_stream.specs.declared.command.generator.GeneratorWords.{GeneratorWords}
 use Rattle.signed_stream.specs.declared.command.WordsFault.{WordsFault}
 use Rattle.signed_stream.specs.declared.command.WordsFault.TheVariants.{BadWord, NotBuilt, NoMemory}
 use Rattle.signed_stream.specs.declared.command.options.StreamWords.{StreamWords}
 use Rattle.signed_stream.specs.declared.command.options.GivenOptions.{GivenOptions}
+use Rattle.signed_stream.specs.declared.command.check.CheckWords.{CheckWords}
+use Rattle.signed_stream.specs.declared.command.check.GivenCheck.{GivenCheck}
 use Rattle.signed_stream.specs.declared.command.profile.GivenProfile.{GivenProfile}
 use Rattle.signed_stream.specs.declared.command.profile.ProfileOptions.{ProfileOptions}
 use Rattle.signed_stream.specs.declared.streaming.StreamOptions.{StreamOptions}
@@ -36,10 +38,15 @@ pub record IsOptionsOf (words : StreamWords) (options : StreamOptions) : Type 0 
   pub token_name : option_map string_bytes options.token_name ≡ option_copied words.token_name
   pub skew_millis : options.skew_millis ≡ words.skew_millis
 
+-- what the words ask `check` for
+abbrev pub check_wanted : CheckWords → CheckWanted
+check_wanted words = record { name = words.name.now; profile = profile_wanted words.profile }
+
 -- the command that is asked for of the input
 abbrev pub input_commanded : InputCommand → Command
 input_commanded (Stream words) = stream (wanted_of words)
 input_commanded (Settings profile) = show_settings (profile_wanted profile)
+input_commanded (Check words) = check_record (check_wanted words)
 
 -- the command that is asked for
 abbrev pub commanded : Commanded → Command
@@ -61,6 +68,11 @@ ReadsWords command (Err fault) = TellsWordsFault command fault
 abbrev pub ReadsStream : Command → Result StreamWords WordsFault → Type 0
 ReadsStream command (Ok words) = command ≡ stream (wanted_of words)
 ReadsStream command (Err fault) = TellsWordsFault command fault
+
+-- the words of `check`, likewise
+abbrev pub ReadsCheck : Command → Result CheckWords WordsFault → Type 0
+ReadsCheck command (Ok words) = command ≡ check_record (check_wanted words)
+ReadsCheck command (Err fault) = TellsWordsFault command fault
 
 -- the words of `gen`, likewise
 abbrev pub ReadsGenerator : Command → Result GeneratorWords WordsFault → Type 0
@@ -102,3 +114,14 @@ TakesProfile step place now (Ok _) = step ≡ Some (profile_given now)
 TakesProfile step place now (Err (BadWord bad)) = (step ≡ None) × (bad ≡ place)
 TakesProfile step place now (Err (NotBuilt unbuilt)) = ⊥
 TakesProfile step place now (Err NoMemory) = Unit {0}
+
+-- what the words of `check` so far gave
+abbrev pub check_given : GivenCheck → CheckGiven
+check_given given = record { name = option_copied given.name; profile = profile_wanted given.profile; awaited = given.awaited }
+
+-- the word at a place of `check` is taken as the step says, or is bad; or memory ran out
+abbrev pub TakesCheck : Option CheckGiven → ℕ → GivenCheck → Result (Unit {0}) WordsFault → Type 0
+TakesCheck step place now (Ok _) = step ≡ Some (check_given now)
+TakesCheck step place now (Err (BadWord bad)) = (step ≡ None) × (bad ≡ place)
+TakesCheck step place now (Err (NotBuilt unbuilt)) = ⊥
+TakesCheck step place now (Err NoMemory) = Unit {0}

@@ -33,12 +33,23 @@ pub data FilesRead : Type 0 where
   -- the first that couldn't be read, by its path
   unreadable : List ℕ → FilesRead
 
+-- what seal a recorded request carries
+pub data SealRead : Type 0 where
+  -- it wasn't looked for
+  unsought : SealRead
+  -- none
+  unsealed : SealRead
+  -- one with this signature
+  sealed_over : List ℕ → SealRead
+
 -- what the outside gave in one call
 pub record Supplied : Type 0 where
   pub files : FilesRead
   -- the moments that were taken, in their order: the request's, those of the events, and the closing frame's
   pub moments : List Instant
   pub target : TargetRead
+  -- the seal that a record's request carries
+  pub seal : SealRead
 
 -- ## What a run is to do
 

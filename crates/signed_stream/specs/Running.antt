@@ -5,12 +5,15 @@ use Rattle.smithy_core.specs.Moment.{Instant}
 use Rattle.smithy_core.specs.Outside.{Gains, RoseOrStands}
 use Rattle.env_config.specs.Files.{Place}
 use Rattle.signed_stream.specs.Case.{request_moment}
-use Rattle.signed_stream.specs.Command.{Command, Wanted, bad_word, generate, show_settings, stream, unbuilt_word}
+use Rattle.chain_check.specs.Chain.{IsChainOf}
+use Rattle.signed_stream.specs.CheckRecord.{GaveRecord, IsSound, check_plan, check_signer, shown_events}
+use Rattle.signed_stream.specs.Command.{Command, Wanted, bad_word, check_record, generate, show_settings, stream, unbuilt_word}
 use Rattle.signed_stream.specs.Generate.{generate_plan, shown_stream}
 use Rattle.signed_stream.specs.Generator.{drawn_events}
 use Rattle.signed_stream.specs.Job.{job}
 use Rattle.signed_stream.specs.Plan.{FilesRead, GoesAsPlanned, IsNeeded, Plan, Supplied, stops, unless_large, unreadable}
 use Rattle.signed_stream.specs.ProfileTexts.{profile_texts}
+use Rattle.signed_stream.specs.Record.{spelled_record}
 use Rattle.signed_stream.specs.Saying.{Says}
 use Rattle.signed_stream.specs.ShowSettings.{GaveTexts, IsShowable, settings_plan}
 use Rattle.signed_stream.specs.Shown.{shown_settings}
@@ -20,12 +23,13 @@ use Rattle.signed_stream.specs.Stream.{GaveReading, IsStreamable, job_plan, stre
 -- ## The plan
 
 -- what the outside gave for an input's bytes; `gave` tells what the disk gave
-abbrev pub Gave : (List Place → FilesRead → Type 0) → Command → List ℕ → Supplied → Type 0
-Gave gave (bad_word place) bytes given = Unit {0}
-Gave gave (unbuilt_word place) bytes given = Unit {0}
-Gave gave (stream wanted) bytes given = GaveReading gave wanted (job bytes) given
-Gave gave (show_settings wanted) bytes given = GaveTexts gave wanted (profile_texts bytes) given
-Gave gave (generate seed count) bytes given = Unit {0}
+abbrev pub Gave : (List Place → FilesRead → Type 0) → List (List ℕ × List ℕ) → Command → List ℕ → Supplied → Type 0
+Gave gave env (bad_word place) bytes given = Unit {0}
+Gave gave env (unbuilt_word place) bytes given = Unit {0}
+Gave gave env (stream wanted) bytes given = GaveReading gave wanted (job bytes) given
+Gave gave env (show_settings wanted) bytes given = GaveTexts gave wanted (profile_texts bytes) given
+Gave gave env (check_record wanted) bytes given = GaveRecord gave env wanted (spelled_record bytes) given
+Gave gave env (generate seed count) bytes given = Unit {0}
 
 -- with what a command reads of an input's bytes
 abbrev pub read_plan : List (List ℕ × List ℕ) → Command → List ℕ → Supplied → Plan
@@ -33,6 +37,7 @@ read_plan env (bad_word place) bytes given = stops (bad_words place)
 read_plan env (unbuilt_word place) bytes given = stops (not_built place)
 read_plan env (stream wanted) bytes given = job_plan env wanted given (job bytes)
 read_plan env (show_settings wanted) bytes given = settings_plan env wanted given (profile_texts bytes)
+read_plan env (check_record wanted) bytes given = check_plan env wanted given (spelled_record bytes)
 read_plan env (generate seed count) bytes given = generate_plan seed count
 
 -- whether a command reads the input
@@ -70,7 +75,7 @@ TakesMoments clock command moments = (moments ≡ []) × clock []
 
 -- the outside gave this, the run went as planned for it, and took no moment that the plan didn't need
 pub record RunsAsPlanned (gave : List Place → FilesRead → Type 0) (env : List (List ℕ × List ℕ)) (command : Command) (bytes : List ℕ) (given : Supplied) (answer : Ending) (before now : Option (List ℕ)) : Type 0 where
-  pub supplied : Gave gave command bytes given
+  pub supplied : Gave gave env command bytes given
   pub goes : GoesAsPlanned (command_plan env command bytes given) answer before now
   pub needed : IsNeeded (λ moments. command_plan env command bytes (record given { moments = moments })) given.moments
 
@@ -166,15 +171,19 @@ KeepsDisk answer before now = Unit {0}
 abbrev pub NamesUnreadable : (List Place → FilesRead → Type 0) → Command → List ℕ → Type 0
 NamesUnreadable gave (stream wanted) path = gave wanted.profile.files (unreadable path)
 NamesUnreadable gave (show_settings wanted) path = gave wanted.files (unreadable path)
+NamesUnreadable gave (check_record wanted) path = gave wanted.profile.files (unreadable path)
 NamesUnreadable gave command path = ⊥
 
 -- ## The headline and completeness
 
 -- What a run that is done has done. The headline: where the words ask to stream, the input can be streamed, and the output gained exactly the head of the
--- signed request and then the chain of the events.
+-- signed request and then the chain of the events. Where they ask to check, the frames of the record are the chain of the events that are shown, over the
+-- signature of its request.
 abbrev pub HasDone : (List Place → FilesRead → Type 0) → List (List ℕ × List ℕ) → Command → List ℕ → Supplied → Option (List ℕ) → Option (List ℕ) → Type 0
 HasDone gave env (stream wanted) bytes given before now = (input : IsStreamable gave env wanted bytes given) × Gains before now (streamed input)
 HasDone gave env (show_settings wanted) bytes given before now = (input : IsShowable gave env wanted bytes given) × Gains before now (shown_settings input.selected)
+HasDone gave env (check_record wanted) bytes given before now =
+    (input : IsSound gave env wanted bytes given) × IsChainOf (check_signer wanted input.selected) input.signature input.read.chain input.events × Gains before now (shown_events input.events)
 HasDone gave env (generate seed count) bytes given before now = Gains before now (shown_stream (drawn_events count seed))
 HasDone gave env command bytes given before now = ⊥
 
@@ -182,6 +191,7 @@ HasDone gave env command bytes given before now = ⊥
 abbrev pub CanBeDone : (List Place → FilesRead → Type 0) → List (List ℕ × List ℕ) → Command → List ℕ → Supplied → Type 0
 CanBeDone gave env (stream wanted) bytes given = IsStreamable gave env wanted bytes given
 CanBeDone gave env (show_settings wanted) bytes given = IsShowable gave env wanted bytes given
+CanBeDone gave env (check_record wanted) bytes given = IsSound gave env wanted bytes given
 CanBeDone gave env (generate seed count) bytes given = Unit {0}
 CanBeDone gave env command bytes given = ⊥
 

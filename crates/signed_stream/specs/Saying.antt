@@ -3,7 +3,12 @@ use Rattle.std.specs.Prelude.{◌≡◌, ℕ, ◌⊎◌, List, [], ◌++◌, cod
 use Rattle.std.specs.Fmt.{decimal}
 use Rattle.smithy_core.specs.Outside.{Gains, GainsPrefix, GainsProperPrefix, RoseOrStands}
 use Rattle.smithy_core.specs.Text.{line}
-use Rattle.signed_stream.specs.Status.{Ending, done, bad_words, job_too_large, bad_job, read_fault, could_not_read_file, refused, output_fault, no_memory, not_built, RunFault, parse_error, missing_credentials, missing_signing_region, moment_out_of_range, invalid_uri, invalid_header_name, invalid_header_value, missing_host, invalid_token_name, missing_expires, invalid_header_name_length, header_value_too_long, timestamp_value_too_large, headers_too_long, payload_too_long, message_too_long, sink_fault, memory_fault}
+use Rattle.chain_check.specs.declared.chain_fault.ChainFault.TheVariants.{NotChain, Mismatch, NoMemory}
+use Rattle.chain_check.specs.declared.chain_fault.ChainPart.{ChainPart}
+use Rattle.chain_check.specs.declared.chain_fault.ChainPart.TheVariants.{NotFrame, Headers, Date, Inner, AfterClosing, NoClosing}
+use Rattle.signed_stream.specs.declared.status.CheckFault.{CheckFault}
+use Rattle.signed_stream.specs.declared.status.CheckFault.TheVariants.{NoSignature, Chain}
+use Rattle.signed_stream.specs.Status.{Ending, done, bad_words, job_too_large, bad_job, read_fault, could_not_read_file, refused, check_failed, output_fault, no_memory, not_built, RunFault, parse_error, missing_credentials, missing_signing_region, moment_out_of_range, invalid_uri, invalid_header_name, invalid_header_value, missing_host, invalid_token_name, missing_expires, invalid_header_name_length, header_value_too_long, timestamp_value_too_large, headers_too_long, payload_too_long, message_too_long, sink_fault, memory_fault}
 
 -- the number and the name of a fault
 abbrev pub fault_text : RunFault → List ℕ
@@ -26,6 +31,22 @@ fault_text (message_too_long place) = codes "16 MessageTooLong"
 fault_text sink_fault = codes "17 SinkFault"
 fault_text memory_fault = codes "18 NoMemory"
 
+-- what of a frame isn't as in a chain
+abbrev pub part_text : ChainPart → List ℕ
+part_text NotFrame = codes "NotFrame"
+part_text Headers = codes "Headers"
+part_text Date = codes "Date"
+part_text Inner = codes "Inner"
+part_text AfterClosing = codes "AfterClosing"
+part_text NoClosing = codes "NoClosing"
+
+-- the frame that isn't as in a chain, and what of it; the request counts as frame 0
+abbrev pub failed_at : CheckFault → ℕ × List ℕ
+failed_at NoSignature = (0, codes "NoSignature")
+failed_at (Chain (NotChain frame part)) = (frame, part_text part)
+failed_at (Chain (Mismatch frame carried recomputed)) = (frame, codes "Mismatch")
+failed_at (Chain NoMemory) = (0, codes "NoMemory")
+
 -- the line of an end, and nothing where the run is done
 abbrev pub ending_line : Ending → List ℕ
 ending_line done = []
@@ -35,6 +56,7 @@ ending_line (bad_job place) = line (codes "bad line " ++ decimal place)
 ending_line read_fault = line (codes "read fault")
 ending_line (could_not_read_file path) = line (codes "could not read file " ++ path)
 ending_line (refused fault) = line (codes "refused " ++ fault_text fault)
+ending_line (check_failed fault) = line (codes "check failed at frame " ++ (decimal (failed_at fault).0 ++ (codes " " ++ (failed_at fault).1)))
 ending_line output_fault = line (codes "output fault")
 ending_line no_memory = line (codes "no memory")
 ending_line (not_built place) = line (codes "not built " ++ decimal place)

@@ -8,6 +8,10 @@ use Rattle.env_config.specs.declared.load_fault.EnvConfigFileLoadError.{EnvConfi
 use Rattle.env_config.specs.declared.load_fault.EnvConfigFileLoadError.TheVariants as loads
 use Rattle.signed_stream.specs.declared.settings.SettingsFault.{SettingsFault}
 use Rattle.signed_stream.specs.declared.settings.SettingsFault.TheVariants as settings
+use Rattle.chain_check.specs.declared.chain_fault.ChainFault.{ChainFault}
+use Rattle.chain_check.specs.declared.chain_fault.ChainFault.TheVariants as chains
+use Rattle.signed_stream.specs.declared.status.CheckFault.{CheckFault}
+use Rattle.signed_stream.specs.declared.status.CheckFault.TheVariants as checks
 use Rattle.signed_stream.specs.declared.status.Status.{Status}
 use Rattle.signed_stream.specs.declared.status.Status.TheVariants as statuses
 use Rattle.signed_stream.specs.declared.status.StreamFault.{StreamFault}
@@ -52,6 +56,7 @@ pub data Ending : Type 0 where
   -- the file at this path
   could_not_read_file : List ℕ → Ending
   refused : RunFault → Ending
+  check_failed : CheckFault → Ending
   output_fault : Ending
   no_memory : Ending
   -- the word at this place
@@ -87,9 +92,15 @@ ending_of (statuses.BadJob place) = bad_job place
 ending_of statuses.ReadFault = read_fault
 ending_of (statuses.CouldNotReadFile path) = could_not_read_file (string_bytes path)
 ending_of (statuses.Refused fault) = refused (run_fault fault)
+ending_of (statuses.CheckFailed fault) = check_failed fault
 ending_of statuses.OutputFault = output_fault
 ending_of statuses.NoMemory = no_memory
 ending_of (statuses.NotBuilt place) = not_built place
+
+-- how a run ends whose record isn't a chain
+abbrev pub chain_ending : ChainFault → Ending
+chain_ending chains.NoMemory = no_memory
+chain_ending fault = check_failed (checks.Chain fault)
 
 -- how a run ends whose files aren't loaded
 abbrev pub load_ending : EnvConfigFileLoadError → Ending
@@ -113,6 +124,7 @@ exit_code (bad_job place) = 4
 exit_code read_fault = 5
 exit_code (could_not_read_file path) = 6
 exit_code (refused fault) = 7
+exit_code (check_failed fault) = 8
 exit_code output_fault = 9
 exit_code no_memory = 10
 exit_code (not_built place) = 11

@@ -153,9 +153,13 @@ fn fault_at(place: usize, reason: &ErrorKind) -> StreamFault
     }
 }
 
-// Writes the bytes of a frame in one piece.
+/// Writes the bytes of a frame in a form, in one piece.
+///
+/// # Errors
+///
+/// As those of [`write_text`].
 #[tactic(auto, using(smithy_core::proofs::GainLemmas::prefix_at_start), unfolding(crate::specs::Chain::frame_text))]
-fn write_frame<K: ByteSink>(
+pub fn write_frame<K: ByteSink>(
     alloc: Global,
     frame: &[u8],
     form: Form,

@@ -1,12 +1,15 @@
 ghost use Rattle.std.specs.Prelude.{map};
 ghost use Rattle.std.specs.String.{string_bytes};
-ghost use Rattle.signed_stream.specs.Command.{command, generator_from, no_options, no_profile_given, options_from, settings_from};
-ghost use Rattle.signed_stream.specs.Options.{ReadsProfile, ReadsStream, ReadsWords};
+ghost use Rattle.signed_stream.specs.Command.{command, check_from, generator_from, no_check_given, no_options, no_profile_given, options_from, settings_from};
+ghost use Rattle.signed_stream.specs.Options.{ReadsCheck, ReadsProfile, ReadsStream, ReadsWords};
 
+mod check;
 mod generator;
 mod options;
 mod profile;
 
+pub use crate::command::check::CheckWords;
+use crate::command::check::GivenCheck;
 pub use crate::command::generator::GeneratorWords;
 use crate::command::generator::read_generator;
 use crate::command::options::GivenOptions;
@@ -31,6 +34,8 @@ pub enum InputCommand<'a> {
     Stream(StreamWords<'a>),
     /// Shows what the profile gives.
     Settings(ProfileOptions<'a>),
+    /// Checks the record that the input spells.
+    Check(CheckWords<'a>),
 }
 
 /// Why words spell no command that is built.
@@ -70,7 +75,8 @@ pub fn read_words<'a>(alloc: Global, words: &'a [String]) -> Result<Command<'a>,
         "stream" => Ok(Command::OfInput(InputCommand::Stream(read_options(alloc, rest)?))),
         "settings" => Ok(Command::OfInput(InputCommand::Settings(read_profile(alloc, rest)?))),
         "gen" => Ok(Command::Generate(read_generator(rest)?)),
-        "check" | "chunk" => Err(WordsFault::NotBuilt(1)),
+        "check" => Ok(Command::OfInput(InputCommand::Check(read_check(alloc, rest)?))),
+        "chunk" => Err(WordsFault::NotBuilt(1)),
         _ => Err(WordsFault::BadWord(1)),
     }
 }
@@ -93,6 +99,19 @@ fn read_profile<'a>(alloc: Global, words: &'a [String]) -> Result<ProfileOptions
     ensures { ReadsProfile (settings_from 2 no_profile_given (map string_bytes words.now)) result }
 {
     let mut given = GivenProfile::new(alloc);
+    let mut place = 2;
+    for word in words {
+        given.take(place, word.as_str())?;
+        place += 1;
+    }
+    given.finish(place)
+}
+
+// What the words after `check` ask for.
+fn read_check<'a>(alloc: Global, words: &'a [String]) -> Result<CheckWords<'a>, WordsFault>
+    ensures { ReadsCheck (check_from 2 no_check_given (map string_bytes words.now)) result }
+{
+    let mut given = GivenCheck::new(alloc);
     let mut place = 2;
     for word in words {
         given.take(place, word.as_str())?;

@@ -3,6 +3,7 @@ ghost use Rattle.std.specs.String.{string_bytes};
 ghost use Rattle.signed_stream.specs.Job.{job, lines_from, no_draft};
 ghost use Rattle.signed_stream.specs.Lines.{job_lines, text_lines};
 ghost use Rattle.signed_stream.specs.Draft.{ReadsJob, TellsText, draft_of, job_parts};
+ghost use Rattle.signed_stream.specs.Record.{ReadsRecord, no_record, record_from, record_parts, spelled_record};
 ghost use Rattle.signed_stream.specs.ProfileTexts.{ReadsTexts, no_texts, profile_texts, texts_from};
 
 mod draft;
@@ -11,11 +12,14 @@ mod event_header;
 mod fault;
 mod lines;
 mod profile_texts;
+mod record;
 
 use crate::job::draft::Draft;
 pub use crate::job::fault::JobFault;
 use crate::job::lines::cut_line;
 pub use crate::job::profile_texts::ProfileTexts;
+pub use crate::job::record::RecordDraft;
+use crate::job::record::Stage;
 use crate::text::copy_of;
 use bytes::Bytes;
 use smithy_core::{HttpRequest, Mem, Message};
@@ -90,6 +94,18 @@ pub fn read_profile_texts(alloc: Global, bytes: &[u8]) -> Result<ProfileTexts, J
     read_texts(alloc, text_of(bytes)?)
 }
 
+/// The record that the bytes spell, behind profile texts.
+///
+/// # Errors
+///
+/// As those of [`read_job`].
+#[tactic(auto, unfolding(crate::specs::Record::spelled_record))]
+pub fn read_record(alloc: Global, bytes: &[u8]) -> Result<RecordDraft, JobFault>
+    ensures { ReadsRecord (spelled_record bytes.now) result }
+{
+    read_record_lines(alloc, text_of(bytes)?)
+}
+
 // The bytes as text.
 #[tactic(auto, unfolding(crate::specs::Lines::text_lines))]
 fn text_of(bytes: &[u8]) -> Result<&str, JobFault>
@@ -142,6 +158,34 @@ fn into_job(mut draft: Draft, place: usize) -> Result<Job, JobFault>
             credentials: draft.profile.credentials,
             events: draft.events,
         }),
+        _ => Err(JobFault::BadLine(place)),
+    }
+}
+
+fn read_record_lines(alloc: Global, text: &str) -> Result<RecordDraft, JobFault>
+    ensures { ReadsRecord (record_from 1 no_record (job_lines text.now)) result }
+{
+    let mut draft = RecordDraft::new(alloc);
+    let mut place = 1;
+    let mut rest = text;
+    while !rest.is_empty() {
+        let (line, others) = cut_line(rest);
+        if let Err(fault) = draft.take_line(alloc, line) {
+            return Err(fault.at(place));
+        }
+        rest = others;
+        place += 1;
+    }
+    whole_record(draft, place)
+}
+
+// The record, where the lines are over at the place.
+#[tactic(auto, unfolding(crate::specs::Record::record_parts))]
+fn whole_record(draft: RecordDraft, place: usize) -> Result<RecordDraft, JobFault>
+    ensures { ReadsRecord (record_from place (record_parts draft) []) result }
+{
+    match draft.stage {
+        Stage::Chain => Ok(draft),
         _ => Err(JobFault::BadLine(place)),
     }
 }

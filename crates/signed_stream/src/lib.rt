@@ -1,10 +1,11 @@
 //! Signs a request and streams its events as a chain of signed frames.
 //!
 //! The program is promised of [`run`]: where it answers [`Status::Done`], the output gained exactly the head of the
-//! signed request and then the chain of the events, or for `settings` what profile files and variables select; each
-//! other answer comes exactly where words, variables, input and files ask for it, or for a fault of the outside or want
+//! signed request and then the chain of the events, for `settings` what profile files and variables select, or for
+//! `check` the events of a record whose frames are the chain over the signature that its request carries; each other
+//! answer comes exactly where words, variables, input and files ask for it, or for a fault of the outside or want
 //! of memory; and what output and `err` gained after each (`specs/Running.antt`, and below it `specs/Plan.antt`,
-//! `specs/Sources.antt`, `specs/Stream.antt` and `specs/ShowSettings.antt`).
+//! `specs/Sources.antt`, `specs/Stream.antt`, `specs/ShowSettings.antt` and `specs/CheckRecord.antt`).
 //!
 //! A program that has a request and its events in memory calls [`sign_and_stream`], which is promised the same of the
 //! sink and of the clock's moments, and answers the signed request (`specs/Streaming.antt`).
@@ -14,6 +15,7 @@
 #![tactic(auto)]
 
 mod chain;
+mod check_record;
 mod command;
 mod form;
 mod generate;
@@ -38,5 +40,7 @@ pub use crate::job::{Job, JobFault, read_job};
 pub use crate::running::run;
 pub use crate::saying::say;
 pub use crate::settings::{Settings, SettingsFault, read_settings};
-pub use crate::status::{Status, StreamFault};
+pub use crate::status::{CheckFault, Status, StreamFault};
 pub use crate::streaming::{StreamOptions, sign_and_stream};
+pub use chain_check::{ChainFault, ChainPart, check_chain};
+pub use request_check::{CheckRequestFault, Checked, check_request};

@@ -12,9 +12,10 @@ ghost use Rattle.signed_stream.specs.Sources.{DiskGives};
 ghost use Rattle.signed_stream.specs.Status.{could_not_read_file, done, ending_of, invalid_uri, output_fault, read_fault, refused};
 ghost use Rattle.signed_stream.specs.Stream.{ReadsUnfitTarget};
 
+use crate::check_record::check_record;
 use crate::command::{Command, InputCommand, WordsFault, read_words};
 use crate::generate::show_generated;
-use crate::job::{JobFault, read_job, read_profile_texts};
+use crate::job::{JobFault, read_job, read_profile_texts, read_record};
 use crate::saying::say;
 use crate::show_settings::show_settings;
 use crate::status::Status;
@@ -179,6 +180,11 @@ fn answer_bytes<D: Disk, C: Clock, K: ByteSink>(
     match command {
         InputCommand::Stream(words) => match read_job(alloc, bytes) {
             Ok(job) => stream_job(alloc, job, words, env, disk, clock, out),
+            Err(JobFault::BadLine(place)) => Status::BadJob(place),
+            Err(JobFault::NoMemory) => Status::NoMemory,
+        },
+        InputCommand::Check(words) => match read_record(alloc, bytes) {
+            Ok(draft) => check_record(alloc, draft, words, env, disk, out),
             Err(JobFault::BadLine(place)) => Status::BadJob(place),
             Err(JobFault::NoMemory) => Status::NoMemory,
         },

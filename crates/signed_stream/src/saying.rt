@@ -1,9 +1,10 @@
 ghost use Rattle.std.specs.Prelude.{◌≡◌, ◌≤◌, ◌⊎◌, IfOk};
 ghost use Rattle.std.specs.String.{string_bytes};
-ghost use Rattle.signed_stream.specs.Saying.{Says, ending_line};
-ghost use Rattle.signed_stream.specs.Status.{done, ending_of, run_fault, no_memory, refused};
+ghost use Rattle.signed_stream.specs.Saying.{Says, ending_line, failed_at, part_text};
+ghost use Rattle.signed_stream.specs.Status.{check_failed, done, ending_of, run_fault, no_memory, refused};
 
-use crate::status::{Status, StreamFault};
+use crate::status::{CheckFault, Status, StreamFault};
+use chain_check::{ChainFault, ChainPart};
 use smithy_core::{ByteSink, Mem, SinkError, write_all};
 use std::alloc::Global;
 
@@ -50,6 +51,7 @@ fn line_of(alloc: Global, status: &Status) -> Mem<String>
             format!(in alloc; "could not read file {path}\n")
         }
         Status::Refused(fault) => refusal_line(alloc, fault),
+        Status::CheckFailed(fault) => check_line(alloc, *fault),
         Status::OutputFault => String::from_str(alloc, "output fault\n"),
         Status::NoMemory => String::from_str(alloc, "no memory\n"),
         Status::NotBuilt(place) => format!(in alloc; "not built {place}\n"),
@@ -80,4 +82,37 @@ fn refusal_line(alloc: Global, fault: &StreamFault) -> Mem<String>
         StreamFault::NoMemory => "refused 18 NoMemory\n",
     };
     String::from_str(alloc, line)
+}
+
+fn check_line(alloc: Global, fault: CheckFault) -> Mem<String>
+    ensures { IfOk result (λ line. string_bytes line ≡ ending_line (check_failed fault)) }
+{
+    let (frame, part) = failed_at(fault);
+    format!(in alloc; "check failed at frame {frame} {part}\n")
+}
+
+// The frame that isn't as in a chain, and what of it.
+fn failed_at(fault: CheckFault) -> (usize, &'static str)
+    ensures frame { result.0 ≡ (failed_at fault).0 }
+    ensures part { result.1.now ≡ (failed_at fault).1 }
+{
+    match fault {
+        CheckFault::NoSignature => (0, "NoSignature"),
+        CheckFault::Chain(ChainFault::NotChain { frame, part }) => (frame, part_name(part)),
+        CheckFault::Chain(ChainFault::Mismatch { frame, .. }) => (frame, "Mismatch"),
+        CheckFault::Chain(ChainFault::NoMemory) => (0, "NoMemory"),
+    }
+}
+
+fn part_name(part: ChainPart) -> &'static str
+    ensures { result.now ≡ part_text part }
+{
+    match part {
+        ChainPart::NotFrame => "NotFrame",
+        ChainPart::Headers => "Headers",
+        ChainPart::Date => "Date",
+        ChainPart::Inner => "Inner",
+        ChainPart::AfterClosing => "AfterClosing",
+        ChainPart::NoClosing => "NoClosing",
+    }
 }

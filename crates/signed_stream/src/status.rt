@@ -3,6 +3,7 @@ ghost use Rattle.signed_stream.specs.Halt.{ended};
 ghost use Rattle.signed_stream.specs.Status.{ending_of};
 
 use crate::settings::SettingsFault;
+use chain_check::ChainFault;
 use env_config::{EnvConfigFileLoadError, EnvConfigParseError};
 use sigv4::ValuePlace;
 use smithy_core::{Mem, Moment};
@@ -113,6 +114,15 @@ impl From<SettingsFault> for StreamFault {
     }
 }
 
+/// Why a record isn't what it ought to be.
+#[derive(Clone, Copy, Debug, PartialEq, Eq)]
+pub enum CheckFault {
+    /// The request carries no signature for the region and the service's name.
+    NoSignature,
+    /// The frames aren't the chain over that signature.
+    Chain(ChainFault),
+}
+
 /// How a run ended.
 #[derive(Debug, PartialEq, Eq, Drop)]
 pub enum Status {
@@ -131,6 +141,8 @@ pub enum Status {
     /// The command can't be done; where an event is at fault, the output holds the head and the frames of the events
     /// before it.
     Refused(StreamFault),
+    /// The record doesn't pass the check.
+    CheckFailed(CheckFault),
     /// The output failed; it holds a front of the text.
     OutputFault,
     /// Memory ran out; the output holds a front of the text.
@@ -154,6 +166,7 @@ impl Status {
             Status::ReadFault => 5,
             Status::CouldNotReadFile(_) => 6,
             Status::Refused(_) => 7,
+            Status::CheckFailed(_) => 8,
             Status::OutputFault => 9,
             Status::NoMemory => 10,
             Status::NotBuilt(_) => 11,
@@ -172,6 +185,7 @@ impl Status {
             Status::ReadFault => Status::ReadFault,
             Status::CouldNotReadFile(path) => Status::CouldNotReadFile(path.clone()?),
             Status::Refused(fault) => Status::Refused(fault.try_clone()?),
+            Status::CheckFailed(fault) => Status::CheckFailed(*fault),
             Status::OutputFault => Status::OutputFault,
             Status::NoMemory => Status::NoMemory,
             Status::NotBuilt(place) => Status::NotBuilt(*place),
@@ -187,6 +201,20 @@ impl From<AllocError> for Status {
 
     fn from(_e: AllocError) -> Status {
         Status::NoMemory
+    }
+}
+
+impl From<ChainFault> for Status {
+    ghost use Rattle.std.specs.Prelude.{◌≡◌};
+    ghost use Rattle.signed_stream.specs.Status.{chain_ending, ending_of};
+
+    ghost from_gives = { λ fault status. ending_of status ≡ chain_ending fault };
+
+    fn from(fault: ChainFault) -> Status {
+        match fault {
+            ChainFault::NoMemory => Status::NoMemory,
+            fault => Status::CheckFailed(CheckFault::Chain(fault)),
+        }
     }
 }
 

@@ -1,10 +1,11 @@
 use Rattle.smithy_core.specs.Given.{Gives}
 use Rattle.smithy_core.proofs.GivenLemmas.{given_none}
-use Rattle.signed_stream.specs.Options.{input_commanded, wanted_of}
+use Rattle.signed_stream.specs.Options.{check_wanted, input_commanded, wanted_of}
 use Rattle.signed_stream.specs.ProfileOptions.{profile_wanted}
 use Rattle.signed_stream.specs.ProfileTexts.{texts_of}
+use Rattle.signed_stream.specs.Record.{record_parts}
 use Rattle.signed_stream.specs.Sources.{DiskGives}
-use Rattle.signed_stream.proofs.RunLemmas.{bytes_no_memory, job_is_bad, job_was_read, texts_are_bad, texts_were_read}
+use Rattle.signed_stream.proofs.RunLemmas.{bytes_no_memory, job_is_bad, job_was_read, record_is_bad, record_was_read, texts_are_bad, texts_were_read}
 use Rattle.signed_stream.proofs.running.answer_bytes.Goals as goal
 
 pub returns-in-Ok-clause-planned : goal.returns-in-Ok-clause-planned
@@ -24,6 +25,25 @@ returns-in-Err-BadLine-clause-planned g c =
     rw (c.in-Stream.is, c.in-Err-BadLine.field-0-is)
     (job_is_bad (DiskGives g.D.Disk.answers g.D.Disk.faults (g.D.Disk.files c.args.disk.now) c.args.env.now c.args.disk.now c.args.disk.now) (λ places. tt)
     (λ taken. Gives g.C.Clock c.args.clock.now taken c.args.clock.now) (given_none g.C.Clock c.args.clock.now) c.args.env.now (wanted_of c.in-Stream.words) c.args.bytes.now _ (g.K.ByteSink.held c.args.out.now) read)
+
+pub returns-in-Ok-read_record-clause-planned : goal.returns-in-Ok-read_record-clause-planned
+returns-in-Ok-read_record-clause-planned g c =
+    rw c.in-Check.is
+    (record_was_read (DiskGives g.D.Disk.answers g.D.Disk.faults (g.D.Disk.files c.args.disk.now) c.args.env.now c.args.disk.now c.check_record.new.disk) (λ places. tt)
+    (λ taken. Gives g.C.Clock c.args.clock.now taken c.args.clock.now) (given_none g.C.Clock c.args.clock.now) c.args.env.now (check_wanted c.in-Check.words) c.args.bytes.now
+    (record_parts c.in-Ok-read_record.draft) _ _ _ c.in-Ok-read_record.ensures c.check_record.ensures.planned)
+
+pub returns-in-Err-BadLine-read_record-clause-planned : goal.returns-in-Err-BadLine-read_record-clause-planned
+returns-in-Err-BadLine-read_record-clause-planned g c =
+    let read = rw c.in-Err-BadLine-read_record.field-0-is at c.in-Err-BadLine-read_record.ensures in
+    rw (c.in-Check.is, c.in-Err-BadLine-read_record.field-0-is)
+    (record_is_bad (DiskGives g.D.Disk.answers g.D.Disk.faults (g.D.Disk.files c.args.disk.now) c.args.env.now c.args.disk.now c.args.disk.now) (λ places. tt)
+    (λ taken. Gives g.C.Clock c.args.clock.now taken c.args.clock.now) (given_none g.C.Clock c.args.clock.now) c.args.env.now (check_wanted c.in-Check.words) c.args.bytes.now _ (g.K.ByteSink.held c.args.out.now) read)
+
+pub returns-in-Check-clause-planned : goal.returns-in-Check-clause-planned
+returns-in-Check-clause-planned g c =
+    bytes_no_memory (DiskGives g.D.Disk.answers g.D.Disk.faults (g.D.Disk.files c.args.disk.now) c.args.env.now c.args.disk.now c.args.disk.now) (λ places. tt)
+    (λ taken. Gives g.C.Clock c.args.clock.now taken c.args.clock.now) (given_none g.C.Clock c.args.clock.now) c.args.env.now (input_commanded c.args.command) c.args.bytes.now (g.K.ByteSink.held c.args.out.now)
 
 pub returns-in-Ok-read_profile_texts-clause-planned : goal.returns-in-Ok-read_profile_texts-clause-planned
 returns-in-Ok-read_profile_texts-clause-planned g c =

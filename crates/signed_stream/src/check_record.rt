@@ -1,0 +1,167 @@
+//! The command `check`.
+ghost use Rattle.std.specs.Prelude.{◌≡◌, ◌≤◌, ℕ, List, None, IfOk, IsErrOf};
+ghost use Rattle.smithy_core.specs.Outside.{RoseOrStands};
+ghost use Rattle.eventstream.specs.Frame.{frame, unframed};
+ghost use Rattle.signed_stream.specs.Carriers.{GoesForRecord, IsAfterTexts};
+ghost use Rattle.signed_stream.specs.CheckRecord.{AreFramed, ChecksRecord, GoesForSeal, count_line, event_line, shown_events};
+ghost use Rattle.signed_stream.specs.Command.{check_record};
+ghost use Rattle.signed_stream.specs.Halt.{Sends};
+ghost use Rattle.signed_stream.specs.Options.{check_wanted};
+ghost use Rattle.signed_stream.specs.Record.{record_parts};
+ghost use Rattle.signed_stream.specs.Running.{NamesUnreadable};
+ghost use Rattle.signed_stream.specs.Settings.{selected_of};
+ghost use Rattle.signed_stream.specs.Sources.{DiskGives};
+ghost use Rattle.signed_stream.specs.Status.{could_not_read_file, ending_of, output_fault};
+
+use crate::chain::{write_frame, write_text};
+use crate::command::CheckWords;
+use crate::form::Form;
+use crate::job::RecordDraft;
+use crate::settings::Settings;
+use crate::sources::select;
+use crate::status::{CheckFault, Status, StreamFault, status_of};
+use chain_check::check_chain;
+use eventstream::{ErrorKind, write_message_to};
+use request_check::seal_of;
+use smithy_core::{ByteSink, Disk, Env, HttpRequest, Mem, Message};
+use std::alloc::{AllocError, Global};
+
+/// Checks the frames of a record as the chain over the signature that its request carries, under what its texts select
+/// with the files that the words name, and writes the events of the frames.
+pub fn check_record<D: Disk, K: ByteSink>(
+    alloc: Global,
+    draft: RecordDraft,
+    words: CheckWords<'_>,
+    env: &Env,
+    disk: &mut D,
+    out: &mut K,
+) -> Status
+    ensures end { IsAfterTexts (ending_of result) }
+    ensures planned { GoesForRecord (DiskGives D.answers D.faults (D.files disk.old) env.now disk.old disk.new) env.now (check_wanted words.entry) (record_parts draft)
+        (ending_of result) (K.held out.old) (K.held out.new) }
+    ensures named { (path : List ℕ) → ending_of result ≡ could_not_read_file path
+        → NamesUnreadable (DiskGives D.answers D.faults (D.files disk.old) env.now disk.old disk.new) (check_record (check_wanted words.entry)) path }
+    ensures same { D.files disk.new ≡ D.files disk.old }
+    ensures output_failed { ending_of result ≡ output_fault → RoseOrStands (K.faults out.old) (K.faults out.new) }
+    ensures output_steady { (ending_of result ≡ output_fault → ⊥) → K.faults out.new ≡ K.faults out.old }
+    ensures count { (D.faults disk.old ≤ D.faults disk.new) × (K.faults out.old ≤ K.faults out.new) }
+{
+    let RecordDraft {
+        texts,
+        request,
+        chain,
+        ..
+    } = draft;
+    match select(alloc, env, disk, &words.profile, texts) {
+        Ok(settings) => {
+            show_checked(
+                alloc,
+                &request,
+                chain.as_slice(),
+                words.name,
+                &settings,
+                out,
+            )
+        }
+        Err(status) => status,
+    }
+}
+
+// Checks the frames, and writes their events.
+fn show_checked<K: ByteSink>(
+    alloc: Global,
+    request: &HttpRequest,
+    chain: &[u8],
+    name: &str,
+    settings: &Settings,
+    out: &mut K,
+) -> Status
+    ensures end { IsAfterTexts (ending_of result) }
+    ensures planned { GoesForSeal request.now name.now (selected_of settings.now) chain.now (ending_of result) (K.held out.old) (K.held out.new) }
+    ensures unnamed { (path : List ℕ) → ending_of result ≡ could_not_read_file path → ⊥ }
+    ensures output_failed { ending_of result ≡ output_fault → RoseOrStands (K.faults out.old) (K.faults out.new) }
+    ensures output_steady { (ending_of result ≡ output_fault → ⊥) → K.faults out.new ≡ K.faults out.old }
+    ensures count { K.faults out.old ≤ K.faults out.new }
+{
+    match checked_events(alloc, request, chain, name, settings) {
+        Ok(events) => status_of(write_events(alloc, events.as_slice(), out)),
+        Err(status) => status,
+    }
+}
+
+// The events of the frames, which are the chain over the seal of the request.
+fn checked_events(
+    alloc: Global,
+    request: &HttpRequest,
+    chain: &[u8],
+    name: &str,
+    settings: &Settings,
+) -> Result<Vec<Message>, Status>
+    ensures { ChecksRecord request.now name.now (selected_of settings.now) chain.now result }
+{
+    let region = settings.region.as_str();
+    let Some(seal) = seal_of(alloc, request, region, name)? else {
+        return Err(Status::CheckFailed(CheckFault::NoSignature));
+    };
+    let secret = settings.credentials.secret_access_key();
+    Ok(check_chain(alloc, chain, seal.signature(), secret, region, name)?)
+}
+
+// Writes how many events there are, and then their frames.
+fn write_events<K: ByteSink>(
+    alloc: Global,
+    events: &[Message],
+    out: &mut K,
+) -> Result<(), StreamFault>
+    requires { AreFramed events.now }
+    ensures count { K.faults out.old ≤ K.faults out.new }
+    ensures sends { Sends None (shown_events events.now) (K.held out.old) (K.held out.new) result }
+    ensures failed { IsErrOf result StreamFault.SinkFault → RoseOrStands (K.faults out.old) (K.faults out.new) }
+    ensures steady { (IsErrOf result StreamFault.SinkFault → ⊥) → K.faults out.new ≡ K.faults out.old }
+{
+    write_count(alloc, events.len(), out)?;
+    'events: for event in events {
+        write_event(alloc, event, out)?;
+    }
+    Ok(())
+}
+
+// Writes how many events there are.
+#[tactic(auto, using(smithy_core::proofs::GainLemmas::prefix_at_start))]
+fn write_count<K: ByteSink>(alloc: Global, count: usize, out: &mut K) -> Result<(), StreamFault>
+    ensures count { K.faults out.old ≤ K.faults out.new }
+    ensures sends { Sends None (count_line count) (K.held out.old) (K.held out.new) result }
+    ensures failed { IsErrOf result StreamFault.SinkFault → RoseOrStands (K.faults out.old) (K.faults out.new) }
+    ensures steady { (IsErrOf result StreamFault.SinkFault → ⊥) → K.faults out.new ≡ K.faults out.old }
+{
+    let line = format!(in alloc; "ok {count}\n")?;
+    write_text(out, line.as_bytes())
+}
+
+// Writes the frame of an event, which has one.
+#[tactic(auto, using(smithy_core::proofs::GainLemmas::prefix_at_start), unfolding(crate::specs::Chain::frame_text))]
+fn write_event<K: ByteSink>(alloc: Global, event: &Message, out: &mut K) -> Result<(), StreamFault>
+    requires { unframed event.now ≡ None }
+    ensures count { K.faults out.old ≤ K.faults out.new }
+    ensures sends { Sends None (event_line event.now) (K.held out.old) (K.held out.new) result }
+    ensures failed { IsErrOf result StreamFault.SinkFault → RoseOrStands (K.faults out.old) (K.faults out.new) }
+    ensures steady { (IsErrOf result StreamFault.SinkFault → ⊥) → K.faults out.new ≡ K.faults out.old }
+{
+    let frame = frame_of(alloc, event)?;
+    write_frame(alloc, frame.as_slice(), Form::HexLines, out)
+}
+
+// The frame of an event that has one.
+fn frame_of(alloc: Global, event: &Message) -> Mem<Vec<u8>>
+    requires { unframed event.now ≡ None }
+    ensures { IfOk result (λ bytes. bytes.items ≡ frame event.now) }
+{
+    let mut bytes = Vec::new(alloc);
+    match write_message_to(alloc, event, &mut bytes) {
+        Ok(()) => Ok(bytes),
+        Err(error) => match error.kind() {
+            ErrorKind::NoMemory => Err(AllocError),
+            _ => unreachable!(),
+        },
+    }
+}
