@@ -20,6 +20,15 @@ h :message-type text event
 payload 68656c6c6f
 ";
 
+// What a record of that job begins with: the line `record`, and the head of what `stream` wrote.
+const HEAD: &[u8] = b"record
+POST https://transcribe.us-east-1.amazonaws.com/stream
+content-type: application/vnd.amazon.eventstream
+x-amz-date: 20150830T123600Z
+authorization: AWS4-HMAC-SHA256 Credential=AKIDEXAMPLE/20150830/us-east-1/transcribe/aws4_request, SignedHeaders=content-type;host;x-amz-date, Signature=b7db4a80bf8b321aa7c8af3c621b0cf7eb74b977fd5567af56334e248464d66c
+
+";
+
 /// The bytes of the input.
 pub fn input_of(alloc: Global, lines: &[&str]) -> Mem<Vec<u8>> {
     let mut input = Vec::new(alloc);
@@ -51,6 +60,7 @@ fn push_part(alloc: Global, input: &mut Vec<u8>, word: &str, line: &str) -> Mem<
         "@request" => input.extend_from_slice(REQUEST),
         "@profile" => input.extend_from_slice(PROFILE),
         "@event" => input.extend_from_slice(EVENT),
+        "@head" => input.extend_from_slice(HEAD),
         _ => push_job_line(alloc, input, line),
     }
 }
