@@ -164,7 +164,7 @@ found=$? case='a line that has no room' status=7
 : > wanted.err
 : > found.err
 judge
-ends 'a command that is not built' 11 'not built 1' check --name a < nothing
+ends 'a command that is not built' 11 'not built 1' chunk < nothing
 ends 'no name' 2 'bad word 3' stream --raw < nothing
 # The frames of a job are the same bytes, raw and as lines of hexadecimal.
 "$program" stream --name a --at 0 --config first < job | sed '1,/^$/d' | tr -d '\n' > frames.hex
@@ -173,6 +173,14 @@ if [ ! -s raw.hex ] || ! cmp -s frames.hex raw.hex; then
   echo 'raw frames: other bytes than the lines'
   failed=1
 fi
+# What is written for the example job passes the check, and without its closing frame it doesn't.
+{ grep '^con\|^cre' "$crate/stdin" && echo record && cat "$crate/stdout"; } > record
+compare 'the record of the example job' 0 'ok 3
+000000340000001fbc8bccda0d3a6d6573736167652d747970650700056576656e7403736571040000000168656c6c6f2cfa13ad
+0000001c0000000cc984e9c1026174080000014f7e9b6ffbdaf45f08
+00000016000000048def7952026f6b0000ffd7f497c4' '' "$program" check --name transcribe < record
+sed '$d' record > open
+ends 'a record without its closing frame' 8 'check failed at frame 4 NoClosing' check --name transcribe < open
 # Without a moment among the words the request has the clock's.
 begun=$(date +%s)
 "$program" stream --name a --config first < job | sed '/^$/q' > clock.head
