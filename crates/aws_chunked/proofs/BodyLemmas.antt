@@ -93,13 +93,13 @@ drop_front [] ys n e = ap (λ m. drop m ys) e
 drop_front (x ∷ xs) ys zero e = absurd (omega (arith, e))
 drop_front (x ∷ xs) ys (suc n) e = drop_front xs ys n (omega (arith, e))
 
-take_whole : (xs : List ℕ) (n : ℕ) → length xs ≤ n → take n xs ≡ xs
+pub take_whole : (xs : List ℕ) (n : ℕ) → length xs ≤ n → take n xs ≡ xs
 take_whole [] zero e = refl
 take_whole [] (suc n) e = refl
 take_whole (x ∷ xs) zero e = absurd (omega (arith, e))
 take_whole (x ∷ xs) (suc n) e = ap (λ rest. x ∷ rest) (take_whole xs n (omega (arith, e)))
 
-drop_whole : (xs : List ℕ) (n : ℕ) → length xs ≤ n → drop n xs ≡ []
+pub drop_whole : (xs : List ℕ) (n : ℕ) → length xs ≤ n → drop n xs ≡ []
 drop_whole [] zero e = refl
 drop_whole [] (suc n) e = refl
 drop_whole (x ∷ xs) zero e = absurd (omega (arith, e))

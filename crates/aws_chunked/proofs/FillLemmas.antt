@@ -288,7 +288,7 @@ module _ {F G : Type 0} (source : FrameSource.Ghosts F) (signer : SignChunk.Ghos
   fault_tail : (old mid new : AwsChunkedBody F G) (error : AwsChunkedBodyError) → Gathers source old mid (Ok tt) → held_bytes mid ≡ []
       → MakesTail signer mid new (Err error) → MayCause old new error
   fault_tail old mid new error gathers none (inl is, others) = inl is
-  fault_tail old mid new error gathers none (inr (inl lacks), others) =
+  fault_tail old mid new error gathers none (inr (inl (lacks, signs)), others) =
       let actual = counted (actual_length mid.options.is_signed lacks.0) in
       let expected = counted (declared_length mid.options.trailer_lengths) in
       inr (inl (
@@ -302,6 +302,7 @@ module _ {F G : Type 0} (source : FrameSource.Ghosts F) (signer : SignChunk.Ghos
           first_kept old mid (tail (listed new.trailers)) gathers.0
               (subst (λ (kept : Option (List Trailer)). IsFirst source signer mid (tail (listed kept))) (sym (ap (λ (body : AwsChunkedBody F G). body.trailers) others))
               (tail_is_first mid none gathers.1 gathers.2)),
+          signs ∙ ap (λ (body : AwsChunkedBody F G). body.signer) gathers.0.others,
         ),
       ))
   fault_tail old mid new error gathers none (inr (inr fails), others) =

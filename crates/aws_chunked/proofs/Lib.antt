@@ -1,5 +1,7 @@
 mod BodyLemmas
 mod FillLemmas
+mod LengthLemmas
+mod PassLemmas
 mod PullLemmas
 mod TurnLemmas
 mod CutLemmas

@@ -5,6 +5,8 @@ use Rattle.smithy_core.specs.declared.outside.frame_source.FrameSource as FrameS
 use Rattle.smithy_core.specs.declared.outside.frame_part.FramePart.{FramePart}
 use Rattle.aws_chunked.specs.Body.{IsNew, Rest, data_before, data_left, due, listed, parts_due, parts_left, rest_text, rest_with, text_due, total_of, trailers_from}
 use Rattle.aws_chunked.specs.Options.{Options, counted}
+use Rattle.aws_chunked.specs.Passing.{filled_before, pieces_due, pieces_left, pieces_of, pieces_with}
+use Rattle.aws_chunked.specs.declared.sent.Sent.TheVariants as sent
 use Rattle.aws_chunked.specs.Text.{chunked_text, parts_of, parts_text}
 use Rattle.aws_chunked.specs.declared.body.AwsChunkedBody.{AwsChunkedBody}
 
@@ -50,3 +52,12 @@ module _ {F G : Type 0} (source : FrameSource.Ghosts F) where
           ≡ option_map (λ (frames : List FramePart). counted (length (data_before frames))) left
       by None = refl
       by (Some frames) = ap Some (same frames)
+
+  pub new_pieces : (body : AwsChunkedBody F G) (from : F) (options : Options) → IsNew from options body
+      → pieces_due source body ≡ option_map (λ (frames : List FramePart). pieces_of sent.Nothing options.stream_length (filled_before frames) (listed (trailers_from None frames))) (source.left from)
+  new_pieces body from options new = ap (λ (f : F). option_map (pieces_with body) (source.left f)) new.reads_from ∙ by (source.left from)
+    where
+      by : (left : Option (List FramePart)) → option_map (pieces_with body) left
+          ≡ option_map (λ (frames : List FramePart). pieces_of sent.Nothing options.stream_length (filled_before frames) (listed (trailers_from None frames))) left
+      by None = refl
+      by (Some frames) = ap Some (λ i. pieces_left (new.nothing_sent i) (new.starts i) (new.encoded i).stream_length (new.no_trailers i) frames)

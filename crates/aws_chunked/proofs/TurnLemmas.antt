@@ -90,7 +90,7 @@ abbrev pub NearsBy : Phase → ℕ → List ℕ → List ℕ → Type 0
 NearsBy now idle old new =
     ((idle ≡ 1) × (length old ≤ length new)) ⊎ ((idle ≡ 0) × (length old < length new)) ⊎ ((idle ≡ 0) × (now ≡ phase.Ended) × (length old ≤ length new))
 
-none_idle : (b : Bool) (n : ℕ) → (suc n == 0) ≡ b → ◌≡◌ {A = ℕ} (if b then 1 else 0) 0
+pub none_idle : (b : Bool) (n : ℕ) → (suc n == 0) ≡ b → ◌≡◌ {A = ℕ} (if b then 1 else 0) 0
 none_idle true n is = absurd (omega (arith, eqb-true (suc n) 0 is))
 none_idle false n is = refl
 

@@ -17,6 +17,7 @@ use Rattle.aws_chunked.specs.declared.error.AwsChunkedBodyError.{AwsChunkedBodyE
 use Rattle.aws_chunked.specs.declared.error.AwsChunkedBodyError.TheVariants.{FailedToSign, NoMemory, ReportedTrailerLengthMismatch, SourceFault, StreamLengthMismatch}
 use Rattle.aws_chunked.specs.declared.phase.Phase.{Phase}
 use Rattle.aws_chunked.specs.declared.phase.Phase.TheVariants as phase
+use Rattle.aws_chunked.specs.declared.sent.Sent.TheVariants as sent
 use Rattle.aws_chunked.specs.declared.stop.Stop.{Stop}
 use Rattle.aws_chunked.specs.declared.stop.Stop.TheVariants as stop
 
@@ -208,6 +209,7 @@ module _ {F G : Type 0} where
     pub nothing_ready : ready_bytes body ≡ []
     pub nothing_counted : body.taken ≡ 0
     pub no_trailers : body.trailers ≡ None
+    pub nothing_sent : body.sent ≡ sent.Nothing
 
   -- what is left of a body whose source has these frames left
   abbrev pub rest_with : AwsChunkedBody F G → List FramePart → Rest
@@ -291,14 +293,15 @@ module _ {F G : Type 0} where
         ((error ≡ NoMemory) ⊎ FailsPart signer old.options.is_signed (chunk (first_piece old)) old.signer error new.signer)
         × (new ≡ record old { signer = new.signer; held = new.held; ready = new.ready })
 
-    -- the end of the text is made, where the lines of the trailers have the declared lengths, or there is none for a reason
+    -- the end of the text is made, where the lines of the trailers have the declared lengths, or there is none for a reason: nothing is
+    -- signed where the lengths differ
     abbrev pub MakesTail : AwsChunkedBody F G → AwsChunkedBody F G → Result (Unit {0}) AwsChunkedBodyError → Type 0
     MakesTail old new (Ok _) =
         MakesPart signer old.options.is_signed (tail (listed old.trailers)) old.signer (ready_bytes new) new.signer
         × HasTrailerLengths old (Ok tt)
         × (new ≡ record old { signer = new.signer; phase = phase.Closed; ready = new.ready })
     MakesTail old new (Err error) =
-        ((error ≡ NoMemory) ⊎ HasTrailerLengths old (Err error)
+        ((error ≡ NoMemory) ⊎ (HasTrailerLengths old (Err error) × (new.signer ≡ old.signer))
         ⊎ FailsPart signer old.options.is_signed (tail (listed old.trailers)) old.signer error new.signer)
         × (new ≡ record old { signer = new.signer; ready = new.ready })
 
@@ -399,7 +402,7 @@ module _ {F G : Type 0} where
     abbrev pub IsFirst : AwsChunkedBody F G → Part → Type 0
     IsFirst body part = IfSome (parts_due source body) (λ parts. (rest : List Part) × (parts ≡ part ∷ rest))
 
-    -- why a call gives no more
+    -- why a call gives no more: where the lines of the trailers haven't the declared lengths, nothing was signed
     abbrev pub Causes : AwsChunkedBody F G → AwsChunkedBody F G → Result ChunkNext AwsChunkedBodyError → Type 0
     Causes old new (Ok NotYet) =
         RoseOrStands (source.waits old.source) (source.waits new.source) × (length (held_bytes new) < new.options.chunk_size)
@@ -408,7 +411,7 @@ module _ {F G : Type 0} where
         LacksLength new actual expected × IfSome (total_of source old) (λ total. total ≡ counted actual)
     Causes old new (Err (ReportedTrailerLengthMismatch actual expected)) =
         HasTrailerLengths new (Err (ReportedTrailerLengthMismatch actual expected)) × (new.taken ≡ new.options.stream_length)
-        × IsFirst old (tail (listed new.trailers))
+        × IsFirst old (tail (listed new.trailers)) × (new.signer ≡ old.signer)
     Causes old new (Err (FailedToSign why)) =
         (part : Part) × FailsPart signer old.options.is_signed part old.signer (FailedToSign why) new.signer × IsFirst old part
     Causes old new result = Unit {0}

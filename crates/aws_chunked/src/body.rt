@@ -1,11 +1,14 @@
 ghost use Rattle.std.specs.Prelude.{◌≡◌, ◌↔◌, IsTrue, None, Some, false, length, option_map};
 ghost use Rattle.aws_chunked.specs.Body.{IsClosed, IsNew, data_before, due, listed, parts_due, total_of, trailers_from};
 ghost use Rattle.aws_chunked.specs.Options.{counted, data_length, encoded_length, fitting};
+ghost use Rattle.aws_chunked.specs.Passing.{filled_before, pieces_due, pieces_of};
 ghost use Rattle.aws_chunked.specs.Text.{chunked_text, parts_of};
+ghost use Rattle.aws_chunked.specs.declared.sent.Sent.TheVariants as sent;
 
 use crate::made_text::MadeText;
 use crate::options::AwsChunkedBodyOptions;
 use crate::phase::Phase;
+use crate::sent::Sent;
 use bytes::Bytes;
 use seg_buf::SegBuf;
 use smithy_core::{FrameSource, Headers};
@@ -40,6 +43,8 @@ pub struct AwsChunkedBody<F, G> {
     pub(crate) taken: u64,
     // The trailers so far, once some came.
     pub(crate) trailers: Option<Headers>,
+    // How much of the text for HTTP 0.x was answered.
+    pub(crate) sent: Sent,
 }
 
 impl<F: FrameSource, G> AwsChunkedBody<F, G> {
@@ -50,6 +55,8 @@ impl<F: FrameSource, G> AwsChunkedBody<F, G> {
             ≡ option_map (λ frames. chunked_text options.chunk_size (data_before frames) (listed (trailers_from None frames))) (F.FrameSource.left body) }
         ensures parts { parts_due F.FrameSource result
             ≡ option_map (λ frames. parts_of options.chunk_size (data_before frames) (listed (trailers_from None frames))) (F.FrameSource.left body) }
+        ensures pieces { pieces_due F.FrameSource result
+            ≡ option_map (λ frames. pieces_of sent.Nothing options.stream_length (filled_before frames) (listed (trailers_from None frames))) (F.FrameSource.left body) }
         ensures total { total_of F.FrameSource result ≡ option_map (λ frames. counted (length (data_before frames))) (F.FrameSource.left body) }
     {
         AwsChunkedBody {
@@ -62,6 +69,7 @@ impl<F: FrameSource, G> AwsChunkedBody<F, G> {
             ready: MadeText::new(alloc),
             taken: 0,
             trailers: None,
+            sent: Sent::Nothing,
         }
     }
 }

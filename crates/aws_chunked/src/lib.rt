@@ -2,7 +2,8 @@
 //!
 //! The layer above is promised that the frames of [`AwsChunkedBody::poll_frame`] make up the text of the data and the trailers
 //! (`specs/Text.antt`), whatever the pieces in which the data comes: each call answers the front of the text that is due and leaves
-//! the rest (`specs/Body.antt`), or tells why there is none. [`AwsChunkedBodyOptions::encoded_length`] is how long the text is
+//! the rest (`specs/Body.antt`), or tells why there is none. Those of [`AwsChunkedBody::poll_data`] are the pieces of the form for
+//! HTTP 0.x, one by one (`specs/Passing.antt`). [`AwsChunkedBodyOptions::encoded_length`] is how long the text is
 //! (`specs/Options.antt`).
 #![tactic(auto)]
 
@@ -11,7 +12,9 @@ mod error;
 mod made_text;
 mod options;
 mod phase;
+mod poll_data;
 mod poll_frame;
+mod sent;
 mod signing;
 mod stop;
 mod taking;

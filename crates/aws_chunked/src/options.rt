@@ -1,4 +1,5 @@
-ghost use Rattle.std.specs.Prelude.{◌≡◌, ◌+◌, ◌-◌, ◌<◌, ◌≤◌, ◌^◌, ◌∷◌, ◌++◌, ◌↔◌, [], IfOk, IsTrue, length, min};
+ghost use Rattle.std.specs.Prelude.{◌≡◌, ◌+◌, ◌-◌, ◌<◌, ◌≤◌, ◌^◌, ◌∷◌, ◌++◌, ◌↔◌, [], IfOk, IfSome, IsTrue, false, length, min};
+ghost use Rattle.aws_chunked.specs.Lengths.{IsLengthOf};
 ghost use Rattle.aws_chunked.specs.Options.{IsChunkSize, chunk_length, chunks_length, counted, data_length, declared_length, encoded_length, fitting, head_length, last_length, no_chunks, options_of};
 ghost use Rattle.aws_chunked.specs.Text.{length_text};
 
@@ -169,7 +170,8 @@ impl AwsChunkedBodyOptions {
     /// How long the text is, for data and trailers of the declared lengths, where the number fits 64 bits.
     pub fn encoded_length(&self) -> u64
         requires { encoded_length self.now < 2 ^ 64 }
-        ensures { result ≡ encoded_length self.now }
+        ensures value { result ≡ encoded_length self.now }
+        ensures text { self.now.is_signed ≡ false → IsLengthOf self.now result }
     {
         self.checked_encoded_length().unwrap()
     }
@@ -177,7 +179,8 @@ impl AwsChunkedBodyOptions {
     /// How long the text is, for data and trailers of the declared lengths, and none exactly where the number doesn't fit 64 bits.
     #[tactic(auto, unfolding(crate::specs::Options::encoded_length))]
     pub fn checked_encoded_length(&self) -> Option<u64>
-        ensures { result ≡ fitting (encoded_length self.now) }
+        ensures value { result ≡ fitting (encoded_length self.now) }
+        ensures text { IfSome result (λ n. self.now.is_signed ≡ false → IsLengthOf self.now n) }
     {
         let declared = self.declared_length();
         u64::try_from(self.chunks_length().saturating_add(declared)).ok()
@@ -196,6 +199,7 @@ impl AwsChunkedBodyOptions {
     fn chunks_length(&self) -> u128
         ensures value { result ≡ chunks_length self.now }
         ensures bound { result < 2 ^ 100 }
+        ensures size { IsChunkSize self.now.chunk_size }
     {
         let size = self.chunk_size as u64;
         let full = (self.stream_length / size) as u128 * chunk_length(self.is_signed, size);

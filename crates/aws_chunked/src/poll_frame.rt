@@ -13,7 +13,7 @@ use sigv4::SignChunk;
 use smithy_core::{FrameSource, Mem, Polled};
 
 /// How many frames without data a call takes at most.
-const MOST_IDLE: u32 = 65_536;
+pub(crate) const MOST_IDLE: u32 = 65_536;
 
 impl<F: FrameSource, G: SignChunk> AwsChunkedBody<F, G> {
     /// The next bytes of the text in the form for HTTP 1.x: chunks of the size that is set, whatever the pieces in which the data

@@ -1,6 +1,7 @@
 ghost use Rattle.std.specs.Prelude.{◌≡◌, ◌≤◌, ◌<◌, ◌+◌, ◌^◌, [], length, IfOk, OnOk, Some, MatchResult};
 ghost use Rattle.aws_chunked.specs.Body.{HasLength, HasTrailerLengths, IsClosed, actual_length, held_after, held_bytes, idle_in, with_data, with_frame};
 ghost use Rattle.aws_chunked.specs.Options.{counted};
+ghost use Rattle.aws_chunked.specs.Passing.{HasLineLengths};
 ghost use Rattle.aws_chunked.specs.declared.phase.Phase.TheVariants as phase;
 
 use crate::body::AwsChunkedBody;
@@ -76,6 +77,21 @@ impl<F, G> AwsChunkedBody<F, G> {
             return Ok(());
         };
         let actual = self.trailers_length(trailers);
+        let expected = self.options.expected_length();
+        if actual == expected {
+            return Ok(());
+        }
+        Err(AwsChunkedBodyError::ReportedTrailerLengthMismatch { actual, expected })
+    }
+
+    // Compares the lengths of the trailers' lines with the declared ones, also where no trailers came.
+    pub(crate) fn test_line_lengths(&self) -> Result<(), AwsChunkedBodyError>
+        ensures { HasLineLengths self.now result }
+    {
+        let actual = match &self.trailers {
+            Some(trailers) => lines_length(trailers),
+            None => 0,
+        };
         let expected = self.options.expected_length();
         if actual == expected {
             return Ok(());

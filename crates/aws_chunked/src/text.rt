@@ -66,6 +66,16 @@ pub(crate) fn tail(
     Ok(text)
 }
 
+// The lines of the trailers, and an empty line.
+pub(crate) fn last_lines(alloc: Global, trailers: Option<&Headers>) -> Mem<Vec<u8>>
+    ensures { IfOk result (λ text. text.items ≡ flat_map trailer_line (listed (option_copied trailers.entry)) ++ crlf) }
+{
+    let mut text = Vec::new(alloc);
+    push_trailers(&mut text, trailers)?;
+    text.extend_from_slice(CRLF)?;
+    Ok(text)
+}
+
 // Appends the lines of the trailers, where some came.
 fn push_trailers(text: &mut Vec<u8>, trailers: Option<&Headers>) -> Mem<()>
     ensures { OnOk result (text.new.items ≡ text.old.items ++ flat_map trailer_line (listed (option_copied trailers.entry))) }

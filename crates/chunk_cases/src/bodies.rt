@@ -4,7 +4,7 @@ use crate::lengths::options_of;
 use crate::parts::push;
 use crate::signers::published_signer;
 use aws_auth::ChunkDeferredSigner;
-use aws_chunked::{AwsChunkedBody, AwsChunkedBodyError, ChunkNext};
+use aws_chunked::{AwsChunkedBody, AwsChunkedBodyError, AwsChunkedBodyOptions, ChunkNext};
 use bytes::Bytes;
 use case_lines::part;
 use mac_core::sha256_hex;
@@ -46,6 +46,32 @@ pub fn digest(alloc: Global, parts: &[&str]) -> Mem<String> {
     let (text, others) = polled_of(alloc, parts)?;
     let digest = sha256_hex(alloc, text.as_slice())?;
     format!(in alloc; "{} {digest} | {others}", text.len())
+}
+
+/// Each answer of a body that passes its data on as it comes, up to the end.
+pub fn pieces(alloc: Global, parts: &[&str]) -> Mem<String> {
+    let source = GivenFrames::of(alloc, parts)?;
+    let mut body = unsigned(alloc, source, options_of(alloc, parts)?);
+    let mut found = String::new(alloc);
+    for _ in 0..MOST_POLLS {
+        match body.poll_data() {
+            Ok(ChunkNext::End) => {
+                push(&mut found, ended(body.is_end_stream()))?;
+                break;
+            }
+            answer => push(&mut found, shown(alloc, answer)?.as_str())?,
+        }
+    }
+    Ok(found)
+}
+
+/// A body without a signer, which names some type of one.
+pub fn unsigned(
+    alloc: Global,
+    source: GivenFrames,
+    options: AwsChunkedBodyOptions,
+) -> AwsChunkedBody<GivenFrames, ChunkDeferredSigner> {
+    AwsChunkedBody::new(alloc, source, options)
 }
 
 fn polled<G: SignChunk>(

@@ -10,7 +10,8 @@ use std::collections::VecDeque;
 // The longest piece of data, in bytes.
 const LONGEST: usize = 4_294_967_295;
 
-/// A source of the frames that words name: `data TEXT`, `trailers PAIR,PAIR..`, and the answers `wait` and `fail`.
+/// A source of the frames that words name: `data TEXT`, `empty N` for N pieces without data, `trailers PAIR,PAIR..`, and the answers
+/// `wait` and `fail`.
 #[derive(Drop)]
 pub struct GivenFrames {
     alloc: Global,
@@ -24,9 +25,16 @@ impl GivenFrames {
     pub fn of(alloc: Global, parts: &[&str]) -> Mem<GivenFrames> {
         let mut words = VecDeque::new(alloc);
         for part in parts {
-            let (first, _) = part.split_once(' ').unwrap_or((part, ""));
-            if matches!(first, "data" | "trailers" | "wait" | "fail") {
-                words.push_back(String::from_str(alloc, part)?)?;
+            match part.split_once(' ').unwrap_or((part, "")) {
+                ("empty", count) => {
+                    for _ in 0..count.parse().unwrap_or(0u32) {
+                        words.push_back(String::from_str(alloc, "data")?)?;
+                    }
+                }
+                ("data" | "trailers" | "wait" | "fail", _) => {
+                    words.push_back(String::from_str(alloc, part)?)?;
+                }
+                _ => (),
             }
         }
         Ok(GivenFrames {

@@ -1,4 +1,6 @@
 //! Tells how long texts are.
+use crate::bodies::unsigned;
+use crate::frames::GivenFrames;
 use crate::parts::number_of;
 use aws_chunked::AwsChunkedBodyOptions;
 use case_lines::part;
@@ -22,7 +24,17 @@ pub fn options_of(alloc: Global, parts: &[&str]) -> Mem<AwsChunkedBodyOptions> {
 
 /// The length of the whole text by the declared lengths.
 pub fn answer(alloc: Global, parts: &[&str]) -> Mem<String> {
-    match options_of(alloc, parts)?.checked_encoded_length() {
+    shown(alloc, options_of(alloc, parts)?.checked_encoded_length())
+}
+
+/// The same of a body that passes its data on as it comes.
+pub fn data_answer(alloc: Global, parts: &[&str]) -> Mem<String> {
+    let source = GivenFrames::of(alloc, &[])?;
+    shown(alloc, unsigned(alloc, source, options_of(alloc, parts)?).data_size_hint())
+}
+
+fn shown(alloc: Global, length: Option<u64>) -> Mem<String> {
+    match length {
         Some(length) => format!(in alloc; "{length}"),
         None => String::from_str(alloc, "none"),
     }

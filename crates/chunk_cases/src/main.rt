@@ -28,7 +28,9 @@ impl Answers for Calls {
             ["trailer", signature, pairs @ ..] => signing::trailer(alloc, signature, pairs),
             ["signer", name, steps @ ..] => signing::steps(alloc, name, steps),
             ["length", parts @ ..] => lengths::answer(alloc, parts),
+            ["data_length", parts @ ..] => lengths::data_answer(alloc, parts),
             ["text", parts @ ..] => bodies::text(alloc, parts),
+            ["pieces", parts @ ..] => bodies::pieces(alloc, parts),
             ["digest", parts @ ..] => bodies::digest(alloc, parts),
             _ => unknown(alloc),
         }

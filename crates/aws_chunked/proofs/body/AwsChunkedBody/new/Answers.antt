@@ -1,6 +1,7 @@
 use Rattle.std.proofs.Common.{rules, None}
 use Rattle.aws_chunked.specs.declared.phase.Phase.TheVariants as phase
-use Rattle.aws_chunked.proofs.NewLemmas.{new_due, new_parts, new_total}
+use Rattle.aws_chunked.specs.declared.sent.Sent.TheVariants as sent
+use Rattle.aws_chunked.proofs.NewLemmas.{new_due, new_parts, new_pieces, new_total}
 use Rattle.aws_chunked.proofs.body.AwsChunkedBody.new.Goals as goal
 
 pub returns-clause-due : goal.returns-clause-due
@@ -9,11 +10,17 @@ returns-clause-due g c = λ unsigned. new_due g.F.FrameSource _ c.args.body c.ar
 pub returns-clause-parts : goal.returns-clause-parts
 returns-clause-parts g c =
     new_parts {G = g.row.G.Denot} g.F.FrameSource
-    (record { alloc = c.args.alloc; options = c.args.options; source = c.args.body; signer = None; phase = phase.Data; held = c.new.result; ready = c.new-2.result; taken = 0; trailers = None })
+    (record { alloc = c.args.alloc; options = c.args.options; source = c.args.body; signer = None; phase = phase.Data; held = c.new.result; ready = c.new-2.result; taken = 0; trailers = None; sent = sent.Nothing })
     c.args.body c.args.options (search rules)
 
 pub returns-clause-total : goal.returns-clause-total
 returns-clause-total g c =
     new_total {G = g.row.G.Denot} g.F.FrameSource
-    (record { alloc = c.args.alloc; options = c.args.options; source = c.args.body; signer = None; phase = phase.Data; held = c.new.result; ready = c.new-2.result; taken = 0; trailers = None })
+    (record { alloc = c.args.alloc; options = c.args.options; source = c.args.body; signer = None; phase = phase.Data; held = c.new.result; ready = c.new-2.result; taken = 0; trailers = None; sent = sent.Nothing })
+    c.args.body c.args.options (search rules)
+
+pub returns-clause-pieces : goal.returns-clause-pieces
+returns-clause-pieces g c =
+    new_pieces {G = g.row.G.Denot} g.F.FrameSource
+    (record { alloc = c.args.alloc; options = c.args.options; source = c.args.body; signer = None; phase = phase.Data; held = c.new.result; ready = c.new-2.result; taken = 0; trailers = None; sent = sent.Nothing })
     c.args.body c.args.options (search rules)

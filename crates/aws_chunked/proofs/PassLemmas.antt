@@ -1,0 +1,726 @@
+-- What a body passes on is the first of what was due, and why it passes nothing on.
+use Rattle.std.proofs.Common.{◌≡◌, ℕ, ◌⊎◌, inl, inr, zero, suc, ◌+◌, ◌<◌, ◌≤◌, ◌==◌, List, [], ◌∷◌, ◌++◌, length, Option, None, Some, refl, ap, sym, subst, ◌∙◌, arith}
+use Rattle.std.specs.Prelude.{IfSome, Result, Ok, Err, option_map}
+use Rattle.std.specs.Fmt.{digits}
+use Rattle.std.specs.List.{flat_map}
+use Rattle.std.proofs.lemmas.List.{length-append}
+use Rattle.smithy_core.specs.declared.outside.frame_source.FrameSource as FrameSource
+use Rattle.smithy_core.specs.FrameSource.{IsDrained, TakesFrame}
+use Rattle.smithy_core.specs.Outside.{RoseOrStands}
+use Rattle.smithy_core.specs.declared.outside.frame_part.FramePart.{FramePart}
+use Rattle.smithy_core.specs.declared.outside.frame_part.FramePart.TheVariants as frame
+use Rattle.aws_chunked.specs.Body.{AreTurns, GoesOn, HasLength, Trailer, data_before, data_left, idle_count, listed, phase_after, trailers_left, with_frame}
+use Rattle.aws_chunked.specs.Options.{counted}
+use Rattle.aws_chunked.specs.Text.{crlf, head_text, length_text, signature_text, trailer_line}
+use Rattle.aws_chunked.specs.Passing.{AreFew, AreNone, FitsPiece, HasLineLengths, Idles, IsNext, MakesEmptyChunk, MakesLastLines, MayLack, OthersPass, PassCauses, PassKeeps, PassesData, PassesFrames, PassesOn, Piece, Steps, TakesPiece, empty_chunk, filled_before, last_lines, length_line, onto_filled, passed, piece_text, pieces_due, pieces_left, pieces_of, pieces_with, sent_after}
+use Rattle.aws_chunked.specs.declared.body.AwsChunkedBody.{AwsChunkedBody}
+use Rattle.aws_chunked.specs.declared.body.ChunkNext.{ChunkNext}
+use Rattle.aws_chunked.specs.declared.body.ChunkNext.TheVariants as next
+use Rattle.aws_chunked.specs.declared.error.AwsChunkedBodyError.{AwsChunkedBodyError}
+use Rattle.aws_chunked.specs.declared.error.AwsChunkedBodyError.TheVariants as fault
+use Rattle.aws_chunked.specs.declared.phase.Phase.{Phase}
+use Rattle.aws_chunked.specs.declared.phase.Phase.TheVariants as phase
+use Rattle.aws_chunked.specs.declared.sent.Sent.{Sent}
+use Rattle.aws_chunked.specs.declared.sent.Sent.TheVariants as sent
+use Rattle.aws_chunked.proofs.TurnLemmas.{none_idle, idle_more, idle_none, left_more, left_none, left_one, phase_more, rose_before}
+
+-- ---- the text of a piece
+
+-- a text that ends with the end of a line has some bytes
+ends_some : (text front : List ℕ) → text ≡ front ++ crlf → 0 < length text
+ends_some text front is = let long : length text ≡ length front + 2 = ap length is ∙ length-append front crlf in omega arith
+
+line_some : (n : ℕ) → 0 < length (piece_text (length_line n))
+line_some n = ends_some (head_text n None) (length_text n ++ signature_text None) refl
+
+chunk_some : 0 < length (piece_text empty_chunk)
+chunk_some = omega (arith, length-append crlf (head_text 0 None))
+
+lines_some : (trailers : List Trailer) → 0 < length (piece_text (last_lines trailers))
+lines_some trailers = ends_some (piece_text (last_lines trailers)) (flat_map trailer_line trailers) refl
+
+pub empty_chunk_is : (bytes : List ℕ) → bytes ≡ 13 ∷ 10 ∷ 48 ∷ 13 ∷ 10 ∷ [] → bytes ≡ piece_text empty_chunk
+unfolding digits
+empty_chunk_is bytes is = is
+
+some_text : (bytes : List ℕ) (piece : Piece) → bytes ≡ piece_text piece → 0 < length (piece_text piece) → 0 < length bytes
+some_text bytes piece is some = omega (arith, ap length is, some)
+
+-- ---- the pieces that are left
+
+line_left : (at : Phase) (n : ℕ) (kept : Option (List Trailer)) (frames : List FramePart) → (at ≡ phase.Closed → ⊥)
+    → pieces_left sent.Nothing at n kept frames ≡ length_line n ∷ pieces_left (sent_after n) at n kept frames
+line_left phase.Data zero kept frames on = refl
+line_left phase.Data (suc n) kept frames on = refl
+line_left phase.Trailers zero kept frames on = refl
+line_left phase.Trailers (suc n) kept frames on = refl
+line_left phase.Ended zero kept frames on = refl
+line_left phase.Ended (suc n) kept frames on = refl
+line_left phase.Closed n kept frames on = absurd (on refl)
+
+chunk_left : (at : Phase) (n : ℕ) (kept : Option (List Trailer)) (frames : List FramePart) → (at ≡ phase.Closed → ⊥) → (at ≡ phase.Data → ⊥)
+    → pieces_left sent.LengthLine at n kept frames ≡ empty_chunk ∷ pieces_left sent.EmptyChunk at n kept frames
+chunk_left phase.Data n kept frames on over = absurd (over refl)
+chunk_left phase.Trailers n kept frames on over = refl
+chunk_left phase.Ended n kept frames on over = refl
+chunk_left phase.Closed n kept frames on over = absurd (on refl)
+
+filled_onto : (piece : List ℕ) (pieces : List (List ℕ)) → 0 < length piece → onto_filled piece pieces ≡ piece ∷ pieces
+filled_onto [] pieces some = absurd (omega (arith, some))
+filled_onto (byte ∷ bytes) pieces some = refl
+
+data_behind : (was : Sent) (n : ℕ) (piece : List ℕ) (pieces : List (List ℕ)) (trailers : List Trailer) → (was ≡ sent.Nothing → ⊥) → 0 < length piece
+    → pieces_of was n (onto_filled piece pieces) trailers ≡ passed piece ∷ pieces_of was n pieces trailers
+data_behind sent.Nothing n piece pieces trailers begun some = absurd (begun refl)
+data_behind sent.LengthLine n piece pieces trailers begun some =
+    ap (λ (all : List (List ℕ)). pieces_of sent.LengthLine n all trailers) (filled_onto piece pieces some)
+data_behind sent.EmptyChunk n piece pieces trailers begun some =
+    ap (λ (all : List (List ℕ)). pieces_of sent.EmptyChunk n all trailers) (filled_onto piece pieces some)
+
+-- data that is ignored leaves what is due
+ignored_left : (was : Sent) (at : Phase) (n : ℕ) (kept : Option (List Trailer)) (piece : List ℕ) (frames : List FramePart) → (at ≡ phase.Data → piece ≡ [])
+    → pieces_left was at n kept frames ≡ pieces_left was at n kept (frame.Data piece ∷ frames)
+ignored_left was phase.Data n kept piece frames none =
+    ap (λ (bytes : List ℕ). pieces_of was n (onto_filled bytes (filled_before frames)) (listed (trailers_left phase.Data kept frames))) (sym (none refl))
+ignored_left was phase.Trailers n kept piece frames none = refl
+ignored_left was phase.Ended n kept piece frames none = refl
+ignored_left was phase.Closed n kept piece frames none = refl
+
+trailers_same : (was : Sent) (at : Phase) (n : ℕ) (kept : Option (List Trailer)) (trailers : List Trailer) (frames : List FramePart)
+    → (at ≡ phase.Data) ⊎ (at ≡ phase.Trailers)
+    → pieces_left was phase.Trailers n (Some (with_frame kept trailers)) frames ≡ pieces_left was at n kept (frame.Trailers trailers ∷ frames)
+trailers_same was phase.Data n kept trailers frames on = refl
+trailers_same was phase.Trailers n kept trailers frames on = refl
+trailers_same was phase.Ended n kept trailers frames (inl is) = cc
+trailers_same was phase.Ended n kept trailers frames (inr is) = cc
+trailers_same was phase.Closed n kept trailers frames (inl is) = cc
+trailers_same was phase.Closed n kept trailers frames (inr is) = cc
+
+end_same : (was : Sent) (at : Phase) (n : ℕ) (kept : Option (List Trailer)) → (at ≡ phase.Data) ⊎ (at ≡ phase.Trailers)
+    → pieces_left was phase.Ended n kept [] ≡ pieces_left was at n kept []
+end_same was phase.Data n kept on = refl
+end_same was phase.Trailers n kept on = refl
+end_same was phase.Ended n kept on = refl
+end_same was phase.Closed n kept (inl is) = cc
+end_same was phase.Closed n kept (inr is) = cc
+
+-- ---- what is counted
+
+data_none : (at : Phase) → length (data_left at []) ≡ 0
+data_none phase.Data = refl
+data_none phase.Trailers = refl
+data_none phase.Ended = refl
+data_none phase.Closed = refl
+
+data_more : (at : Phase) (frames more : List FramePart)
+    → length (data_left at (frames ++ more)) ≡ length (data_left at frames) + length (data_left (phase_after at frames) more)
+data_more phase.Data [] more = omega arith
+data_more phase.Data (frame.Data piece ∷ frames) more =
+    omega (arith, length-append piece (data_before (frames ++ more)), length-append piece (data_before frames), data_more phase.Data frames more)
+data_more phase.Data (frame.Trailers trailers ∷ frames) more = refl
+data_more phase.Trailers frames more = refl
+data_more phase.Ended frames more = refl
+data_more phase.Closed frames more = refl
+
+data_ignored : (at : Phase) (piece : List ℕ) → (at ≡ phase.Data → piece ≡ []) → length (data_left at (frame.Data piece ∷ [])) ≡ 0
+data_ignored phase.Data piece none = ap (λ (bytes : List ℕ). length (bytes ++ [])) (none refl)
+data_ignored phase.Trailers piece none = refl
+data_ignored phase.Ended piece none = refl
+data_ignored phase.Closed piece none = refl
+
+idle_ignored : (at : Phase) (piece : List ℕ) → (at ≡ phase.Data → piece ≡ []) → idle_count at (frame.Data piece ∷ []) ≡ 1
+idle_ignored phase.Data piece none = ap (λ (bytes : List ℕ). idle_count phase.Data (frame.Data bytes ∷ [])) (none refl)
+idle_ignored phase.Trailers piece none = refl
+idle_ignored phase.Ended piece none = refl
+idle_ignored phase.Closed piece none = refl
+
+idle_filled : (piece : List ℕ) → 0 < length piece → idle_count phase.Data (frame.Data piece ∷ []) ≡ 0
+idle_filled [] some = absurd (omega (arith, some))
+idle_filled (byte ∷ bytes) some = omega (arith, none_idle (suc (length bytes) == 0) (length bytes) refl)
+
+idle_trailers : (at : Phase) (trailers : List Trailer) → idle_count at (frame.Trailers trailers ∷ []) ≡ 1
+idle_trailers phase.Data trailers = refl
+idle_trailers phase.Trailers trailers = refl
+idle_trailers phase.Ended trailers = refl
+idle_trailers phase.Closed trailers = refl
+
+data_trailers : (at : Phase) (trailers : List Trailer) → length (data_left at (frame.Trailers trailers ∷ [])) ≡ 0
+data_trailers phase.Data trailers = refl
+data_trailers phase.Trailers trailers = refl
+data_trailers phase.Ended trailers = refl
+data_trailers phase.Closed trailers = refl
+
+ended_none : (frames : List FramePart) → idle_count phase.Ended frames ≡ 0 → frames ≡ []
+ended_none [] none = refl
+ended_none (frame ∷ frames) none = absurd (omega (arith, none))
+
+never_closed : (at : Phase) (frames : List FramePart) → phase_after at frames ≡ phase.Closed → at ≡ phase.Closed
+never_closed phase.Data [] is = is
+never_closed phase.Data (frame.Data piece ∷ frames) is = never_closed phase.Data frames is
+never_closed phase.Data (frame.Trailers trailers ∷ frames) is = cc
+never_closed phase.Trailers frames is = is
+never_closed phase.Ended frames is = is
+never_closed phase.Closed frames is = refl
+
+on_some : {A B : Type 0} (f : A → B) (left : Option A) (P : B → Type 0) → ((a : A) → P (f a)) → IfSome (option_map f left) P
+on_some f None P holds = tt
+on_some f (Some a) P holds = holds a
+
+first_of : (before now : List FramePart → List Piece) (piece : Piece) (left : Option (List FramePart)) → ((frames : List FramePart) → before frames ≡ piece ∷ now frames)
+    → option_map before left ≡ option_map (λ (rest : List Piece). piece ∷ rest) (option_map now left)
+first_of before now piece None same = refl
+first_of before now piece (Some frames) same = ap Some (same frames)
+
+first_taken : (before now : List FramePart → List Piece) (piece : Piece) (part : FramePart) (old new : Option (List FramePart)) → TakesFrame part old new
+    → ((frames : List FramePart) → before (part ∷ frames) ≡ piece ∷ now frames)
+    → option_map before old ≡ option_map (λ (rest : List Piece). piece ∷ rest) (option_map now new)
+first_taken before now piece part None new taken same = sym (ap (λ (left : Option (List FramePart)). option_map (λ (rest : List Piece). piece ∷ rest) (option_map now left)) taken)
+first_taken before now piece part (Some old) None taken same = absurd taken
+first_taken before now piece part (Some old) (Some new) taken same = ap (λ (frames : List FramePart). Some (before frames)) taken ∙ ap Some (same new)
+
+next_taken : (before : List FramePart → List Piece) (piece : Piece) (part : FramePart) (old new : Option (List FramePart)) → TakesFrame part old new
+    → ((frames : List FramePart) → (rest : List Piece) × (before (part ∷ frames) ≡ piece ∷ rest))
+    → IfSome (option_map before old) (λ (pieces : List Piece). (rest : List Piece) × (pieces ≡ piece ∷ rest))
+next_taken before piece part None new taken is = tt
+next_taken before piece part (Some old) None taken is = absurd taken
+next_taken before piece part (Some old) (Some new) taken is = let first = is new in (first.0, ap before taken ∙ first.1)
+
+same_taken : (before now : List FramePart → List Piece) (part : FramePart) (old new : Option (List FramePart)) → TakesFrame part old new
+    → ((frames : List FramePart) → now frames ≡ before (part ∷ frames)) → option_map now new ≡ option_map before old
+same_taken before now part None new taken same = ap (option_map now) taken
+same_taken before now part (Some old) None taken same = absurd taken
+same_taken before now part (Some old) (Some new) taken same = ap Some (same new) ∙ ap (λ (frames : List FramePart). Some (before frames)) (sym taken)
+
+same_drained : (before now : List FramePart → List Piece) (old new : Option (List FramePart)) → new ≡ old → IsDrained new → now [] ≡ before []
+    → option_map now new ≡ option_map before old
+same_drained before now old None kept drained same = ap (option_map before) kept
+same_drained before now old (Some frames) kept drained same =
+    ap (λ (left : List FramePart). Some (now left)) drained ∙ ap Some same ∙ ap (λ (left : List FramePart). Some (before left)) (sym drained) ∙ ap (option_map before) kept
+
+-- ---- how many frames have no data
+
+few_turns : (answer : Result ChunkNext AwsChunkedBodyError) (count n : ℕ) → count < 65536 → AreFew answer n → AreTurns answer (count + n)
+few_turns (Ok (next.Frame bytes)) count n low few = omega (arith, low, few)
+few_turns (Ok next.NotYet) count n low few = omega (arith, low, few)
+few_turns (Ok next.OutOfTurns) count n low few = absurd few
+few_turns (Ok next.End) count n low few = omega (arith, low, few)
+few_turns (Err (fault.StreamLengthMismatch actual expected)) count n low few = omega (arith, low, few)
+few_turns (Err (fault.ReportedTrailerLengthMismatch actual expected)) count n low few = omega (arith, low, few)
+few_turns (Err (fault.FailedToSign why)) count n low few = omega (arith, low, few)
+few_turns (Err fault.SourceFault) count n low few = omega (arith, low, few)
+few_turns (Err fault.NoMemory) count n low few = omega (arith, low, few)
+
+none_few : (answer : Result ChunkNext AwsChunkedBodyError) (n : ℕ) → AreNone answer n → AreFew answer n
+none_few (Ok (next.Frame bytes)) n none = none
+none_few (Ok next.NotYet) n none = none
+none_few (Ok next.OutOfTurns) n none = none
+none_few (Ok next.End) n none = none
+none_few (Err (fault.StreamLengthMismatch actual expected)) n none = none
+none_few (Err (fault.ReportedTrailerLengthMismatch actual expected)) n none = none
+none_few (Err (fault.FailedToSign why)) n none = none
+none_few (Err fault.SourceFault) n none = none
+none_few (Err fault.NoMemory) n none = omega (arith, none)
+
+none_ended : (answer : Result ChunkNext AwsChunkedBodyError) (n : ℕ) → AreNone answer n → n ≡ 0
+none_ended (Ok (next.Frame bytes)) n none = none
+none_ended (Ok next.NotYet) n none = none
+none_ended (Ok next.OutOfTurns) n none = absurd none
+none_ended (Ok next.End) n none = none
+none_ended (Err error) n none = none
+
+module _ {F G : Type 0} (source : FrameSource.Ghosts F) where
+  -- ---- a piece is made of what was taken
+
+  none_taken : (P : ℕ → Type 0) (old new : AwsChunkedBody F G) → new.source ≡ old.source → new.taken ≡ old.taken → P 0 → PassesFrames source P old new
+  none_taken P old new source_is taken is = record {
+    frames = [];
+    taken = left_none (source.left old.source) ∙ ap (λ (f : F). option_map (λ (rest : List FramePart). [] ++ rest) (source.left f)) (sym source_is);
+    turns = subst P (sym (idle_none old.phase)) is;
+    data_count = ap counted (omega (arith, taken, data_none old.phase));
+  }
+
+  none_kept : (old new : AwsChunkedBody F G) → new.source ≡ old.source → OthersPass old new → PassKeeps source old new
+  none_kept old new source_is others = record {
+    waits = subst (λ (f : F). source.waits old.source ≤ source.waits f) (sym source_is) (omega arith);
+    faults = subst (λ (f : F). source.faults old.source ≤ source.faults f) (sym source_is) (omega arith);
+    others = others;
+  }
+
+  -- the piece that is made was the first that was due
+  piece_made : (old new : AwsChunkedBody F G) (piece : Piece) (bytes : List ℕ) → new.source ≡ old.source → new.taken ≡ old.taken → OthersPass old new
+      → ((frames : List FramePart) → pieces_with old frames ≡ piece ∷ pieces_with new frames) → bytes ≡ piece_text piece → 0 < length (piece_text piece)
+      → FitsPiece piece new → PassesOn source (λ count. count ≡ 0) old new (Ok (next.Frame bytes))
+  piece_made old new piece bytes source_is taken others first is some fits = record {
+    takes = (
+      piece,
+      is,
+      some_text bytes piece is some,
+      first_of (pieces_with old) (pieces_with new) piece (source.left old.source) first
+          ∙ ap (λ (f : F). option_map (λ (rest : List Piece). piece ∷ rest) (option_map (pieces_with new) (source.left f))) (sym source_is),
+      fits,
+    );
+    cause = tt;
+    turns = none_taken (λ count. count ≡ 0) old new source_is taken refl;
+    keeps = none_kept old new source_is others;
+  }
+
+  pub line_made : (old new : AwsChunkedBody F G) (bytes : List ℕ) → (old.phase ≡ phase.Closed → ⊥) → old.sent ≡ sent.Nothing
+      → bytes ≡ piece_text (length_line old.options.stream_length) → new ≡ record old { sent = sent_after old.options.stream_length }
+      → PassesOn source (λ count. count ≡ 0) old new (Ok (next.Frame bytes))
+  line_made old new bytes on was is others =
+      piece_made old new (length_line n) bytes (ap (λ (body : AwsChunkedBody F G). body.source) others) (ap (λ (body : AwsChunkedBody F G). body.taken) others)
+      (others ∙ ap (λ (body : AwsChunkedBody F G). record old { source = body.source; phase = body.phase; sent = body.sent; taken = body.taken; trailers = body.trailers; ready = body.ready }) (sym others))
+      (λ (frames : List FramePart).
+      ap (λ (w : Sent). pieces_left w old.phase n old.trailers frames) was
+      ∙ line_left old.phase n old.trailers frames on
+      ∙ sym (ap (λ (body : AwsChunkedBody F G). length_line n ∷ pieces_with body frames) others))
+      is (line_some n) tt
+    where
+      n : ℕ
+      n = old.options.stream_length
+
+  pub chunk_made : (old new : AwsChunkedBody F G) (bytes : List ℕ) → (old.phase ≡ phase.Closed → ⊥) → (old.phase ≡ phase.Data → ⊥) → old.sent ≡ sent.LengthLine
+      → MakesEmptyChunk old new (Ok bytes) → PassesOn source (λ count. count ≡ 0) old new (Ok (next.Frame bytes))
+  chunk_made old new bytes on over was made =
+      piece_made old new empty_chunk bytes (ap (λ (body : AwsChunkedBody F G). body.source) made.2) (ap (λ (body : AwsChunkedBody F G). body.taken) made.2)
+      (made.2 ∙ ap (λ (body : AwsChunkedBody F G). record old { source = body.source; phase = body.phase; sent = body.sent; taken = body.taken; trailers = body.trailers; ready = body.ready }) (sym made.2))
+      (λ (frames : List FramePart).
+      ap (λ (w : Sent). pieces_left w old.phase old.options.stream_length old.trailers frames) was
+      ∙ chunk_left old.phase old.options.stream_length old.trailers frames on over
+      ∙ sym (ap (λ (body : AwsChunkedBody F G). empty_chunk ∷ pieces_with body frames) made.2))
+      made.0 chunk_some (subst (λ (body : AwsChunkedBody F G). FitsPiece empty_chunk body) (sym made.2) made.1)
+
+  lines_left : (old : AwsChunkedBody F G) (frames : List FramePart) → old.phase ≡ phase.Ended → old.sent ≡ sent.EmptyChunk
+      → pieces_with old frames ≡ last_lines (listed old.trailers) ∷ []
+  lines_left old frames ended was = (λ i. pieces_left (was i) (ended i) old.options.stream_length old.trailers frames)
+
+  pub lines_made : (old new : AwsChunkedBody F G) (bytes : List ℕ) → old.phase ≡ phase.Ended → old.sent ≡ sent.EmptyChunk → MakesLastLines old new (Ok bytes)
+      → PassesOn source (λ count. count ≡ 0) old new (Ok (next.Frame bytes))
+  lines_made old new bytes ended was made =
+      piece_made old new (last_lines (listed old.trailers)) bytes (ap (λ (body : AwsChunkedBody F G). body.source) made.3) (ap (λ (body : AwsChunkedBody F G). body.taken) made.3)
+      (made.3 ∙ ap (λ (body : AwsChunkedBody F G). record old { source = body.source; phase = body.phase; sent = body.sent; taken = body.taken; trailers = body.trailers; ready = body.ready }) (sym made.3))
+      (λ (frames : List FramePart).
+      lines_left old frames ended was ∙ sym (ap (λ (body : AwsChunkedBody F G). last_lines (listed old.trailers) ∷ pieces_with body frames) made.3))
+      made.0 (lines_some (listed old.trailers)) (subst (λ (body : AwsChunkedBody F G). FitsPiece (last_lines (listed old.trailers)) body) (sym made.3) (made.1, made.2))
+
+  -- ---- why none is made
+
+  stays : (old new : AwsChunkedBody F G) (answer : Result ChunkNext AwsChunkedBodyError) → new ≡ old → TakesPiece source old old answer → PassCauses source old old answer
+      → PassesOn source (λ count. count ≡ 0) old new answer
+  stays old new answer same takes cause = record {
+    takes = subst (λ (body : AwsChunkedBody F G). TakesPiece source old body answer) (sym same) takes;
+    cause = subst (λ (body : AwsChunkedBody F G). PassCauses source old body answer) (sym same) cause;
+    turns = none_taken (λ count. count ≡ 0) old new (ap (λ (body : AwsChunkedBody F G). body.source) same) (ap (λ (body : AwsChunkedBody F G). body.taken) same) refl;
+    keeps = none_kept old new (ap (λ (body : AwsChunkedBody F G). body.source) same)
+        (same ∙ ap (λ (body : AwsChunkedBody F G). record old { source = body.source; phase = body.phase; sent = body.sent; taken = body.taken; trailers = body.trailers; ready = body.ready }) (sym same));
+  }
+
+  pub over_already : (body : AwsChunkedBody F G) → body.phase ≡ phase.Closed → PassesOn source (λ count. count ≡ 0) body body (Ok next.End)
+  over_already body closed = stays body body (Ok next.End) refl (refl, closed) tt
+
+  pub no_room : (old new : AwsChunkedBody F G) → new ≡ old → PassesOn source (λ count. count ≡ 0) old new (Err fault.NoMemory)
+  no_room old new same = stays old new (Err fault.NoMemory) same tt tt
+
+  lack_told : (old : AwsChunkedBody F G) (error : AwsChunkedBodyError) (piece : Piece) → HasLength old (Err error) → MayLack piece old.options.stream_length → IsNext source old piece
+      → PassCauses source old old (Err error)
+  lack_told old error piece lacks may first =
+      subst (λ (e : AwsChunkedBodyError). PassCauses source old old (Err e)) (sym lacks.0) (refl, refl, lacks.1, piece, may, first)
+
+  pub chunk_lacks : (old new : AwsChunkedBody F G) (error : AwsChunkedBodyError) → (old.phase ≡ phase.Closed → ⊥) → (old.phase ≡ phase.Data → ⊥) → old.sent ≡ sent.LengthLine
+      → MakesEmptyChunk old new (Err error) → PassesOn source (λ count. count ≡ 0) old new (Err error)
+  chunk_lacks old new error on over was made =
+      stays old new (Err error) made.1 tt
+      (lack_told old error empty_chunk made.0 tt
+      (on_some (pieces_with old) (source.left old.source) (λ (pieces : List Piece). (rest : List Piece) × (pieces ≡ empty_chunk ∷ rest))
+      (λ (frames : List FramePart). (
+        pieces_left sent.EmptyChunk old.phase old.options.stream_length old.trailers frames,
+        ap (λ (w : Sent). pieces_left w old.phase old.options.stream_length old.trailers frames) was ∙ chunk_left old.phase old.options.stream_length old.trailers frames on over,
+      ))))
+
+  pub lines_lack : (old new : AwsChunkedBody F G) (error : AwsChunkedBodyError) → old.phase ≡ phase.Ended → old.sent ≡ sent.EmptyChunk
+      → MakesLastLines old new (Err error) → PassesOn source (λ count. count ≡ 0) old new (Err error)
+  lines_lack old new error ended was made = stays old new (Err error) made.1 tt (by made.0)
+    where
+      first : IsNext source old (last_lines (listed old.trailers))
+      first =
+          on_some (pieces_with old) (source.left old.source) (λ (pieces : List Piece). (rest : List Piece) × (pieces ≡ last_lines (listed old.trailers) ∷ rest))
+          (λ (frames : List FramePart). ([], lines_left old frames ended was))
+
+      by : (error ≡ fault.NoMemory) ⊎ HasLength old (Err error) ⊎ (HasLength old (Ok tt) × HasLineLengths old (Err error)) → PassCauses source old old (Err error)
+      by (inl is) = subst (λ (e : AwsChunkedBodyError). PassCauses source old old (Err e)) (sym is) tt
+      by (inr (inl lack)) = lack_told old error (last_lines (listed old.trailers)) lack tt first
+      by (inr (inr (fits, lack))) =
+          subst (λ (e : AwsChunkedBodyError). PassCauses source old old (Err e)) (sym lack.0) ((refl, lack.1), fits, first)
+
+  -- ---- a frame is taken
+
+  takes_new : (part : FramePart) (old new : AwsChunkedBody F G) (from : F) → new.source ≡ from → TakesFrame part (source.left old.source) (source.left from)
+      → TakesFrame part (source.left old.source) (source.left new.source)
+  takes_new part old new from is gives = subst (λ (f : F). TakesFrame part (source.left old.source) (source.left f)) (sym is) gives
+
+  one_taken : (P : ℕ → Type 0) (old new : AwsChunkedBody F G) (part : FramePart) → TakesFrame part (source.left old.source) (source.left new.source)
+      → counted new.taken ≡ counted (old.taken + length (data_left old.phase (part ∷ []))) → P (idle_count old.phase (part ∷ [])) → PassesFrames source P old new
+  one_taken P old new part gives count is =
+      record { frames = part ∷ []; taken = left_one part (source.left old.source) (source.left new.source) gives; turns = is; data_count = count }
+
+  from_kept : (old new : AwsChunkedBody F G) (from : F) → new.source ≡ from → source.waits old.source ≤ source.waits from → source.faults old.source ≤ source.faults from
+      → OthersPass old new → PassKeeps source old new
+  from_kept old new from is waits faults others = record {
+    waits = subst (λ (f : F). source.waits old.source ≤ source.waits f) (sym is) waits;
+    faults = subst (λ (f : F). source.faults old.source ≤ source.faults f) (sym is) faults;
+    others = others;
+  }
+
+  -- data that is ignored
+  pub data_idles : (old new : AwsChunkedBody F G) (from : F) (piece : List ℕ) → TakesFrame (frame.Data piece) (source.left old.source) (source.left from)
+      → source.waits old.source ≤ source.waits from → source.faults old.source ≤ source.faults from
+      → PassesData (record old { source = from }) new piece (Ok None) → Idles source 1 old new
+  unfolding one_taken
+  data_idles old new from piece gives waits faults passes = record {
+    due = same_taken (pieces_with old) (pieces_with new) (frame.Data piece) (source.left old.source) (source.left new.source) gives_new
+        (λ (frames : List FramePart).
+        ap (λ (body : AwsChunkedBody F G). pieces_with body frames) passes.1
+        ∙ ignored_left old.sent old.phase old.options.stream_length old.trailers piece frames passes.0);
+    turns = one_taken (λ n. n ≡ 1) old new (frame.Data piece) gives_new
+        (ap counted (omega (arith, ap (λ (body : AwsChunkedBody F G). body.taken) passes.1, data_ignored old.phase piece passes.0))) (idle_ignored old.phase piece passes.0);
+    at = ap (λ (body : AwsChunkedBody F G). body.phase) passes.1 ∙ sym (same_phase old.phase);
+    keeps = from_kept old new from source_is waits faults
+        (passes.1 ∙ ap (λ (body : AwsChunkedBody F G). record old { source = body.source; phase = body.phase; sent = body.sent; taken = body.taken; trailers = body.trailers; ready = body.ready }) (sym passes.1));
+    same = ap (λ (body : AwsChunkedBody F G). body.sent) passes.1;
+  }
+    where
+      source_is : new.source ≡ from
+      source_is = ap (λ (body : AwsChunkedBody F G). body.source) passes.1
+
+      gives_new : TakesFrame (frame.Data piece) (source.left old.source) (source.left new.source)
+      gives_new = takes_new (frame.Data piece) old new from source_is gives
+
+      same_phase : (at : Phase) → phase_after at (frame.Data piece ∷ []) ≡ at
+      same_phase phase.Data = refl
+      same_phase phase.Trailers = refl
+      same_phase phase.Ended = refl
+      same_phase phase.Closed = refl
+
+  -- data that is passed on
+  pub data_passed : (old new : AwsChunkedBody F G) (from : F) (piece bytes : List ℕ) → (old.sent ≡ sent.Nothing → ⊥)
+      → TakesFrame (frame.Data piece) (source.left old.source) (source.left from)
+      → source.waits old.source ≤ source.waits from → source.faults old.source ≤ source.faults from
+      → PassesData (record old { source = from }) new piece (Ok (Some bytes)) → PassesOn source (AreFew (Ok (next.Frame bytes))) old new (Ok (next.Frame bytes))
+  data_passed old new from piece bytes begun gives waits faults passes = record {
+    takes = (
+      passed piece,
+      passes.0,
+      omega (arith, ap length passes.0, passes.2),
+      first_taken (pieces_with old) (pieces_with new) (passed piece) (frame.Data piece) (source.left old.source) (source.left new.source) gives_new
+          (λ (frames : List FramePart).
+          ap (λ (at : Phase). pieces_left old.sent at old.options.stream_length old.trailers (frame.Data piece ∷ frames)) passes.1
+          ∙ data_behind old.sent old.options.stream_length piece (filled_before frames) (listed (trailers_left phase.Data old.trailers frames)) begun passes.2
+          ∙ ap (λ (at : Phase). passed piece ∷ pieces_left old.sent at old.options.stream_length old.trailers frames) (sym passes.1)
+          ∙ sym (ap (λ (body : AwsChunkedBody F G). passed piece ∷ pieces_with body frames) passes.4)),
+      subst (λ (body : AwsChunkedBody F G). 0 < body.options.stream_length) (sym passes.4) passes.3,
+    );
+    cause = tt;
+    turns = one_taken (λ n. n ≡ 0) old new (frame.Data piece) gives_new (counts passes.1 passes.4)
+        (ap (λ (at : Phase). idle_count at (frame.Data piece ∷ [])) passes.1 ∙ idle_filled piece passes.2);
+    keeps = from_kept old new from source_is waits faults
+        (passes.4 ∙ ap (λ (body : AwsChunkedBody F G). record old { source = body.source; phase = body.phase; sent = body.sent; taken = body.taken; trailers = body.trailers; ready = body.ready }) (sym passes.4));
+  }
+    where
+      source_is : new.source ≡ from
+      source_is = ap (λ (body : AwsChunkedBody F G). body.source) passes.4
+
+      gives_new : TakesFrame (frame.Data piece) (source.left old.source) (source.left new.source)
+      gives_new = takes_new (frame.Data piece) old new from source_is gives
+
+      counts : old.phase ≡ phase.Data → new ≡ record old { source = from; taken = counted (old.taken + length piece) }
+          → counted new.taken ≡ counted (old.taken + length (data_left old.phase (frame.Data piece ∷ [])))
+      counts at is =
+          omega (arith, ap (λ (body : AwsChunkedBody F G). body.taken) is, ap (λ (p : Phase). length (data_left p (frame.Data piece ∷ []))) at, length-append piece [])
+
+  -- data that may not come
+  pub data_refused : (old new : AwsChunkedBody F G) (from : F) (piece : List ℕ) (error : AwsChunkedBodyError) → (old.sent ≡ sent.Nothing → ⊥)
+      → TakesFrame (frame.Data piece) (source.left old.source) (source.left from)
+      → source.waits old.source ≤ source.waits from → source.faults old.source ≤ source.faults from
+      → PassesData (record old { source = from }) new piece (Err error) → PassesOn source (AreFew (Err error)) old new (Err error)
+  data_refused old new from piece error begun gives waits faults passes = record {
+    takes = tt;
+    cause = subst (λ (e : AwsChunkedBodyError). PassCauses source old new (Err e)) (sym passes.3.0) (refl, refl, passes.3.1, passed piece, none_declared, first);
+    turns = one_taken (AreFew (Err error)) old new (frame.Data piece) gives_new (counts passes.0 passes.4) (few error);
+    keeps = from_kept old new from source_is waits faults
+        (passes.4 ∙ ap (λ (body : AwsChunkedBody F G). record old { source = body.source; phase = body.phase; sent = body.sent; taken = body.taken; trailers = body.trailers; ready = body.ready }) (sym passes.4));
+  }
+    where
+      source_is : new.source ≡ from
+      source_is = ap (λ (body : AwsChunkedBody F G). body.source) passes.4
+
+      gives_new : TakesFrame (frame.Data piece) (source.left old.source) (source.left new.source)
+      gives_new = takes_new (frame.Data piece) old new from source_is gives
+
+      none_declared : new.options.stream_length ≡ 0
+      none_declared = ap (λ (body : AwsChunkedBody F G). body.options.stream_length) passes.4 ∙ passes.2
+
+      first : IsNext source old (passed piece)
+      first =
+          next_taken (pieces_with old) (passed piece) (frame.Data piece) (source.left old.source) (source.left new.source) gives_new
+          (λ (frames : List FramePart). (
+            pieces_of old.sent old.options.stream_length (filled_before frames) (listed (trailers_left phase.Data old.trailers frames)),
+            ap (λ (at : Phase). pieces_left old.sent at old.options.stream_length old.trailers (frame.Data piece ∷ frames)) passes.0
+                ∙ data_behind old.sent old.options.stream_length piece (filled_before frames) (listed (trailers_left phase.Data old.trailers frames)) begun passes.1,
+          ))
+
+      counts : old.phase ≡ phase.Data → new ≡ record old { source = from; taken = counted (old.taken + length piece) }
+          → counted new.taken ≡ counted (old.taken + length (data_left old.phase (frame.Data piece ∷ [])))
+      counts at is =
+          omega (arith, ap (λ (body : AwsChunkedBody F G). body.taken) is, ap (λ (p : Phase). length (data_left p (frame.Data piece ∷ []))) at, length-append piece [])
+
+      none : idle_count old.phase (frame.Data piece ∷ []) ≡ 0
+      none = ap (λ (at : Phase). idle_count at (frame.Data piece ∷ [])) passes.0 ∙ idle_filled piece passes.1
+
+      few : (e : AwsChunkedBodyError) → AreFew (Err e) (idle_count old.phase (frame.Data piece ∷ []))
+      few (fault.StreamLengthMismatch actual expected) = none
+      few (fault.ReportedTrailerLengthMismatch actual expected) = none
+      few (fault.FailedToSign why) = none
+      few fault.SourceFault = none
+      few fault.NoMemory = omega (arith, none)
+
+  pub trailers_idle : (old new : AwsChunkedBody F G) (from : F) (trailers : List Trailer) → GoesOn old
+      → TakesFrame (frame.Trailers trailers) (source.left old.source) (source.left from)
+      → source.waits old.source ≤ source.waits from → source.faults old.source ≤ source.faults from
+      → new ≡ record old { source = from; phase = phase.Trailers; trailers = Some (with_frame old.trailers trailers) } → Idles source 1 old new
+  unfolding one_taken
+  trailers_idle old new from trailers on gives waits faults is = record {
+    due = same_taken (pieces_with old) (pieces_with new) (frame.Trailers trailers) (source.left old.source) (source.left new.source) gives_new
+        (λ (frames : List FramePart).
+        ap (λ (body : AwsChunkedBody F G). pieces_with body frames) is
+        ∙ trailers_same old.sent old.phase old.options.stream_length old.trailers trailers frames on);
+    turns = one_taken (λ n. n ≡ 1) old new (frame.Trailers trailers) gives_new
+        (ap counted (omega (arith, ap (λ (body : AwsChunkedBody F G). body.taken) is, data_trailers old.phase trailers))) (idle_trailers old.phase trailers);
+    at = ap (λ (body : AwsChunkedBody F G). body.phase) is ∙ after_is old.phase on;
+    keeps = from_kept old new from source_is waits faults
+        (is ∙ ap (λ (body : AwsChunkedBody F G). record old { source = body.source; phase = body.phase; sent = body.sent; taken = body.taken; trailers = body.trailers; ready = body.ready }) (sym is));
+    same = ap (λ (body : AwsChunkedBody F G). body.sent) is;
+  }
+    where
+      source_is : new.source ≡ from
+      source_is = ap (λ (body : AwsChunkedBody F G). body.source) is
+
+      gives_new : TakesFrame (frame.Trailers trailers) (source.left old.source) (source.left new.source)
+      gives_new = takes_new (frame.Trailers trailers) old new from source_is gives
+
+      after_is : (at : Phase) → (at ≡ phase.Data) ⊎ (at ≡ phase.Trailers) → phase.Trailers ≡ phase_after at (frame.Trailers trailers ∷ [])
+      after_is phase.Data on = refl
+      after_is phase.Trailers on = refl
+      after_is phase.Ended (inl is) = cc
+      after_is phase.Ended (inr is) = cc
+      after_is phase.Closed (inl is) = cc
+      after_is phase.Closed (inr is) = cc
+
+  pub trailers_lost : (old new : AwsChunkedBody F G) (from : F) (trailers : List Trailer)
+      → TakesFrame (frame.Trailers trailers) (source.left old.source) (source.left from)
+      → source.waits old.source ≤ source.waits from → source.faults old.source ≤ source.faults from
+      → new ≡ record old { source = from; phase = phase.Trailers; trailers = new.trailers } → PassesOn source (AreFew (Err fault.NoMemory)) old new (Err fault.NoMemory)
+  trailers_lost old new from trailers gives waits faults is = record {
+    takes = tt;
+    cause = tt;
+    turns = one_taken (λ n. n ≤ 1) old new (frame.Trailers trailers) (takes_new (frame.Trailers trailers) old new from source_is gives)
+        (ap counted (omega (arith, ap (λ (body : AwsChunkedBody F G). body.taken) is, data_trailers old.phase trailers))) (omega (arith, idle_trailers old.phase trailers));
+    keeps = from_kept old new from source_is waits faults
+        (is ∙ ap (λ (body : AwsChunkedBody F G). record old { source = body.source; phase = body.phase; sent = body.sent; taken = body.taken; trailers = new.trailers; ready = body.ready }) (sym is));
+  }
+    where
+      source_is : new.source ≡ from
+      source_is = ap (λ (body : AwsChunkedBody F G). body.source) is
+
+  -- a source that gave nothing
+  asked : (P : ℕ → Type 0) (old : AwsChunkedBody F G) (from : F) (answer : Result ChunkNext AwsChunkedBodyError) → source.left from ≡ source.left old.source
+      → source.waits old.source ≤ source.waits from → source.faults old.source ≤ source.faults from → P 0
+      → TakesPiece source old (record old { source = from }) answer → PassCauses source old (record old { source = from }) answer
+      → PassesOn source P old (record old { source = from }) answer
+  asked P old from answer left waits faults few takes cause = record {
+    takes = takes;
+    cause = cause;
+    turns = record {
+      frames = [];
+      taken = sym left ∙ left_none (source.left from);
+      turns = subst P (sym (idle_none old.phase)) few;
+      data_count = ap counted (omega (arith, data_none old.phase));
+    };
+    keeps = record { waits = waits; faults = faults; others = refl };
+  }
+
+  pub asked_early : (old : AwsChunkedBody F G) (from : F) → source.left from ≡ source.left old.source
+      → source.waits old.source ≤ source.waits from → source.faults old.source ≤ source.faults from → RoseOrStands (source.waits old.source) (source.waits from)
+      → PassesOn source (AreFew (Ok next.NotYet)) old (record old { source = from }) (Ok next.NotYet)
+  asked_early old from left waits faults rose =
+      asked (λ n. n ≡ 0) old from (Ok next.NotYet) left waits faults refl (ap (option_map (pieces_with old)) left) rose
+
+  pub asked_failing : (old : AwsChunkedBody F G) (from : F) → source.left from ≡ source.left old.source
+      → source.waits old.source ≤ source.waits from → source.faults old.source ≤ source.faults from → RoseOrStands (source.faults old.source) (source.faults from)
+      → PassesOn source (AreFew (Err fault.SourceFault)) old (record old { source = from }) (Err fault.SourceFault)
+  asked_failing old from left waits faults rose = asked (λ n. n ≡ 0) old from (Err fault.SourceFault) left waits faults refl tt rose
+
+  pub asked_vainly : (old : AwsChunkedBody F G) (from : F) → source.left from ≡ source.left old.source
+      → source.waits old.source ≤ source.waits from → source.faults old.source ≤ source.faults from
+      → PassesOn source (AreFew (Err fault.NoMemory)) old (record old { source = from }) (Err fault.NoMemory)
+  asked_vainly old from left waits faults = asked (λ n. n ≤ 1) old from (Err fault.NoMemory) left waits faults (omega arith) tt tt
+
+  -- ---- one step after others
+
+  keeps_joined : (old mid new : AwsChunkedBody F G) → PassKeeps source old mid → PassKeeps source mid new → PassKeeps source old new
+  keeps_joined old mid new first second = record {
+    waits = omega (arith, first.waits, second.waits);
+    faults = omega (arith, first.faults, second.faults);
+    others = second.others
+        ∙ ap (λ (body : AwsChunkedBody F G). record body { source = new.source; phase = new.phase; sent = new.sent; taken = new.taken; trailers = new.trailers; ready = new.ready }) first.others;
+  }
+
+  takes_later : (old mid new : AwsChunkedBody F G) (answer : Result ChunkNext AwsChunkedBodyError) → pieces_due source mid ≡ pieces_due source old
+      → (mid.phase ≡ phase.Closed → old.phase ≡ phase.Closed) → TakesPiece source mid new answer → TakesPiece source old new answer
+  takes_later old mid new (Ok (next.Frame bytes)) due closed takes = (takes.0, takes.1, takes.2, sym due ∙ takes.3, takes.4)
+  takes_later old mid new (Ok next.NotYet) due closed takes = takes ∙ due
+  takes_later old mid new (Ok next.OutOfTurns) due closed takes = takes ∙ due
+  takes_later old mid new (Ok next.End) due closed takes = (takes.0 ∙ due, closed takes.1)
+  takes_later old mid new (Err error) due closed takes = tt
+
+  next_later : (old mid : AwsChunkedBody F G) (piece : Piece) → pieces_due source mid ≡ pieces_due source old → IsNext source mid piece → IsNext source old piece
+  next_later old mid piece due is = subst (λ (all : Option (List Piece)). IfSome all (λ (pieces : List Piece). (rest : List Piece) × (pieces ≡ piece ∷ rest))) due is
+
+  cause_later : (old mid new : AwsChunkedBody F G) (answer : Result ChunkNext AwsChunkedBodyError) → pieces_due source mid ≡ pieces_due source old
+      → source.waits old.source ≤ source.waits mid.source → source.faults old.source ≤ source.faults mid.source
+      → PassCauses source mid new answer → PassCauses source old new answer
+  cause_later old mid new (Ok (next.Frame bytes)) due waits faults cause = tt
+  cause_later old mid new (Ok next.NotYet) due waits faults cause =
+      rose_before (source.waits old.source) (source.waits mid.source) (source.waits new.source) waits cause
+  cause_later old mid new (Ok next.OutOfTurns) due waits faults cause = tt
+  cause_later old mid new (Ok next.End) due waits faults cause = tt
+  cause_later old mid new (Err (fault.StreamLengthMismatch actual expected)) due waits faults cause =
+      (cause.0, cause.1, cause.2, cause.3, cause.4, next_later old mid cause.3 due cause.5)
+  cause_later old mid new (Err (fault.ReportedTrailerLengthMismatch actual expected)) due waits faults cause =
+      (cause.0, cause.1, next_later old mid (last_lines (listed new.trailers)) due cause.2)
+  cause_later old mid new (Err (fault.FailedToSign why)) due waits faults cause = cause
+  cause_later old mid new (Err fault.SourceFault) due waits faults cause =
+      rose_before (source.faults old.source) (source.faults mid.source) (source.faults new.source) faults cause
+  cause_later old mid new (Err fault.NoMemory) due waits faults cause = tt
+
+  frames_joined : (P Q : ℕ → Type 0) (count : ℕ) (old mid new : AwsChunkedBody F G) → Idles source count old mid → PassesFrames source P mid new
+      → ((n : ℕ) → P n → Q (count + n)) → PassesFrames source Q old new
+  frames_joined P Q count old mid new idles turns is = record {
+    frames = idles.turns.frames ++ turns.frames;
+    taken = left_more idles.turns.frames turns.frames (source.left old.source) (source.left mid.source) (source.left new.source) idles.turns.taken turns.taken;
+    turns = subst Q
+        (sym (idle_more old.phase idles.turns.frames turns.frames ∙ (λ i. idles.turns.turns i + idle_count (sym idles.at i) turns.frames)))
+        (is (idle_count mid.phase turns.frames) turns.turns);
+    data_count = omega (
+      arith,
+      turns.data_count,
+      idles.turns.data_count,
+      data_more old.phase idles.turns.frames turns.frames,
+      ap (λ (at : Phase). length (data_left at turns.frames)) idles.at,
+    );
+  }
+
+  later : (P Q : ℕ → Type 0) (count : ℕ) (old mid new : AwsChunkedBody F G) (answer : Result ChunkNext AwsChunkedBodyError) → Idles source count old mid
+      → PassesOn source P mid new answer → ((n : ℕ) → P n → Q (count + n)) → PassesOn source Q old new answer
+  later P Q count old mid new answer idles passes is = record {
+    takes = takes_later old mid new answer idles.due (λ closed. never_closed old.phase idles.turns.frames (sym idles.at ∙ closed)) passes.takes;
+    cause = cause_later old mid new answer idles.due idles.keeps.waits idles.keeps.faults passes.cause;
+    turns = frames_joined P Q count old mid new idles passes.turns is;
+    keeps = keeps_joined old mid new idles.keeps passes.keeps;
+  }
+
+  pub idles_more : (count more : ℕ) (old mid new : AwsChunkedBody F G) → Idles source count old mid → Idles source more mid new → Idles source (count + more) old new
+  unfolding frames_joined
+  idles_more count more old mid new first second = record {
+    due = second.due ∙ first.due;
+    turns = frames_joined (λ n. n ≡ more) (λ n. n ≡ count + more) count old mid new first second.turns (λ n is. ap (λ m. count + m) is);
+    at = second.at ∙ ap (λ (at : Phase). phase_after at second.turns.frames) first.at ∙ sym (phase_more old.phase first.turns.frames second.turns.frames);
+    keeps = keeps_joined old mid new first.keeps second.keeps;
+    same = second.same ∙ first.same;
+  }
+
+  pub idles_none : (body : AwsChunkedBody F G) → Idles source 0 body body
+  unfolding none_taken
+  idles_none body = record {
+    due = refl;
+    turns = none_taken (λ n. n ≡ 0) body body refl refl refl;
+    at = sym (by body.phase);
+    keeps = none_kept body body refl refl;
+    same = refl;
+  }
+    where
+      by : (at : Phase) → phase_after at [] ≡ at
+      by phase.Data = refl
+      by phase.Trailers = refl
+      by phase.Ended = refl
+      by phase.Closed = refl
+
+  -- a frame was passed on, or none was for a reason, after others without data
+  pub passed_later : (count : ℕ) (old mid new : AwsChunkedBody F G) (answer : Result ChunkNext AwsChunkedBodyError) → count < 65536 → Idles source count old mid
+      → PassesOn source (AreFew answer) mid new answer → PassesOn source (AreTurns answer) old new answer
+  passed_later count old mid new answer low idles passes =
+      later (AreFew answer) (AreTurns answer) count old mid new answer idles passes (λ n few. few_turns answer count n low few)
+
+  -- a piece was made, or none was for a reason, after others without data
+  pub made_later : (count : ℕ) (old mid new : AwsChunkedBody F G) (answer : Result ChunkNext AwsChunkedBodyError) → count < 65536 → Idles source count old mid
+      → PassesOn source (AreNone answer) mid new answer → PassesOn source (AreTurns answer) old new answer
+  made_later count old mid new answer low idles passes =
+      later (AreNone answer) (AreTurns answer) count old mid new answer idles passes (λ n none. few_turns answer count n low (none_few answer n none))
+
+  pub gives_up : (count : ℕ) (old new : AwsChunkedBody F G) → count ≡ 65536 → Idles source count old new → PassesOn source (AreTurns (Ok next.OutOfTurns)) old new (Ok next.OutOfTurns)
+  gives_up count old new many idles = record {
+    takes = idles.due;
+    cause = tt;
+    turns = record { frames = idles.turns.frames; taken = idles.turns.taken; turns = idles.turns.turns ∙ many; data_count = idles.turns.data_count };
+    keeps = idles.keeps;
+  }
+
+  -- ---- the source has ended
+
+  pub made_at_end : (old new : AwsChunkedBody F G) (from : F) (answer : Result ChunkNext AwsChunkedBodyError) → GoesOn old
+      → source.left from ≡ source.left old.source → IsDrained (source.left from)
+      → source.waits old.source ≤ source.waits from → source.faults old.source ≤ source.faults from
+      → PassesOn source (AreNone answer) (record old { source = from; phase = phase.Ended }) new answer → PassesOn source (AreFew answer) old new answer
+  made_at_end old new from answer on left drained waits faults passes = record {
+    takes = takes_later old mid new answer due (λ ended. (let no : phase.Ended ≡ phase.Closed = ended in cc)) passes.takes;
+    cause = cause_later old mid new answer due waits faults passes.cause;
+    turns = record {
+      frames = [];
+      taken = sym left ∙ passes.turns.taken ∙ ap (λ (frames : List FramePart). option_map (λ (rest : List FramePart). frames ++ rest) (source.left new.source)) none;
+      turns = subst (AreFew answer) (sym (idle_none old.phase))
+          (subst (AreFew answer) (none_ended answer (idle_count phase.Ended passes.turns.frames) passes.turns.turns)
+          (none_few answer (idle_count phase.Ended passes.turns.frames) passes.turns.turns));
+      data_count = passes.turns.data_count ∙ ap (λ (n : ℕ). counted (old.taken + n)) (sym (data_none old.phase));
+    };
+    keeps = keeps_joined old mid new (record { waits = waits; faults = faults; others = refl }) passes.keeps;
+  }
+    where
+      mid : AwsChunkedBody F G
+      mid = record old { source = from; phase = phase.Ended }
+
+      none : passes.turns.frames ≡ []
+      none = ended_none passes.turns.frames (none_ended answer (idle_count phase.Ended passes.turns.frames) passes.turns.turns)
+
+      due : pieces_due source mid ≡ pieces_due source old
+      due =
+          same_drained (pieces_with old) (pieces_with (record old { source = from; phase = phase.Ended })) (source.left old.source) (source.left from) left drained
+          (end_same old.sent old.phase old.options.stream_length old.trailers on)
+
+  -- ---- what a step answered
+
+  pub data_steps : (old new : AwsChunkedBody F G) (from : F) (piece : List ℕ) (found : Option (List ℕ)) → (old.sent ≡ sent.Nothing → ⊥)
+      → TakesFrame (frame.Data piece) (source.left old.source) (source.left from)
+      → source.waits old.source ≤ source.waits from → source.faults old.source ≤ source.faults from
+      → PassesData (record old { source = from }) new piece (Ok found) → Steps source (Idles source 1 old new) AreFew old new (Ok found)
+  data_steps old new from piece None begun gives waits faults passes = data_idles old new from piece gives waits faults passes
+  data_steps old new from piece (Some bytes) begun gives waits faults passes = data_passed old new from piece bytes begun gives waits faults passes
+
+  pub idles_at : (count : ℕ) (old mid new : AwsChunkedBody F G) → Idles source count old mid → new ≡ mid → Idles source count old new
+  idles_at count old mid new idles is = subst (λ (body : AwsChunkedBody F G). Idles source count old body) (sym is) idles
+
+  pub step_some : (More : Type 0) (AreSo : Result ChunkNext AwsChunkedBodyError → ℕ → Type 0) (old new : AwsChunkedBody F G) (found : Option (List ℕ)) (bytes : List ℕ)
+      → found ≡ Some bytes → Steps source More AreSo old new (Ok found) → PassesOn source (AreSo (Ok (next.Frame bytes))) old new (Ok (next.Frame bytes))
+  step_some More AreSo old new found bytes is steps = subst (λ (f : Option (List ℕ)). Steps source More AreSo old new (Ok f)) is steps
+
+  pub step_none : (More : Type 0) (AreSo : Result ChunkNext AwsChunkedBodyError → ℕ → Type 0) (old new : AwsChunkedBody F G) (found : Option (List ℕ))
+      → found ≡ None → Steps source More AreSo old new (Ok found) → More
+  step_none More AreSo old new found is steps = subst (λ (f : Option (List ℕ)). Steps source More AreSo old new (Ok f)) is steps

@@ -1,0 +1,11 @@
+-- How the length that options tell is that of a text.
+use Rattle.std.specs.Prelude.{◌≡◌, ℕ, ◌+◌, List, length}
+use Rattle.aws_chunked.specs.Body.{Trailer, lines_length}
+use Rattle.aws_chunked.specs.Options.{Options, declared_length}
+use Rattle.aws_chunked.specs.Text.{chunked_text}
+
+-- the number is the length of the text without signatures of any data of the declared length, with the declared lengths of the
+-- trailers in place of those of their lines: so of trailers that have the declared lengths it is the length of the whole text
+abbrev pub IsLengthOf : Options → ℕ → Type 0
+IsLengthOf options n = (bytes : List ℕ) (trailers : List Trailer) → length bytes ≡ options.stream_length
+    → length (chunked_text options.chunk_size bytes trailers) + declared_length options.trailer_lengths ≡ n + lines_length trailers
