@@ -30,7 +30,10 @@ pub fn answer(alloc: Global, parts: &[&str]) -> Mem<String> {
 /// The same of a body that passes its data on as it comes.
 pub fn data_answer(alloc: Global, parts: &[&str]) -> Mem<String> {
     let source = GivenFrames::of(alloc, &[])?;
-    shown(alloc, unsigned(alloc, source, options_of(alloc, parts)?).data_size_hint())
+    shown(
+        alloc,
+        unsigned(alloc, source, options_of(alloc, parts)?).data_size_hint(),
+    )
 }
 
 fn shown(alloc: Global, length: Option<u64>) -> Mem<String> {
