@@ -4,6 +4,7 @@ pub mod MergeLemmas
 pub mod RawLemmas
 pub mod SignLemmas
 pub mod TextsLemmas
+pub mod PlaceLemmas
 pub mod TrimLemmas
 pub mod LoadLemmas
 pub mod ServiceLemmas

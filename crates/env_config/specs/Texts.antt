@@ -1,5 +1,5 @@
 -- Finite maps from texts, and values by their names.
-use Rattle.std.specs.Prelude.{◌≡◌, ◌&&◌, ℕ, Bool, false, List, [], ◌∷◌, ◌++◌, map, Option, is_some, if◌then◌else◌, bytes_eq, String, string_bytes}
+use Rattle.std.specs.Prelude.{◌≡◌, ◌≤◌, ◌<◌, ◌+◌, ◌&&◌, ℕ, Bool, false, List, [], ◌∷◌, ◌++◌, length, take, drop, map, Option, Result, Ok, Err, is_some, if◌then◌else◌, bytes_eq, String, string_bytes}
 use Rattle.std.specs.declared.alloc.Global.{Global}
 use Rattle.std.specs.declared.cmp.Ordering.{Ordering}
 use Rattle.std.specs.Ordering.{is_eq, nat_cmp}
@@ -7,6 +7,8 @@ use Rattle.std.specs.Cmp.Lexicographic.{pointwise, slice_cmp}
 use Rattle.std.specs.BTreeMap.{insert_entry, is_at}
 use Rattle.std.specs.List.{AllByRecursion}
 use Rattle.std.specs.Map.{lookup}
+use Rattle.env_config.specs.declared.texts.Pairs.{Pairs}
+use Rattle.env_config.specs.declared.texts.Pairs.TheVariants.{Few, Many}
 
 -- texts are compared byte by byte
 abbrev pub text_cmp : List ℕ → List ℕ → Ordering
@@ -43,6 +45,16 @@ IsApart (name ∷ names) = AllByRecursion (λ other. is_eq (text_cmp other name)
 -- the texts of pairs
 abbrev pub pairs_of : List (String Global × String Global) → List (List ℕ × List ℕ)
 pairs_of entries = map (λ e. (string_bytes e.0, string_bytes e.1)) entries
+
+-- the texts of the pairs, in whatever form they are kept
+abbrev pub pairs_in : Pairs → List (List ℕ × List ℕ)
+pairs_in (Few pairs) = pairs_of pairs.items
+pairs_in (Many pairs) = pairs_of pairs.entries
+
+-- where the key's value is put: in place of the pair at an index, or as a new one before it
+abbrev pub FindsPlace : List (List ℕ × List ℕ) → List ℕ → Result ℕ ℕ → Type 0
+FindsPlace pairs key (Ok at) = (at < length pairs) × ((value : List ℕ) → put pairs key value ≡ take at pairs ++ (key, value) ∷ drop (at + 1) pairs)
+FindsPlace pairs key (Err at) = (at ≤ length pairs) × ((value : List ℕ) → put pairs key value ≡ take at pairs ++ (key, value) ∷ drop at pairs)
 
 -- the values under the texts of their keys
 abbrev pub by_text : {X : Type 0} → List (String Global × X) → List (List ℕ × X)

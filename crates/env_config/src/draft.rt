@@ -1,4 +1,4 @@
-ghost use Rattle.std.specs.Prelude.{◌≡◌, None, OnOk, IfOk};
+ghost use Rattle.std.specs.Prelude.{◌≡◌, [], None, OnOk, IfOk};
 ghost use Rattle.std.specs.String.{string_bytes};
 ghost use Rattle.env_config.specs.Kept.{keeps_of};
 ghost use Rattle.env_config.specs.Draft.{TakesStep, MakesLast, TestsSubProperty, all_properties, last_of, open_of, filled_section, state_of, with_new_last};
@@ -131,10 +131,10 @@ impl Draft {
         ensures { IfOk result (λ properties. put_section (keeps_of kept.now) self.new.sections name.now properties ≡ put_section (keeps_of kept.now) self.old.sections name.now (properties_of self.old.sections name.now)) }
     {
         if !kept.has_section(name) {
-            return Ok(Texts::new(alloc));
+            return Ok(Texts::few(alloc));
         }
-        let before = self.sections.take(name, Texts::new(alloc))?;
-        Ok(before.unwrap_or(Texts::new(alloc)))
+        let before = self.sections.take(name, Texts::few(alloc))?;
+        Ok(before.unwrap_or(no_properties(alloc, kept)))
     }
 
     #[tactic(auto, unfolding(crate::specs::Draft::state_of))]
@@ -248,6 +248,16 @@ impl LastProperty {
         self.value.push_str("\n")?;
         self.value.push_str(trim(line))?;
         Ok(())
+    }
+}
+
+// No properties yet. Where some keys are asked for, a section keeps few.
+fn no_properties(alloc: Global, kept: &Kept<'_>) -> Texts
+    ensures { result ≡ [] }
+{
+    match kept {
+        Kept::All => Texts::new(alloc),
+        Kept::Of { .. } => Texts::few(alloc),
     }
 }
 

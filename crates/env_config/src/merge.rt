@@ -1,7 +1,7 @@
 ghost use Rattle.std.specs.Prelude.{◌≡◌, ◌≤◌, ◌∷◌, length, option_map, OnOk, IfOk, IfSome, map, if◌then◌else◌};
 ghost use Rattle.std.specs.String.{string_bytes};
 ghost use Rattle.env_config.specs.Kept.{keeps_of};
-ghost use Rattle.env_config.specs.Texts.{EachValue, named_as, pairs_of, put};
+ghost use Rattle.env_config.specs.Texts.{EachValue, named_as, put};
 ghost use Rattle.env_config.specs.Sections.{is_identifier, merged_into, put_identifiers, put_others, put_sub, put_subs, section_properties, value_pieces};
 ghost use Rattle.env_config.specs.Properties.{others_of};
 ghost use Rattle.env_config.specs.Section.{IsKeyed, IsKeyedSection, contents_of, section_of, values_of};
@@ -32,7 +32,7 @@ pub fn merge_into<S: SectionKind>(
 {
     let empty = S::of_section(Section::new(String::new(alloc), BTreeMap::new(alloc)));
     let mut properties = properties_before(alloc, sections.take(name, empty)?);
-    put_pairs(&mut properties, pairs.into_pairs())?;
+    put_pairs(&mut properties, pairs)?;
     let section = Section::new(String::from_str(alloc, name)?, properties);
     sections.replace(name, S::of_section(section))?;
     Ok(())
@@ -49,14 +49,11 @@ fn properties_before<S: SectionKind>(alloc: Global, before: Option<S>) -> BTreeM
 }
 
 // Puts the pairs whose keys are identifiers.
-fn put_pairs(
-    properties: &mut BTreeMap<String, Property>,
-    pairs: BTreeMap<String, String>,
-) -> Mem<()>
+fn put_pairs(properties: &mut BTreeMap<String, Property>, mut pairs: Texts) -> Mem<()>
     ensures keys { IsKeyed (contents_of properties.old.entries) → OnOk result (IsKeyed (contents_of properties.new.entries)) }
-    ensures values { OnOk result (values_of properties.new.entries ≡ put_identifiers (values_of properties.old.entries) (pairs_of pairs.entries)) }
+    ensures values { OnOk result (values_of properties.new.entries ≡ put_identifiers (values_of properties.old.entries) pairs) }
 {
-    for (key, value) in pairs {
+    while let Some((key, value)) = pairs.take_first() {
         put_pair(properties, key, value)?;
     }
     Ok(())
@@ -81,11 +78,11 @@ pub fn merge_others(
     others: &mut Properties,
     prefix: &str,
     name: &str,
-    pairs: &BTreeMap<String, String>,
+    mut pairs: Texts,
 ) -> Mem<()>
-    ensures { OnOk result (others_of others.new ≡ put_others (keeps_of kept.now) (others_of others.old) prefix.now name.now (pairs_of pairs.now.entries)) }
+    ensures { OnOk result (others_of others.new ≡ put_others (keeps_of kept.now) (others_of others.old) prefix.now name.now pairs) }
 {
-    for (key, value) in pairs {
+    while let Some((key, value)) = pairs.take_first() {
         put_key(
             alloc,
             kept,

@@ -321,7 +321,7 @@ impl EnvConfigSections {
                 &mut self.others,
                 prefix,
                 heading.name,
-                pairs.pairs(),
+                pairs,
             ),
         }
     }

@@ -1,6 +1,6 @@
 use Rattle.std.proofs.Common.{◌∙◌, sym, subst, ap, List, ℕ}
 use Rattle.env_config.specs.Section.{IsKeyed, IsKeyedSection, section_of, values_of}
-use Rattle.env_config.specs.Sections.{Section, put_identifiers}
+use Rattle.env_config.specs.Sections.{Section}
 use Rattle.env_config.proofs.KeyedLemmas.{put_passes, value_passes}
 use Rattle.env_config.proofs.MergeLemmas.{merged}
 use Rattle.env_config.proofs.merge.merge_into.Goals as goal
@@ -11,7 +11,7 @@ returns-clause-merged g c =
     let properties = values_of c.put_pairs.new.properties.entries in
     let make : List ℕ → List (List ℕ × List ℕ) → Section = λ name properties. record { name = name; properties = properties } in
     merged (λ s. section_of (g.S.SectionKind.held s)) c.args.sections.now c.take.new.self c.replace.new.self c.args.name.now c.args.pairs before properties c.of_section.result c.in_ok-take.field-0
-    c.in_ok-take.ensures.later c.in_ok-take.ensures.before c.properties_before-properties.ensures.values (c.in_ok-put_pairs.ensures.values ∙ ap (put_identifiers before) c.into_pairs.ensures)
+    c.in_ok-take.ensures.later c.in_ok-take.ensures.before c.properties_before-properties.ensures.values c.in_ok-put_pairs.ensures.values
     (ap section_of c.of_section.ensures ∙ c.new-section.ensures.section ∙ ap (λ (name : List ℕ). make name properties) c.in_ok-from_str.ensures.ok)
     c.in_ok-replace.ensures.now
 

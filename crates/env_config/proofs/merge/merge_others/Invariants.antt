@@ -1,5 +1,4 @@
-use Rattle.std.proofs.Common.{◌≡◌}
-use Rattle.env_config.specs.Texts.{pairs_of}
+use Rattle.std.proofs.Common.{◌≡◌, length}
 use Rattle.env_config.specs.Kept.{keeps_of}
 use Rattle.env_config.specs.Sections.{put_others}
 use Rattle.env_config.specs.Properties.{others_of}
@@ -7,4 +6,7 @@ use Rattle.env_config.proofs.merge.merge_others.Given as goal
 
 -- the pairs to come give what all pairs give
 abbrev pub invariant-loop-key : goal.invariant-loop-key
-invariant-loop-key l = put_others (keeps_of l.kept) (others_of l.others) l.prefix l.name (pairs_of l.key-iterator) ≡ put_others (keeps_of l.kept) (others_of l.fn.others) l.prefix l.name (pairs_of l.pairs.entries)
+invariant-loop-key l = put_others (keeps_of l.kept) (others_of l.others) l.prefix l.name l.pairs ≡ put_others (keeps_of l.kept) (others_of l.fn.others) l.prefix l.name l.fn.pairs
+
+abbrev pub decreases-loop-key : goal.decreases-loop-key
+decreases-loop-key l = length l.pairs

@@ -1,5 +1,4 @@
-use Rattle.std.proofs.Common.{◌≡◌}
-use Rattle.env_config.specs.Texts.{pairs_of}
+use Rattle.std.proofs.Common.{◌≡◌, length}
 use Rattle.env_config.specs.Sections.{put_identifiers}
 use Rattle.env_config.specs.Section.{IsKeyed, contents_of, values_of}
 use Rattle.env_config.proofs.merge.put_pairs.Given as goal
@@ -7,6 +6,9 @@ use Rattle.env_config.proofs.merge.put_pairs.Given as goal
 -- the pairs to come give what all pairs give
 abbrev pub invariant-loop-key : goal.invariant-loop-key
 invariant-loop-key l = record {
-  to_come : put_identifiers (values_of l.properties.entries) (pairs_of l.key-iterator) ≡ put_identifiers (values_of l.fn.properties.entries) (pairs_of l.fn.pairs.entries);
+  to_come : put_identifiers (values_of l.properties.entries) l.pairs ≡ put_identifiers (values_of l.fn.properties.entries) l.fn.pairs;
   keys : IsKeyed (contents_of l.fn.properties.entries) → IsKeyed (contents_of l.properties.entries);
 }
+
+abbrev pub decreases-loop-key : goal.decreases-loop-key
+decreases-loop-key l = length l.pairs
