@@ -1,6 +1,13 @@
+pub mod AlikeLemmas
+pub mod CaseLemmas
 pub mod CutLemmas
+pub mod EscapedLemmas
+pub mod HeaderFormLemmas
 pub mod HeaderLineLemmas
+pub mod NamesLemmas
+pub mod QueryFormLemmas
 pub mod ReadingLemmas
 pub mod SealLemmas
+pub mod SentLemmas
 pub mod StampLemmas
 pub mod UnfitLemmas

@@ -37,7 +37,7 @@ signature_tail_whole = refl
 
 -- ---- a signature holds no space
 
-digit_is_no_space : (b : ℕ) → is_lower_digit b ≡ true → (b == 32) ≡ false
+pub digit_is_no_space : (b : ℕ) → is_lower_digit b ≡ true → (b == 32) ≡ false
 digit_is_no_space b digit = by_test (b == 32) refl
   where
     by_test : (is : Bool) → (b == 32) ≡ is → is ≡ false

@@ -2,6 +2,7 @@ pub mod Carried
 pub mod Cuts
 pub mod Faults
 pub mod HeaderLines
+pub mod Recomputation
 pub mod Recomputed
 pub mod SealTexts
 pub mod Sealed
