@@ -1,22 +1,22 @@
 -- What is answered of the signed request of a case.
-use Rattle.std.proofs.Common.{◌≡◌, ℕ, ◌==◌, ◌||◌, cond, not, is_some, length, Bool, true, false, List, [], Option, Some, None, Ok, Err, inl, inr, refl, sym, ap, ◌∙◌, subst}
+use Rattle.std.proofs.Common.{◌≡◌, ℕ, Bool, true, false, not, List, [], Option, Some, None, Ok, Err, inl, inr, refl, sym, ap, ◌∙◌, subst, true≢false}
 use Rattle.std.specs.Prelude.{Result, string_bytes}
-use Rattle.http_uri.specs.Grammar.{path_of, query_of}
-use Rattle.http_uri.specs.Uri.{uri_authority, uri_data, uri_scheme}
+use Rattle.http_uri.specs.Uri.{Spells, SpellsNone}
 use Rattle.http_uri.specs.declared.uri.Uri.{Uri}
-use Rattle.http_uri.proofs.Theorems.{Spells_unique}
 use Rattle.smithy_core.specs.declared.request.HttpRequest.{HttpRequest}
-use Rattle.smithy_http.specs.QueryWriter.{SpellsTarget}
 use Rattle.smithy_http.specs.Target.{IsAuthorityAlone, Target, target_of}
 use Rattle.eventstream.specs.Key.{Signer}
-use Rattle.sigv4.specs.Parameters.{SpellsParts, with_params}
+use Rattle.sigv4.specs.Parameters.{SpellsParts, takes_no_more, target_text_with, with_params}
 use Rattle.sigv4.specs.Query.{Pair, decoded}
+use Rattle.sigv4.specs.Refusal.{unfit_signed_target}
 use Rattle.sigv4.specs.Request.{Case}
 use Rattle.sigv4.specs.Settings.{Settings, is_query, is_query_form}
-use Rattle.sigv4.specs.Signed.{parameters, signature_of, signed_headers}
+use Rattle.sigv4.specs.Signed.{parameters, signature_of, signed_headers, signed_target}
 use Rattle.sigv4.specs.declared.error.SigningError.{SigningError}
+use Rattle.sigv4.specs.declared.error.SigningError.TheVariants.{InvalidUri}
 use Rattle.sigv4.specs.declared.settings.SignatureLocation.{SignatureLocation}
 use Rattle.sigv4.specs.declared.settings.SignatureLocation.TheVariants.{Headers, QueryParams}
+use Rattle.sigv4.proofs.FitLemmas.{passed}
 use Rattle.request_check.specs.Recomputation.{IsAlike, IsSentOf, IsToldApart, Recomputes, Signs}
 use Rattle.request_check.specs.Recomputed.{ChecksRequest, RefusesSent, recomputed, unfit_sent}
 use Rattle.request_check.specs.Sealed.{IsSealed, IsUnsealed, SealParts, SealsHeaders, SealsParameters}
@@ -26,51 +26,71 @@ use Rattle.request_check.specs.declared.check.Checked.{Checked}
 use Rattle.request_check.proofs.HeaderFormLemmas as header
 use Rattle.request_check.proofs.QueryFormLemmas as query
 use Rattle.request_check.proofs.SealLemmas.{absent, one_seal}
+use Rattle.request_check.proofs.SpelledLemmas.{accepted, alone_before, parts_read, unaccepted}
 
--- URIs of the same parts are one target
-target_by : (u v : Uri) → uri_scheme u ≡ uri_scheme v → uri_authority u ≡ uri_authority v → uri_data u ≡ uri_data v → target_of u ≡ target_of v
-target_by u v scheme authority data_same = λ i. record {
-  scheme = scheme i;
-  authority = authority i;
-  path = cond (not (length (data_same i) == 0) || is_some (scheme i)) (path_of (data_same i)) [];
-  query = query_of (data_same i);
-}
-
--- a text spells one target
-one_target : (text : List ℕ) (u v : Uri) → SpellsTarget text u → SpellsTarget text v → target_of u ≡ target_of v
-one_target text u v p q =
-    let same = Spells_unique text u v p.0 q.0 in
-    target_by u v same.0 same.1 same.2
-
--- a sent request whose seal has the case's signature, and which has this signature by the seal
+-- a sent request whose target is accepted, whose seal has the case's signature, and which has this signature by the seal
 record IsResealed (c : Case) (sent : HttpRequest) : Type 0 where
+  target : Target
+  parts : (uri : Uri) → Spells (string_bytes sent.target) uri → target_of uri ≡ target
+  is_accepted : SpellsNone (string_bytes sent.target) → ⊥
+  is_joined : IsAuthorityAlone target → ⊥
   seal : SealParts
-  uri : Uri
-  sealed : IsSealed sent c.signer.region c.signer.name seal
+  sealed : (uri : Uri) → Spells (string_bytes sent.target) uri → IsSealed sent c.signer.region c.signer.name seal
   signed : seal.signature ≡ signature_of c
-  spelled : SpellsTarget (string_bytes sent.target) uri
-  fit : unfit_sent (target_of uri) sent.headers ≡ None
-  same : recomputed (string_bytes sent.method) (target_of uri) sent.headers c.settings c.payload c.signer seal ≡ signature_of c
+  fit : unfit_sent target sent.headers ≡ None
+  same : recomputed (string_bytes sent.method) target sent.headers c.settings c.payload c.signer seal ≡ signature_of c
 
 unrefused : (c : Case) (sent : HttpRequest) (error : SigningError) → IsResealed c sent → RefusesSent sent error → ⊥
-unrefused c sent error is (inl (inl none, e)) = none (uri_scheme is.uri) (uri_authority is.uri) (uri_data is.uri) is.spelled.0
-unrefused c sent error is (inl (inr (uri, spelled, alone), e)) =
-    let parts = Spells_unique (string_bytes sent.target) uri is.uri spelled is.spelled.0 in
-    let one = target_by uri is.uri parts.0 parts.1 parts.2 in
-    is.spelled.1 (subst IsAuthorityAlone one alone)
+unrefused c sent error is (inl (inl none, e)) = is.is_accepted none
+unrefused c sent error is (inl (inr (uri, spelled, alone), e)) = is.is_joined (subst IsAuthorityAlone (is.parts uri spelled) alone)
 unrefused c sent error is (inr (uri, spelled, unfit)) =
-    let one = one_target (string_bytes sent.target) is.uri uri is.spelled spelled in
-    absent (sym is.fit ∙ (ap (λ (t : Target). unfit_sent t sent.headers) one ∙ unfit))
+    absent (sym is.fit ∙ (ap (λ (t : Target). unfit_sent t sent.headers) (sym (is.parts uri spelled.0)) ∙ unfit))
 
 alike : (c : Case) (sent : HttpRequest) (result : Result Checked CheckRequestFault) → IsResealed c sent → ChecksRequest sent c.settings c.payload c.signer result → IsAlike c result
 alike c sent (Ok checked) is checks =
-    let seal = one_seal sent c.signer.region c.signer.name checks.seal is.seal checks.sealed is.sealed in
-    let target = one_target (string_bytes sent.target) checks.uri is.uri checks.spelled is.spelled in
+    let seal = one_seal sent c.signer.region c.signer.name checks.seal is.seal checks.sealed (is.sealed checks.uri checks.spelled.0) in
+    let target = is.parts checks.uri checks.spelled.0 in
     (checks.carried ∙ (ap (λ (s : SealParts). s.signature) seal ∙ is.signed),
     checks.recomputed_is ∙ ((λ i. recomputed (string_bytes sent.method) (target i) sent.headers c.settings c.payload c.signer (seal i)) ∙ is.same))
-alike c sent (Err NoSignature) is none = none is.seal is.sealed
+alike c sent (Err NoSignature) is none = is.is_accepted (unaccepted (string_bytes sent.target) (λ uri spells. none is.seal (is.sealed uri spells)))
 alike c sent (Err (Signing error)) is (seal, is_sealed, refuses) = unrefused c sent error is refuses
 alike c sent (Err NoMemory) is any = tt
+
+-- ---- the target that was sent
+
+sent_parts : (c : Case) (sent : HttpRequest) → IsSentOf c sent → (uri : Uri) → Spells (string_bytes sent.target) uri → target_of uri ≡ with_params c.target (parameters c)
+unfolding signed_target
+sent_parts c sent of uri spells = by of.spelled
+  where
+    by : SpellsParts of.given c.target → target_of uri ≡ with_params c.target (parameters c)
+    by (base, spelled, same) =
+        parts_read of.given (string_bytes sent.target) base uri (parameters c) spelled
+        (of.target ∙ ap (λ (t : Target). target_text_with (parameters c) t of.given) (sym same)) spells
+        ∙ ap (λ (t : Target). with_params t (parameters c)) same
+
+takes : (c : Case) → unfit_signed_target c ≡ None → takes_no_more (parameters c) c.target ≡ false
+unfolding unfit_signed_target
+takes c fits = by (takes_no_more (parameters c) c.target) (passed _ InvalidUri fits)
+  where
+    by : (b : Bool) → not b ≡ true → b ≡ false
+    by true e = absurd (true≢false (sym e))
+    by false e = refl
+
+sent_accepted : (c : Case) (sent : HttpRequest) → Signs c → IsSentOf c sent → SpellsNone (string_bytes sent.target) → ⊥
+unfolding signed_target
+sent_accepted c sent is of none = by of.spelled
+  where
+    by : SpellsParts of.given c.target → ⊥
+    by (base, spelled, same) =
+        accepted of.given (string_bytes sent.target) base (parameters c) spelled
+        (of.target ∙ ap (λ (t : Target). target_text_with (parameters c) t of.given) (sym same))
+        (ap (takes_no_more (parameters c)) same ∙ takes c is.fits) none
+
+sent_joined : (c : Case) (sent : HttpRequest) → IsSentOf c sent → IsAuthorityAlone (with_params c.target (parameters c)) → ⊥
+sent_joined c sent of alone = by of.spelled
+  where
+    by : SpellsParts of.given c.target → ⊥
+    by (base, spelled, same) = spelled.1 (subst IsAuthorityAlone (sym same) (alone_before c.target (parameters c) alone))
 
 -- ---- header form
 
@@ -78,43 +98,40 @@ no_parameters : (c : Case) → is_query_form c.settings ≡ false → parameters
 unfolding parameters
 no_parameters c form = header.otherwise (is_query_form c.settings) _ _ form
 
-resealed_header : (c : Case) (sent : HttpRequest) → header.SignsHeaders c → IsSentOf c sent → IsResealed c sent
-resealed_header c sent is of = by of.target.2
-  where
-    unchanged : with_params c.target (parameters c) ≡ c.target
-    unchanged = ap (with_params c.target) (no_parameters c is.form)
-
-    by : SpellsParts (string_bytes sent.target) (with_params c.target (parameters c)) → IsResealed c sent
-    by (uri, spelled, parts) =
-        let target : target_of uri ≡ c.target = parts ∙ unchanged in
-        record {
-          seal = header.own_seal c is;
-          uri = uri;
-          sealed = subst (λ (headers : List Pair). SealsHeaders headers c.signer.region c.signer.name (header.own_seal c is)) (sym of.headers) (header.sealed_by c is);
-          signed = refl;
-          spelled = spelled;
-          fit = (λ i. unfit_sent (target i) (of.headers i)) ∙ header.fit_again c is;
-          same = (λ i. recomputed (of.method i) (target i) (of.headers i) c.settings c.payload c.signer (header.own_seal c is)) ∙ header.signature_same c is;
-        }
+resealed_header : (c : Case) (sent : HttpRequest) → Signs c → header.SignsHeaders c → IsSentOf c sent → IsResealed c sent
+resealed_header c sent signs is of =
+    let unchanged : with_params c.target (parameters c) ≡ c.target = ap (with_params c.target) (no_parameters c is.form) in
+    let seals = subst (λ (headers : List Pair). SealsHeaders headers c.signer.region c.signer.name (header.own_seal c is)) (sym of.headers) (header.sealed_by c is) in
+    record {
+      target = c.target;
+      parts = λ uri spells. sent_parts c sent of uri spells ∙ unchanged;
+      is_accepted = sent_accepted c sent signs of;
+      is_joined = λ alone. sent_joined c sent of (subst IsAuthorityAlone (sym unchanged) alone);
+      seal = header.own_seal c is;
+      sealed = λ uri spells. seals;
+      signed = refl;
+      fit = ap (unfit_sent c.target) of.headers ∙ header.fit_again c is;
+      same = (λ i. recomputed (of.method i) c.target (of.headers i) c.settings c.payload c.signer (header.own_seal c is)) ∙ header.signature_same c is;
+    }
 
 -- ---- query form
 
-resealed_query : (c : Case) (sent : HttpRequest) → query.SignsQuery c → IsSentOf c sent → IsResealed c sent
-resealed_query c sent is of = by of.target.2
-  where
-    by : SpellsParts (string_bytes sent.target) (with_params c.target (parameters c)) → IsResealed c sent
-    by (uri, spelled, parts) =
-        let target : target_of uri ≡ query.sent_target c is = parts ∙ ap (with_params c.target) (query.parameters_are c is) in
-        let seals = subst (λ (t : Target). SealsParameters (decoded t) c.signer.region c.signer.name (query.own_seal c is)) (sym target) (query.sealed_by c is) in
-        record {
-          seal = query.own_seal c is;
-          uri = uri;
-          sealed = (subst (λ (headers : List Pair). IsUnsealed headers c.signer.region c.signer.name) (sym of.headers) (query.unsealed c is), (uri, spelled.0, seals));
-          signed = refl;
-          spelled = spelled;
-          fit = (λ i. unfit_sent (target i) (of.headers i)) ∙ query.fit_again c is;
-          same = (λ i. recomputed (of.method i) (target i) (of.headers i) c.settings c.payload c.signer (query.own_seal c is)) ∙ query.signature_same c is;
-        }
+resealed_query : (c : Case) (sent : HttpRequest) → Signs c → query.SignsQuery c → IsSentOf c sent → IsResealed c sent
+resealed_query c sent signs is of =
+    let added : with_params c.target (parameters c) ≡ query.sent_target c is = ap (with_params c.target) (query.parameters_are c is) in
+    let unsealed = subst (λ (headers : List Pair). IsUnsealed headers c.signer.region c.signer.name) (sym of.headers) (query.unsealed c is) in
+    record {
+      target = query.sent_target c is;
+      parts = λ uri spells. sent_parts c sent of uri spells ∙ added;
+      is_accepted = sent_accepted c sent signs of;
+      is_joined = λ alone. sent_joined c sent of (subst IsAuthorityAlone (sym added) alone);
+      seal = query.own_seal c is;
+      sealed = λ uri spells. (unsealed, (uri, spells,
+          subst (λ (t : Target). SealsParameters (decoded t) c.signer.region c.signer.name (query.own_seal c is)) (sym (sent_parts c sent of uri spells ∙ added)) (query.sealed_by c is)));
+      signed = refl;
+      fit = ap (unfit_sent (query.sent_target c is)) of.headers ∙ query.fit_again c is;
+      same = (λ i. recomputed (of.method i) (query.sent_target c is) (of.headers i) c.settings c.payload c.signer (query.own_seal c is)) ∙ query.signature_same c is;
+    }
 
 -- ---- both forms
 
@@ -122,25 +139,27 @@ resealed : (c : Case) (sent : HttpRequest) → Signs c → IsSentOf c sent → I
 resealed c sent is of = by c.settings.signature_location refl is.apart
   where
     by : (place : SignatureLocation) → c.settings.signature_location ≡ place → IsToldApart place c → IsResealed c sent
-    by Headers here apart = resealed_header c sent (record {
-        form = ap is_query here;
-        usual = is.usual;
-        lower = is.lower;
-        in_years = is.in_years;
-        fit = is.fit;
-        token = apart.0;
-        payload = apart.1;
-      }) of
-    by QueryParams here apart = resealed_query c sent (record {
-        strings = is.strings;
-        form = ap is_query here;
-        usual = is.usual;
-        lower = is.lower;
-        in_years = is.in_years;
-        fit = is.fit;
-        unauthorized = apart.0;
-        none = apart.1;
-      }) of
+    by Headers here apart =
+        resealed_header c sent is (record {
+          form = ap is_query here;
+          usual = is.usual;
+          lower = is.lower;
+          in_years = is.in_years;
+          fit = is.fit;
+          token = apart.0;
+          payload = apart.1;
+        }) of
+    by QueryParams here apart =
+        resealed_query c sent is (record {
+          strings = is.strings;
+          form = ap is_query here;
+          usual = is.usual;
+          lower = is.lower;
+          in_years = is.in_years;
+          fit = is.fit;
+          unauthorized = apart.0;
+          none = apart.1;
+        }) of
 
 pub recomputes : (sent : HttpRequest) (settings : Settings) (payload : List ℕ) (signer : Signer) (result : Result Checked CheckRequestFault)
     → ChecksRequest sent settings payload signer result → Recomputes sent settings payload signer result

@@ -9,5 +9,6 @@ pub mod QueryFormLemmas
 pub mod ReadingLemmas
 pub mod SealLemmas
 pub mod SentLemmas
+pub mod SpelledLemmas
 pub mod StampLemmas
 pub mod UnfitLemmas

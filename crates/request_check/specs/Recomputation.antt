@@ -6,12 +6,12 @@ use Rattle.smithy_core.specs.TextPairs.{AreLower, first_value}
 use Rattle.smithy_core.specs.declared.request.HttpRequest.{HttpRequest}
 use Rattle.eventstream.specs.Key.{Signer}
 use Rattle.sigv4.specs.Canonical.{told_payload, token_parameter}
-use Rattle.sigv4.specs.Parameters.{AppliesTo}
+use Rattle.sigv4.specs.Parameters.{SpellsParts}
 use Rattle.sigv4.specs.Query.{Pair, decoded}
-use Rattle.sigv4.specs.Refusal.{unfit}
+use Rattle.sigv4.specs.Refusal.{unfit, unfit_signed_target}
 use Rattle.sigv4.specs.Request.{Case}
 use Rattle.sigv4.specs.Settings.{Settings, default_exclusions}
-use Rattle.sigv4.specs.Signed.{parameters, signature_of, signed_headers}
+use Rattle.sigv4.specs.Signed.{signature_of, signed_headers, signed_target}
 use Rattle.sigv4.specs.Trim.{trim_all}
 use Rattle.sigv4.specs.declared.body.SignableBody.{SignableBody}
 use Rattle.sigv4.specs.declared.body.SignableBody.TheVariants.{Precomputed}
@@ -63,13 +63,15 @@ pub record Signs (c : Case) : Type 0 where
   pub usual : c.settings.excluded_headers ≡ Some default_exclusions
   pub in_years : IsInYears c.at
   pub fit : unfit c ≡ None
+  pub fits : unfit_signed_target c ≡ None
   pub apart : IsToldApart c.settings.signature_location c
 
--- the signed request of a case, whose own target was given by a text and takes the parameters that are added
+-- the signed request of a case, whose own target was given by a text
 pub record IsSentOf (c : Case) (sent : HttpRequest) : Type 0 where
   pub given : List ℕ
+  pub spelled : SpellsParts given c.target
   pub method : string_bytes sent.method ≡ c.method
-  pub target : AppliesTo (parameters c) c.target given (string_bytes sent.target) (Ok tt)
+  pub target : string_bytes sent.target ≡ signed_target c given
   pub headers : sent.headers ≡ signed_headers c
 
 -- both signatures are that of the case, unless memory runs out

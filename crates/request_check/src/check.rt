@@ -2,6 +2,7 @@ ghost use Rattle.std.specs.Prelude.{◌≡◌, Ok, Err, IfOk, string_bytes};
 ghost use Rattle.smithy_http.specs.Target.{target_of};
 ghost use Rattle.sigv4.specs.Body.{payload_text};
 ghost use Rattle.sigv4.specs.Settings.{settings_of};
+ghost use Rattle.request_check.specs.Recomputation.{Recomputes};
 ghost use Rattle.request_check.specs.Recomputed.{ChecksRequest, ReadsSent, sent_text};
 
 use crate::header_lines::push_header_lines;
@@ -41,6 +42,10 @@ pub enum CheckRequestFault {
 /// Computes the signature of a request again, from nothing but the request, its body, the settings, the region, the service's
 /// name and the secret. Moment and names are those of the seal that the request carries.
 ///
+/// A request that was signed, with the usual exclusions, answers the signature of its case twice, where what signing added is
+/// told from what the request had (`specs/Recomputation.antt`): in header form token and payload's text are trimmed, and in query
+/// form the request had no `authorization` header and its target no parameter of a signature.
+///
 /// ```rust
 /// let checked = check_request(alloc, &request, &settings, "us-east-1", "service", &body, secret)?;
 /// if checked.carried == checked.recomputed { .. }
@@ -53,7 +58,7 @@ pub enum CheckRequestFault {
 /// for each header in order [`SigningError::InvalidHeaderName`] and [`SigningError::InvalidHeaderValue`] with its place, and
 /// [`SigningError::MissingHost`] where neither the target nor a header has a host, and [`SigningError::InvalidHeaderValue`]
 /// where its text is no header's value.
-#[tactic(auto, using(crate::proofs::UnfitLemmas::sealed_in_years), unfolding(crate::specs::Recomputed::recomputed))]
+#[tactic(auto, using(crate::proofs::UnfitLemmas::sealed_in_years, crate::proofs::AlikeLemmas::recomputes), unfolding(crate::specs::Recomputed::recomputed))]
 pub fn check_request(
     alloc: Global,
     sent: &HttpRequest,
@@ -63,7 +68,9 @@ pub fn check_request(
     body: &SignableBody<'_>,
     secret: &str,
 ) -> Result<Checked, CheckRequestFault>
-    ensures { ChecksRequest sent.now (settings_of settings.now) (payload_text body.now)
+    ensures checks { ChecksRequest sent.now (settings_of settings.now) (payload_text body.now)
+        (record { secret = secret.now; region = region.now; name = name.now }) result }
+    ensures recomputes { Recomputes sent.now (settings_of settings.now) (payload_text body.now)
         (record { secret = secret.now; region = region.now; name = name.now }) result }
 {
     let Some(seal) = seal_of(alloc, sent, region, name)? else {
