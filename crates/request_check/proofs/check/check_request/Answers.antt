@@ -1,10 +1,17 @@
-use Rattle.std.proofs.Common.{ℕ, List, ap, ◌∙◌}
+use Rattle.std.proofs.Common.{rules, ℕ, List, None, Ok, Err, ap, ◌∙◌}
+use Rattle.std.proofs.lemmas.Result.{err_from_is_err_and}
 use Rattle.std.specs.Prelude.{string_bytes}
 use Rattle.eventstream.specs.Key.{Signer}
 use Rattle.smithy_http.specs.Target.{target_of}
+use Rattle.sigv4.specs.Body.{payload_text}
 use Rattle.sigv4.specs.Settings.{settings_of}
 use Rattle.sigv4.specs.Signature.{signature}
-use Rattle.request_check.specs.Recomputed.{recomputed, sent_text}
+use Rattle.request_check.specs.Recomputed.{ChecksRequest, recomputed, sent_text}
+use Rattle.request_check.specs.Sealed.{TellsSeal}
+use Rattle.request_check.specs.declared.check.CheckRequestFault.TheVariants.{NoSignature}
+use Rattle.request_check.specs.declared.check.Checked.{Checked}
+use Rattle.request_check.proofs.AlikeLemmas.{recomputes}
+use Rattle.request_check.proofs.UnfitLemmas.{unchecked}
 use Rattle.request_check.proofs.check.check_request.Goals as goal
 
 pub returns : goal.returns
@@ -14,10 +21,12 @@ returns c =
     let seal = c.in-Some.seal in
     let target = target_of c.in_ok-uri.uri in
     let settings = settings_of c.args.settings.now in
+    let payload = payload_text c.args.body.now in
     let signer : Signer = record { secret = c.args.secret.now; region = c.args.region.now; name = c.args.name.now } in
     let text = c.as_bytes.ensures.value ∙ c.in_ok-text.ensures
-    ∙ ap (λ (payload : List ℕ). sent_text (string_bytes sent.method) target sent.headers settings payload seal) (c.as_str.ensures.value ∙ c.in_ok-payload.ensures) in
-    record {
+    ∙ ap (λ (text : List ℕ). sent_text (string_bytes sent.method) target sent.headers settings text seal) (c.as_str.ensures.value ∙ c.in_ok-payload.ensures) in
+    let answer : Checked = record { carried = c.into_signature.result; recomputed = c.in_ok-recomputed.recomputed } in
+    let checks : ChecksRequest sent settings payload signer (Ok answer) = record {
       seal = seal;
       uri = c.in_ok-uri.uri;
       sealed = rw c.in-Some.is at c.in_ok-seal.ensures;
@@ -25,4 +34,25 @@ returns c =
       fit = c.in_ok-uri.ensures.1;
       carried = c.into_signature.ensures;
       recomputed_is = rw c.at.ensures at c.in_ok-recomputed.ensures ∙ ap (signature signer seal.at) text;
-    }
+    } in
+    record { checks = checks; recomputes = recomputes sent settings payload signer (Ok answer) checks }
+
+pub returns-in_default-clause-recomputes : goal.returns-in_default-clause-recomputes
+returns-in_default-clause-recomputes c =
+    let sent = c.args.sent.now in
+    let signer : Signer = record { secret = c.args.secret.now; region = c.args.region.now; name = c.args.name.now } in
+    let none : TellsSeal sent signer.region signer.name None = rw c.in_default.is at c.in_ok-seal.ensures in
+    recomputes sent (settings_of c.args.settings.now) (payload_text c.args.body.now) signer (Err NoSignature) none
+
+pub returns-in_err-uri-clause-recomputes : goal.returns-in_err-uri-clause-recomputes
+returns-in_err-uri-clause-recomputes c =
+    let sent = c.args.sent.now in
+    let settings = settings_of c.args.settings.now in
+    let payload = payload_text c.args.body.now in
+    let signer : Signer = record { secret = c.args.secret.now; region = c.args.region.now; name = c.args.name.now } in
+    let result = c.from_residual-in_err-uri.result in
+    let exit = err_from_is_err_and result c.from_residual-in_err-uri.ensures.1 in
+    let sealed = rw c.in-Some.is at c.in_ok-seal.ensures in
+    let checks : ChecksRequest sent settings payload signer result =
+    rw (exit.1, exit.2) (unchecked sent settings payload signer c.in-Some.seal c.in_err-uri.field-0.0 sealed c.in_err-uri.ensures) in
+    recomputes sent settings payload signer result checks
