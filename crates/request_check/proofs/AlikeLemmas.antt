@@ -1,5 +1,5 @@
 -- What is answered of the signed request of a case.
-use Rattle.std.proofs.Common.{◌≡◌, ℕ, Bool, true, false, not, List, [], Option, Some, None, Ok, Err, inl, inr, refl, sym, ap, ◌∙◌, subst, true≢false}
+use Rattle.std.proofs.Common.{◌≡◌, ℕ, Bool, true, false, not, List, [], None, Ok, Err, inl, inr, refl, sym, ap, ◌∙◌, subst, true≢false}
 use Rattle.std.specs.Prelude.{Result, string_bytes}
 use Rattle.http_uri.specs.Uri.{Spells, SpellsNone}
 use Rattle.http_uri.specs.declared.uri.Uri.{Uri}
@@ -11,7 +11,7 @@ use Rattle.sigv4.specs.Query.{Pair, decoded}
 use Rattle.sigv4.specs.Refusal.{unfit_signed_target}
 use Rattle.sigv4.specs.Request.{Case}
 use Rattle.sigv4.specs.Settings.{Settings, is_query, is_query_form}
-use Rattle.sigv4.specs.Signed.{parameters, signature_of, signed_headers, signed_target}
+use Rattle.sigv4.specs.Signed.{parameters, signature_of, signed_target}
 use Rattle.sigv4.specs.declared.error.SigningError.{SigningError}
 use Rattle.sigv4.specs.declared.error.SigningError.TheVariants.{InvalidUri}
 use Rattle.sigv4.specs.declared.settings.SignatureLocation.{SignatureLocation}
@@ -49,9 +49,10 @@ unrefused c sent error is (inr (uri, spelled, unfit)) =
 alike : (c : Case) (sent : HttpRequest) (result : Result Checked CheckRequestFault) → IsResealed c sent → ChecksRequest sent c.settings c.payload c.signer result → IsAlike c result
 alike c sent (Ok checked) is checks =
     let seal = one_seal sent c.signer.region c.signer.name checks.seal is.seal checks.sealed (is.sealed checks.uri checks.spelled.0) in
-    let target = is.parts checks.uri checks.spelled.0 in
-    (checks.carried ∙ (ap (λ (s : SealParts). s.signature) seal ∙ is.signed),
-    checks.recomputed_is ∙ ((λ i. recomputed (string_bytes sent.method) (target i) sent.headers c.settings c.payload c.signer (seal i)) ∙ is.same))
+    let target = is.parts checks.uri checks.spelled.0 in (
+      checks.carried ∙ (ap (λ (s : SealParts). s.signature) seal ∙ is.signed),
+      checks.recomputed_is ∙ ((λ i. recomputed (string_bytes sent.method) (target i) sent.headers c.settings c.payload c.signer (seal i)) ∙ is.same),
+    )
 alike c sent (Err NoSignature) is none = is.is_accepted (unaccepted (string_bytes sent.target) (λ uri spells. none is.seal (is.sealed uri spells)))
 alike c sent (Err (Signing error)) is (seal, is_sealed, refuses) = unrefused c sent error is refuses
 alike c sent (Err NoMemory) is any = tt
@@ -126,8 +127,14 @@ resealed_query c sent signs is of =
       is_accepted = sent_accepted c sent signs of;
       is_joined = λ alone. sent_joined c sent of (subst IsAuthorityAlone (sym added) alone);
       seal = query.own_seal c is;
-      sealed = λ uri spells. (unsealed, (uri, spells,
-          subst (λ (t : Target). SealsParameters (decoded t) c.signer.region c.signer.name (query.own_seal c is)) (sym (sent_parts c sent of uri spells ∙ added)) (query.sealed_by c is)));
+      sealed = λ uri spells. (
+        unsealed,
+        (
+          uri,
+          spells,
+          subst (λ (t : Target). SealsParameters (decoded t) c.signer.region c.signer.name (query.own_seal c is)) (sym (sent_parts c sent of uri spells ∙ added)) (query.sealed_by c is),
+        ),
+      );
       signed = refl;
       fit = ap (unfit_sent (query.sent_target c is)) of.headers ∙ query.fit_again c is;
       same = (λ i. recomputed (of.method i) (query.sent_target c is) (of.headers i) c.settings c.payload c.signer (query.own_seal c is)) ∙ query.signature_same c is;

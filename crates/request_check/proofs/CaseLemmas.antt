@@ -1,6 +1,6 @@
 -- The names that a case signs, as one text.
-use Rattle.std.proofs.Common.{rules, ◌≡◌, ℕ, Bool, true, false, ◌&&◌, List, [], ◌∷◌, ◌++◌, map, IsUtf8, Option, Some, None, cond, is_some, refl, sym, ap, ◌∙◌, true≢false}
-use Rattle.std.specs.Prelude.{bytes_eq, codes, filter}
+use Rattle.std.proofs.Common.{rules, ◌≡◌, ℕ, true, false, ◌&&◌, List, [], ◌∷◌, map, IsUtf8, refl, sym, ◌∙◌}
+use Rattle.std.specs.Prelude.{filter}
 use Rattle.std.specs.List.{AllByRecursion, join_with_byte}
 use Rattle.std.proofs.lemmas.Bool.{and_parts}
 use Rattle.std.proofs.lemmas.Str.{IsUtf8-append, IsUtf8-from_ascii, IsUtf8-nil}

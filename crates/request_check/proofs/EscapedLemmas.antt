@@ -1,5 +1,5 @@
 -- Pairs that are escaped and added to a query are read as they were.
-use Rattle.std.proofs.Common.{◌≡◌, ◌≢◌, ℕ, ◌+◌, ◌/◌, ◌<◌, ◌≤◌, ◌==◌, Bool, true, false, cond, All, IsUtf8, List, [], ◌∷◌, ◌++◌, map, length, Option, Some, None, unwrap_or, refl, sym, ap, ◌∙◌, subst, inl, inr, arith, length-append, append_assoc, true≢false, lt-ltb, le-ltb}
+use Rattle.std.proofs.Common.{◌≡◌, ◌≢◌, ℕ, ◌+◌, ◌/◌, ◌<◌, ◌==◌, Bool, true, false, cond, All, IsUtf8, List, [], ◌∷◌, ◌++◌, map, length, Option, Some, None, unwrap_or, refl, sym, ap, ◌∙◌, subst, inl, inr, arith, length-append, append_assoc, true≢false, lt-ltb, le-ltb}
 use Rattle.std.specs.Prelude.{filter}
 use Rattle.std.specs.List.{AllByRecursion, join_with_byte}
 use Rattle.std.specs.Str.Lossy.{utf8_lossy}
@@ -36,15 +36,15 @@ unfolding encode
 char_bytes c is = elim (cases_lt c 128) [
   | inl one ↦ rw (lt-ltb c 128 one) (All-cons IsByte c [] (omega (arith, one)) none)
   | inr past ↦ rw (le-ltb c 128 past) (elim (cases_lt c 2048) [
-      | inl two ↦ rw (lt-ltb c 2048 two) (All-cons IsByte (192 + c / 64) (next c ∷ []) (omega (arith, two)) (next_bytes c [] none))
-      | inr more ↦ rw (le-ltb c 2048 more) (elim (cases_lt c 65536) [
-          | inl three ↦ rw (lt-ltb c 65536 three)
-              (All-cons IsByte (224 + c / 4096) (next (c / 64) ∷ next c ∷ []) (omega (arith, three)) (next_bytes (c / 64) (next c ∷ []) (next_bytes c [] none)))
-          | inr four ↦ rw (le-ltb c 65536 four)
-              (All-cons IsByte (240 + c / 262144) (next (c / 4096) ∷ next (c / 64) ∷ next c ∷ []) (omega (arith, below_last c is))
-              (next_bytes (c / 4096) (next (c / 64) ∷ next c ∷ []) (next_bytes (c / 64) (next c ∷ []) (next_bytes c [] none))))
-        ])
+    | inl two ↦ rw (lt-ltb c 2048 two) (All-cons IsByte (192 + c / 64) (next c ∷ []) (omega (arith, two)) (next_bytes c [] none))
+    | inr more ↦ rw (le-ltb c 2048 more) (elim (cases_lt c 65536) [
+      | inl three ↦ rw (lt-ltb c 65536 three)
+          (All-cons IsByte (224 + c / 4096) (next (c / 64) ∷ next c ∷ []) (omega (arith, three)) (next_bytes (c / 64) (next c ∷ []) (next_bytes c [] none)))
+      | inr four ↦ rw (le-ltb c 65536 four)
+          (All-cons IsByte (240 + c / 262144) (next (c / 4096) ∷ next (c / 64) ∷ next c ∷ []) (omega (arith, below_last c is))
+          (next_bytes (c / 4096) (next (c / 64) ∷ next c ∷ []) (next_bytes (c / 64) (next c ∷ []) (next_bytes c [] none))))
     ])
+  ])
 ]
   where
     none : All IsByte []

@@ -1,17 +1,15 @@
 -- The signed request of a case in header form has the case's signature by its own seal.
-use Rattle.std.proofs.Common.{◌≡◌, ℕ, Bool, true, false, ◌&&◌, ◌||◌, cond, not, List, [], ◌∷◌, ◌++◌, map, filter, Option, Some, None, Ok, Err, is_some, refl, sym, ap, ◌∙◌, subst, true≢false, unwrap_or, inl, inr}
-use Rattle.std.specs.Prelude.{Result, bytes_eq, codes, string_bytes}
+use Rattle.std.proofs.Common.{◌≡◌, ℕ, Bool, true, false, ◌||◌, cond, not, List, [], ◌∷◌, ◌++◌, Option, Some, None, is_some, refl, sym, ap, ◌∙◌, subst, true≢false, unwrap_or}
+use Rattle.std.specs.Prelude.{bytes_eq, codes}
 use Rattle.std.specs.List.{flat_map, join_with_byte, list_any}
 use Rattle.std.specs.Option.{option_or}
-use Rattle.std.proofs.lemmas.Bool.{and_parts, or_parts, false≢true}
+use Rattle.std.proofs.lemmas.Bool.{and_parts, or_parts}
 use Rattle.smithy_core.specs.Civil.{IsInYears, civil_of, date, stamp}
-use Rattle.smithy_core.specs.Moment.{Instant, floor_secs}
+use Rattle.smithy_core.specs.Moment.{floor_secs}
 use Rattle.smithy_core.specs.TextPairs.{AreLower, first_value, inserted, lower, named_values}
 use Rattle.smithy_core.specs.Text.{line}
-use Rattle.smithy_http.specs.Target.{Target}
 use Rattle.eventstream.specs.Key.{scope, signing_key}
-use Rattle.sigv4.specs.Again.{again}
-use Rattle.sigv4.specs.Canonical.{added_host, canonical, canonical_headers, canonical_lines, credential, excluded_token, given_headers, has_host, header_line, hosted_headers, is_signed, joined_names, names, pairs, path_of, signed_names, told_payload, token_header, unsigned_in_query_form, unsigned_token, with_optional}
+use Rattle.sigv4.specs.Canonical.{added_host, canonical, canonical_headers, canonical_lines, credential, excluded_token, given_headers, header_line, hosted_headers, is_signed, joined_names, names, pairs, path_of, told_payload, token_header, unsigned_in_query_form, unsigned_token, with_optional}
 use Rattle.sigv4.specs.Host.{host_text}
 use Rattle.sigv4.specs.Instructions.{with_instructions}
 use Rattle.sigv4.specs.Query.{Pair, decoded, query}
@@ -26,18 +24,16 @@ use Rattle.sigv4.specs.declared.settings.SessionTokenMode.{SessionTokenMode}
 use Rattle.sigv4.specs.declared.settings.SessionTokenMode.TheVariants.{Include, Exclude}
 use Rattle.sigv4.specs.declared.settings.SignatureLocation.TheVariants.{Headers}
 use Rattle.sigv4.proofs.AgainLemmas.{same_signature}
-use Rattle.sigv4.proofs.FitLemmas.{AreFit, both_none, fit-from_none, passed}
-use Rattle.sigv4.proofs.InsertedLemmas.{itself, same_name}
-use Rattle.sigv4.proofs.JoinLemmas.{AllLack, Lacks}
-use Rattle.sigv4.proofs.SetLemmas.{among-set, any-filtered, any-named, flat_map-among, is_among, is_here}
+use Rattle.sigv4.proofs.FitLemmas.{both_none, fit-from_none, passed}
+use Rattle.sigv4.proofs.InsertedLemmas.{same_name}
+use Rattle.sigv4.proofs.SetLemmas.{flat_map-among, is_among, is_here}
 use Rattle.request_check.specs.Recomputation.{IsTrimmed}
-use Rattle.request_check.specs.Recomputed.{carried_names, recomputed, sent_pairs, sent_text, unfit_sent}
-use Rattle.request_check.specs.SealTexts.{has_space, is_signature}
+use Rattle.request_check.specs.Recomputed.{recomputed, sent_pairs, sent_text, unfit_sent}
 use Rattle.request_check.specs.Sealed.{SealParts, SealsHeaders, sealed_credential}
 use Rattle.request_check.proofs.CaseLemmas.{among_from, among_parts, names_carried, names_whole}
 use Rattle.request_check.proofs.HeaderLineLemmas.{flipped}
-use Rattle.request_check.proofs.NamesLemmas.{all_among, joined_whole, name_lacks, names_cut, signature_digits, stamp_trimmed}
-use Rattle.request_check.proofs.SentLemmas.{AreNamed, first_inserted_other, first_inserted_same, first_optional_other, given_inserted, given_optional, layer, layered, lower_inserted, lower_optional, named_given, named_here, named_optional, swapped, two_names}
+use Rattle.request_check.proofs.NamesLemmas.{signature_digits, stamp_trimmed}
+use Rattle.request_check.proofs.SentLemmas.{AreNamed, first_inserted_other, first_inserted_same, first_optional_other, given_inserted, given_optional, layer, layered, lower_inserted, lower_optional, named_given, named_optional, swapped, two_names}
 
 -- ---- the token's name
 
@@ -94,7 +90,7 @@ pub record SignsHeaders (c : Case) : Type 0 where
 inserted_all : (settings : Settings) (date text : List ℕ) (payload token : Option (List ℕ)) (headers : List Pair)
     → with_instructions headers (instructions_for settings date text payload token)
     ≡ with_optional (lower (token_header settings)) token (with_optional (codes "x-amz-content-sha256") payload
-      (inserted (inserted headers (codes "x-amz-date") date) (codes "authorization") text))
+    (inserted (inserted headers (codes "x-amz-date") date) (codes "authorization") text))
 inserted_all settings date text None None headers = refl
 inserted_all settings date text None (Some token) headers = refl
 inserted_all settings date text (Some payload) None headers = refl
@@ -137,18 +133,18 @@ module _ (c : Case) (is : SignsHeaders c) where
   dated_given_are : given_headers dated ≡ dated_given
   dated_given_are =
       given_inserted (codes "authorization") (authorization c) (inserted c.headers (codes "x-amz-date") (stamp c.at)) refl
-        (lower_inserted (codes "x-amz-date") (stamp c.at) c.headers refl is.lower)
+      (lower_inserted (codes "x-amz-date") (stamp c.at) c.headers refl is.lower)
       ∙ ap (λ (headers : List Pair). inserted headers (codes "authorization") (trim_all (authorization c)))
-        (given_inserted (codes "x-amz-date") (stamp c.at) c.headers refl is.lower
-        ∙ ap (inserted (given_headers c.headers) (codes "x-amz-date")) (stamp_trimmed c.at))
+      (given_inserted (codes "x-amz-date") (stamp c.at) c.headers refl is.lower
+      ∙ ap (inserted (given_headers c.headers) (codes "x-amz-date")) (stamp_trimmed c.at))
 
   given_are : given_headers (signed_headers c) ≡ with_optional token_name c.token (with_optional (codes "x-amz-content-sha256") told dated_given)
   given_are =
       ap given_headers sent_are
       ∙ given_optional token_name c.token (with_optional (codes "x-amz-content-sha256") told dated) own.is_lower
-        (lower_optional (codes "x-amz-content-sha256") told dated refl dated_lower) is.token
+      (lower_optional (codes "x-amz-content-sha256") told dated refl dated_lower) is.token
       ∙ ap (with_optional token_name c.token)
-        (given_optional (codes "x-amz-content-sha256") told dated refl dated_lower is.payload ∙ ap (with_optional (codes "x-amz-content-sha256") told) dated_given_are)
+      (given_optional (codes "x-amz-content-sha256") told dated refl dated_lower is.payload ∙ ap (with_optional (codes "x-amz-content-sha256") told) dated_given_are)
 
   canonical_are : canonical_headers c
       ≡ with_optional (codes "x-amz-content-sha256") told (with_optional token_name c.token (inserted (hosted_headers c.target c.headers) (codes "x-amz-date") (stamp c.at)))
@@ -182,22 +178,22 @@ module _ (c : Case) (is : SignsHeaders c) where
       layered (codes "host") (added_host c.target (signed_headers c)) (given_headers (signed_headers c)) name
       ∙ ap (λ (value : Option (List ℕ)). layer h value (named_values (given_headers (signed_headers c)) name)) host_same
       ∙ ap (layer h host) (
-        ap (λ (headers : List Pair). named_values headers name) given_are
-        ∙ layered token_name c.token (with_optional (codes "x-amz-content-sha256") told dated_given) name
-        ∙ ap (layer t c.token) (layered (codes "x-amz-content-sha256") told dated_given name
-        ∙ ap (layer p told) (layered (codes "authorization") (Some (trim_all (authorization c))) (inserted (given_headers c.headers) (codes "x-amz-date") (stamp c.at)) name
-        ∙ ap (λ (b : Bool). layer b (Some (trim_all (authorization c))) (named_values (inserted (given_headers c.headers) (codes "x-amz-date") (stamp c.at)) name)) other
-        ∙ layered (codes "x-amz-date") (Some (stamp c.at)) (given_headers c.headers) name)))
+      ap (λ (headers : List Pair). named_values headers name) given_are
+      ∙ layered token_name c.token (with_optional (codes "x-amz-content-sha256") told dated_given) name
+      ∙ ap (layer t c.token) (layered (codes "x-amz-content-sha256") told dated_given name
+      ∙ ap (layer p told) (layered (codes "authorization") (Some (trim_all (authorization c))) (inserted (given_headers c.headers) (codes "x-amz-date") (stamp c.at)) name
+      ∙ ap (λ (b : Bool). layer b (Some (trim_all (authorization c))) (named_values (inserted (given_headers c.headers) (codes "x-amz-date") (stamp c.at)) name)) other
+      ∙ layered (codes "x-amz-date") (Some (stamp c.at)) (given_headers c.headers) name)))
       ∙ swapped h t host c.token (layer p told (layer d (Some (stamp c.at)) base)) (two_names (codes "host") token_name name (flipped (codes "host") token_name ∙ own.not_host))
       ∙ ap (layer t c.token) (swapped h p host told (layer d (Some (stamp c.at)) base) (two_names (codes "host") (codes "x-amz-content-sha256") name refl))
       ∙ ap (λ (values : List (List ℕ)). layer t c.token (layer p told values)) (swapped h d host (Some (stamp c.at)) base (two_names (codes "host") (codes "x-amz-date") name refl))
       ∙ swapped t p c.token told (layer d (Some (stamp c.at)) (layer h host base)) (two_names token_name (codes "x-amz-content-sha256") name own.not_payload)
       ∙ sym (
-        ap (λ (headers : List Pair). named_values headers name) canonical_are
-        ∙ layered (codes "x-amz-content-sha256") told (with_optional token_name c.token (inserted (hosted_headers c.target c.headers) (codes "x-amz-date") (stamp c.at))) name
-        ∙ ap (layer p told) (layered token_name c.token (inserted (hosted_headers c.target c.headers) (codes "x-amz-date") (stamp c.at)) name
-        ∙ ap (layer t c.token) (layered (codes "x-amz-date") (Some (stamp c.at)) (hosted_headers c.target c.headers) name
-        ∙ ap (layer d (Some (stamp c.at))) (layered (codes "host") host (given_headers c.headers) name))))
+      ap (λ (headers : List Pair). named_values headers name) canonical_are
+      ∙ layered (codes "x-amz-content-sha256") told (with_optional token_name c.token (inserted (hosted_headers c.target c.headers) (codes "x-amz-date") (stamp c.at))) name
+      ∙ ap (layer p told) (layered token_name c.token (inserted (hosted_headers c.target c.headers) (codes "x-amz-date") (stamp c.at)) name
+      ∙ ap (layer t c.token) (layered (codes "x-amz-date") (Some (stamp c.at)) (hosted_headers c.target c.headers) name
+      ∙ ap (layer d (Some (stamp c.at))) (layered (codes "host") host (given_headers c.headers) name))))
 
   -- ---- the names
 
@@ -234,7 +230,7 @@ module _ (c : Case) (is : SignsHeaders c) where
       (unwrap_or excluded [] ++ excluded_token c.settings.session_token_mode (unsigned_token c.settings) ++ unsigned_in_query_form c.settings))) is.usual
       ∙ ap (λ (b : Bool). not (list_any (bytes_eq (codes "x-amz-date"))
       (default_exclusions ++ excluded_token c.settings.session_token_mode (cond b (lower (unwrap_or c.settings.session_token_name_override (codes "X-Amz-Security-Token"))) token_name)
-        ++ cond b (codes "x-amz-user-agent" ∷ codes "x-amz-checksum-mode" ∷ []) []))) is.form
+      ++ cond b (codes "x-amz-user-agent" ∷ codes "x-amz-checksum-mode" ∷ []) []))) is.form
       ∙ by_mode c.settings.session_token_mode
     where
       by_mode : (mode : SessionTokenMode) → not (list_any (bytes_eq (codes "x-amz-date")) (default_exclusions ++ excluded_token mode token_name ++ [])) ≡ true
@@ -245,12 +241,12 @@ module _ (c : Case) (is : SignsHeaders c) where
   date_among =
       among_from c (codes "x-amz-date") date_signed
       (ap is_here (ap (λ (headers : List Pair). named_values headers (codes "x-amz-date")) canonical_are
-        ∙ layered (codes "x-amz-content-sha256") told (with_optional token_name c.token (inserted (hosted_headers c.target c.headers) (codes "x-amz-date") (stamp c.at))) (codes "x-amz-date")
-        ∙ kept told
-        ∙ layered token_name c.token (inserted (hosted_headers c.target c.headers) (codes "x-amz-date") (stamp c.at)) (codes "x-amz-date")
-        ∙ ap (λ b. layer b c.token (named_values (inserted (hosted_headers c.target c.headers) (codes "x-amz-date") (stamp c.at)) (codes "x-amz-date"))) own.not_date
-        ∙ kept c.token
-        ∙ layered (codes "x-amz-date") (Some (stamp c.at)) (hosted_headers c.target c.headers) (codes "x-amz-date")))
+      ∙ layered (codes "x-amz-content-sha256") told (with_optional token_name c.token (inserted (hosted_headers c.target c.headers) (codes "x-amz-date") (stamp c.at))) (codes "x-amz-date")
+      ∙ kept told
+      ∙ layered token_name c.token (inserted (hosted_headers c.target c.headers) (codes "x-amz-date") (stamp c.at)) (codes "x-amz-date")
+      ∙ ap (λ b. layer b c.token (named_values (inserted (hosted_headers c.target c.headers) (codes "x-amz-date") (stamp c.at)) (codes "x-amz-date"))) own.not_date
+      ∙ kept c.token
+      ∙ layered (codes "x-amz-date") (Some (stamp c.at)) (hosted_headers c.target c.headers) (codes "x-amz-date")))
     where
       kept : (value : Option (List ℕ)) {values : List (List ℕ)} → layer false value values ≡ values
       kept None = refl

@@ -1,8 +1,8 @@
 -- The names of signed headers as one text, and signatures as texts.
-use Rattle.std.proofs.Common.{◌≡◌, ℕ, ◌+◌, ◌*◌, ◌/◌, ◌%◌, ◌<◌, ◌==◌, Bool, true, false, ◌&&◌, ◌||◌, List, [], ◌∷◌, ◌++◌, length, All, IsUtf8, slice_index, refl, sym, ap, ◌∙◌, true≢false, arith, ne_eqb, not}
-use Rattle.std.specs.Prelude.{bytes_eq, codes, nat_lt}
-use Rattle.std.specs.List.{AllByRecursion, join_with_byte, list_all, list_any, slice_split}
-use Rattle.std.proofs.lemmas.Bool.{agree_below_at, and_parts, eqb-true, ltb-true, or_parts, or_left, or_right, false≢true}
+use Rattle.std.proofs.Common.{◌≡◌, ℕ, ◌+◌, ◌*◌, ◌/◌, ◌%◌, ◌<◌, ◌==◌, Bool, true, false, ◌&&◌, ◌||◌, List, [], ◌∷◌, ◌++◌, length, IsUtf8, slice_index, refl, sym, ap, ◌∙◌, true≢false, arith, ne_eqb, not}
+use Rattle.std.specs.Prelude.{codes, nat_lt}
+use Rattle.std.specs.List.{AllByRecursion, join_with_byte, list_all, slice_split}
+use Rattle.std.proofs.lemmas.Bool.{agree_below_at, and_parts, eqb-true, ltb-true, or_right, false≢true}
 use Rattle.std.proofs.lemmas.Bool.Decides.{nat_tests}
 use Rattle.std.proofs.lemmas.List.Elements.{All-cons, All-nil}
 use Rattle.std.proofs.lemmas.Str.{IsUtf8-append, IsUtf8-from_ascii, IsUtf8-nil}
@@ -58,9 +58,10 @@ module _ (c : ℕ) (no_mark : token_test c ≡ false) where
 -- what holds of each text that is among these holds of all
 pub all_among : (P : List ℕ → Type 0) (texts : List (List ℕ)) → ((text : List ℕ) → is_among text texts ≡ true → P text) → AllByRecursion P texts
 all_among P [] each = tt
-all_among P (text ∷ texts) each =
-    (each text (ap (λ o. is_eq o || is_among text texts) (tied_itself nat_list_cmp_total text)) ,
-     all_among P texts (λ other is. each other (or_right (is_eq (order other text)) (is_among other texts) is)))
+all_among P (text ∷ texts) each = (
+  each text (ap (λ o. is_eq o || is_among text texts) (tied_itself nat_list_cmp_total text)),
+  all_among P texts (λ other is. each other (or_right (is_eq (order other text)) (is_among other texts) is)),
+)
 
 -- names that are joined are cut into these again
 pub names_cut : (names : List (List ℕ)) (name : List ℕ) → is_among name names ≡ true → AllLack 59 names → slice_split (λ b. b == 59) (join_with_byte 59 names) ≡ names

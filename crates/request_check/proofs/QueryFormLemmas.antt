@@ -1,6 +1,6 @@
 -- The signed request of a case in query form has the case's signature by its own seal.
-use Rattle.std.proofs.Common.{◌≡◌, ℕ, ◌^◌, ◌<◌, Bool, true, false, ◌&&◌, ◌||◌, cond, not, IsUtf8, IfSome, List, [], ◌∷◌, ◌++◌, map, Option, Some, None, is_some, unwrap_or, refl, sym, ap, ◌∙◌, subst, true≢false, append_assoc}
-use Rattle.std.specs.Prelude.{bytes_eq, codes, filter, option_map, string_bytes}
+use Rattle.std.proofs.Common.{◌≡◌, ℕ, ◌^◌, ◌<◌, Bool, true, false, ◌||◌, cond, not, IsUtf8, IfSome, List, [], ◌∷◌, ◌++◌, map, Option, Some, None, is_some, unwrap_or, refl, sym, ap, ◌∙◌, subst, true≢false, append_assoc}
+use Rattle.std.specs.Prelude.{bytes_eq, codes, filter, option_map}
 use Rattle.std.specs.List.{AllByRecursion, flat_map, join_with_byte, list_any}
 use Rattle.std.specs.Fmt.{decimal}
 use Rattle.std.specs.Option.{option_or}
@@ -9,9 +9,8 @@ use Rattle.std.proofs.lemmas.Fmt.{IsAscii-decimal}
 use Rattle.std.proofs.lemmas.List.Elements.{filter-append}
 use Rattle.std.proofs.lemmas.Str.{IsUtf8-append, IsUtf8-from_ascii, IsUtf8-nil}
 use lib.Utf8.{encode}
-use Rattle.hex.specs.Hex.{encode_lower, lower_digits}
 use Rattle.smithy_core.specs.Civil.{IsInYears, civil_of, date, stamp}
-use Rattle.smithy_core.specs.Moment.{Instant, floor_secs}
+use Rattle.smithy_core.specs.Moment.{floor_secs}
 use Rattle.smithy_core.specs.TextPairs.{AreLower, first_value, lower, named_values}
 use Rattle.smithy_core.proofs.CivilTextLemmas.{stamp_utf8}
 use Rattle.smithy_http.specs.QueryWriter.{before_pair, escaped_pair}
@@ -19,7 +18,7 @@ use Rattle.smithy_http.specs.Query.{pair_text}
 use Rattle.smithy_http.specs.Target.{Target}
 use Rattle.smithy_http.proofs.QueryLemmas.{pairs_joined}
 use Rattle.eventstream.specs.Key.{scope, signing_key}
-use Rattle.sigv4.specs.Canonical.{added_host, canonical, canonical_headers, canonical_lines, credential, excluded_token, expires_text, given_headers, has_host, header_line, hosted_headers, is_signed, joined_names, names, pairs, parameters_for, path_of, signed_token, signing_parameters, token_header, token_pairs, token_parameter, unsigned_in_query_form, unsigned_token, with_optional}
+use Rattle.sigv4.specs.Canonical.{added_host, canonical, canonical_headers, canonical_lines, credential, excluded_token, expires_text, given_headers, has_host, header_line, hosted_headers, is_signed, joined_names, names, pairs, parameters_for, signed_token, signing_parameters, token_header, token_pairs, token_parameter, unsigned_in_query_form, unsigned_token, with_optional}
 use Rattle.sigv4.specs.Host.{host_of, host_text}
 use Rattle.sigv4.specs.Instructions.{with_instructions}
 use Rattle.sigv4.specs.Parameters.{with_params}
@@ -41,7 +40,6 @@ use Rattle.sigv4.proofs.ScopeLemmas.{scope_utf8}
 use Rattle.sigv4.proofs.SetLemmas.{is_among, is_here}
 use Rattle.request_check.specs.Recomputation.{HaveNone, IsOfStrings, parameter_keys}
 use Rattle.request_check.specs.Recomputed.{recomputed, sent_pairs, sent_text, unfit_sent}
-use Rattle.request_check.specs.SealTexts.{is_lower_digit}
 use Rattle.request_check.specs.Sealed.{IsUnsealed, SealParts, SealsParameters, sealed_credential}
 use Rattle.request_check.proofs.CaseLemmas.{among_from, names_carried, names_utf8}
 use Rattle.request_check.proofs.EscapedLemmas.{AreTexts, decoded_with}
@@ -220,13 +218,22 @@ parameter_texts : (credential_text date_text names_text signature_text : List �
     → IsUtf8 credential_text → IsUtf8 date_text → IsUtf8 (expires_text expires_in) → IsUtf8 names_text → IsUtf8 signature_text → AreTexts more
     → AreTexts (parameters_for credential_text date_text expires_in names_text ++ (codes "X-Amz-Signature", signature_text) ∷ more)
 unfolding encode
-parameter_texts credential_text date_text names_text signature_text expires_in more is_credential is_date is_expiry is_names is_signature is_more =
-    (((codes "X-Amz-Algorithm", (refl, refl)), (codes "AWS4-HMAC-SHA256", (refl, refl))),
-    (((codes "X-Amz-Credential", (refl, refl)), is_credential),
-    (((codes "X-Amz-Date", (refl, refl)), is_date),
-    (((codes "X-Amz-Expires", (refl, refl)), is_expiry),
-    (((codes "X-Amz-SignedHeaders", (refl, refl)), is_names),
-    (((codes "X-Amz-Signature", (refl, refl)), is_signature), is_more))))))
+parameter_texts credential_text date_text names_text signature_text expires_in more is_credential is_date is_expiry is_names is_signature is_more = (
+  ((codes "X-Amz-Algorithm", (refl, refl)), (codes "AWS4-HMAC-SHA256", (refl, refl))),
+  (
+    ((codes "X-Amz-Credential", (refl, refl)), is_credential),
+    (
+      ((codes "X-Amz-Date", (refl, refl)), is_date),
+      (
+        ((codes "X-Amz-Expires", (refl, refl)), is_expiry),
+        (
+          ((codes "X-Amz-SignedHeaders", (refl, refl)), is_names),
+          (((codes "X-Amz-Signature", (refl, refl)), is_signature), is_more),
+        ),
+      ),
+    ),
+  ),
+)
 
 slash_utf8 : IsUtf8 (codes "/")
 unfolding encode
@@ -322,7 +329,7 @@ module _ (c : Case) (is : SignsQuery c) where
       (unwrap_or excluded [] ++ excluded_token c.settings.session_token_mode (unsigned_token c.settings) ++ unsigned_in_query_form c.settings))) is.usual
       ∙ (ap (λ (b : Bool). not (list_any (bytes_eq (codes "host"))
       (default_exclusions ++ excluded_token c.settings.session_token_mode (cond b (lower token_name) (token_header c.settings))
-        ++ cond b (codes "x-amz-user-agent" ∷ codes "x-amz-checksum-mode" ∷ []) []))) is.form
+      ++ cond b (codes "x-amz-user-agent" ∷ codes "x-amz-checksum-mode" ∷ []) []))) is.form
       ∙ by_mode c.settings.session_token_mode)
     where
       by_mode : (mode : SessionTokenMode) → not (list_any (bytes_eq (codes "host")) (default_exclusions ++ excluded_token mode (lower token_name)
@@ -334,7 +341,7 @@ module _ (c : Case) (is : SignsQuery c) where
   host_among =
       among_from c (codes "host") host_signed
       (ap is_here (ap (λ (headers : List Pair). named_values headers (codes "host")) canonical_are
-        ∙ layered (codes "host") (added_host c.target c.headers) (given_headers c.headers) (codes "host"))
+      ∙ layered (codes "host") (added_host c.target c.headers) (given_headers c.headers) (codes "host"))
       ∙ host_by (has_host c.headers) (host_text c.target) (named_values (given_headers c.headers) (codes "host")) (first_here (given_headers c.headers) (codes "host")) fit_host)
 
   -- ---- the pairs
@@ -369,7 +376,7 @@ module _ (c : Case) (is : SignsQuery c) where
       ap (sent_pairs QueryParams c.settings) decoded_are
       ∙ (filter-append (is_kept c.settings.session_token_mode token_name) (decoded c.target) (first_added ∷ more_added)
       ∙ ((λ i. given_kept c.settings (decoded c.target) is.none i
-        ++ added_kept c.settings.session_token_mode token_name (credential c) (stamp c.at) (joined_names (names c)) (signature_of c) c.settings.expires_in c.token free i)
+      ++ added_kept c.settings.session_token_mode token_name (credential c) (stamp c.at) (joined_names (names c)) (signature_of c) c.settings.expires_in c.token free i)
       ∙ sym pairs_are))
 
   -- ---- the seal

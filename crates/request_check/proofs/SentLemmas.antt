@@ -1,7 +1,7 @@
 -- The headers of a signed request, as they are read again.
-use Rattle.std.proofs.Common.{◌≡◌, ℕ, Bool, true, false, ◌&&◌, ◌||◌, cond, not, List, [], ◌∷◌, ◌++◌, map, Option, Some, None, refl, sym, ap, ◌∙◌, true≢false, unwrap_or}
+use Rattle.std.proofs.Common.{◌≡◌, ℕ, Bool, true, false, cond, not, List, [], ◌∷◌, Option, Some, None, refl, sym, ap, ◌∙◌, true≢false}
 use Rattle.std.proofs.lemmas.Bool.{false≢true}
-use Rattle.std.specs.Prelude.{bytes_eq, codes}
+use Rattle.std.specs.Prelude.{bytes_eq}
 use Rattle.std.specs.List.{AllByRecursion}
 use Rattle.std.specs.Option.{option_or}
 use Rattle.smithy_core.specs.TextPairs.{AreLower, first_value, inserted, lower, named_values, without}
@@ -41,6 +41,7 @@ given_inserted name value (header ∷ headers) plain low = by (bytes_eq header.0
     whole : Bool → List Pair
     whole b = cond b ((name, trim_all value) ∷ without (given_headers headers) name)
         ((lower header.0, trim_all header.1) ∷ inserted (given_headers headers) name (trim_all value))
+
     by : (b : Bool) → bytes_eq header.0 name ≡ b → given_headers (inserted headers name value) ≡ inserted (given_headers headers) name (trim_all value)
         → given_headers (cond b ((name, value) ∷ without headers name) (header ∷ inserted headers name value)) ≡ whole (bytes_eq (lower header.0) name)
     by true e more =
@@ -144,15 +145,15 @@ named_without name [] all = tt
 named_without name (header ∷ headers) all =
     elim (bytes_eq header.0 name) as (λ (b : Bool). AreNamed (cond (not b) (header ∷ without headers name) (without headers name))) [
       | true ↦ named_without name headers all.1
-      | false ↦ (all.0 , named_without name headers all.1)
+      | false ↦ (all.0, named_without name headers all.1)
     ]
 
 named_inserted : (name value : List ℕ) (headers : List Pair) → is_name name ≡ true → AreNamed headers → AreNamed (inserted headers name value)
-named_inserted name value [] is all = (is , tt)
+named_inserted name value [] is all = (is, tt)
 named_inserted name value (header ∷ headers) is all =
     elim (bytes_eq header.0 name) as (λ (b : Bool). AreNamed (cond b ((name, value) ∷ without headers name) (header ∷ inserted headers name value))) [
-      | true ↦ (is , named_without name headers all.1)
-      | false ↦ (all.0 , named_inserted name value headers is all.1)
+      | true ↦ (is, named_without name headers all.1)
+      | false ↦ (all.0, named_inserted name value headers is all.1)
     ]
 
 pub named_optional : (name : List ℕ) (value : Option (List ℕ)) (headers : List Pair) → is_name name ≡ true → AreNamed headers → AreNamed (with_optional name value headers)
@@ -161,7 +162,7 @@ named_optional name (Some value) headers is all = named_inserted name value head
 
 pub named_given : (headers : List Pair) → AreLower headers → AreFit headers → AreNamed (given_headers headers)
 named_given [] low fit = tt
-named_given (header ∷ headers) low fit = (ap is_name low.0 ∙ fit.0.0 , named_given headers low.1 fit.1)
+named_given (header ∷ headers) low fit = (ap is_name low.0 ∙ fit.0.0, named_given headers low.1 fit.1)
 
 -- a name with values among them is one
 pub named_here : (headers : List Pair) (name : List ℕ) → AreNamed headers → is_here (named_values headers name) ≡ true → is_name name ≡ true

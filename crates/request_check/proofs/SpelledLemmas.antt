@@ -1,12 +1,11 @@
 -- What the target of a signed request spells.
-use Rattle.std.proofs.Common.{◌≡◌, ℕ, Bool, true, false, ◌==◌, ◌||◌, cond, not, is_some, length, List, [], ◌∷◌, map, Option, Some, None, inl, inr, refl, sym, ap, ◌∙◌, subst, true≢false}
-use Rattle.std.proofs.lemmas.Bool.{false≢true}
+use Rattle.std.proofs.Common.{◌≡◌, ℕ, false, ◌==◌, ◌||◌, cond, not, is_some, length, List, [], ◌∷◌, map, Option, Some, None, inr, refl, sym, ◌∙◌, subst, true≢false}
 use Rattle.http_uri.specs.Grammar.{IsForm, path_of, query_of}
 use Rattle.http_uri.specs.Uri.{Spells, SpellsNone, uri_authority, uri_data, uri_scheme}
 use Rattle.http_uri.specs.declared.uri.Uri.{Uri}
 use Rattle.http_uri.proofs.Theorems.{Spells_unique}
 use Rattle.smithy_http.specs.QueryWriter.{SpellsTarget, escaped_pair}
-use Rattle.smithy_http.specs.Target.{IsAuthorityAlone, Target, target_of, target_text}
+use Rattle.smithy_http.specs.Target.{IsAuthorityAlone, Target, target_of}
 use Rattle.smithy_http.proofs.QueryLemmas.{pairs_joined}
 use Rattle.smithy_http.proofs.TargetLemmas.{pairs_read_back}
 use Rattle.sigv4.specs.Parameters.{takes_no_more, target_text_with, with_params}

@@ -1,4 +1,4 @@
-use Rattle.std.proofs.Common.{rules, ℕ, List, None, Ok, Err, ap, ◌∙◌}
+use Rattle.std.proofs.Common.{ℕ, List, None, Ok, Err, ap, ◌∙◌}
 use Rattle.std.proofs.lemmas.Result.{err_from_is_err_and}
 use Rattle.std.specs.Prelude.{string_bytes}
 use Rattle.eventstream.specs.Key.{Signer}
