@@ -10,6 +10,7 @@ pub mod Generate
 pub mod Generator
 pub mod Halt
 pub mod Job
+pub mod Laws
 pub mod Lines
 pub mod Numbers
 pub mod Options

@@ -21,6 +21,7 @@ mod form;
 mod generate;
 mod generator;
 mod job;
+mod laws;
 mod numbers;
 mod running;
 mod saying;
@@ -37,6 +38,7 @@ mod written;
 
 pub use crate::form::Form;
 pub use crate::job::{Job, JobFault, read_job};
+pub use crate::laws::{raw_streams_are_accepted, raw_streams_read_back};
 pub use crate::running::run;
 pub use crate::saying::say;
 pub use crate::settings::{Settings, SettingsFault, read_settings};
