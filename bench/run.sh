@@ -30,4 +30,7 @@ rate MB 655.36 checksum 10000 65536
 rate MB 65.536 hash 1000 65536
 rate MB 655.36 write 10000 65536
 rate MB 358.4 decode 2000
+rate MB 358.4 receive 2000
+rate MB 1310.72 chunk 20000 65536
+rate MB 65.536 signed-chunk 1000 65536
 rate MB 20 profiles 200

@@ -55,7 +55,8 @@ pub fn decoded(alloc: Global, count: u32) -> anyhow::Result<Digest> {
     Ok(digest)
 }
 
-fn pieces_of_stream(alloc: Global) -> anyhow::Result<Vec<Bytes>> {
+/// The pieces in which a stream of frames comes.
+pub fn pieces_of_stream(alloc: Global) -> anyhow::Result<Vec<Bytes>> {
     let stream = stream_of_frames(alloc)?;
     let mut pieces = Vec::new(alloc);
     for piece in stream.as_slice().chunks(PIECE) {
@@ -94,7 +95,8 @@ fn with_messages(
     Ok(messages.iter().fold(digest, with_message))
 }
 
-fn with_message(digest: Digest, message: &Message) -> Digest {
+/// The digest of one message more, by its first byte.
+pub fn with_message(digest: Digest, message: &Message) -> Digest {
     match message.payload().as_slice().first() {
         Some(byte) => digest.with(&[*byte]),
         None => digest,

@@ -10,15 +10,20 @@
 //! bench hash COUNT SIZE       the SHA-256 of so many bytes
 //! bench write COUNT SIZE      writes a frame with so many bytes of payload
 //! bench decode COUNT          decodes 175 frames of 1,024 bytes that come in pieces of 1,400 bytes
+//! bench receive COUNT         receives such a stream by a receiver
+//! bench chunk COUNT SIZE      encodes a body of so many pieces in chunks
+//! bench signed-chunk COUNT SIZE encodes such a body in chunks that are signed
 //! bench profiles COUNT        parses a profile file of 100 KB
 //! bench each COUNT            each of these so many times, with small sizes, a line for each
 //! ```
 #![tactic(auto)]
 
+mod chunked;
 mod digest;
 mod frames;
 mod kept;
 mod profiles;
+mod receiving;
 mod signing;
 mod sums;
 mod work;

@@ -1,5 +1,5 @@
 use crate::digest::Digest;
-use crate::{frames, kept, profiles, signing, sums};
+use crate::{chunked, frames, kept, profiles, receiving, signing, sums};
 use std::alloc::{AllocError, Global};
 use std::fmt;
 
@@ -15,6 +15,9 @@ pub enum Work {
     Hash { count: u32, size: usize },
     Write { count: u32, size: usize },
     Decode { count: u32 },
+    Receive { count: u32 },
+    Chunk { count: u32, size: usize },
+    SignedChunk { count: u32, size: usize },
     Profiles { count: u32 },
 }
 
@@ -45,6 +48,9 @@ impl Work {
             Work::Hash { count, size: 100 },
             Work::Write { count, size: 100 },
             Work::Decode { count },
+            Work::Receive { count },
+            Work::Chunk { count, size: 100 },
+            Work::SignedChunk { count, size: 100 },
             Work::Profiles { count },
         ]?;
         Ok(works)
@@ -68,6 +74,7 @@ impl Work {
             "kept-sign" => Some(Work::KeptSign { count }),
             "operation" => Some(Work::Operation { count }),
             "decode" => Some(Work::Decode { count }),
+            "receive" => Some(Work::Receive { count }),
             "profiles" => Some(Work::Profiles { count }),
             _ => None,
         }
@@ -80,6 +87,8 @@ impl Work {
             "checksum" => Some(Work::Checksum { count, size }),
             "hash" => Some(Work::Hash { count, size }),
             "write" => Some(Work::Write { count, size }),
+            "chunk" => Some(Work::Chunk { count, size }),
+            "signed-chunk" => Some(Work::SignedChunk { count, size }),
             _ => None,
         }
     }
@@ -96,6 +105,9 @@ impl Work {
             Work::Hash { count, size } => Ok(sums::hashes(alloc, count, size)?),
             Work::Write { count, size } => frames::written(alloc, count, size),
             Work::Decode { count } => frames::decoded(alloc, count),
+            Work::Receive { count } => receiving::received(alloc, count),
+            Work::Chunk { count, size } => chunked::unsigned(alloc, count, size),
+            Work::SignedChunk { count, size } => chunked::signed(alloc, count, size),
             Work::Profiles { count } => profiles::parsed(alloc, count),
         }
     }
@@ -113,6 +125,9 @@ impl fmt::Display for Work {
             Work::Hash { count, size } => write!(f, "hash {count} {size}"),
             Work::Write { count, size } => write!(f, "write {count} {size}"),
             Work::Decode { count } => write!(f, "decode {count}"),
+            Work::Receive { count } => write!(f, "receive {count}"),
+            Work::Chunk { count, size } => write!(f, "chunk {count} {size}"),
+            Work::SignedChunk { count, size } => write!(f, "signed-chunk {count} {size}"),
             Work::Profiles { count } => write!(f, "profiles {count}"),
         }
     }

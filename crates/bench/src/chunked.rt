@@ -1,0 +1,75 @@
+//! The work of encoding bodies in chunks.
+use crate::digest::Digest;
+use crate::receiving::parts_of;
+use crate::signing::{example_identity, moment_of};
+use anyhow::bail;
+use aws_auth::{ChunkDeferredSigner, SigV4MessageSigner};
+use aws_chunked::{AwsChunkedBody, AwsChunkedBodyOptions, ChunkNext};
+use bytes::Bytes;
+use sigv4::{SignChunk, SigningSettings};
+use smithy_core::{CalmFrames, Region, SigningName};
+use std::alloc::{AllocError, Global};
+
+/// So many bytes of a frame show the size and the signature of a chunk.
+const FRONT: usize = 100;
+
+/// Encodes a body of so many pieces of so many bytes, whose chunks aren't signed.
+pub fn unsigned(alloc: Global, count: u32, size: usize) -> anyhow::Result<Digest> {
+    let source = source_of(alloc, count, size)?;
+    let body: AwsChunkedBody<CalmFrames, ChunkDeferredSigner> = AwsChunkedBody::new(
+        alloc,
+        source,
+        options_of(alloc, count, size),
+    );
+    encoded(body)
+}
+
+/// Encodes a body of so many pieces of so many bytes, whose chunks are signed.
+pub fn signed(alloc: Global, count: u32, size: usize) -> anyhow::Result<Digest> {
+    let source = source_of(alloc, count, size)?;
+    let options = options_of(alloc, count, size).signed_chunked_encoding(true);
+    encoded(AwsChunkedBody::new(alloc, source, options).with_signer(signer_of(alloc)?))
+}
+
+// The digest of the frames of a body.
+fn encoded<G: SignChunk>(body: AwsChunkedBody<CalmFrames, G>) -> anyhow::Result<Digest> {
+    let mut body = body;
+    let mut digest = Digest::new();
+    for _ in 0..u32::MAX {
+        match body.poll_frame() {
+            Ok(ChunkNext::Frame(bytes)) => digest = digest.with(front_of(&bytes)),
+            Ok(ChunkNext::End) => return Ok(digest),
+            _ => bail!("the body could not be encoded"),
+        }
+    }
+    bail!("the body has too many frames")
+}
+
+fn front_of(bytes: &Bytes) -> &[u8] {
+    bytes.as_slice().get(..FRONT).unwrap_or(bytes.as_slice())
+}
+
+fn source_of(alloc: Global, count: u32, size: usize) -> anyhow::Result<CalmFrames> {
+    let piece = Bytes::from_vec(vec![in alloc; 7; size]?)?;
+    let mut pieces = Vec::new(alloc);
+    for _ in 0..count {
+        pieces.push(piece.clone()?)?;
+    }
+    Ok(CalmFrames::new(parts_of(alloc, &pieces)?))
+}
+
+fn options_of(alloc: Global, count: u32, size: usize) -> AwsChunkedBodyOptions {
+    let length = u64::from(count).wrapping_mul(size as u64);
+    AwsChunkedBodyOptions::new(length, Vec::new(alloc))
+}
+
+fn signer_of(alloc: Global) -> Result<SigV4MessageSigner<SigningSettings>, AllocError> {
+    Ok(SigV4MessageSigner::new(
+        String::new(alloc),
+        example_identity(alloc)?,
+        Region::new(String::from_str(alloc, "us-east-1")?),
+        SigningName::new(String::from_str(alloc, "s3")?),
+        moment_of(0),
+        SigningSettings::new(alloc)?,
+    ))
+}
