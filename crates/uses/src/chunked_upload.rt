@@ -1,0 +1,32 @@
+//! An upload in chunks, with a trailer.
+use anyhow::bail;
+use aws_auth::ChunkDeferredSigner;
+use aws_chunked::{AwsChunkedBody, AwsChunkedBodyOptions, ChunkNext};
+use bytes::Bytes;
+use smithy_core::{CalmFrames, FramePart, Headers};
+use std::alloc::Global;
+
+/// The text of a body that isn't signed, with the checksum of its data as a trailer.
+pub fn body(alloc: Global) -> anyhow::Result<Vec<u8>> {
+    let mut trailers = Headers::new(alloc);
+    trailers.append("x-amz-checksum-crc32", "NhCmhg==")?;
+    let frames = vec![in alloc;
+        FramePart::Data(Bytes::from_static(b"hello")),
+        FramePart::Trailers(trailers),
+    ]?;
+    let options = AwsChunkedBodyOptions::new(5, vec![in alloc; 29]?);
+    let mut body: AwsChunkedBody<CalmFrames, ChunkDeferredSigner> = AwsChunkedBody::new(
+        alloc,
+        CalmFrames::new(frames),
+        options,
+    );
+    let mut text = Vec::new(alloc);
+    for _ in 0..u32::MAX {
+        match body.poll_frame() {
+            Ok(ChunkNext::Frame(bytes)) => text.extend_from_slice(bytes.as_slice())?,
+            Ok(ChunkNext::End) => return Ok(text),
+            _ => bail!("the body could not be encoded"),
+        }
+    }
+    bail!("the body has too many frames")
+}

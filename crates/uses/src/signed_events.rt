@@ -1,0 +1,52 @@
+//! A stream of events that is signed, each over the signature before it.
+use anyhow::bail;
+use aws_auth::SigV4MessageSigner;
+use bytes::Bytes;
+use event_io::{ListEvents, MessageStreamAdapter, Next};
+use eventstream::IdentityMarshaller;
+use smithy_core::{FixedClock, Identity, Message, Moment, Region, SigningName};
+use std::alloc::Global;
+use std::collections::VecDeque;
+
+/// The frames of two events and of the end, one after another.
+pub fn frames(alloc: Global, identity: Identity, at: Moment) -> anyhow::Result<Vec<u8>> {
+    let signer = signer_of(alloc, identity, at)?;
+    let marshaller = IdentityMarshaller;
+    let items = ListEvents::new(items(alloc)?);
+    let mut adapter = MessageStreamAdapter::new(alloc, marshaller, marshaller, signer, items);
+    let mut clock = FixedClock::new(at);
+    let mut moments = Vec::new(alloc);
+    let mut frames = Vec::new(alloc);
+    for _ in 0..4 {
+        match adapter.poll_next(&mut clock, &mut moments) {
+            Ok(Next::Frame(frame)) => frames.extend_from_slice(frame.as_slice())?,
+            Ok(_) => return Ok(frames),
+            Err(_) => bail!("an event could not be sent"),
+        }
+    }
+    Ok(frames)
+}
+
+// A signer that goes on from the signature of the request.
+fn signer_of(
+    alloc: Global,
+    identity: Identity,
+    at: Moment,
+) -> anyhow::Result<SigV4MessageSigner<()>> {
+    let signature = "c54b62272527f8b9970c8a395563b2c5be9a414bd0e0b0908885246d76fbc87a";
+    Ok(SigV4MessageSigner::new(
+        String::from_str(alloc, signature)?,
+        identity,
+        Region::new(String::from_str(alloc, "us-east-1")?),
+        SigningName::new(String::from_str(alloc, "transcribe")?),
+        at,
+        (),
+    ))
+}
+
+fn items(alloc: Global) -> anyhow::Result<VecDeque<Result<Message, Message>>> {
+    let mut items = VecDeque::new(alloc);
+    items.push_back(Ok(Message::new(alloc, Bytes::from_static(b"hello"))))?;
+    items.push_back(Ok(Message::new(alloc, Bytes::from_static(b"world"))))?;
+    Ok(items)
+}
