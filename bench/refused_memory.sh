@@ -101,5 +101,8 @@ tries presigned stream --name a --at 1440938160 --query --expires 9
 tries check check --name transcribe
 : > input
 tries settings settings
+printf hello > input
+tries chunk chunk --size 3 --trailer a b
+: > input
 tries gen gen 7 3
 exit "$failed"

@@ -164,7 +164,6 @@ found=$? case='a line that has no room' status=7
 : > wanted.err
 : > found.err
 judge
-ends 'a command that is not built' 11 'not built 1' chunk < nothing
 ends 'no name' 2 'bad word 3' stream --raw < nothing
 # The frames of a job are the same bytes, raw and as lines of hexadecimal.
 "$program" stream --name a --at 0 --config first < job | sed '1,/^$/d' | tr -d '\n' > frames.hex

@@ -7,13 +7,13 @@ _firuvaik() {
       mapfile -t COMPREPLY < <(compgen -f -- "$word")
       return
       ;;
-    --name | --service-id | --at | --skew | --expires | --token-name)
+    --name | --service-id | --at | --skew | --expires | --token-name | --size | --trailer)
       COMPREPLY=()
       return
       ;;
   esac
   if ((COMP_CWORD == 1)); then
-    words='stream check settings gen --help --version'
+    words='stream check settings chunk gen --help --version'
   else
     case ${COMP_WORDS[1]} in
       stream)
@@ -21,6 +21,7 @@ _firuvaik() {
         ;;
       check) words="--name $profile" ;;
       settings) words=$profile ;;
+      chunk) words='--size --trailer' ;;
       *) words= ;;
     esac
   fi

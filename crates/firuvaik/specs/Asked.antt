@@ -26,6 +26,11 @@ help = flat_map line
     ∷ codes "  Shows the profile, the region, the key id and whether there is a token."
     ∷ codes "    AWS_PROFILE=night firuvaik settings < /dev/null"
     ∷ codes ""
+    ∷ codes "firuvaik chunk [--size N] [--trailer NAME VALUE].."
+    ∷ codes "  Writes its input in the encoding aws-chunked: chunks of N bytes, or of 65536,"
+    ∷ codes "  and then the trailers."
+    ∷ codes "    firuvaik chunk --trailer x-amz-meta-origin a < data"
+    ∷ codes ""
     ∷ codes "firuvaik gen SEED COUNT"
     ∷ codes "  Streams COUNT generated events in memory, checks the stream and measures it."
     ∷ codes "    firuvaik gen 7 1000"
@@ -47,7 +52,6 @@ help = flat_map line
     ∷ codes "  2 bad word N    3 input over 67108864 bytes    4 bad line N    5 read fault"
     ∷ codes "  6 could not read file PATH    7 refused CODE NAME"
     ∷ codes "  8 check failed at frame N PART    9 output fault    10 no memory"
-    ∷ codes "  11 not built N"
     ∷ [])
 
 -- the name and the version of the program

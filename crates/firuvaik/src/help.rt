@@ -23,6 +23,11 @@ firuvaik settings [PROFILE]
   Shows the profile, the region, the key id and whether there is a token.
     AWS_PROFILE=night firuvaik settings < /dev/null
 
+firuvaik chunk [--size N] [--trailer NAME VALUE]..
+  Writes its input in the encoding aws-chunked: chunks of N bytes, or of 65536,
+  and then the trailers.
+    firuvaik chunk --trailer x-amz-meta-origin a < data
+
 firuvaik gen SEED COUNT
   Streams COUNT generated events in memory, checks the stream and measures it.
     firuvaik gen 7 1000
@@ -44,7 +49,6 @@ Exit status, 0 or with its line on standard error; N is a word or line, from 1:
   2 bad word N    3 input over 67108864 bytes    4 bad line N    5 read fault
   6 could not read file PATH    7 refused CODE NAME
   8 check failed at frame N PART    9 output fault    10 no memory
-  11 not built N
 ";
 
 const VERSION: &str = "firuvaik 0.1.0\n";

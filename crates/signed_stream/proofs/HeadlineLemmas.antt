@@ -25,7 +25,9 @@ use Rattle.chain_check.specs.Chain.{IsChainOf, IsChained}
 use Rattle.chain_check.proofs.AcceptedLemmas.{accepted_chain}
 use Rattle.signed_stream.specs.Chain.{Refusal, first_refusal}
 use Rattle.signed_stream.specs.CheckRecord.{CarriesSeal, GaveRecord, GaveRecordParts, IsSound, check_plan, check_signer, checked_plan, sealed_plan, shown_events}
-use Rattle.signed_stream.specs.Command.{CheckWanted, Command, Wanted, bad_word, check_record, generate, show_settings, stream, unbuilt_word}
+use Rattle.signed_stream.specs.ChunkJob.{chunk_plan, shown_chunks}
+use Rattle.signed_stream.specs.ChunkWords.{ChunkWanted}
+use Rattle.signed_stream.specs.Command.{CheckWanted, Command, Wanted, bad_word, check_record, generate, show_settings, stream, write_chunks}
 use Rattle.signed_stream.specs.Generate.{generate_plan, shown_stream}
 use Rattle.signed_stream.specs.Generator.{drawn_events}
 use Rattle.signed_stream.specs.ProfileOptions.{ProfileWanted}
@@ -275,7 +277,6 @@ has_done : (gave : List Place → FilesRead → Type 0) (env : List (List ℕ ×
     → HasDone gave env command bytes given before now
 unfolding command_plan
 has_done gave env (bad_word place) bytes given before now runs = stops_undone _ before now (λ e. cc) runs.goes
-has_done gave env (unbuilt_word place) bytes given before now runs = stops_undone _ before now (λ e. cc) runs.goes
 has_done gave env (stream wanted) bytes given before now runs = by_length (nat_lt most_input (length bytes)) refl runs.goes
   where
     by_length : (large : Bool) → nat_lt most_input (length bytes) ≡ large
@@ -294,6 +295,12 @@ has_done gave env (check_record wanted) bytes given before now runs = by_length 
         → GoesAsPlanned (if large then stops job_too_large else check_plan env wanted given (spelled_record bytes)) done before now → HasChecked gave env wanted bytes given before now
     by_length true is goes = absurd (stops_undone _ before now (λ e. cc) goes)
     by_length false is goes = done_record gave env wanted bytes (spelled_record bytes) given before now (grind (arith, nat_tests)) refl runs.supplied goes
+has_done gave env (write_chunks wanted) bytes given before now runs = by_length (nat_lt most_input (length bytes)) refl runs.goes
+  where
+    by_length : (large : Bool) → nat_lt most_input (length bytes) ≡ large
+        → GoesAsPlanned (if large then stops job_too_large else chunk_plan wanted bytes) done before now → (length bytes ≤ most_input) × Gains before now (shown_chunks wanted bytes)
+    by_length true is goes = absurd (stops_undone _ before now (λ e. cc) goes)
+    by_length false is goes = (grind (arith, nat_tests), goes.gains)
 has_done gave env (generate seed count) bytes given before now runs = runs.goes.gains
 
 pub has_done_where : (gave : List Place → FilesRead → Type 0) (env : List (List ℕ × List ℕ)) (command : Command) (bytes : List ℕ) (given : Supplied) (answer : Ending) (before now : Option (List ℕ)) → answer ≡ done
@@ -362,6 +369,14 @@ completes_job gave env wanted bytes given other later answer input files moments
     completes_stream input.texts (selected_profile env) env wanted input.read other.target given.moments later answer input.supplied.target valid given.target found.target
     (rw (large, input.spelled, are) at goes)
 
+-- what is written in chunks completes
+completes_chunked : (env : List (List ℕ × List ℕ)) (wanted : ChunkWanted) (bytes : List ℕ) (given : Supplied) (answer : Ending) → length bytes ≤ most_input
+    → EndsAsPlanned (command_plan env (write_chunks wanted) bytes given) answer → Completes answer
+unfolding command_plan
+completes_chunked env wanted bytes given answer short goes =
+    let large : nat_lt most_input (length bytes) ≡ false = grind (arith, nat_tests) in
+    written_completes (shown_chunks wanted bytes) true answer (rw large at goes)
+
 -- what is generated completes
 generated_completes : (seed count : ℕ) (answer : Ending) → EndsAsPlanned (generate_plan seed count) answer → Completes answer
 generated_completes seed count answer goes = written_completes (shown_stream (drawn_events count seed)) true answer goes
@@ -394,13 +409,13 @@ pub completes : (gave : List Place → FilesRead → Type 0) (env : List (List �
     → RunsAsPlanned gave env command bytes given answer before now → other.files ≡ given.files → other.moments ≡ given.moments ++ later → CanBeDone gave env command bytes other → Completes answer
 unfolding command_plan
 completes gave env (bad_word place) bytes given other later answer before now runs files moments can = absurd can
-completes gave env (unbuilt_word place) bytes given other later answer before now runs files moments can = absurd can
 completes gave env (stream wanted) bytes given other later answer before now runs files moments can =
     let found : GaveJob gave wanted can.read given = rw can.spelled at runs.supplied in
     completes_job gave env wanted bytes given other later answer can files moments found runs.goes.ends
 completes gave env (check_record wanted) bytes given other later answer before now runs files moments can =
     let found : GaveRecordParts gave env wanted can.read given = rw can.spelled at runs.supplied in
     completes_record gave env wanted bytes given other answer can files found runs.goes.ends
+completes gave env (write_chunks wanted) bytes given other later answer before now runs files moments can = completes_chunked env wanted bytes given answer can runs.goes.ends
 completes gave env (generate seed count) bytes given other later answer before now runs files moments can = generated_completes seed count answer runs.goes.ends
 completes gave env (show_settings wanted) bytes given other later answer before now runs files moments can = completes_shown gave env wanted bytes given other answer can files runs.goes.ends
 

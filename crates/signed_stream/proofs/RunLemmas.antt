@@ -23,7 +23,9 @@ use Rattle.signed_stream.specs.Carriers.{GoesForBytes, GoesForInput, GoesForJob,
 use Rattle.signed_stream.specs.Case.{job_case, request_moment}
 use Rattle.signed_stream.specs.Chain.{Refusal, fault_at, first_refusal, outside_years, refusal_at, unframed_at, unlinked}
 use Rattle.signed_stream.specs.CheckRecord.{GaveRecord, check_plan, check_signer, checked_plan, sealed_plan, shown_events}
-use Rattle.signed_stream.specs.Command.{CheckWanted, Command, Wanted, bad_word, check_record, generate, show_settings, stream, unbuilt_word}
+use Rattle.signed_stream.specs.ChunkJob.{chunk_plan, shown_chunks}
+use Rattle.signed_stream.specs.ChunkWords.{ChunkWanted}
+use Rattle.signed_stream.specs.Command.{CheckWanted, Command, Wanted, bad_word, check_record, generate, show_settings, stream, write_chunks}
 use Rattle.signed_stream.specs.Generate.{generate_plan, shown_stream}
 use Rattle.signed_stream.specs.Generator.{drawn_events}
 use Rattle.signed_stream.specs.ProfileOptions.{ProfileWanted}
@@ -33,13 +35,13 @@ use Rattle.signed_stream.specs.ProfileTexts.{ProfileTexts, profile_texts}
 use Rattle.chain_check.specs.Walk.{chain_events}
 use Rattle.chain_check.specs.declared.chain_fault.ChainFault.{ChainFault}
 use Rattle.signed_stream.specs.Record.{RecordParts, spelled_record}
-use Rattle.signed_stream.specs.Running.{EndsAsAsked, Gave, IsOfCommand, KeepsOutput, OfClock, RunsAsPlanned, TakesMoments, TellsInput, Unless, UnlessCommand, When, comes_late, command_plan, may_be_in_years, may_be_of_frame, read_plan, reads_input}
+use Rattle.signed_stream.specs.Running.{EndsAsAsked, Gave, IsOfCommand, KeepsOutput, OfClock, RunsAsPlanned, TakesMoments, TellsInput, Unless, UnlessCommand, When, comes_late, command_plan, may_be_in_years, may_be_of_frame, read_plan, reads_input, IsOfOutput}
 use Rattle.signed_stream.specs.Settings.{Selected}
 use Rattle.signed_stream.specs.ShowSettings.{GaveTexts, settings_plan, shown_plan}
 use Rattle.signed_stream.specs.Shown.{shown_settings}
 use Rattle.signed_stream.specs.Sign.{case_fault}
 use Rattle.signed_stream.specs.Sources.{selection, when_selected}
-use Rattle.signed_stream.specs.Status.{Ending, RunFault, bad_job, bad_words, check_failed, could_not_read_file, done, header_value_too_long, headers_too_long, invalid_header_name_length, job_too_large, message_too_long, moment_out_of_range, no_memory, not_built, output_fault, payload_too_long, read_fault, refused, timestamp_value_too_large}
+use Rattle.signed_stream.specs.Status.{Ending, RunFault, bad_job, bad_words, check_failed, could_not_read_file, done, header_value_too_long, headers_too_long, invalid_header_name_length, job_too_large, message_too_long, moment_out_of_range, no_memory, output_fault, payload_too_long, read_fault, refused, timestamp_value_too_large}
 use Rattle.signed_stream.specs.Stream.{GaveReading, case_plan, job_plan, request_plan, selected_plan, target_plan}
 use Rattle.signed_stream.specs.Written.{case_refusal, written_end, written_until}
 
@@ -77,7 +79,6 @@ keeps_same late (bad_job place) before now same = same
 keeps_same late read_fault before now same = same
 keeps_same late (check_failed fault) before now same = same
 keeps_same late (could_not_read_file path) before now same = same
-keeps_same late (not_built place) before now same = same
 
 -- the faults of frames
 abbrev pub IsOfFrame : RunFault → Type 0
@@ -221,7 +222,6 @@ keeps_later false (bad_job place) before now keeps = keeps
 keeps_later false read_fault before now keeps = keeps
 keeps_later false (check_failed fault) before now keeps = keeps
 keeps_later false (could_not_read_file path) before now keeps = keeps
-keeps_later false (not_built place) before now keeps = keeps
 
 module _ (gave : List Place → FilesRead → Type 0) (clock : List Instant → Type 0) where
   keeps_selected : (wanted : Wanted) (j : JobParts) (target : TargetRead) (answer : Ending) (before now : Option (List ℕ)) (moments : List Instant) → OfClock clock wanted.at moments
@@ -274,13 +274,16 @@ keeps_record env wanted given answer before now (Err place) goes = keeps_same (c
 pub keeps_generated : (seed count : ℕ) (answer : Ending) (before now : Option (List ℕ)) → GoesAsPlanned (generate_plan seed count) answer before now → KeepsOutput (comes_late (generate seed count)) answer before now
 keeps_generated seed count answer before now goes = keeps_written (comes_late (generate seed count)) (shown_stream (drawn_events count seed)) done answer before now tt goes
 
+keeps_chunked : (wanted : ChunkWanted) (bytes : List ℕ) (answer : Ending) (before now : Option (List ℕ)) → GoesAsPlanned (chunk_plan wanted bytes) answer before now → KeepsOutput (comes_late (write_chunks wanted)) answer before now
+keeps_chunked wanted bytes answer before now goes = keeps_written (comes_late (write_chunks wanted)) (shown_chunks wanted bytes) done answer before now tt goes
+
 pub keeps_bytes : (gave : List Place → FilesRead → Type 0) (clock : List Instant → Type 0) (env : List (List ℕ × List ℕ)) (command : Command) (bytes : List ℕ) (answer : Ending) (before now : Option (List ℕ))
     → GoesForBytes gave clock env command bytes answer before now → KeepsOutput (comes_late command) answer before now
 keeps_bytes gave clock env (bad_word place) bytes answer before now found = keeps_same (comes_late (bad_word place)) answer before now found.goes.gains
-keeps_bytes gave clock env (unbuilt_word place) bytes answer before now found = keeps_same (comes_late (unbuilt_word place)) answer before now found.goes.gains
 keeps_bytes gave clock env (stream wanted) bytes answer before now found = keeps_reading gave clock env wanted found.given answer before now (job bytes) found.moments found.goes
 keeps_bytes gave clock env (show_settings wanted) bytes answer before now found = keeps_texts env wanted found.given answer before now (profile_texts bytes) found.goes
 keeps_bytes gave clock env (check_record wanted) bytes answer before now found = keeps_record env wanted found.given answer before now (spelled_record bytes) found.goes
+keeps_bytes gave clock env (write_chunks wanted) bytes answer before now found = keeps_chunked wanted bytes answer before now found.goes
 keeps_bytes gave clock env (generate seed count) bytes answer before now found = keeps_generated seed count answer before now found.goes
 
 -- ## The bytes of the input
@@ -315,17 +318,17 @@ module _ (gave : List Place → FilesRead → Type 0) (free : (places : List Pla
   -- no moment is taken
   takes_none : (command : Command) → TakesMoments clock command []
   takes_none (bad_word place) = (refl, unasked)
-  takes_none (unbuilt_word place) = (refl, unasked)
   takes_none (show_settings wanted) = (refl, unasked)
   takes_none (generate seed count) = (refl, unasked)
   takes_none (check_record wanted) = (refl, unasked)
+  takes_none (write_chunks wanted) = (refl, unasked)
   takes_none (stream wanted) = unasked_at clock unasked wanted.at
 
   -- an outside that has given nothing, which is always so
   gave_nothing : (env : List (List ℕ × List ℕ)) (command : Command) (bytes : List ℕ) → Gave gave env command bytes nothing_given
   gave_nothing env (bad_word place) bytes = tt
-  gave_nothing env (unbuilt_word place) bytes = tt
   gave_nothing env (generate seed count) bytes = tt
+  gave_nothing env (write_chunks wanted) bytes = tt
   gave_nothing env (stream wanted) bytes = by_reading (job bytes)
     where
       by_reading : (reading : Result JobParts ℕ) → GaveReading gave wanted reading nothing_given
@@ -405,6 +408,17 @@ module _ (gave : List Place → FilesRead → Type 0) (free : (places : List Pla
     needed = λ front t rest is. absurd (no_moment front t rest is);
   }
 
+  -- as planned for an input that is written in chunks
+  pub chunks_written : (env : List (List ℕ × List ℕ)) (wanted : ChunkWanted) (bytes : List ℕ) (answer : Ending) (before now : Option (List ℕ)) → GoesAsPlanned (chunk_plan wanted bytes) answer before now
+      → GoesForBytes gave clock env (write_chunks wanted) bytes answer before now
+  chunks_written env wanted bytes answer before now goes = record {
+    given = nothing_given;
+    found = tt;
+    moments = (refl, unasked);
+    goes = goes;
+    needed = λ front t rest is. absurd (no_moment front t rest is);
+  }
+
 -- ## The input
 
 -- an input that tells its bytes was read to its end
@@ -426,11 +440,11 @@ plan_of_read env command bytes given short = by_command command
 
     by_command : (command : Command) → command_plan env command bytes given ≡ read_plan env command bytes given
     by_command (bad_word place) = refl
-    by_command (unbuilt_word place) = refl
     by_command (stream wanted) = rw within refl
     by_command (show_settings wanted) = rw within refl
     by_command (generate seed count) = refl
     by_command (check_record wanted) = rw within refl
+    by_command (write_chunks wanted) = rw within refl
 
 -- an answer as planned for its bytes goes as planned for an input that was read to its end
 pub read_runs : (gave : List Place → FilesRead → Type 0) (clock : List Instant → Type 0) (env : List (List ℕ × List ℕ)) (command : Command) (left : Option (List ℕ)) (read : List ℕ) (answer : Ending) (before now : Option (List ℕ))
@@ -466,9 +480,9 @@ plan_too_large env command (Some told_bytes) bytes given is long told = by_comma
 
     by_command : (command : Command) → reads_input command ≡ true → command_plan env command bytes given ≡ stops job_too_large
     by_command (bad_word place) is = cc
-    by_command (unbuilt_word place) is = cc
     by_command (generate seed count) is = cc
     by_command (check_record wanted) is = rw large refl
+    by_command (write_chunks wanted) is = rw large refl
     by_command (stream wanted) is = rw large refl
     by_command (show_settings wanted) is = rw large refl
 
@@ -505,11 +519,6 @@ module _ (gave : List Place → FilesRead → Type 0) (free : (places : List Pla
   unfolding command_plan
   bad_word_runs env command place left held is = rw is (nothing_runs env (bad_word place) left (bad_words place) held (λ bytes told. goes_stopped (bad_words place) held))
 
-  pub unbuilt_word_runs : (env : List (List ℕ × List ℕ)) (command : Command) (place : ℕ) (left : Option (List ℕ)) (held : Option (List ℕ)) → command ≡ unbuilt_word place
-      → GoesForInput gave clock env command left (not_built place) held held
-  unfolding command_plan
-  unbuilt_word_runs env command place left held is = rw is (nothing_runs env (unbuilt_word place) left (not_built place) held (λ bytes told. goes_stopped (not_built place) held))
-
 -- a generated job, for which nothing is asked
 module _ (gave : List Place → FilesRead → Type 0) (free : (places : List Place) → gave places unloaded) (clock : List Instant → Type 0) (unasked : clock []) where
   pub generated_runs : (env : List (List ℕ × List ℕ)) (seed count : ℕ) (left : Option (List ℕ)) (answer : Ending) (before now : Option (List ℕ)) → GoesAsPlanned (generate_plan seed count) answer before now
@@ -527,19 +536,19 @@ module _ (gave : List Place → FilesRead → Type 0) (free : (places : List Pla
 
 pub holds_untouched : (command : Command) (P : Type 0) → P → UnlessCommand command P
 holds_untouched (bad_word place) P holds = holds
-holds_untouched (unbuilt_word place) P holds = holds
 holds_untouched (stream wanted) P holds = tt
 holds_untouched (show_settings wanted) P holds = tt
 holds_untouched (generate seed count) P holds = tt
 holds_untouched (check_record wanted) P holds = tt
+holds_untouched (write_chunks wanted) P holds = tt
 
 pub command_touches : (command : Command) (P : Type 0) → reads_input command ≡ true → UnlessCommand command P
 command_touches (bad_word place) P is = cc
-command_touches (unbuilt_word place) P is = cc
 command_touches (stream wanted) P is = tt
 command_touches (show_settings wanted) P is = tt
 command_touches (generate seed count) P is = cc
 command_touches (check_record wanted) P is = tt
+command_touches (write_chunks wanted) P is = tt
 
 -- what holds in any case
 pub holds_unless : (test : Bool) (P : Type 0) → P → Unless test P
@@ -559,19 +568,19 @@ unread_rest left = ([], cut_at_start left)
 -- want of memory ends every run
 pub asked_no_memory : (command : Command) → EndsAsAsked command no_memory
 asked_no_memory (bad_word place) = inr refl
-asked_no_memory (unbuilt_word place) = inr refl
 asked_no_memory (stream wanted) = tt
 asked_no_memory (show_settings wanted) = tt
 asked_no_memory (generate seed count) = tt
 asked_no_memory (check_record wanted) = tt
+asked_no_memory (write_chunks wanted) = tt
 
 pub of_command : (command : Command) (end : Ending) → reads_input command ≡ true → IsOfCommand end → EndsAsAsked command end
 of_command (bad_word place) end is of = cc
-of_command (unbuilt_word place) end is of = cc
 of_command (stream wanted) end is of = of
 of_command (show_settings wanted) end is of = of
 of_command (generate seed count) end is of = cc
 of_command (check_record wanted) end is of = of
+of_command (write_chunks wanted) end is of = of
 
 pub after_input : (end : Ending) → IsAfterInput end → IsOfCommand end
 after_input done of = tt
@@ -582,8 +591,20 @@ after_input (check_failed fault) of = tt
 after_input output_fault of = tt
 after_input no_memory of = tt
 after_input (bad_words place) of = absurd of
-after_input (not_built place) of = absurd of
 after_input job_too_large of = absurd of
 after_input read_fault of = absurd of
+
+-- a run that only writes ends after its input
+pub after_output : (end : Ending) → IsOfOutput end → IsAfterInput end
+after_output done of = tt
+after_output output_fault of = tt
+after_output no_memory of = tt
+after_output (bad_words place) of = absurd of
+after_output job_too_large of = absurd of
+after_output (bad_job place) of = absurd of
+after_output read_fault of = absurd of
+after_output (could_not_read_file path) of = absurd of
+after_output (refused fault) of = absurd of
+after_output (check_failed fault) of = absurd of
 
 pub ruleset words_of_runs = (keeps_same, holds_untouched, holds_unless, holds_when, unread_rest, asked_no_memory)

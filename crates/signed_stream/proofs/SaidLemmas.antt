@@ -6,7 +6,7 @@ use Rattle.env_config.specs.Files.{Place}
 use Rattle.signed_stream.specs.Command.{Command}
 use Rattle.signed_stream.specs.Plan.{FilesRead, GainsAsPlanned, GoesAsPlanned, Plan, Supplied, stops, writes}
 use Rattle.signed_stream.specs.Running.{CountsReads, CountsWrites, EndsAsAsked, KeepsDisk, KeepsOutput, RunsAsPlanned, When, command_plan}
-use Rattle.signed_stream.specs.Status.{Ending, RunFault, bad_job, bad_words, check_failed, could_not_read_file, done, job_too_large, no_memory, not_built, output_fault, read_fault, refused}
+use Rattle.signed_stream.specs.Status.{Ending, RunFault, bad_job, bad_words, check_failed, could_not_read_file, done, job_too_large, no_memory, output_fault, read_fault, refused}
 use Rattle.signed_stream.proofs.RunLemmas.{asked_no_memory, goes_no_memory}
 
 -- the answer is the end, or want of memory
@@ -30,7 +30,6 @@ cut_short (writes text whole) (bad_job place) before now gains = rw gains (prefi
 cut_short (writes text whole) read_fault before now gains = rw gains (prefix_at_start before text)
 cut_short (writes text whole) (check_failed fault) before now gains = rw gains (prefix_at_start before text)
 cut_short (writes text whole) (could_not_read_file path) before now gains = rw gains (prefix_at_start before text)
-cut_short (writes text whole) (not_built place) before now gains = rw gains (prefix_at_start before text)
 
 -- a run whose end is said goes as it did
 pub said_goes : (plan : Plan) (end answer : Ending) (before now : Option (List ℕ)) → GoesAsPlanned plan end before now → IsSaid end answer → GoesAsPlanned plan answer before now
@@ -77,7 +76,6 @@ said_reads end answer before now (inl is) grew rose stayed = rw is (by_end end r
     by_end (check_failed fault) rose stayed = stayed (λ e. cc)
     by_end output_fault rose stayed = stayed (λ e. cc)
     by_end (could_not_read_file path) rose stayed = stayed (λ e. cc)
-    by_end (not_built place) rose stayed = stayed (λ e. cc)
 said_reads end answer before now (inr is) grew rose stayed = rw is grew
 
 pub said_writes : (end answer : Ending) (before now : ℕ) → IsSaid end answer → before ≤ now → (end ≡ output_fault → RoseOrStands before now) → ((end ≡ output_fault → ⊥) → now ≡ before) → CountsWrites answer before now
@@ -94,5 +92,4 @@ said_writes end answer before now (inl is) grew rose stayed = rw is (by_end end 
     by_end (refused fault) rose stayed = stayed (λ e. cc)
     by_end (check_failed fault) rose stayed = stayed (λ e. cc)
     by_end (could_not_read_file path) rose stayed = stayed (λ e. cc)
-    by_end (not_built place) rose stayed = stayed (λ e. cc)
 said_writes end answer before now (inr is) grew rose stayed = rw is grew

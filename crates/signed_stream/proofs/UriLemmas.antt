@@ -20,7 +20,8 @@ use Rattle.chain_check.specs.Walk.{chain_events}
 use Rattle.chain_check.specs.declared.chain_fault.ChainFault.{ChainFault}
 use Rattle.eventstream.specs.Key.{Signer}
 use Rattle.signed_stream.specs.Record.{RecordParts, spelled_record}
-use Rattle.signed_stream.specs.Command.{CheckWanted, Command, bad_word, check_record, generate, show_settings, stream, unbuilt_word, Wanted}
+use Rattle.signed_stream.specs.ChunkJob.{chunk_plan, shown_chunks}
+use Rattle.signed_stream.specs.Command.{CheckWanted, Command, bad_word, check_record, generate, show_settings, stream, write_chunks, Wanted}
 use Rattle.signed_stream.specs.Job.{JobParts, job}
 use Rattle.signed_stream.specs.Generate.{shown_stream}
 use Rattle.signed_stream.specs.Generator.{drawn_events}
@@ -179,7 +180,6 @@ run_refused : (gave : List Place → FilesRead → Type 0) (env : List (List ℕ
     → RunsAsPlanned gave env command bytes given (refused invalid_uri) before now → IfStreams command (λ wanted. ReadsUnfitTarget wanted (job bytes))
 unfolding command_plan
 run_refused gave env (bad_word place) bytes given before now runs = other_stop _ (λ e. cc) runs.goes.ends
-run_refused gave env (unbuilt_word place) bytes given before now runs = other_stop _ (λ e. cc) runs.goes.ends
 run_refused gave env (stream wanted) bytes given before now runs = by_length (nat_lt most_input (length bytes)) runs.goes.ends
   where
     by_length : (large : Bool) → EndsAsPlanned (if large then stops job_too_large else job_plan env wanted given (job bytes)) (refused invalid_uri) → ReadsUnfitTarget wanted (job bytes)
@@ -195,6 +195,11 @@ run_refused gave env (check_record wanted) bytes given before now runs = by_leng
     by_length : (large : Bool) → EndsAsPlanned (if large then stops job_too_large else check_plan env wanted given (spelled_record bytes)) (refused invalid_uri) → ⊥
     by_length true goes = other_stop _ (λ e. cc) goes
     by_length false goes = record_unrefused env wanted given (spelled_record bytes) goes
+run_refused gave env (write_chunks wanted) bytes given before now runs = by_length (nat_lt most_input (length bytes)) runs.goes.ends
+  where
+    by_length : (large : Bool) → EndsAsPlanned (if large then stops job_too_large else chunk_plan wanted bytes) (refused invalid_uri) → ⊥
+    by_length true goes = other_stop _ (λ e. cc) goes
+    by_length false goes = written_unrefused (shown_chunks wanted bytes) goes
 run_refused gave env (generate seed count) bytes given before now runs = written_unrefused (shown_stream (drawn_events count seed)) runs.goes.ends
 
 pub run_refused_where : (gave : List Place → FilesRead → Type 0) (env : List (List ℕ × List ℕ)) (command : Command) (bytes : List ℕ) (given : Supplied) (answer : Ending) (before now : Option (List ℕ)) → answer ≡ refused invalid_uri

@@ -1,6 +1,5 @@
 -- The words of the command line.
-use Rattle.std.specs.Prelude.{ℕ, ◌+◌, Bool, true, false, not, ◌&&◌, if◌then◌else◌, List, [], ◌∷◌, codes, bytes_eq, Option, Some, None, is_some, option_map, ℤ}
-use Rattle.std.specs.List.{list_any}
+use Rattle.std.specs.Prelude.{ℕ, ◌+◌, Bool, true, false, not, ◌&&◌, if◌then◌else◌, List, [], ◌∷◌, codes, bytes_eq, Option, Some, None, is_some, option_map, Result, Ok, Err, ℤ}
 use Rattle.std.specs.Int.{w64}
 use Rattle.smithy_core.specs.Moment.{Instant}
 use Rattle.sigv4.specs.Settings.{is_query}
@@ -9,6 +8,7 @@ use Rattle.aws_auth.specs.Options.{default_options}
 use Rattle.aws_auth.specs.declared.options.HttpSignatureType.TheVariants.{HttpRequestQueryParams}
 use Rattle.aws_auth.specs.declared.options.SigningOptions.{SigningOptions}
 use Rattle.aws_auth.specs.declared.payload.PayloadSigningOverride.TheVariants.{UnsignedPayload}
+use Rattle.signed_stream.specs.ChunkWords.{ChunkWanted, chunk_from, no_chunk_given}
 use Rattle.signed_stream.specs.Numbers.{natural_below, number}
 use Rattle.signed_stream.specs.ProfileOptions.{ProfileWanted, nothing_wanted, profile_option, names_file, stands, with_profile_option}
 use Rattle.signed_stream.specs.declared.command.check.CheckOption.{CheckOption}
@@ -23,10 +23,6 @@ use Rattle.signed_stream.specs.declared.form.Form.TheVariants.{Raw, HexLines}
 abbrev pub is_raw : Form → Bool
 is_raw Raw = true
 is_raw HexLines = false
-
--- a command that isn't built
-abbrev pub is_later_command : List ℕ → Bool
-is_later_command word = list_any (bytes_eq word) (codes "chunk" ∷ [])
 
 -- what `stream` is asked for: the name of the service, the moment that all have, where it isn't the clock that gives them, how to sign, the name of the
 -- session token, by how many milliseconds the service's clock is ahead, in which form to write, and the profile
@@ -48,12 +44,12 @@ pub record CheckWanted : Type 0 where
 pub data Command : Type 0 where
   -- the word at this place is bad
   bad_word : ℕ → Command
-  -- the word at this place is of a form that isn't built
-  unbuilt_word : ℕ → Command
   -- to sign and stream the job
   stream : Wanted → Command
   -- to show what the profile gives
   show_settings : ProfileWanted → Command
+  -- to write the input in chunks
+  write_chunks : ChunkWanted → Command
   -- to check a record
   check_record : CheckWanted → Command
   -- to stream a generated job into memory and check it: with this seed so many events
@@ -260,9 +256,16 @@ abbrev pub generator_from : List (List ℕ) → Command
 generator_from [] = bad_word 2
 generator_from (word ∷ words) = after_seed (natural_below 18446744073709551616 word) words
 
+-- ## `chunk`
+
+-- what the words after `chunk` ask for
+abbrev pub chunk_command : Result ChunkWanted ℕ → Command
+chunk_command (Ok wanted) = write_chunks wanted
+chunk_command (Err place) = bad_word place
+
 -- ## Commands
 
--- the command that the words spell, or the place of the first word that is bad or not built
+-- the command that the words spell, or the place of the first bad word
 unfoldable pub command : List (List ℕ) → Command
 command [] = bad_word 1
 command (word ∷ words) =
@@ -270,5 +273,5 @@ command (word ∷ words) =
     else if bytes_eq word (codes "settings") then settings_from 2 no_profile_given words
     else if bytes_eq word (codes "check") then check_from 2 no_check_given words
     else if bytes_eq word (codes "gen") then generator_from words
-    else if is_later_command word then unbuilt_word 1
+    else if bytes_eq word (codes "chunk") then chunk_command (chunk_from 2 no_chunk_given words)
     else bad_word 1

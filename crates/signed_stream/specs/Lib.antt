@@ -2,6 +2,9 @@ pub mod Carriers
 pub mod Case
 pub mod Chain
 pub mod CheckRecord
+pub mod ChunkJob
+pub mod ChunkSize
+pub mod ChunkWords
 pub mod Command
 pub mod Draft
 pub mod EventHeader

@@ -1,15 +1,17 @@
 -- What the readers of the words answer.
 use Rattle.std.specs.Prelude.{◌≡◌, ℕ, Option, Some, None, option_map, Result, Ok, Err, string_bytes}
 use Rattle.std.specs.Option.{option_copied}
-use Rattle.signed_stream.specs.Command.{CheckGiven, CheckWanted, Command, bad_word, check_record, unbuilt_word, generate, stream, show_settings, Options, ProfileGiven, WordTaken, Wanted, options, ends}
+use Rattle.signed_stream.specs.ChunkWords.{chunk_wanted}
+use Rattle.signed_stream.specs.Command.{CheckGiven, CheckWanted, Command, bad_word, check_record, generate, write_chunks, stream, show_settings, Options, ProfileGiven, WordTaken, Wanted, options, ends}
 use Rattle.signed_stream.specs.ProfileOptions.{profile_wanted}
 use Rattle.signed_stream.specs.declared.command.Command.{Command as Commanded}
 use Rattle.signed_stream.specs.declared.command.Command.TheVariants.{Generate, OfInput}
 use Rattle.signed_stream.specs.declared.command.InputCommand.{InputCommand}
-use Rattle.signed_stream.specs.declared.command.InputCommand.TheVariants.{Check, Stream, Settings}
+use Rattle.signed_stream.specs.declared.command.InputCommand.TheVariants.{Chunk, Check, Stream, Settings}
+use Rattle.signed_stream.specs.declared.command.chunk.ChunkWords.{ChunkWords}
 use Rattle.signed_stream.specs.declared.command.generator.GeneratorWords.{GeneratorWords}
 use Rattle.signed_stream.specs.declared.command.WordsFault.{WordsFault}
-use Rattle.signed_stream.specs.declared.command.WordsFault.TheVariants.{BadWord, NotBuilt, NoMemory}
+use Rattle.signed_stream.specs.declared.command.WordsFault.TheVariants.{BadWord, NoMemory}
 use Rattle.signed_stream.specs.declared.command.options.StreamWords.{StreamWords}
 use Rattle.signed_stream.specs.declared.command.options.GivenOptions.{GivenOptions}
 use Rattle.signed_stream.specs.declared.command.check.CheckWords.{CheckWords}
@@ -47,19 +49,19 @@ abbrev pub input_commanded : InputCommand → Command
 input_commanded (Stream words) = stream (wanted_of words)
 input_commanded (Settings profile) = show_settings (profile_wanted profile)
 input_commanded (Check words) = check_record (check_wanted words)
+input_commanded (Chunk words) = write_chunks (chunk_wanted words)
 
 -- the command that is asked for
 abbrev pub commanded : Commanded → Command
 commanded (Generate words) = generate words.seed words.count
 commanded (OfInput command) = input_commanded command
 
--- the fault is why the words are no command that is built, unless memory ran out
+-- the fault is why the words are no command, unless memory ran out
 abbrev pub TellsWordsFault : Command → WordsFault → Type 0
 TellsWordsFault command (BadWord place) = command ≡ bad_word place
-TellsWordsFault command (NotBuilt place) = command ≡ unbuilt_word place
 TellsWordsFault command NoMemory = Unit {0}
 
--- the command is the one that the words spell, or they spell none that is built; or memory ran out
+-- the command is the one that the words spell, or they spell none; or memory ran out
 abbrev pub ReadsWords : Command → Result Commanded WordsFault → Type 0
 ReadsWords command (Ok words) = command ≡ commanded words
 ReadsWords command (Err fault) = TellsWordsFault command fault
@@ -101,7 +103,6 @@ options_of given = record {
 abbrev pub Takes : WordTaken → GivenOptions → Result (Unit {0}) WordsFault → Type 0
 Takes taken now (Ok _) = taken ≡ options (options_of now)
 Takes taken now (Err (BadWord place)) = taken ≡ ends (bad_word place)
-Takes taken now (Err (NotBuilt place)) = taken ≡ ends (unbuilt_word place)
 Takes taken now (Err NoMemory) = Unit {0}
 
 -- what the words of `settings` so far gave
@@ -112,7 +113,6 @@ profile_given given = record { profile = profile_wanted given.profile; awaited =
 abbrev pub TakesProfile : Option ProfileGiven → ℕ → GivenProfile → Result (Unit {0}) WordsFault → Type 0
 TakesProfile step place now (Ok _) = step ≡ Some (profile_given now)
 TakesProfile step place now (Err (BadWord bad)) = (step ≡ None) × (bad ≡ place)
-TakesProfile step place now (Err (NotBuilt unbuilt)) = ⊥
 TakesProfile step place now (Err NoMemory) = Unit {0}
 
 -- what the words of `check` so far gave
@@ -123,5 +123,9 @@ check_given given = record { name = option_copied given.name; profile = profile_
 abbrev pub TakesCheck : Option CheckGiven → ℕ → GivenCheck → Result (Unit {0}) WordsFault → Type 0
 TakesCheck step place now (Ok _) = step ≡ Some (check_given now)
 TakesCheck step place now (Err (BadWord bad)) = (step ≡ None) × (bad ≡ place)
-TakesCheck step place now (Err (NotBuilt unbuilt)) = ⊥
 TakesCheck step place now (Err NoMemory) = Unit {0}
+
+-- the words of `chunk`: what they ask for, or the place of the first bad one; or memory ran out
+abbrev pub ReadsChunk : Command → Result ChunkWords WordsFault → Type 0
+ReadsChunk command (Ok words) = command ≡ write_chunks (chunk_wanted words)
+ReadsChunk command (Err fault) = TellsWordsFault command fault

@@ -7,17 +7,18 @@ use Rattle.env_config.specs.Files.{Place}
 use Rattle.signed_stream.specs.Case.{request_moment}
 use Rattle.chain_check.specs.Chain.{IsChainOf}
 use Rattle.signed_stream.specs.CheckRecord.{GaveRecord, IsSound, check_plan, check_signer, shown_events}
-use Rattle.signed_stream.specs.Command.{Command, Wanted, bad_word, check_record, generate, show_settings, stream, unbuilt_word}
+use Rattle.signed_stream.specs.ChunkJob.{chunk_plan, shown_chunks}
+use Rattle.signed_stream.specs.Command.{Command, Wanted, bad_word, check_record, generate, show_settings, stream, write_chunks}
 use Rattle.signed_stream.specs.Generate.{generate_plan, shown_stream}
 use Rattle.signed_stream.specs.Generator.{drawn_events}
 use Rattle.signed_stream.specs.Job.{job}
-use Rattle.signed_stream.specs.Plan.{FilesRead, GoesAsPlanned, IsNeeded, Plan, Supplied, stops, unless_large, unreadable}
+use Rattle.signed_stream.specs.Plan.{FilesRead, GoesAsPlanned, IsNeeded, Plan, Supplied, most_input, stops, unless_large, unreadable}
 use Rattle.signed_stream.specs.ProfileTexts.{profile_texts}
 use Rattle.signed_stream.specs.Record.{spelled_record}
 use Rattle.signed_stream.specs.Saying.{Says}
 use Rattle.signed_stream.specs.ShowSettings.{GaveTexts, IsShowable, settings_plan}
 use Rattle.signed_stream.specs.Shown.{shown_settings}
-use Rattle.signed_stream.specs.Status.{Ending, RunFault, bad_job, bad_words, could_not_read_file, done, header_value_too_long, headers_too_long, invalid_header_name_length, job_too_large, message_too_long, moment_out_of_range, no_memory, not_built, output_fault, payload_too_long, read_fault, refused, timestamp_value_too_large}
+use Rattle.signed_stream.specs.Status.{Ending, RunFault, bad_job, bad_words, could_not_read_file, done, header_value_too_long, headers_too_long, invalid_header_name_length, job_too_large, message_too_long, moment_out_of_range, no_memory, output_fault, payload_too_long, read_fault, refused, timestamp_value_too_large}
 use Rattle.signed_stream.specs.Stream.{GaveReading, IsStreamable, job_plan, streamed}
 
 -- ## The plan
@@ -25,25 +26,24 @@ use Rattle.signed_stream.specs.Stream.{GaveReading, IsStreamable, job_plan, stre
 -- what the outside gave for an input's bytes; `gave` tells what the disk gave
 abbrev pub Gave : (List Place → FilesRead → Type 0) → List (List ℕ × List ℕ) → Command → List ℕ → Supplied → Type 0
 Gave gave env (bad_word place) bytes given = Unit {0}
-Gave gave env (unbuilt_word place) bytes given = Unit {0}
 Gave gave env (stream wanted) bytes given = GaveReading gave wanted (job bytes) given
 Gave gave env (show_settings wanted) bytes given = GaveTexts gave wanted (profile_texts bytes) given
 Gave gave env (check_record wanted) bytes given = GaveRecord gave env wanted (spelled_record bytes) given
+Gave gave env (write_chunks wanted) bytes given = Unit {0}
 Gave gave env (generate seed count) bytes given = Unit {0}
 
 -- with what a command reads of an input's bytes
 abbrev pub read_plan : List (List ℕ × List ℕ) → Command → List ℕ → Supplied → Plan
 read_plan env (bad_word place) bytes given = stops (bad_words place)
-read_plan env (unbuilt_word place) bytes given = stops (not_built place)
 read_plan env (stream wanted) bytes given = job_plan env wanted given (job bytes)
 read_plan env (show_settings wanted) bytes given = settings_plan env wanted given (profile_texts bytes)
 read_plan env (check_record wanted) bytes given = check_plan env wanted given (spelled_record bytes)
+read_plan env (write_chunks wanted) bytes given = chunk_plan wanted bytes
 read_plan env (generate seed count) bytes given = generate_plan seed count
 
 -- whether a command reads the input
 abbrev pub reads_input : Command → Bool
 reads_input (bad_word place) = false
-reads_input (unbuilt_word place) = false
 reads_input (generate seed count) = false
 reads_input command = true
 
@@ -59,7 +59,6 @@ TellsInput command left bytes = When (reads_input command) (left ≡ Some bytes)
 -- what follows from the words, the variables, the input's bytes and what the outside gave; words that are no command end the run before the input is asked
 unfoldable pub command_plan : List (List ℕ × List ℕ) → Command → List ℕ → Supplied → Plan
 command_plan env (bad_word place) bytes given = stops (bad_words place)
-command_plan env (unbuilt_word place) bytes given = stops (not_built place)
 command_plan env (generate seed count) bytes given = generate_plan seed count
 command_plan env command bytes given = unless_large bytes (read_plan env command bytes given)
 
@@ -84,7 +83,6 @@ pub record RunsAsPlanned (gave : List Place → FilesRead → Type 0) (env : Lis
 -- the ends of a command: for no word
 abbrev pub IsOfCommand : Ending → Type 0
 IsOfCommand (bad_words place) = ⊥
-IsOfCommand (not_built place) = ⊥
 IsOfCommand end = Unit {0}
 
 -- the ends of a run that only writes: none for input, files or settings
@@ -97,14 +95,12 @@ IsOfOutput end = ⊥
 -- where the words are no command, it ends so, or for want of memory; no other run ends for a word, and none that only writes for what it doesn't ask
 abbrev pub EndsAsAsked : Command → Ending → Type 0
 EndsAsAsked (bad_word place) answer = (answer ≡ bad_words place) ⊎ (answer ≡ no_memory)
-EndsAsAsked (unbuilt_word place) answer = (answer ≡ not_built place) ⊎ (answer ≡ no_memory)
 EndsAsAsked (generate seed count) answer = IsOfOutput answer
 EndsAsAsked command answer = IsOfCommand answer
 
 -- where the words are no command
 abbrev pub UnlessCommand : Command → Type 0 → Type 0
 UnlessCommand (bad_word place) P = P
-UnlessCommand (unbuilt_word place) P = P
 UnlessCommand command P = Unit {0}
 
 -- where they ask to stream, what holds of that
@@ -164,7 +160,6 @@ KeepsDisk (bad_words place) before now = now ≡ before
 KeepsDisk job_too_large before now = now ≡ before
 KeepsDisk (bad_job place) before now = now ≡ before
 KeepsDisk read_fault before now = now ≡ before
-KeepsDisk (not_built place) before now = now ≡ before
 KeepsDisk answer before now = Unit {0}
 
 -- the file at this path is the first that words name and that couldn't be read
@@ -184,6 +179,7 @@ HasDone gave env (stream wanted) bytes given before now = (input : IsStreamable 
 HasDone gave env (show_settings wanted) bytes given before now = (input : IsShowable gave env wanted bytes given) × Gains before now (shown_settings input.selected)
 HasDone gave env (check_record wanted) bytes given before now =
     (input : IsSound gave env wanted bytes given) × IsChainOf (check_signer wanted input.selected) input.signature input.read.chain input.events × Gains before now (shown_events input.events)
+HasDone gave env (write_chunks wanted) bytes given before now = (length bytes ≤ most_input) × Gains before now (shown_chunks wanted bytes)
 HasDone gave env (generate seed count) bytes given before now = Gains before now (shown_stream (drawn_events count seed))
 HasDone gave env command bytes given before now = ⊥
 
@@ -192,6 +188,7 @@ abbrev pub CanBeDone : (List Place → FilesRead → Type 0) → List (List ℕ 
 CanBeDone gave env (stream wanted) bytes given = IsStreamable gave env wanted bytes given
 CanBeDone gave env (show_settings wanted) bytes given = IsShowable gave env wanted bytes given
 CanBeDone gave env (check_record wanted) bytes given = IsSound gave env wanted bytes given
+CanBeDone gave env (write_chunks wanted) bytes given = length bytes ≤ most_input
 CanBeDone gave env (generate seed count) bytes given = Unit {0}
 CanBeDone gave env command bytes given = ⊥
 

@@ -8,7 +8,7 @@ use Rattle.chain_check.specs.declared.chain_fault.ChainPart.{ChainPart}
 use Rattle.chain_check.specs.declared.chain_fault.ChainPart.TheVariants.{NotFrame, Headers, Date, Inner, AfterClosing, NoClosing}
 use Rattle.signed_stream.specs.declared.status.CheckFault.{CheckFault}
 use Rattle.signed_stream.specs.declared.status.CheckFault.TheVariants.{NoSignature, Chain}
-use Rattle.signed_stream.specs.Status.{Ending, done, bad_words, job_too_large, bad_job, read_fault, could_not_read_file, refused, check_failed, output_fault, no_memory, not_built, RunFault, parse_error, missing_credentials, missing_signing_region, moment_out_of_range, invalid_uri, invalid_header_name, invalid_header_value, missing_host, invalid_token_name, missing_expires, invalid_header_name_length, header_value_too_long, timestamp_value_too_large, headers_too_long, payload_too_long, message_too_long, sink_fault, memory_fault}
+use Rattle.signed_stream.specs.Status.{Ending, done, bad_words, job_too_large, bad_job, read_fault, could_not_read_file, refused, check_failed, output_fault, no_memory, RunFault, parse_error, missing_credentials, missing_signing_region, moment_out_of_range, invalid_uri, invalid_header_name, invalid_header_value, missing_host, invalid_token_name, missing_expires, invalid_header_name_length, header_value_too_long, timestamp_value_too_large, headers_too_long, payload_too_long, message_too_long, sink_fault, memory_fault}
 
 -- the number and the name of a fault
 abbrev pub fault_text : RunFault → List ℕ
@@ -59,7 +59,6 @@ ending_line (refused fault) = line (codes "refused " ++ fault_text fault)
 ending_line (check_failed fault) = line (codes "check failed at frame " ++ (decimal (failed_at fault).0 ++ (codes " " ++ (failed_at fault).1)))
 ending_line output_fault = line (codes "output fault")
 ending_line no_memory = line (codes "no memory")
-ending_line (not_built place) = line (codes "not built " ++ decimal place)
 
 -- what `err` gained: nothing where the run is done, a front of the line of some end for want of memory, and else the line of the
 -- end, or, where the faults of `err` rose, a front of it

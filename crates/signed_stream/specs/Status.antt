@@ -59,8 +59,6 @@ pub data Ending : Type 0 where
   check_failed : CheckFault → Ending
   output_fault : Ending
   no_memory : Ending
-  -- the word at this place
-  not_built : ℕ → Ending
 
 -- what contracts see of a fault
 abbrev pub run_fault : StreamFault → RunFault
@@ -95,7 +93,6 @@ ending_of (statuses.Refused fault) = refused (run_fault fault)
 ending_of (statuses.CheckFailed fault) = check_failed fault
 ending_of statuses.OutputFault = output_fault
 ending_of statuses.NoMemory = no_memory
-ending_of (statuses.NotBuilt place) = not_built place
 
 -- how a run ends whose record isn't a chain
 abbrev pub chain_ending : ChainFault → Ending
@@ -127,4 +124,3 @@ exit_code (refused fault) = 7
 exit_code (check_failed fault) = 8
 exit_code output_fault = 9
 exit_code no_memory = 10
-exit_code (not_built place) = 11

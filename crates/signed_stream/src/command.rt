@@ -1,15 +1,19 @@
 ghost use Rattle.std.specs.Prelude.{map};
 ghost use Rattle.std.specs.String.{string_bytes};
-ghost use Rattle.signed_stream.specs.Command.{command, check_from, generator_from, no_check_given, no_options, no_profile_given, options_from, settings_from};
-ghost use Rattle.signed_stream.specs.Options.{ReadsCheck, ReadsProfile, ReadsStream, ReadsWords};
+ghost use Rattle.signed_stream.specs.ChunkWords.{chunk_from, no_chunk_given};
+ghost use Rattle.signed_stream.specs.Command.{command, check_from, chunk_command, generator_from, no_check_given, no_options, no_profile_given, options_from, settings_from};
+ghost use Rattle.signed_stream.specs.Options.{ReadsCheck, ReadsChunk, ReadsProfile, ReadsStream, ReadsWords};
 
 mod check;
+mod chunk;
 mod generator;
 mod options;
 mod profile;
 
 pub use crate::command::check::CheckWords;
 use crate::command::check::GivenCheck;
+pub use crate::command::chunk::ChunkWords;
+use crate::command::chunk::GivenChunk;
 pub use crate::command::generator::GeneratorWords;
 use crate::command::generator::read_generator;
 use crate::command::options::GivenOptions;
@@ -36,15 +40,15 @@ pub enum InputCommand<'a> {
     Settings(ProfileOptions<'a>),
     /// Checks the record that the input spells.
     Check(CheckWords<'a>),
+    /// Writes the input in chunks.
+    Chunk(ChunkWords),
 }
 
-/// Why words spell no command that is built.
+/// Why words spell no command.
 #[derive(Clone, Copy, Debug, PartialEq, Eq)]
 pub enum WordsFault {
     /// The word at this place is bad; places count from 1.
     BadWord(usize),
-    /// The word at this place is of a form that isn't built.
-    NotBuilt(usize),
     NoMemory,
 }
 
@@ -63,7 +67,7 @@ impl From<AllocError> for WordsFault {
 ///
 /// # Errors
 ///
-/// The place of the first word that is bad or not built.
+/// The place of the first bad word.
 #[tactic(auto, using(crate::proofs::OptionLemmas::command_empty, crate::proofs::OptionLemmas::command_first), unfolding(crate::specs::Command::command))]
 pub fn read_words<'a>(alloc: Global, words: &'a [String]) -> Result<Command<'a>, WordsFault>
     ensures { ReadsWords (command (map string_bytes words.now)) result }
@@ -76,7 +80,7 @@ pub fn read_words<'a>(alloc: Global, words: &'a [String]) -> Result<Command<'a>,
         "settings" => Ok(Command::OfInput(InputCommand::Settings(read_profile(alloc, rest)?))),
         "gen" => Ok(Command::Generate(read_generator(rest)?)),
         "check" => Ok(Command::OfInput(InputCommand::Check(read_check(alloc, rest)?))),
-        "chunk" => Err(WordsFault::NotBuilt(1)),
+        "chunk" => Ok(Command::OfInput(InputCommand::Chunk(read_chunk(alloc, rest)?))),
         _ => Err(WordsFault::BadWord(1)),
     }
 }
@@ -112,6 +116,19 @@ fn read_check<'a>(alloc: Global, words: &'a [String]) -> Result<CheckWords<'a>, 
     ensures { ReadsCheck (check_from 2 no_check_given (map string_bytes words.now)) result }
 {
     let mut given = GivenCheck::new(alloc);
+    let mut place = 2;
+    for word in words {
+        given.take(place, word.as_str())?;
+        place += 1;
+    }
+    given.finish(place)
+}
+
+// What the words after `chunk` ask for.
+fn read_chunk(alloc: Global, words: &[String]) -> Result<ChunkWords, WordsFault>
+    ensures { ReadsChunk (chunk_command (chunk_from 2 no_chunk_given (map string_bytes words.now))) result }
+{
+    let mut given = GivenChunk::new(alloc);
     let mut place = 2;
     for word in words {
         given.take(place, word.as_str())?;

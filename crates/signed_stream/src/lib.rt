@@ -16,6 +16,7 @@
 
 mod chain;
 mod check_record;
+mod chunk_size;
 mod command;
 mod form;
 mod generate;
@@ -26,6 +27,7 @@ mod numbers;
 mod running;
 mod saying;
 mod settings;
+mod show_chunked;
 mod show_settings;
 mod shown;
 mod sign;

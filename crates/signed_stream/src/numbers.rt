@@ -3,6 +3,7 @@
 ghost use Rattle.std.specs.Prelude.{◌≡◌, ◌<◌, ◌||◌, IfSome};
 ghost use Rattle.std.specs.List.{list_all};
 ghost use Rattle.std.specs.Int.{w8, w16, w32, w64};
+ghost use Rattle.signed_stream.specs.ChunkSize.{IsSize, spelled_size};
 ghost use Rattle.signed_stream.specs.Numbers.{is_digit, is_natural, is_negative, natural_below, number};
 
 /// The number that a text spells, where an `i64` holds it.
@@ -58,6 +59,16 @@ pub fn parse_count(text: &str) -> Option<u64>
 {
     let count = parse_u64(text)?;
     (count <= 100_000).then_some(count)
+}
+
+/// The size of a chunk that a text spells: 1 to 67,108,864 bytes.
+#[tactic(auto, using(crate::proofs::NumberLemmas::below), unfolding(crate::specs::Numbers::natural_below, crate::specs::ChunkSize::spelled_size))]
+pub fn parse_size(text: &str) -> Option<usize>
+    ensures value { result ≡ spelled_size text.now }
+    ensures range { IfSome result IsSize }
+{
+    let size = parse_u64(text)?;
+    (size > 0 && size <= 67_108_864).then_some(size as usize)
 }
 
 /// The natural number that a text spells, where a `u64` holds it.

@@ -1,11 +1,11 @@
-ghost use Rattle.std.specs.Prelude.{◌≡◌, ◌≤◌, ℕ, List, Some, map};
+ghost use Rattle.std.specs.Prelude.{◌≡◌, ◌≤◌, ℕ, List, Some, length, map};
 ghost use Rattle.std.specs.String.{string_bytes};
 ghost use Rattle.smithy_core.specs.Outside.{IsAtEnd, IsRestOf, RoseOrStands};
 ghost use Rattle.signed_stream.specs.Carriers.{GoesForBytes, GoesForInput, IsAfterInput};
 ghost use Rattle.signed_stream.specs.Command.{command};
 ghost use Rattle.signed_stream.specs.Job.{job};
 ghost use Rattle.signed_stream.specs.Options.{input_commanded};
-ghost use Rattle.signed_stream.specs.Plan.{Supplied};
+ghost use Rattle.signed_stream.specs.Plan.{Supplied, most_input};
 ghost use Rattle.smithy_core.specs.Given.{Gives};
 ghost use Rattle.signed_stream.specs.Running.{EndsAsAsked, IfStreams, KeepsDisk, KeepsOutput, NamesUnreadable, Ran, Unless, UnlessCommand, When, comes_late, reads_input};
 ghost use Rattle.signed_stream.specs.Sources.{DiskGives};
@@ -17,6 +17,7 @@ use crate::command::{Command, InputCommand, WordsFault, read_words};
 use crate::generate::show_generated;
 use crate::job::{JobFault, read_job, read_profile_texts, read_record};
 use crate::saying::say;
+use crate::show_chunked::show_chunked;
 use crate::show_settings::show_settings;
 use crate::status::Status;
 use crate::stream::stream_job;
@@ -118,7 +119,6 @@ fn answer<S: ByteSource, D: Disk, C: Clock, K: ByteSink>(
             answer_command(alloc, command, env, input, disk, clock, out)
         }
         Err(WordsFault::BadWord(place)) => Status::BadWords(place),
-        Err(WordsFault::NotBuilt(place)) => Status::NotBuilt(place),
         Err(WordsFault::NoMemory) => Status::NoMemory,
     }
 }
@@ -157,6 +157,7 @@ fn answer_command<S: ByteSource, D: Disk, C: Clock, K: ByteSink>(
 }
 
 // Does what the command asks for on the bytes of the input, and answers how it ended.
+#[tactic(auto, using(crate::proofs::RunLemmas::after_output))]
 fn answer_bytes<D: Disk, C: Clock, K: ByteSink>(
     alloc: Global,
     command: InputCommand<'_>,
@@ -166,6 +167,7 @@ fn answer_bytes<D: Disk, C: Clock, K: ByteSink>(
     clock: &mut C,
     out: &mut K,
 ) -> Status
+    requires { length bytes.now ≤ most_input }
     ensures end { IsAfterInput (ending_of result) }
     ensures planned { GoesForBytes (DiskGives D.answers D.faults (D.files disk.old) env.now disk.old disk.new) (λ taken. Gives C.Clock clock.old taken clock.new) env.now
         (input_commanded command.entry) bytes.now (ending_of result) (K.held out.old) (K.held out.new) }
@@ -193,5 +195,6 @@ fn answer_bytes<D: Disk, C: Clock, K: ByteSink>(
             Err(JobFault::BadLine(place)) => Status::BadJob(place),
             Err(JobFault::NoMemory) => Status::NoMemory,
         },
+        InputCommand::Chunk(words) => show_chunked(alloc, words, bytes, out),
     }
 }

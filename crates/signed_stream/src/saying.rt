@@ -54,7 +54,6 @@ fn line_of(alloc: Global, status: &Status) -> Mem<String>
         Status::CheckFailed(fault) => check_line(alloc, *fault),
         Status::OutputFault => String::from_str(alloc, "output fault\n"),
         Status::NoMemory => String::from_str(alloc, "no memory\n"),
-        Status::NotBuilt(place) => format!(in alloc; "not built {place}\n"),
     }
 }
 

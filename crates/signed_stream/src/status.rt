@@ -147,8 +147,6 @@ pub enum Status {
     OutputFault,
     /// Memory ran out; the output holds a front of the text.
     NoMemory,
-    /// The word at this place is of a form that isn't built; places count from 1.
-    NotBuilt(usize),
 }
 
 impl Status {
@@ -169,7 +167,6 @@ impl Status {
             Status::CheckFailed(_) => 8,
             Status::OutputFault => 9,
             Status::NoMemory => 10,
-            Status::NotBuilt(_) => 11,
         }
     }
 
@@ -188,7 +185,6 @@ impl Status {
             Status::CheckFailed(fault) => Status::CheckFailed(*fault),
             Status::OutputFault => Status::OutputFault,
             Status::NoMemory => Status::NoMemory,
-            Status::NotBuilt(place) => Status::NotBuilt(*place),
         })
     }
 }

@@ -1,11 +1,12 @@
 use Rattle.smithy_core.specs.Given.{Gives}
 use Rattle.smithy_core.proofs.GivenLemmas.{given_none}
+use Rattle.signed_stream.specs.ChunkWords.{chunk_wanted}
 use Rattle.signed_stream.specs.Options.{check_wanted, input_commanded, wanted_of}
 use Rattle.signed_stream.specs.ProfileOptions.{profile_wanted}
 use Rattle.signed_stream.specs.ProfileTexts.{texts_of}
 use Rattle.signed_stream.specs.Record.{record_parts}
 use Rattle.signed_stream.specs.Sources.{DiskGives}
-use Rattle.signed_stream.proofs.RunLemmas.{bytes_no_memory, job_is_bad, job_was_read, record_is_bad, record_was_read, texts_are_bad, texts_were_read}
+use Rattle.signed_stream.proofs.RunLemmas.{bytes_no_memory, chunks_written, job_is_bad, job_was_read, record_is_bad, record_was_read, texts_are_bad, texts_were_read}
 use Rattle.signed_stream.proofs.running.answer_bytes.Goals as goal
 
 pub returns-in-Ok-clause-planned : goal.returns-in-Ok-clause-planned
@@ -59,7 +60,13 @@ returns-in-Err-BadLine-read_profile_texts-clause-planned g c =
     (texts_are_bad (DiskGives g.D.Disk.answers g.D.Disk.faults (g.D.Disk.files c.args.disk.now) c.args.env.now c.args.disk.now c.args.disk.now) (λ places. tt)
     (λ taken. Gives g.C.Clock c.args.clock.now taken c.args.clock.now) (given_none g.C.Clock c.args.clock.now) c.args.env.now (profile_wanted c.in-Settings.options) c.args.bytes.now _ (g.K.ByteSink.held c.args.out.now) read)
 
-pub returns-clause-planned : goal.returns-clause-planned
-returns-clause-planned g c =
+pub returns-in-Settings-clause-planned : goal.returns-in-Settings-clause-planned
+returns-in-Settings-clause-planned g c =
     bytes_no_memory (DiskGives g.D.Disk.answers g.D.Disk.faults (g.D.Disk.files c.args.disk.now) c.args.env.now c.args.disk.now c.args.disk.now) (λ places. tt)
     (λ taken. Gives g.C.Clock c.args.clock.now taken c.args.clock.now) (given_none g.C.Clock c.args.clock.now) c.args.env.now (input_commanded c.args.command) c.args.bytes.now (g.K.ByteSink.held c.args.out.now)
+
+pub returns-clause-planned : goal.returns-clause-planned
+returns-clause-planned g c =
+    rw c.in-Chunk.is
+    (chunks_written (DiskGives g.D.Disk.answers g.D.Disk.faults (g.D.Disk.files c.args.disk.now) c.args.env.now c.args.disk.now c.args.disk.now) (λ places. tt)
+    (λ taken. Gives g.C.Clock c.args.clock.now taken c.args.clock.now) (given_none g.C.Clock c.args.clock.now) c.args.env.now (chunk_wanted c.in-Chunk.words) c.args.bytes.now _ _ _ c.show_chunked.ensures.planned)

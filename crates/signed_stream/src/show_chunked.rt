@@ -1,0 +1,127 @@
+//! The command `chunk`.
+ghost use Rattle.std.specs.Prelude.{◌≡◌, ◌≤◌, ◌++◌, ◌<◌, None, [], ◌∷◌, length, IfOk, IsErrOf};
+ghost use Rattle.smithy_core.specs.Outside.{RoseOrStands};
+ghost use Rattle.smithy_core.specs.FrameSource.{AreShort};
+ghost use Rattle.smithy_core.specs.declared.outside.frame_part.FramePart.TheVariants as frame;
+ghost use Rattle.aws_chunked.specs.Body.{IsClosed, lines_length};
+ghost use Rattle.aws_chunked.specs.Options.{declared_length};
+ghost use Rattle.signed_stream.specs.ChunkJob.{IsBodyOf, IsSound, chunk_plan, shown_chunks, text_left};
+ghost use Rattle.signed_stream.specs.ChunkWords.{chunk_wanted};
+ghost use Rattle.signed_stream.specs.Halt.{Sends};
+ghost use Rattle.signed_stream.specs.Plan.{GoesAsPlanned, most_input};
+ghost use Rattle.signed_stream.specs.Running.{IsOfOutput};
+ghost use Rattle.signed_stream.specs.Status.{ending_of, output_fault};
+
+use crate::chain::write_text;
+use crate::command::ChunkWords;
+use crate::status::{Status, StreamFault, status_of};
+use aws_auth::ChunkDeferredSigner;
+use aws_chunked::{AwsChunkedBody, AwsChunkedBodyError, AwsChunkedBodyOptions, ChunkNext};
+use bytes::Bytes;
+use smithy_core::{ByteSink, CalmFrames, FramePart, FrameSource, Headers, Mem};
+use std::alloc::{AllocError, Global};
+
+// A body in memory, which isn't signed: its signer's type is any one.
+type Chunks = AwsChunkedBody<CalmFrames, ChunkDeferredSigner>;
+
+/// Writes the bytes in chunks of the size that the words ask for, and the trailers behind it.
+pub fn show_chunked<K: ByteSink>(
+    alloc: Global,
+    words: ChunkWords,
+    bytes: &[u8],
+    out: &mut K,
+) -> Status
+    requires { length bytes.now ≤ most_input }
+    ensures end { IsOfOutput (ending_of result) }
+    ensures planned { GoesAsPlanned (chunk_plan (chunk_wanted words) bytes.now) (ending_of result) (K.held out.old) (K.held out.new) }
+    ensures output_failed { ending_of result ≡ output_fault → RoseOrStands (K.faults out.old) (K.faults out.new) }
+    ensures output_steady { (ending_of result ≡ output_fault → ⊥) → K.faults out.new ≡ K.faults out.old }
+    ensures count { K.faults out.old ≤ K.faults out.new }
+{
+    status_of(write_chunked(alloc, words, bytes, out))
+}
+
+// Writes the text of the bytes and the trailers.
+#[tactic(auto, using(smithy_core::proofs::GainLemmas::prefix_at_start))]
+fn write_chunked<K: ByteSink>(
+    alloc: Global,
+    words: ChunkWords,
+    bytes: &[u8],
+    out: &mut K,
+) -> Result<(), StreamFault>
+    requires { length bytes.now ≤ most_input }
+    ensures count { K.faults out.old ≤ K.faults out.new }
+    ensures sends { Sends None (shown_chunks (chunk_wanted words) bytes.now) (K.held out.old) (K.held out.new) result }
+    ensures failed { IsErrOf result StreamFault.SinkFault → RoseOrStands (K.faults out.old) (K.faults out.new) }
+    ensures steady { (IsErrOf result StreamFault.SinkFault → ⊥) → K.faults out.new ≡ K.faults out.old }
+{
+    let body = body_of(alloc, words, bytes)?;
+    send_body(body, out)
+}
+
+// Writes the text of a body.
+fn send_body<K: ByteSink>(mut body: Chunks, out: &mut K) -> Result<(), StreamFault>
+    requires { IsSound ⟦<CalmFrames as FrameSource>⟧ body }
+    ensures count { K.faults out.old ≤ K.faults out.new }
+    ensures sends { Sends None (text_left ⟦<CalmFrames as FrameSource>⟧ body) (K.held out.old) (K.held out.new) result }
+    ensures failed { IsErrOf result StreamFault.SinkFault → RoseOrStands (K.faults out.old) (K.faults out.new) }
+    ensures steady { (IsErrOf result StreamFault.SinkFault → ⊥) → K.faults out.new ≡ K.faults out.old }
+{
+    'polls: while !body.is_end_stream() {
+        let bytes = next_bytes(&mut body)?;
+        write_text(out, bytes.as_slice())?;
+    }
+    Ok(())
+}
+
+// The next bytes of the text of a body that isn't closed: one in memory neither waits nor has a fault.
+fn next_bytes(body: &mut Chunks) -> Mem<Bytes>
+    requires sound { IsSound ⟦<CalmFrames as FrameSource>⟧ body.old }
+    requires going { IsClosed body.old → ⊥ }
+    ensures { IfOk result (λ bytes. IsSound ⟦<CalmFrames as FrameSource>⟧ body.new
+        × (text_left ⟦<CalmFrames as FrameSource>⟧ body.old ≡ bytes ++ text_left ⟦<CalmFrames as FrameSource>⟧ body.new) × (0 < length bytes)) }
+{
+    match body.poll_frame() {
+        Ok(ChunkNext::Frame(bytes)) => Ok(bytes),
+        Err(AwsChunkedBodyError::NoMemory) => Err(AllocError),
+        _ => unreachable!(),
+    }
+}
+
+// The body of the bytes and the trailers, in chunks of the size that the words ask for.
+fn body_of(alloc: Global, words: ChunkWords, bytes: &[u8]) -> Mem<Chunks>
+    requires { length bytes.now ≤ most_input }
+    ensures { IfOk result (IsBodyOf ⟦<CalmFrames as FrameSource>⟧ (shown_chunks (chunk_wanted words) bytes.now)) }
+{
+    let lengths = lengths_of(alloc, &words.trailers)?;
+    let options = AwsChunkedBodyOptions::new(bytes.len() as u64, lengths);
+    let frames = frames_of(alloc, bytes, words.trailers)?;
+    Ok(AwsChunkedBody::new(
+        alloc,
+        CalmFrames::new(frames),
+        options.with_chunk_size(words.size.get()),
+    ))
+}
+
+// The lengths of the trailers, as `name:value`.
+fn lengths_of(alloc: Global, trailers: &Headers) -> Mem<Vec<u64>>
+    ensures { IfOk result (λ lengths. declared_length lengths.items ≡ lines_length trailers.now) }
+{
+    let mut lengths = Vec::new(alloc);
+    for (name, value) in trailers.iter() {
+        lengths.push((name.len() + 1 + value.len()) as u64)?;
+    }
+    Ok(lengths)
+}
+
+// The bytes in one frame, and the trailers in another.
+fn frames_of(alloc: Global, bytes: &[u8], trailers: Headers) -> Mem<Vec<FramePart>>
+    requires { length bytes.now ≤ most_input }
+    ensures frames { IfOk result (λ frames. frames.items ≡ frame.Data bytes.now ∷ frame.Trailers trailers ∷ []) }
+    ensures short { IfOk result (λ frames. AreShort frames.items) }
+{
+    let mut frames = Vec::new(alloc);
+    frames.push(FramePart::Data(Bytes::copy_from_slice(alloc, bytes)?))?;
+    frames.push(FramePart::Trailers(trailers))?;
+    Ok(frames)
+}
