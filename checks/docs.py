@@ -2,7 +2,7 @@
 """Tells where a page says what the sources don't: a line for each place, and then the status 1.
 
 docs/CALLING.md: each function that it shows stands so in crates/uses/src.
-docs/DEFINITIONS.md: each name stands in the file that is told for it. A file is told as `crate/specs/File.antt`, or as
+docs/DEFINITIONS.md: each name stands in the file that is told for it, and once. A file is told as `crate/specs/File.antt`, or as
 `specs/File.antt` of the crate that was told last in the row; the names that it holds follow behind a colon.
 """
 import pathlib
@@ -27,9 +27,11 @@ def calling_faults():
 
 
 def told_names(row):
-    """The file of each name in a row's last column, as (file, name); a file without names has the name ''."""
+    """The file of each name in a row's last column, as (file, name), and of the name that is its first column; a file without
+    names has the name ''."""
     crate, file = None, None
-    for text in re.findall(r"`([^`]+)`", row.rsplit(" | ", 1)[1]):
+    first, last = row.split(" | ", 1)[0], row.rsplit(" | ", 1)[1]
+    for text in re.findall(r"`([^`]+)`", last + first):
         path = PATH.match(text)
         if path:
             crate = path.group(1) or crate
@@ -40,14 +42,18 @@ def told_names(row):
 
 
 def definition_faults():
+    told = set()
     for row in (ROOT / "docs/DEFINITIONS.md").read_text().splitlines():
         if not row.startswith("| ") or row.startswith("| name |"):
             continue
         for file, name in told_names(row):
             if not (ROOT / str(file)).is_file():
                 yield f"docs/DEFINITIONS.md: there is no file {file}"
+            elif name and (file, name) in told:
+                yield f"docs/DEFINITIONS.md: {name} of {file} stands twice"
             elif name and not re.search(rf"(?<!\w){re.escape(name)}(?!\w)", (ROOT / file).read_text()):
                 yield f"docs/DEFINITIONS.md: {file} has no {name}"
+            told.add((file, name))
 
 
 faults = [*calling_faults(), *definition_faults()]
