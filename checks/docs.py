@@ -23,7 +23,7 @@ def calling_faults():
     sources = [path.read_text() for path in (ROOT / "crates/uses/src").glob("*.rt")]
     for function in shown_functions((ROOT / "docs/CALLING.md").read_text()):
         if not any(function in source for source in sources):
-            yield f"docs/CALLING.md: crates/uses has no such function: {function.splitlines()[-1 if len(function) < 2 else 0]}"
+            yield f"docs/CALLING.md: crates/uses has no such function: {function.splitlines()[0]}"
 
 
 def told_names(row):
