@@ -253,7 +253,7 @@ module _ {F G : Type 0} where
   abbrev pub HasEnded : AwsChunkedBody F G → Type 0
   HasEnded body = (body.phase ≡ phase.Trailers) ⊎ (body.phase ≡ phase.Ended)
 
-  -- all of the data was taken, it is in the parts that were made, and it hasn't the declared length
+  -- all of the data was taken, it is in the parts that were made, and it doesn't have the declared length
   abbrev pub LacksLength : AwsChunkedBody F G → ℕ → ℕ → Type 0
   LacksLength body actual expected =
       (actual ≡ body.taken) × (expected ≡ body.options.stream_length) × (actual ≡ expected → ⊥) × (held_bytes body ≡ [])
@@ -402,7 +402,7 @@ module _ {F G : Type 0} where
     abbrev pub IsFirst : AwsChunkedBody F G → Part → Type 0
     IsFirst body part = IfSome (parts_due source body) (λ parts. (rest : List Part) × (parts ≡ part ∷ rest))
 
-    -- why a call gives no more: where the lines of the trailers haven't the declared lengths, nothing was signed
+    -- why a call gives no more: where the lines of the trailers don't have the declared lengths, nothing was signed
     abbrev pub Causes : AwsChunkedBody F G → AwsChunkedBody F G → Result ChunkNext AwsChunkedBodyError → Type 0
     Causes old new (Ok NotYet) =
         RoseOrStands (source.waits old.source) (source.waits new.source) × (length (held_bytes new) < new.options.chunk_size)

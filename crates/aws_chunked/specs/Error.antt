@@ -1,4 +1,4 @@
--- Why a body goes no further.
+-- Why a body can't go on.
 use Rattle.std.specs.Prelude.{◌≡◌}
 use Rattle.eventstream.specs.Error.{error_kind}
 use Rattle.eventstream.specs.declared.error.ErrorKind.{ErrorKind}
@@ -14,7 +14,7 @@ abbrev pub signing_error_for : ErrorKind → SigningError → AwsChunkedBodyErro
 signing_error_for NoRoom error = NoMemory
 signing_error_for _ error = FailedToSign error
 
--- the error of a signing that failed: want of memory, at any depth, stays what it is
+-- the error of a signing that failed: `NoMemory`, at any depth, stays what it is
 abbrev pub signing_error : SigningError → AwsChunkedBodyError
 signing_error signing.NoMemory = NoMemory
 signing_error (signing.FailedToEncodeMessage error) = signing_error_for (error_kind error) (signing.FailedToEncodeMessage error)

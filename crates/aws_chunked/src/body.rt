@@ -14,7 +14,7 @@ use seg_buf::SegBuf;
 use smithy_core::{FrameSource, Headers};
 use std::alloc::Global;
 
-/// The next that a body gives.
+/// What a poll of a body answers.
 #[derive(Drop)]
 pub enum ChunkNext {
     /// Some bytes of the text.
@@ -27,7 +27,7 @@ pub enum ChunkNext {
     End,
 }
 
-/// A body in the encoding aws-chunked, over a source of frames. Of its two polls one body uses one.
+/// A body in the encoding aws-chunked, over a source of frames. Use one of its two polls for a body, and not both.
 #[derive(Drop)]
 pub struct AwsChunkedBody<F, G> {
     pub(crate) alloc: Global,

@@ -6,7 +6,7 @@ use smithy_core::Mem;
 use std::alloc::AllocError;
 use std::fmt;
 
-/// Why a body goes no further. It is closed then.
+/// Why a body can't go on. It is closed then.
 #[derive(Debug, Drop)]
 pub enum AwsChunkedBodyError {
     /// The data has another length than was declared.

@@ -30,8 +30,8 @@ impl<F: FrameSource, G> AwsChunkedBody<F, G> {
     /// The body is closed after each of them.
     /// - [`AwsChunkedBodyError::StreamLengthMismatch`] where the data has ended, all of it was answered, and its length isn't the
     ///   declared one; where none is declared, at the first data that isn't empty;
-    /// - [`AwsChunkedBodyError::ReportedTrailerLengthMismatch`] where the source has ended, and the lines of the trailers haven't the
-    ///   declared lengths;
+    /// - [`AwsChunkedBodyError::ReportedTrailerLengthMismatch`] where the source has ended, and the lines of the trailers don't
+    ///   have the declared lengths;
     /// - [`AwsChunkedBodyError::SourceFault`] where the source failed.
     pub fn poll_data(&mut self) -> Result<ChunkNext, AwsChunkedBodyError>
         ensures takes { TakesPiece F.FrameSource self.old self.new result }

@@ -28,8 +28,8 @@ impl<F: FrameSource, G: SignChunk> AwsChunkedBody<F, G> {
     /// The body is closed after each of them.
     /// - [`AwsChunkedBodyError::StreamLengthMismatch`] where the data has ended, all of it was answered, and its length isn't the
     ///   declared one;
-    /// - [`AwsChunkedBodyError::ReportedTrailerLengthMismatch`] where the source has ended after trailers, and their lines haven't the
-    ///   declared lengths;
+    /// - [`AwsChunkedBodyError::ReportedTrailerLengthMismatch`] where the source has ended after trailers, and their lines
+    ///   don't have the declared lengths;
     /// - [`AwsChunkedBodyError::FailedToSign`] where the signer refuses, or a signed body has none;
     /// - [`AwsChunkedBodyError::SourceFault`] where the source failed.
     pub fn poll_frame(&mut self) -> Result<ChunkNext, AwsChunkedBodyError>
@@ -49,7 +49,7 @@ impl<F: FrameSource, G: SignChunk> AwsChunkedBody<F, G> {
         }
     }
 
-    // As `poll_frame`, but after a fault the body isn't closed: who calls does that.
+    // As `poll_frame`, but after a fault the body isn't closed: the caller does that.
     fn next_frame(&mut self) -> Result<ChunkNext, AwsChunkedBodyError>
         ensures due { TakesDue (due F.FrameSource self.old) (due F.FrameSource self.new) result }
         ensures answers { Answers F.FrameSource G.SignChunk self.old self.new result }

@@ -11,7 +11,7 @@ pub(crate) enum Stop {
     NotYet,
     // Too many frames had no data.
     OutOfTurns,
-    // The body goes no further.
+    // The body can't go on.
     Fault(AwsChunkedBodyError),
 }
 

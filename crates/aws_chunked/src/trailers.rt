@@ -29,7 +29,7 @@ fn merged(alloc: Global, mut kept: Headers, trailers: &Headers) -> Mem<Headers>
     Ok(kept)
 }
 
-// Puts a trailer in place of all of its name, or behind them, where the name came before in its frame.
+// Puts a trailer in place of all trailers of its name, or behind them, where the name came before in its frame.
 fn put(kept: &mut Headers, before: &Headers, name: &str, value: &str) -> Mem<()>
     ensures { OnOk result (kept.new ≡ put_after before.now kept.old (lower name.now) value.now) }
 {
