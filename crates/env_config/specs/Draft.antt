@@ -60,7 +60,7 @@ TestsSubProperty property (Ok _) = (last : Last) → sub_checked property last �
 TestsSubProperty property (Err (line.Bad message)) = (last : Last) → sub_checked property last ≡ Err message.now
 TestsSubProperty property (Err line.NoMemory) = Unit {0}
 
--- the value is what the step gives, or the step refuses with the message; want of memory says nothing
+-- the value is what the step gives, or the step refuses with the message; out of memory says nothing
 abbrev pub TakesStep : {X : Type 0} → Result X (List ℕ) → X → Result (Unit {0}) LineFault → Type 0
 TakesStep step now (Ok _) = step ≡ Ok now
 TakesStep step now (Err (line.Bad message)) = step ≡ Err message.now

@@ -131,7 +131,7 @@ raw_from keeps number state (line ∷ lines) = after_line number (λ next. raw_f
 unfoldable pub raw : Keeps → List ℕ → Result (Named (List (List ℕ × List ℕ))) (ℕ × List ℕ)
 raw keeps text = raw_from keeps 1 start (profile_lines text)
 
--- the raw sections, or the number and the message of the first faulty line; want of memory says nothing
+-- the raw sections, or the number and the message of the first faulty line; out of memory says nothing
 abbrev pub ReadsRaw : Result (Named (List (List ℕ × List ℕ))) (ℕ × List ℕ) → Result (Named (List (List ℕ × List ℕ))) RawFault → Type 0
 ReadsRaw read (Ok sections) = read ≡ Ok sections
 ReadsRaw read (Err (faults.Line number message)) = read ≡ Err (number, message.now)

@@ -20,7 +20,7 @@ refused_at error = found_at error.source
 abbrev pub IsValueErrorCopy : {E : Type 0} → (E → E → Type 0) → EnvConfigError E → EnvConfigError E → Type 0
 IsValueErrorCopy IsCopy error copy = (refused_at copy ≡ refused_at error) × IsCopy (why_refused error) (why_refused copy)
 
--- an equal refusal, or want of memory both times
+-- an equal refusal, or memory ran out both times
 abbrev pub IsValidateFaultCopy : {E : Type 0} → (E → E → Type 0) → ValidateFault E → ValidateFault E → Type 0
 IsValidateFaultCopy IsCopy (Invalid error) (Invalid copy) = IsValueErrorCopy IsCopy error copy
 IsValidateFaultCopy IsCopy (Invalid error) NoMemory = ⊥

@@ -43,7 +43,7 @@ impl<'a> Heading<'a> {
         }
     }
 
-    /// Whether the section is taken from a file of this kind, which has `[profile default]` or hasn't.
+    /// Whether the section counts in a file of this kind, given whether that has `[profile default]`.
     pub fn is_taken_from(&self, kind: EnvConfigFileKind, overridden: bool) -> bool
         ensures { result ≡ is_taken_from kind overridden (heading_seen self.now).prefix (heading_seen self.now).name }
     {
