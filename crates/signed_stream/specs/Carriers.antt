@@ -19,7 +19,7 @@ use Rattle.signed_stream.specs.Stream.{GaveJob, job_plan}
 use Rattle.signed_stream.specs.declared.settings.Settings.{Settings}
 use Rattle.signed_stream.specs.declared.status.Status.{Status}
 
--- what a function below `run` promises of a plan: there is what the outside gave, for which the answer is as planned, and no moment was taken that the plan
+-- what a function below `run` promises of a plan: there is what I/O supplied, for which the answer is as planned, and no moment was taken that the plan
 -- didn't need
 pub record Goes (supplied : Supplied → Type 0) (taken : List Instant → Type 0) (plan : Supplied → Plan) (answer : Ending) (before now : Option (List ℕ)) : Type 0 where
   pub given : Supplied
@@ -33,7 +33,7 @@ module _ (gave : List Place → FilesRead → Type 0) (clock : List Instant → 
   abbrev pub GoesForBytes : Command → List ℕ → Ending → Option (List ℕ) → Option (List ℕ) → Type 0
   GoesForBytes command bytes = Goes (Gave gave env command bytes) (TakesMoments clock command) (λ given. read_plan env command bytes given)
 
-  -- as planned for what the outside gave for an input, where it tells its bytes
+  -- as planned for what I/O supplied for an input, where it tells its bytes
   abbrev pub GoesForInput : Command → Option (List ℕ) → Ending → Option (List ℕ) → Option (List ℕ) → Type 0
   GoesForInput command left answer before now =
       (given : Supplied) × TakesMoments clock command given.moments × ((bytes : List ℕ) → TellsInput command left bytes → RunsAsPlanned gave env command bytes given answer before now)

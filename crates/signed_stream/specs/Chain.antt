@@ -50,12 +50,12 @@ fault_at place reason = message_too_long place
 abbrev pub unframed_at : ℕ → Parts → Option RunFault
 unframed_at place message = option_map (fault_at place) (unframed message)
 
--- the moment lies outside the years
+-- the moment lies outside the years 0 to 9999
 abbrev pub outside_years : Instant → Option RunFault
 outside_years at = if is_in_years at then None else Some (moment_out_of_range at)
 
--- why an event isn't sent at its moment over the signature before it: it has no frame, or the moment lies outside the years, or its signed message has
--- no frame
+-- why an event isn't sent at its moment over the signature before it: it has no frame, or the moment lies outside the years 0 to 9999, or its signed message
+-- has no frame
 unfoldable pub unlinked : Signer → ℕ → List ℕ → Parts → Instant → Option RunFault
 unlinked signer place signature event at =
     option_or (unframed_at place event)

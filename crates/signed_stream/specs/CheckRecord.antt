@@ -39,7 +39,7 @@ event_line event = line (encode_lower (frame event))
 unfoldable pub shown_events : List Parts → List ℕ
 shown_events events = count_line (length events) ++ flat_map event_line events
 
--- ## What the outside gave
+-- ## What I/O supplied
 
 -- headers and a target carry a seal for the region and the name, whose signature this is, or none; or it wasn't looked for
 abbrev pub CarriesSeal : List Pair → List ℕ → List ℕ → List ℕ → SealRead → Type 0
@@ -88,7 +88,7 @@ check_plan env wanted given (Err place) = stops (bad_job place)
 
 -- ## What passes
 
--- The record passes with what the outside gave: the input isn't too large, and is a record; the files are there, and give a key id, a secret and a region; its
+-- The record passes with what I/O supplied: the input isn't too large, and is a record; the files are there, and give a key id, a secret and a region; its
 -- request carries a seal, and its frames are a chain over the signature of that.
 pub record IsSound (gave : List Place → FilesRead → Type 0) (env : List (List ℕ × List ℕ)) (wanted : CheckWanted) (bytes : List ℕ) (given : Supplied) : Type 0 where
   pub read : RecordParts

@@ -74,7 +74,7 @@ generated_wanted = record {
 unfoldable pub generated_case : Case
 generated_case = job_case (generated_job 0 0) generated_wanted generated_selected generated_moment generated_target
 
--- who seals the chain
+-- who signs the chain
 abbrev pub generated_signer : Signer
 generated_signer = record { secret = generated_selected.secret; region = generated_selected.region; name = generated_wanted.name }
 

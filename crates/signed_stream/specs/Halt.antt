@@ -5,7 +5,7 @@ use Rattle.signed_stream.specs.Status.{Ending, RunFault, done, run_fault, no_mem
 use Rattle.signed_stream.specs.declared.status.StreamFault.{StreamFault}
 use Rattle.signed_stream.specs.declared.status.StreamFault.TheVariants.{SinkFault, NoMemory}
 
--- why a stream isn't whole: request, event or closing frame are refused, the sink fails, or memory is wanted
+-- why a stream isn't whole: request, event or closing frame are refused, the sink fails, or memory runs out
 pub data Halt : Type 0 where
   refuses : RunFault → Halt
   fails : Halt
@@ -28,7 +28,7 @@ abbrev pub ended : {T : Type 0} → Result T StreamFault → Ending
 ended (Ok _) = done
 ended (Err fault) = halted (halt_of fault)
 
--- how it ends early: where the text is written the answer is the fault; where the sink fails or memory runs out a front of the text is
+-- how it ends early: where the text is written the answer is the fault; where the sink fails or memory runs out a prefix of the text is
 abbrev pub Halts : Option RunFault → List ℕ → Option (List ℕ) → Option (List ℕ) → Halt → Type 0
 Halts fault text before now (refuses told) = (fault ≡ Some told) × Gains before now text
 Halts fault text before now fails = GainsPrefix before now text

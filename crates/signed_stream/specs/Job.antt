@@ -22,7 +22,7 @@ event_message event = record { headers = event.headers; payload = unwrap_or even
 
 -- ## The draft
 
--- what the lines so far gave: texts of profile files, the events that are whole, and the one that is open
+-- what the lines so far gave: texts of profile files, the finished events, and the open one
 pub record Draft : Type 0 where
   pub method : Option (List ℕ)
   pub target : Option (List ℕ)

@@ -1,4 +1,4 @@
--- What a run is to do with what the outside gave, and what it means that it goes so.
+-- What a run is to do with what I/O supplied, and what it means that it goes so.
 use Rattle.std.specs.Prelude.{◌≡◌, ℕ, ◌⊎◌, nat_lt, if◌then◌else◌, List, ◌∷◌, ◌++◌, length, Option}
 use Rattle.smithy_core.specs.Moment.{Instant}
 use Rattle.smithy_core.specs.Outside.{Gains, GainsPrefix}
@@ -8,7 +8,7 @@ use Rattle.sigv4.specs.Parameters.{SpellsParts}
 use Rattle.env_config.specs.Sections.{FileText}
 use Rattle.signed_stream.specs.Status.{Ending, done, job_too_large, no_memory, output_fault, read_fault, refused}
 
--- ## What the outside gave
+-- ## What I/O supplied
 
 -- what the target of a job spells
 pub data TargetRead : Type 0 where
@@ -42,7 +42,7 @@ pub data SealRead : Type 0 where
   -- one with this signature
   sealed_over : List ℕ → SealRead
 
--- what the outside gave in one call
+-- what I/O supplied in one call
 pub record Supplied : Type 0 where
   pub files : FilesRead
   -- the moments that were taken, in their order: the request's, those of the events, and the closing frame's
@@ -59,12 +59,12 @@ pub data Plan : Type 0 where
   -- to write this text, and then to end so
   writes : List ℕ → Ending → Plan
 
--- a run that is to stop does so, and one that is to write ends as it is to; a fault of the outside or want of memory may come in between
+-- a run that is to stop does so, and one that is to write ends as it is to; an I/O fault or running out of memory may come in between
 abbrev pub EndsAsPlanned : Plan → Ending → Type 0
 EndsAsPlanned (stops end) answer = (answer ≡ end) ⊎ (answer ≡ read_fault) ⊎ (answer ≡ no_memory)
 EndsAsPlanned (writes text end) answer = (answer ≡ end) ⊎ (answer ≡ read_fault) ⊎ (answer ≡ output_fault) ⊎ (answer ≡ no_memory)
 
--- what the output gained: the whole text where the run is done or refused after it, a front of it after a fault of the output or want of memory,
+-- what the output gained: the whole text where the run is done or refused after it, a prefix of it after a fault of the output or once memory ran out,
 -- and else nothing
 abbrev pub GainsAsPlanned : Plan → Ending → Option (List ℕ) → Option (List ℕ) → Type 0
 GainsAsPlanned (stops end) answer before now = now ≡ before
@@ -84,7 +84,7 @@ abbrev pub plan_end : Plan → Ending
 plan_end (stops end) = end
 plan_end (writes text end) = end
 
--- a moment was taken only where the plan for those before it ends for want of the next one
+-- a moment was taken only where the plan for those before it ends for lack of the next one
 abbrev pub IsNeeded : (List Instant → Plan) → List Instant → Type 0
 IsNeeded plan moments = (front : List Instant) (t : Instant) (rest : List Instant) → moments ≡ front ++ t ∷ rest → plan_end (plan front) ≡ no_memory
 

@@ -23,7 +23,7 @@ use Rattle.signed_stream.specs.Stream.{GaveReading, IsStreamable, job_plan, stre
 
 -- ## The plan
 
--- what the outside gave for an input's bytes; `gave` tells what the disk gave
+-- what I/O supplied for an input's bytes; `gave` tells what the disk gave
 abbrev pub Gave : (List Place → FilesRead → Type 0) → List (List ℕ × List ℕ) → Command → List ℕ → Supplied → Type 0
 Gave gave env (bad_word place) bytes given = Unit {0}
 Gave gave env (stream wanted) bytes given = GaveReading gave wanted (job bytes) given
@@ -56,7 +56,7 @@ When false P = Unit {0}
 abbrev pub TellsInput : Command → Option (List ℕ) → List ℕ → Type 0
 TellsInput command left bytes = When (reads_input command) (left ≡ Some bytes)
 
--- what follows from the words, the variables, the input's bytes and what the outside gave; words that are no command end the run before the input is asked
+-- what follows from the words, the variables, the input's bytes and what I/O supplied; words that are no command end the run before the input is asked
 unfoldable pub command_plan : List (List ℕ × List ℕ) → Command → List ℕ → Supplied → Plan
 command_plan env (bad_word place) bytes given = stops (bad_words place)
 command_plan env (generate seed count) bytes given = generate_plan seed count
@@ -72,7 +72,7 @@ abbrev pub TakesMoments : (List Instant → Type 0) → Command → List Instant
 TakesMoments clock (stream wanted) moments = OfClock clock wanted.at moments
 TakesMoments clock command moments = (moments ≡ []) × clock []
 
--- the outside gave this, the run went as planned for it, and took no moment that the plan didn't need
+-- I/O supplied this, the run went as planned for it, and took no moment that the plan didn't need
 pub record RunsAsPlanned (gave : List Place → FilesRead → Type 0) (env : List (List ℕ × List ℕ)) (command : Command) (bytes : List ℕ) (given : Supplied) (answer : Ending) (before now : Option (List ℕ)) : Type 0 where
   pub supplied : Gave gave env command bytes given
   pub goes : GoesAsPlanned (command_plan env command bytes given) answer before now
@@ -92,7 +92,7 @@ IsOfOutput output_fault = Unit {0}
 IsOfOutput no_memory = Unit {0}
 IsOfOutput end = ⊥
 
--- where the words are no command, it ends so, or for want of memory; no other run ends for a word, and none that only writes for what it doesn't ask
+-- where the words are no command, it ends so, or out of memory; no other run ends for a word, and none that only writes for what it doesn't ask
 abbrev pub EndsAsAsked : Command → Ending → Type 0
 EndsAsAsked (bad_word place) answer = (answer ≡ bad_words place) ⊎ (answer ≡ no_memory)
 EndsAsAsked (generate seed count) answer = IsOfOutput answer
@@ -120,7 +120,8 @@ CountsWrites output_fault before now = RoseOrStands before now
 CountsWrites no_memory before now = before ≤ now
 CountsWrites answer before now = now ≡ before
 
--- the faults that a frame can have, and so an event, after the head was written; the request is refused for its moment where that doesn't lie in the years
+-- the faults that a frame can have, and so an event, after the head was written; the request is refused for its moment where that doesn't lie in the years 0 to
+-- 9999
 abbrev pub may_be_of_frame : Bool → RunFault → Bool
 may_be_of_frame in_years (moment_out_of_range moment) = in_years
 may_be_of_frame in_years (invalid_header_name_length place) = true
@@ -131,7 +132,7 @@ may_be_of_frame in_years (payload_too_long place) = true
 may_be_of_frame in_years (message_too_long place) = true
 may_be_of_frame in_years fault = false
 
--- whether the request's moment may lie in the years: any may that the clock gives
+-- whether the request's moment may lie in the years 0 to 9999: any may that the clock gives
 abbrev pub may_be_in_years : Wanted → Option Instant → Bool
 may_be_in_years wanted None = true
 may_be_in_years wanted (Some at) = is_in_years (request_moment wanted at)
@@ -183,7 +184,7 @@ HasDone gave env (write_chunks wanted) bytes given before now = (length bytes �
 HasDone gave env (generate seed count) bytes given before now = Gains before now (shown_stream (drawn_events count seed))
 HasDone gave env command bytes given before now = ⊥
 
--- what can be done with what the outside gave
+-- what can be done with what I/O supplied
 abbrev pub CanBeDone : (List Place → FilesRead → Type 0) → List (List ℕ × List ℕ) → Command → List ℕ → Supplied → Type 0
 CanBeDone gave env (stream wanted) bytes given = IsStreamable gave env wanted bytes given
 CanBeDone gave env (show_settings wanted) bytes given = IsShowable gave env wanted bytes given
@@ -192,7 +193,7 @@ CanBeDone gave env (write_chunks wanted) bytes given = length bytes ≤ most_inp
 CanBeDone gave env (generate seed count) bytes given = Unit {0}
 CanBeDone gave env command bytes given = ⊥
 
--- the run is done; a fault of the outside or want of memory may come in between
+-- the run is done; an I/O fault or running out of memory may come in between
 abbrev pub Completes : Ending → Type 0
 Completes answer = (answer ≡ done) ⊎ (answer ≡ read_fault) ⊎ (answer ≡ output_fault) ⊎ (answer ≡ no_memory)
 
@@ -203,7 +204,7 @@ pub record SinkChange : Type 0 where
   pub faults_before : ℕ
   pub faults_now : ℕ
 
--- How a run went with what the outside gave: `gave` tells what the disk gave and `clock` what the clock gave, and the input had this left, whose count of faults
+-- How a run went with what I/O supplied: `gave` tells what the disk gave and `clock` what the clock gave, and the input had this left, whose count of faults
 -- was `reads_before` and is `reads_now`.
 pub record Ran (gave : List Place → FilesRead → Type 0) (clock : List Instant → Type 0) (env : List (List ℕ × List ℕ)) (command : Command) (left : Option (List ℕ)) (given : Supplied) (answer : Ending) (reads_before reads_now : ℕ) (out err : SinkChange) : Type 0 where
   -- where it is done, the headline

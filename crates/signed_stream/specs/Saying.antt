@@ -60,8 +60,8 @@ ending_line (check_failed fault) = line (codes "check failed at frame " ++ (deci
 ending_line output_fault = line (codes "output fault")
 ending_line no_memory = line (codes "no memory")
 
--- what `err` gained: nothing where the run is done, a front of the line of some end for want of memory, and else the line of the
--- end, or, where the faults of `err` rose, a front of it
+-- what `err` gained: nothing where the run is done, a prefix of the line of some end where memory runs out, and else the line of the
+-- end, or, where the faults of `err` rose, a prefix of it
 abbrev pub Says : Ending → Option (List ℕ) → Option (List ℕ) → ℕ → ℕ → Type 0
 Says done before now faults_before faults_now = now ≡ before
 Says no_memory before now faults_before faults_now = (end : Ending) × GainsPrefix before now (ending_line end)

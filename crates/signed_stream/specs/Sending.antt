@@ -60,7 +60,7 @@ TellsAnswer place answer (Err fault) = halt_of fault ≡ answer_halt place answe
 
 -- ## The chain
 
--- who seals, by what is told of a signer, and over which signature
+-- who signs, by what is told of a signer, and over which signature
 abbrev pub sealed_signer : Told → Signer
 sealed_signer (sealed signature who) = who
 sealed_signer told = record { secret = []; region = []; name = [] }

@@ -25,7 +25,7 @@ abbrev pub settings_plan : List (List ℕ × List ℕ) → ProfileWanted → Sup
 settings_plan env wanted given (Ok texts) = when_selected shown_plan (selection env wanted.service_id given.files)
 settings_plan env wanted given (Err place) = stops (bad_job place)
 
--- What is selected can be shown with what the outside gave: the input isn't too large, and holds profile texts alone; the files are there, and give a key
+-- What is selected can be shown with what I/O supplied: the input isn't too large, and holds profile texts alone; the files are there, and give a key
 -- id, a secret and a region.
 pub record IsShowable (gave : List Place → FilesRead → Type 0) (env : List (List ℕ × List ℕ)) (wanted : ProfileWanted) (bytes : List ℕ) (given : Supplied) : Type 0 where
   pub read : ProfileTexts

@@ -79,13 +79,13 @@ pub record IsSigned (c : Case) (old new : HttpRequest) : Type 0 where
   pub headers : new.headers ≡ signed_headers c
   pub body : new.body ≡ old.body
 
--- the signer seals messages for who signs the case, over its signature
+-- the signer signs messages for who signs the case, over its signature
 pub record SealsFor (c : Case) (signer : SignerState (Unit {0})) : Type 0 where
   pub told : told_of signer ≡ sealed (running_signature signer) (signer_in signer)
   pub signature : running_signature signer ≡ signature_of c
   pub who : signer_in signer ≡ c.signer
 
--- why a request isn't signed: the first test that fails, or want of memory
+-- why a request isn't signed: the first test that fails, or memory ran out
 abbrev pub Unsigned : List ℕ → Instant → (Target → Case) → Halt → Type 0
 Unsigned text at case (refuses told) = (target : TargetRead) × TargetSpells text target × (request_fault at case target ≡ Some told)
 Unsigned text at case fails = ⊥
@@ -117,7 +117,7 @@ abbrev pub error_halt : SigV4SigningError → Halt
 error_halt (auth.Signing error) = refuses (fault_for error)
 error_halt error = wants
 
--- the answer is the name that is asked for, or want of memory
+-- the answer is the name that is asked for, or memory ran out
 abbrev pub GivesName : Option (List ℕ) → Result (Option (String Global)) OverrideError → Type 0
 GivesName asked (Ok name) = option_map string_bytes name ≡ asked
 GivesName asked (Err error) = error ≡ overrides.NoMemory

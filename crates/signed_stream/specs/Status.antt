@@ -23,7 +23,7 @@ pub data RunFault : Type 0 where
   parse_error : FaultyLine → RunFault
   missing_credentials : RunFault
   missing_signing_region : RunFault
-  -- this moment lies outside the years
+  -- this moment lies outside the years 0 to 9999
   moment_out_of_range : Instant → RunFault
   invalid_uri : RunFault
   -- of the request's header at this place

@@ -25,7 +25,7 @@ use Rattle.signed_stream.specs.Status.{RunFault, bad_job, invalid_uri, moment_ou
 use Rattle.signed_stream.specs.declared.form.Form.{Form}
 use Rattle.signed_stream.specs.Written.{case_refusal, written_stream, written_end, written_until}
 
--- ## What the outside gave
+-- ## What I/O supplied
 
 -- the profile texts of a job
 abbrev pub job_texts : JobParts → ProfileTexts
@@ -73,7 +73,7 @@ job_plan env wanted given (Err place) = stops (bad_job place)
 
 -- ## What can be streamed
 
--- The files give a key id, a secret and a region; there is a first moment, and the request's lies in the years; the target is accepted, no test of
+-- The files give a key id, a secret and a region; there is a first moment, and the request's lies in the years 0 to 9999; the target is accepted, no test of
 -- the request fails, its signed target isn't too long, and the chain of the events at the other moments is defined
 pub record IsValid (files : List FileText) (profile : List ℕ) (env : List (List ℕ × List ℕ)) (wanted : Wanted) (j : JobParts) (target : TargetRead) (moments : List Instant) : Type 0 where
   pub selected : Selected
@@ -98,7 +98,7 @@ module _ {files : List FileText} {profile : List ℕ} {env : List (List ℕ × L
   abbrev pub written_valid : List ℕ
   written_valid = written_stream wanted.form j.target valid_case j.events input.others
 
--- The input can be streamed with what the outside gave: it isn't too large, and is a job; the files are there, and all is valid.
+-- The input can be streamed with what I/O supplied: it isn't too large, and is a job; the files are there, and all is valid.
 pub record IsStreamable (gave : List Place → FilesRead → Type 0) (env : List (List ℕ × List ℕ)) (wanted : Wanted) (bytes : List ℕ) (given : Supplied) : Type 0 where
   pub read : JobParts
   pub texts : List FileText

@@ -78,7 +78,7 @@ pub record TakesFor (taken : List Instant → Type 0) (text : List ℕ) (plan : 
   pub goes : GoesAsPlanned (plan target moments) answer before now
   pub needed : IsNeeded (plan target) moments
 
--- it is done; a fault of the sink or want of memory may come in between
+-- it is done; a fault of the sink or running out of memory may come in between
 abbrev pub CompletesStream : Ending → Type 0
 CompletesStream answer = (answer ≡ done) ⊎ (answer ≡ output_fault) ⊎ (answer ≡ no_memory)
 

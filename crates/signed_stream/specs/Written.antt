@@ -45,7 +45,7 @@ abbrev pub written_until : Form → Option Refusal → List ℕ → Case → Lis
 written_until form None text c events moments = written_stream form text c events moments
 written_until form (Some refusal) text c events moments = written_before form refusal.place text c events moments
 
--- how it ends: refused where a frame is; done where each event and the closing frame had its moment, and else for want of memory, which ran out before
+-- how it ends: refused where a frame is; done where each event and the closing frame had its moment, and else out of memory, which ran out before
 -- the next moment
 abbrev pub written_end : Option Refusal → List Parts → List Instant → Ending
 written_end (Some refusal) events moments = refused refusal.fault

@@ -35,9 +35,9 @@ type EventAdapter<G> = MessageStreamAdapter<
 ///
 /// # Errors
 ///
-/// The fault of the first event that has no frame, whose moment lies outside the years or whose signed message has no
+/// The fault of the first event that has no frame, whose moment lies outside the years 0 to 9999 or whose signed message has no
 /// frame, or that of the closing frame's moment: the sink has gained the frames before it. [`StreamFault::SinkFault`]
-/// where the sink's count of faults rose and [`StreamFault::NoMemory`] for want of memory: it has gained a front of
+/// where the sink's count of faults rose and [`StreamFault::NoMemory`] where memory runs out: it has gained a prefix of
 /// the frames that were begun.
 pub fn stream_events<C: Clock, K: ByteSink>(
     alloc: Global,
@@ -184,8 +184,8 @@ pub fn write_frame<K: ByteSink>(
 ///
 /// # Errors
 ///
-/// [`StreamFault::SinkFault`] where the sink's count of faults rose, [`StreamFault::NoMemory`] for want of memory.
-/// After both the sink has gained a front of the text.
+/// [`StreamFault::SinkFault`] where the sink's count of faults rose, [`StreamFault::NoMemory`] where memory runs out.
+/// After both the sink has gained a prefix of the text.
 #[tactic(auto, using(smithy_core::proofs::GainLemmas::prefix_from_proper))]
 pub fn write_text<K: ByteSink>(sink: &mut K, text: &[u8]) -> Result<(), StreamFault>
     ensures count { K.faults sink.old ≤ K.faults sink.new }

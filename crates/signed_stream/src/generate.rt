@@ -88,7 +88,7 @@ fn stream_generated(alloc: Global, events: &[Message]) -> Mem<Vec<u8>>
     Ok(bytes)
 }
 
-// What seals the messages that follow the signed request.
+// What signs the messages that follow the signed request.
 fn signer_of_request(alloc: Global) -> Mem<SigV4MessageSigner<()>>
     ensures { IfOk result (SealsFor generated_case) }
 {

@@ -3,14 +3,14 @@
 //! The program is promised of [`run`]: where it answers [`Status::Done`], the output gained exactly the head of the
 //! signed request and then the chain of the events, for `settings` what profile files and variables select, or for
 //! `check` the events of a record whose frames are the chain over the signature that its request carries; each other
-//! answer comes exactly where words, variables, input and files ask for it, or for a fault of the outside or want
-//! of memory; and what output and `err` gained after each (`specs/Running.antt`, and below it `specs/Plan.antt`,
+//! answer comes exactly where words, variables, input and files ask for it, or for an I/O fault, or
+//! where memory ran out; and what output and `err` gained after each (`specs/Running.antt`, and below it `specs/Plan.antt`,
 //! `specs/Sources.antt`, `specs/Stream.antt`, `specs/ShowSettings.antt` and `specs/CheckRecord.antt`).
 //!
 //! A program that has a request and its events in memory calls [`sign_and_stream`], which is promised the same of the
 //! sink and of the clock's moments, and answers the signed request (`specs/Streaming.antt`).
 //!
-//! An object of the outside need not tell its content. Clauses on what the input spells speak where the input tells
+//! An I/O object need not tell its content. Clauses on what the input spells speak where the input tells
 //! its bytes, and those on what was gained where the sink tells what it holds; the objects in memory do both.
 #![tactic(auto)]
 

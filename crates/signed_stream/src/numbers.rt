@@ -102,7 +102,7 @@ fn is_number(text: &[u8]) -> bool
     is_natural(text) || is_negative(text)
 }
 
-// `-`, and then decimal digits that begin with none of zero.
+// `-`, and then decimal digits, the first of which isn't zero.
 fn is_negative(text: &[u8]) -> bool
     ensures { result ≡ is_negative text.now }
 {

@@ -27,10 +27,10 @@ use std::alloc::Global;
 /// The most bytes of an input.
 const MOST_INPUT: usize = 67_108_864;
 
-/// Does what the words ask for, on the objects of the outside, and says on `err` how it ended.
+/// Does what the words ask for, on I/O objects, and says on `err` how it ended.
 ///
-/// The words are those after the program's name. `stream --name NAME` reads a job from `input`, signs its request by
-/// AWS Signature Version 4, and writes to `out` the head of the signed request and then a chain of event stream
+/// The words are the command-line arguments after the program's name. `stream --name NAME` reads a job from `input`, signs its
+/// request by AWS Signature Version 4, and writes to `out` the head of the signed request and then a chain of event stream
 /// frames: one for each event in order and an empty one last, each signed over the signature before it, the first over
 /// that of the request. The request, each event and the closing frame take a moment each of the clock, in this order;
 /// with `--at N` all of them have the moment N. The request's is shifted by `--skew`. Options say how the request is
@@ -58,7 +58,7 @@ pub fn run<S: ByteSource, D: Disk, C: Clock, K: ByteSink, E: ByteSink>(
     out: &mut K,
     err: &mut E,
 ) -> Status
-    // There is what the outside gave, for which the headline holds, what can be done is done, and the run ended, gained
+    // There is what I/O supplied, for which the headline holds, what can be done is done, and the run ended, gained
     // and said what words, variables, input, files and clock ask for.
     ensures headline { (given : Supplied) × Ran (DiskGives D.answers D.faults (D.files disk.old) env.now disk.old disk.new)
         (λ taken. Gives C.Clock clock.old taken clock.new) env.now
@@ -77,7 +77,7 @@ pub fn run<S: ByteSource, D: Disk, C: Clock, K: ByteSink, E: ByteSink>(
     // The disk was asked only once the input was read and is a job; its files are as they were.
     ensures disk { KeepsDisk (ending_of result) disk.old disk.new × (D.files disk.new ≡ D.files disk.old) }
 
-    // An input that is read was read to its end, a rest of it is left, and no count fell.
+    // An input that is read was read to its end, a suffix of it is left, and no count fell.
     ensures outside { When (reads_input (command (map string_bytes words.now))) (ending_of result ≡ done → IsAtEnd (S.left input.new)) × IsRestOf (S.left input.old) (S.left input.new)
         × (S.faults input.old ≤ S.faults input.new) × (D.faults disk.old ≤ D.faults disk.new) × (K.faults out.old ≤ K.faults out.new)
         × (E.faults err.old ≤ E.faults err.new) }

@@ -8,7 +8,7 @@ use chain_check::{ChainFault, ChainPart};
 use smithy_core::{ByteSink, Mem, SinkError, write_all};
 use std::alloc::Global;
 
-/// Says the line of a status on `err`, and answers how the run ended: as the status says, or for want of memory.
+/// Says the line of a status on `err`, and answers how the run ended: as the status says, or out of memory.
 pub fn say<E: ByteSink>(alloc: Global, status: Status, err: &mut E) -> Status
     ensures answer { (ending_of result ≡ ending_of status) ⊎ (ending_of result ≡ no_memory) }
     ensures said { Says (ending_of result) (E.held err.old) (E.held err.new) (E.faults err.old) (E.faults err.new) }

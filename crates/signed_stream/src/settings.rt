@@ -10,7 +10,7 @@ use smithy_core::{Credentials, Env, Mem, Region};
 use std::alloc::{AllocError, Global};
 use std::fmt;
 
-/// What a profile and the variables give to sign with. [`Debug`](std::fmt::Debug) isn't there, so that no secret is
+/// What a profile and the variables give to sign with. There is no [`Debug`](std::fmt::Debug), so that no secret is
 /// printed.
 #[derive(Drop)]
 pub struct Settings {

@@ -22,7 +22,7 @@ use std::alloc::Global;
 /// # Errors
 ///
 /// The first test of the moment, the target, the headers, the host, the token's name and the signature's own texts
-/// that fails, and [`StreamFault::NoMemory`] for want of memory.
+/// that fails, and [`StreamFault::NoMemory`] where memory runs out.
 pub fn sign_request(
     alloc: Global,
     request: &HttpRequest,

@@ -25,7 +25,7 @@ use std::alloc::{AllocError, Global};
 /// # Errors
 ///
 /// [`Status::CouldNotReadFile`] with the path of the first file that is named and is absent, or whose read failed;
-/// [`Status::Refused`] where the texts or the variables lack what is needed; [`Status::NoMemory`] for want of memory.
+/// [`Status::Refused`] where the texts or the variables lack what is needed; [`Status::NoMemory`] where memory runs out.
 pub fn select<D: Disk>(
     alloc: Global,
     env: &Env,
@@ -50,7 +50,7 @@ pub fn select<D: Disk>(
 /// # Errors
 ///
 /// [`EnvConfigFileLoadError::CouldNotReadFile`] with the path of the first file that is named and is absent, or whose
-/// read failed; or want of memory.
+/// read failed; or one that says that memory ran out.
 pub fn load_source<D: Disk>(
     alloc: Global,
     env: &Env,

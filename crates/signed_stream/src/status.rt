@@ -143,9 +143,9 @@ pub enum Status {
     Refused(StreamFault),
     /// The record doesn't pass the check.
     CheckFailed(CheckFault),
-    /// The output failed; it holds a front of the text.
+    /// The output failed; it holds a prefix of the text.
     OutputFault,
-    /// Memory ran out; the output holds a front of the text.
+    /// Memory ran out; the output holds a prefix of the text.
     NoMemory,
 }
 

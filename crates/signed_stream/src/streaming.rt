@@ -79,7 +79,7 @@ impl StreamOptions {
 /// texts or the expiry; the length of the signed target comes after them. Until then nothing is written. Each event
 /// and last the closing frame are tested after the frames before them were written: the event's own frame, the moment,
 /// and the frame of its signed message. [`StreamFault::SinkFault`] comes where the sink's count of faults rose. After
-/// it, and after [`StreamFault::NoMemory`], the sink has gained a front of the head and the frames that were begun.
+/// it, and after [`StreamFault::NoMemory`], the sink has gained a prefix of the head and the frames that were begun.
 #[tactic(auto, unfolding(crate::specs::Settings::settings))]
 pub fn sign_and_stream<C: Clock, K: ByteSink>(
     alloc: Global,

@@ -7,7 +7,7 @@ use bytes::Bytes;
 use smithy_core::{Headers, Mem, Message};
 use std::alloc::Global;
 
-/// What the lines so far gave: texts of profile files, the events that are whole, and the one that is open.
+/// What the lines so far gave: texts of profile files, the finished events, and the open one.
 #[derive(Drop)]
 pub struct Draft {
     pub method: Option<String>,
@@ -140,7 +140,7 @@ impl Draft {
         Ok(())
     }
 
-    /// Puts the open event to the whole ones.
+    /// Moves the open event to the finished ones.
     #[tactic(auto, unfolding(crate::specs::Draft::draft_of))]
     pub fn close_event(&mut self) -> Mem<()>
         ensures { OnOk result (draft_of self.new ≡ record (draft_of self.old) { events = events_of (draft_of self.old); event = None }) }

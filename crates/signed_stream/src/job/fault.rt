@@ -4,7 +4,7 @@ ghost use Rattle.signed_stream.specs.Fault.{placed};
 use std::alloc::{AllocError, AllocFailed};
 use std::fmt;
 
-/// Why bytes aren't what an input has to be; places count from 1.
+/// Why bytes aren't a job, profile texts or a record; places count from 1.
 #[derive(Clone, Copy, Debug, PartialEq, Eq)]
 pub enum JobFault {
     /// The line at this place is bad.
@@ -35,7 +35,7 @@ impl From<AllocError> for JobFault {
     }
 }
 
-/// Why a line doesn't move the draft.
+/// Why a line can't be taken.
 #[derive(Clone, Copy, Debug, PartialEq, Eq)]
 pub enum LineFault {
     Bad,
