@@ -32,7 +32,7 @@ IsUnfinished (leftover bytes) = Unit {0}
 IsUnfinished first = ⊥
 
 -- the message at the front and how many bytes its frame has, or nothing while there is less than a frame, or the fault in its
--- place; or want of memory
+-- place; or memory ran out
 abbrev pub PeeksMessage : List ℕ → Result (Option (Parts × ℕ)) Error → Type 0
 PeeksMessage bytes (Ok None) = IsUnfinished (first_of bytes)
 PeeksMessage bytes (Ok (Some found)) = (found.1 ≤ length bytes) × (first_of bytes ≡ begins found.0 (drop found.1 bytes))
@@ -52,7 +52,7 @@ Finishes len (Err e) kept old prelude new result =
     (result ≡ Err e)
     × (((error_kind e ≡ NoMemory) × (prelude ≡ kept) × (new ≡ old)) ⊎ ((error_kind e ≢ NoMemory) × (prelude ≡ None) × (new.bytes ≡ drop len old.bytes)))
 
--- one step of the reading; for want of memory nothing changes
+-- one step of the reading; where memory runs out nothing changes
 abbrev pub DecodesFrame : Option (List ℕ) → Segments → Option (List ℕ) → Segments → Result DecodedFrame Error → Type 0
 DecodesFrame kept old prelude new (Ok Incomplete) =
     IsUnfinished (first_of (undecoded_bytes kept old.bytes)) × KeepsBytes (undecoded_bytes kept old.bytes) prelude new.bytes
@@ -71,7 +71,7 @@ abbrev pub Takes : List Parts → Option (List ℕ) → Segments → Option (Lis
 Takes [] kept old prelude new = (prelude ≡ kept) × (new ≡ old)
 Takes (message ∷ messages) kept old prelude new = (prelude ≡ None) × Begin (message ∷ messages) (undecoded_bytes kept old.bytes) new.bytes
 
--- the messages that the bytes begin with, until less than a frame is there, or a fault; for want of memory, some of them
+-- the messages that the bytes begin with, until less than a frame is there, or a fault; where memory runs out, some of them
 abbrev pub DecodesAll : List Parts → Option (List ℕ) → Segments → Option (List ℕ) → Segments → Result (Unit {0}) Error → Type 0
 DecodesAll messages kept old prelude new (Ok _) =
     (rest : List ℕ) × Begin messages (undecoded_bytes kept old.bytes) rest × IsUnfinished (first_of rest) × KeepsBytes rest prelude new.bytes

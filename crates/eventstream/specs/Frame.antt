@@ -26,7 +26,7 @@ most_value = 32767
 abbrev pub most_frame : ℕ
 most_frame = 4294967295
 
--- the bytes of the least frame: a prelude and the closing checksum
+-- the bytes of the smallest frame: a prelude and the closing checksum
 abbrev pub least_frame : ℕ
 least_frame = 16
 

@@ -14,6 +14,6 @@ pub record Signer : Type 0 where
 unfoldable pub scope : Instant → List ℕ → List ℕ → List ℕ
 scope t region name = date t ++ codes "/" ++ region ++ codes "/" ++ name ++ codes "/aws4_request"
 
--- the code of the date under `AWS4` and the secret, then of the region, of the name and of `aws4_request`, each under the code before it
+-- the HMAC of the date under `AWS4` and the secret, then of the region, of the name and of `aws4_request`, each under the HMAC before it
 unfoldable pub signing_key : Signer → Instant → List ℕ
 signing_key signer t = mac (mac (mac (mac (codes "AWS4" ++ signer.secret) (date t)) signer.region) signer.name) (codes "aws4_request")

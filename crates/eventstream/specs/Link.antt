@@ -22,7 +22,7 @@ string_to_sign signer signature bytes t =
     line (codes "AWS4-HMAC-SHA256-PAYLOAD") ++ line (stamp t) ++ line (scope t signer.region signer.name) ++ line signature
     ++ line (encode_lower (sha256 (spelling (date_header t)))) ++ encode_lower (sha256 bytes)
 
--- the code of a link
+-- the HMAC of a link
 unfoldable pub link_code : Signer → List ℕ → List ℕ → Instant → List ℕ
 link_code signer signature bytes t = mac (signing_key signer (floor_secs t)) (string_to_sign signer signature bytes (floor_secs t))
 
@@ -30,7 +30,7 @@ link_code signer signature bytes t = mac (signing_key signer (floor_secs t)) (st
 unfoldable pub link_signature : Signer → List ℕ → List ℕ → Instant → List ℕ
 link_signature signer signature bytes t = encode_lower (link_code signer signature bytes t)
 
--- the signed message: the code, the moment without its nanoseconds, and the bytes
+-- the signed message: the HMAC, the moment without its nanoseconds, and the bytes
 unfoldable pub link_message : Signer → List ℕ → List ℕ → Instant → Parts
 link_message signer signature bytes t =
     record { headers = record { name = codes ":chunk-signature"; value = ByteArray (link_code signer signature bytes t) } ∷ date_header (floor_secs t) ∷ []; payload = bytes }

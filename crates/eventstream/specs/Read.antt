@@ -150,7 +150,7 @@ read bytes = if nat_lt (length bytes) prelude_len then Err InvalidMessageLength 
 
 -- ## What the readers promise
 
--- the fault is told, or want of memory
+-- the fault is told, or memory ran out
 abbrev pub Fails : {A : Type 0} → Result A ErrorKind → Error → Type 0
 Fails read e = (read ≡ Err (error_kind e)) ⊎ (error_kind e ≡ NoMemory)
 

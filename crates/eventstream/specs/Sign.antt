@@ -13,7 +13,7 @@ abbrev pub sign_error_for : ErrorKind → Error → SignMessageError
 sign_error_for NoRoom error = NoMemory
 sign_error_for _ error = FailedToEncodeMessage error
 
--- the error of an encoding that failed: want of memory stays what it is
+-- the error of an encoding that failed: `NoMemory` stays what it is
 abbrev pub sign_error_of : Error → SignMessageError
 sign_error_of error = sign_error_for (error_kind error) error
 

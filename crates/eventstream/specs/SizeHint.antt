@@ -22,6 +22,6 @@ value_width (Uuid n) = 16
 abbrev pub header_width : Header → ℕ
 header_width h = 1 + min (length h.name) most_name + 1 + value_width h.value
 
--- the bytes of the least frame, the headers and the payload, up to the greatest number of 64 bits
+-- the bytes of the smallest frame, the headers and the payload, up to the greatest number of 64 bits
 unfoldable pub size_hint : Parts → ℕ
 size_hint m = min (least_frame + sum_by header_width m.headers + length m.payload) (2 ^ 64 - 1)

@@ -50,18 +50,18 @@ missing_text name = codes "expected response to include " ++ (name ++ codes " he
 unfoldable pub unrecognized_text : List ℕ → List ℕ
 unrecognized_text message_type = codes "unrecognized `:message-type`: " ++ message_type
 
--- the error is that a message is no event, with this text, or want of memory
+-- the error is that a message is no event, with this text, or memory ran out
 abbrev pub Tells : List ℕ → ErrorKind → Type 0
 Tells text (Unmarshalling message) = string_bytes message ≡ text
 Tells text NoMemory = Unit {0}
 Tells text _ = ⊥
 
--- the error tells the text where there is one; else it is want of memory
+-- the error tells the text where there is one; else it is `NoMemory`
 abbrev pub Refuses : {A : Type 0} → Result A (List ℕ) → ErrorKind → Type 0
 Refuses (Ok x) kind = kind ≡ NoMemory
 Refuses (Err text) kind = Tells text kind
 
--- what is wanted is answered, as it is seen; where a text stands in its place, the error tells it
+-- the part that is asked for is the answer, as contracts see it; where a text says why there is none, the error carries that text
 abbrev pub Answers : {A B : Type 0} → (B → A) → Result A (List ℕ) → Result B Error → Type 0
 Answers seen wanted (Ok x) = wanted ≡ Ok (seen x)
 Answers seen wanted (Err e) = Refuses wanted (error_kind e)
@@ -71,7 +71,7 @@ abbrev pub RefusesOnly : {A : Type 0} → Result A (List ℕ) → ErrorKind → 
 RefusesOnly (Ok x) kind = ⊥
 RefusesOnly (Err text) kind = Tells text kind
 
--- what is wanted takes no memory: it is answered wherever it is there, as it is seen; where a text stands in its place, the error tells it
+-- the part that is asked for takes no memory: it is answered wherever it is there; where a text says why there is none, the error carries that text
 abbrev pub AnswersAtOnce : {A B : Type 0} → (B → A) → Result A (List ℕ) → Result B Error → Type 0
 AnswersAtOnce seen wanted (Ok x) = wanted ≡ Ok (seen x)
 AnswersAtOnce seen wanted (Err e) = RefusesOnly wanted (error_kind e)

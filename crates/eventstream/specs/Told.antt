@@ -25,16 +25,16 @@ pub data Told : Type 0 where
 abbrev pub encoding_refusal : ErrorKind → SignMessageError
 encoding_refusal kind = FailedToEncodeMessage (error_of kind)
 
--- why nothing is signed at a moment: it lies outside the years
+-- why nothing is signed at a moment: it lies outside the years 0 to 9999
 abbrev pub unsigned_at : Instant → Option SignMessageError
 unsigned_at t = if is_in_years t then None else Some (MomentOutOfRange t)
 
--- why a message isn't signed: it has no frame, or the moment lies outside the years
+-- why a message isn't signed: it has no frame, or the moment lies outside the years 0 to 9999
 abbrev pub unsigned_message : Parts → Instant → Option SignMessageError
 unsigned_message message t = option_or (option_map encoding_refusal (unframed message)) (unsigned_at t)
 
 -- with no reason against it the answer is the link of the bytes over the signature, and the signer goes on from the new one;
--- else it is the reason, or want of memory, and the signer stays
+-- else it is the reason, or memory ran out, and the signer stays
 abbrev pub Seals : Option SignMessageError → List ℕ → Signer → List ℕ → Instant → Result Parts SignMessageError → Told → Type 0
 Seals refused signature signer bytes t (Ok answer) now =
     (refused ≡ None) × (answer ≡ link_message signer signature bytes t) × (now ≡ sealed (link_signature signer signature bytes t) signer)

@@ -7,7 +7,7 @@ use Rattle.eventstream.specs.declared.error.ErrorKind.TheVariants.{NoMemory}
 use Rattle.eventstream.specs.declared.unmarshall.UnmarshalledMessage.{UnmarshalledMessage}
 use Rattle.eventstream.specs.declared.unmarshall.UnmarshalledMessage.TheVariants as made
 
--- a message as it is, or want of memory; never an error of the service
+-- a message as it is, or memory ran out; never an error of the service
 abbrev pub PassesMessage : {E : Type 0} → Parts → Result (UnmarshalledMessage Parts E) Error → Type 0
 PassesMessage message (Ok (made.Event event)) = event ≡ message
 PassesMessage message (Ok (made.Error error)) = ⊥

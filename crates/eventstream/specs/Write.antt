@@ -5,7 +5,7 @@ use Rattle.eventstream.specs.declared.error.ErrorKind.TheVariants.{InvalidHeader
 use Rattle.eventstream.specs.declared.error.Error.{Error}
 use Rattle.eventstream.specs.Error.{error_kind}
 
--- with no fault the text is appended; with one nothing is, and the fault is told, or want of memory
+-- with no fault the text is appended; with one nothing is, and the fault is told, or memory ran out
 abbrev pub Writes : Option ErrorKind → List ℕ → List ℕ → List ℕ → Result (Unit {0}) Error → Type 0
 Writes fault text old new (Ok _) = (fault ≡ None) × (new ≡ old ++ text)
 Writes fault text old new (Err e) = ((fault ≡ Some (error_kind e)) ⊎ (error_kind e ≡ NoMemory)) × (new ≡ old)

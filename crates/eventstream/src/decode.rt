@@ -60,7 +60,7 @@ pub enum StreamEnd {
 }
 
 impl MessageFrameDecoder {
-    /// A decoder at the begin of a stream.
+    /// A decoder at the start of a stream.
     pub fn new() -> Self
         ensures { result ≡ None }
     {
@@ -74,7 +74,7 @@ impl MessageFrameDecoder {
         self.prelude
     }
 
-    /// Takes the next frame from the buffer, once it is there. Till then the decoder keeps its prelude.
+    /// Takes the next frame from the buffer, once it is there. Until then the decoder keeps its prelude.
     ///
     /// ```rust
     /// buffer.push_slice(piece)?;

@@ -6,7 +6,7 @@ use smithy_core::{DateTime, Mem};
 use std::alloc::{AllocError, AllocFailed};
 use std::fmt;
 
-/// Why a message isn't written or read, or an event is no message.
+/// Why a message can't be written or read, or an event can't be made a message.
 #[derive(Debug, Drop)]
 pub enum ErrorKind {
     /// The header block of a message passes 4,294,967,295 bytes.
@@ -21,7 +21,7 @@ pub enum ErrorKind {
     InvalidHeaderValueType(u8),
     /// The header block is too short for a header, or passes the frame.
     InvalidHeadersLength,
-    /// The frame is shorter than the least one, or longer than the bytes that are there.
+    /// The frame is shorter than the smallest one, or longer than the bytes that are there.
     InvalidMessageLength,
     /// A name or a text isn't UTF-8.
     InvalidUtf8String,
@@ -35,9 +35,9 @@ pub enum ErrorKind {
     PreludeChecksumMismatch(u32, u32),
     /// The whole milliseconds of a moment leave `i64`.
     TimestampValueTooLarge(DateTime),
-    /// An event is no message.
+    /// An event can't be made a message.
     Marshalling(String),
-    /// A message is no event.
+    /// A message can't be read as an event.
     Unmarshalling(String),
     /// Memory ran out.
     NoMemory,
@@ -80,7 +80,7 @@ pub struct Error {
 }
 
 impl Error {
-    /// An event that is no message.
+    /// An event that can't be made a message.
     pub fn marshalling(message: String) -> Error
         ensures { error_kind result ≡ Marshalling message }
     {
@@ -89,7 +89,7 @@ impl Error {
         }
     }
 
-    /// A message that is no event.
+    /// A message that can't be read as an event.
     pub fn unmarshalling(message: String) -> Error
         ensures { error_kind result ≡ Unmarshalling message }
     {
@@ -114,7 +114,7 @@ impl Error {
         })
     }
 
-    /// Whether the message itself is at fault, which no writer can send.
+    /// Whether the message itself is at fault, so that no writer could send it.
     pub fn is_invalid_message(&self) -> bool
         ensures { result ≡ is_invalid_message (error_kind self.now) }
     {

@@ -10,7 +10,7 @@ use std::fmt;
 pub enum SignMessageError {
     /// The message has no frame, for this reason.
     FailedToEncodeMessage(Error),
-    /// The identity is no AWS credentials.
+    /// The identity isn't AWS credentials.
     UnsupportedIdentityType,
     /// The moment lies outside the years 0 to 9999.
     MomentOutOfRange(Moment),

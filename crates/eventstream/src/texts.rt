@@ -6,7 +6,7 @@ use crate::error::Error;
 use smithy_core::{DateTime, HeaderValue, Mem};
 use std::alloc::Global;
 
-// The error of this text, or of want of memory.
+// The error of this text, or `NoMemory`.
 pub(crate) fn refusal(text: Mem<String>) -> Error
     ensures { MatchResult text (λ text. Tells (string_bytes text) result.kind) (λ _. result.kind ≡ NoMemory) }
 {

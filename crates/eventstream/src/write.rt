@@ -21,7 +21,7 @@ const MOST_VALUE: usize = 32_767;
 /// The most bytes of a header block, of a payload and of a frame.
 const MOST_FRAME: usize = 4_294_967_295;
 
-/// The bytes of the least frame, which has neither headers nor a payload: a prelude and the closing checksum.
+/// The bytes of the smallest frame, which has neither headers nor a payload: a prelude and the closing checksum.
 pub(crate) const LEAST_FRAME: usize = 16;
 
 /// Appends the spellings of the headers.
