@@ -40,7 +40,7 @@ has_host headers = is_some (first_value (given_headers headers) (codes "host"))
 abbrev pub added_host : Target → List Pair → Option (List ℕ)
 added_host target headers = if has_host headers then None else host_text target
 
--- the headers with one more, in place of all of its name, where there is one
+-- the headers with one more, in place of all headers of its name, where there is one
 abbrev pub with_optional : List ℕ → Option (List ℕ) → List Pair → List Pair
 with_optional name None headers = headers
 with_optional name (Some value) headers = inserted headers name value

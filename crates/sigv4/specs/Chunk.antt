@@ -56,7 +56,7 @@ unfoldable pub trailer_text : List Pair → Signer → Instant → List ℕ → 
 trailer_text trailers signer t signature =
     begun_text (codes "AWS4-HMAC-SHA256-TRAILER") signer t signature ++ encode_lower (sha256 (trailer_lines trailers))
 
--- the code of a string to sign under the signing key, in lower-case hexadecimal
+-- the HMAC of a string to sign under the signing key, in lower-case hexadecimal
 abbrev pub text_signature : Signer → Instant → List ℕ → List ℕ
 text_signature signer t text = encode_lower (mac (signing_key signer t) text)
 
@@ -68,7 +68,7 @@ chunk_signature chunk signer t signature = text_signature signer t (chunk_text c
 unfoldable pub trailer_signature : List Pair → Signer → Instant → List ℕ → List ℕ
 trailer_signature trailers signer t signature = text_signature signer t (trailer_text trailers signer t signature)
 
--- with no reason against it the signature is this one; else it is the reason, or want of memory
+-- with no reason against it the signature is this one; else it is the reason, or memory ran out
 abbrev pub SignsPart : {T : Type 0} → Option SigningError → List ℕ → Result (SigningOutput T) SigningError → Type 0
 SignsPart refused signature (Ok output) = (refused ≡ None) × (output_signature output ≡ signature)
 SignsPart refused signature (Err error) = (refused ≡ Some error) ⊎ (error ≡ NoMemory)

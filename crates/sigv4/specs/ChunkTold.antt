@@ -18,12 +18,12 @@ pub data ChunkTold : Type 0 where
   -- nothing is told
   untold : ChunkTold
 
--- why nothing is signed at a moment: it lies outside the years
+-- why nothing is signed at a moment: it lies outside the years 0 to 9999
 abbrev pub unsigned_at : Instant → Option SigningError
 unsigned_at t = if is_in_years t then None else Some (MomentOutOfRange t)
 
--- with no reason against it the answer is the next signature, and the signer goes on from it; else it is the reason, or want of
--- memory, and the signer stays
+-- with no reason against it the answer is the next signature, and the signer goes on from it; else it is the reason, or
+-- memory ran out, and the signer stays
 abbrev pub SealsNext : List ℕ → List ℕ → Signer → Instant → Result (String Global) SigningError → ChunkTold → Type 0
 SealsNext next signature signer t (Ok answer) now = (unsigned_at t ≡ None) × (string_bytes answer ≡ next) × (now ≡ sealed next signer t)
 SealsNext next signature signer t (Err error) now = ((unsigned_at t ≡ Some error) ⊎ (error ≡ NoMemory)) × (now ≡ sealed signature signer t)

@@ -17,7 +17,7 @@ abbrev pub encoding_error_for : ErrorKind → Error → SigningError
 encoding_error_for NoRoom error = NoMemory
 encoding_error_for _ error = FailedToEncodeMessage error
 
--- want of memory stays what it is
+-- `NoMemory` stays what it is
 abbrev pub encoding_error : Error → SigningError
 encoding_error error = encoding_error_for (error_kind error) error
 

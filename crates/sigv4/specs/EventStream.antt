@@ -18,7 +18,7 @@ use Rattle.sigv4.specs.declared.error.SigningError.TheVariants.{FailedToEncodeMe
 use Rattle.sigv4.specs.declared.output.SigningOutput.{SigningOutput}
 use Rattle.sigv4.specs.declared.params.SigningParams.{SigningParams}
 
--- why an identity doesn't sign at a moment: it has no secret, or the moment lies outside the years
+-- why an identity doesn't sign at a moment: it has no secret, or the moment lies outside the years 0 to 9999
 abbrev pub unsignable : Identity → Instant → Option SigningError
 unsignable (Token token) t = Some UnsupportedIdentityType
 unsignable (Credentials credentials) t = if is_in_years t then None else Some (MomentOutOfRange t)
@@ -35,7 +35,7 @@ message_refusal message identity t = option_or (option_map failed_encoding (unfr
 abbrev pub IsKeyOf : {S : Type 0} → SigningParams S → List ℕ → Type 0
 IsKeyOf params key = unsignable (v4_identity params) (v4_time params) ≡ None → key ≡ signing_key (signer_of params) (v4_time params)
 
--- with no reason against it the answer is the link of the bytes over the signature before; else it is the reason, or want of memory
+-- with no reason against it the answer is the link of the bytes over the signature before; else it is the reason, or memory ran out
 abbrev pub Links : {S : Type 0} → Option SigningError → SigningParams S → List ℕ → List ℕ → Result (SigningOutput Parts) SigningError → Type 0
 Links refused params signature bytes (Ok output) =
     (refused ≡ None)

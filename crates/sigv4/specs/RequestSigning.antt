@@ -24,7 +24,7 @@ use Rattle.sigv4.specs.declared.signing_texts.SigningTexts.{SigningTexts}
 abbrev pub IsRequestKey : SigningParams → List ℕ → Type 0
 IsRequestKey (V4 params) key = IsKeyOf params key
 
--- with no refusal the text is the canonical one; with one it is the refusal, or want of memory
+-- with no refusal the text is the canonical one; with one it is the refusal, or memory ran out
 abbrev pub TellsCanonical : Identity → Case → Result (String Global) SigningError → Type 0
 TellsCanonical identity c (Ok text) = (request_refusal identity c ≡ None) × (string_bytes text ≡ canonical c)
 TellsCanonical identity c (Err error) = (request_refusal identity c ≡ Some error) ⊎ (error ≡ NoMemory)
@@ -35,7 +35,7 @@ pub record IsSigned (c : Case) (output : SigningOutput SigningInstructions) : Ty
   pub params : (signed_output output).params ≡ parameters c
   pub signature : output_signature output ≡ signature_of c
 
--- with no refusal the case is signed; with one it is the refusal, or want of memory
+-- with no refusal the case is signed; with one it is the refusal, or memory ran out
 abbrev pub Signs : Option SigningError → Case → Result (SigningOutput SigningInstructions) SigningError → Type 0
 Signs refused c (Ok output) = (refused ≡ None) × IsSigned c output
 Signs refused c (Err error) = (refused ≡ Some error) ⊎ (error ≡ NoMemory)
@@ -54,7 +54,7 @@ pub record HasTexts (c : Case) (made : SigningTexts) : Type 0 where
   pub parameters : text_pairs made.parameters.items ≡ (if is_query_form c.settings then signing_parameters c else [])
   pub canonical : string_bytes made.canonical ≡ canonical c
 
--- with no test that fails these texts; with one it, or want of memory
+-- with no test that fails these texts; with one it, or memory ran out
 abbrev pub MakesTexts : Case → Result SigningTexts SigningError → Type 0
 MakesTexts c (Ok made) = (unfit c ≡ None) × HasTexts c made
 MakesTexts c (Err error) = (unfit c ≡ Some error) ⊎ (error ≡ NoMemory)

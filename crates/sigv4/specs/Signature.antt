@@ -17,6 +17,6 @@ string_to_sign_of stamp_text scope_text canonical =
 unfoldable pub string_to_sign : Instant → List ℕ → List ℕ → List ℕ → List ℕ
 string_to_sign t region name canonical = string_to_sign_of (stamp t) (scope t region name) canonical
 
--- the code of the string to sign under the signing key, in lower-case hexadecimal
+-- the HMAC of the string to sign under the signing key, in lower-case hexadecimal
 unfoldable pub signature : Signer → Instant → List ℕ → List ℕ
 signature signer t canonical = encode_lower (mac (signing_key signer t) (string_to_sign t signer.region signer.name canonical))

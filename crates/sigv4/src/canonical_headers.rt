@@ -193,7 +193,7 @@ pub(crate) fn told_payload<'a>(settings: &SigningSettings, payload: &'a str) -> 
     }
 }
 
-// Puts a header in place of all of its name, where there is a value.
+// Puts a header in place of all headers of its name, where there is a value.
 fn put_optional(
     alloc: Global,
     settings: &SigningSettings,
@@ -210,7 +210,7 @@ fn put_optional(
     }
 }
 
-// Puts a header in place of all of its name, where that is signed.
+// Puts a header in place of all headers of its name, where that is signed.
 fn put(
     alloc: Global,
     settings: &SigningSettings,

@@ -39,7 +39,7 @@ pub enum SigningError {
     InvalidTokenName,
     /// The signature goes into the target's query, and the settings don't say for how long it is good.
     MissingExpires,
-    /// The identity is no AWS credentials.
+    /// The identity isn't AWS credentials.
     UnsupportedIdentityType,
     /// The message has no frame, for this reason.
     FailedToEncodeMessage(eventstream::Error),

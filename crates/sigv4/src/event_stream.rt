@@ -124,9 +124,9 @@ pub fn sign_empty_message_with_key(
 }
 
 /// Signs the bytes of a frame over the signature before them, under a signing key that is at hand: a message with these bytes
-/// as its payload, and the new signature. This crate's own.
+/// as its payload, and the new signature. The SDK has no such public call.
 ///
-/// So signs one who needs to know that there is a frame before a key is derived. The condition on the key is that of
+/// This is for a caller that needs to know that there is a frame before it derives a key. The condition on the key is that of
 /// [`sign_message_with_key`].
 ///
 /// # Errors
@@ -179,7 +179,7 @@ fn whole_second(time: Moment) -> Moment
     Moment::new(time.secs(), 0)
 }
 
-// The message of bytes that were signed with this code, and the code as a signature.
+// The message of bytes that were signed with this HMAC, and the HMAC as a signature.
 fn link(alloc: Global, bytes: Vec<u8>, time: Moment, code: &[u8]) -> Mem<SigningOutput<Message>>
     ensures message { IfOk result (λ output. signed_output output ≡ record {
       headers = record { name = codes ":chunk-signature"; value = HeaderValue.ByteArray code.now } ∷ date_header (floor_secs time) ∷ [];

@@ -4,7 +4,7 @@ ghost use Rattle.sigv4.specs.Host.{has_default_port, host_text};
 
 use http_uri::{Authority, Uri};
 
-/// The text of a request's `host` header where it isn't given: the host alone where the port is the scheme's own, and
+/// The text of a request's `host` header where it isn't given: the host alone where the port is the scheme's default, and
 /// else the whole authority, its user included.
 #[tactic(auto, unfolding(crate::specs::Host::host_text))]
 pub(crate) fn host_text(uri: &Uri) -> Option<&str>

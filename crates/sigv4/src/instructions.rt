@@ -97,8 +97,8 @@ impl SigningInstructions {
     }
 
     /// Puts the signature into its request as [`SigningInstructions::apply_to_request`] does, where the request's target was
-    /// read already: `uri` has to be what it spells, as of [`SignableRequest::into_uri`](crate::SignableRequest::into_uri).
-    /// This crate's own.
+    /// read already: `uri` has to be what its text parses to, which
+    /// [`SignableRequest::into_uri`](crate::SignableRequest::into_uri) gives. The SDK has no such public call.
     ///
     /// # Errors
     ///

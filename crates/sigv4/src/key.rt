@@ -24,7 +24,7 @@ pub fn generate_signing_key(secret: &str, time: Moment, region: &str, service: &
 }
 
 /// The signing key of parameters, which is that of all parameters with the same identity, region and name and a moment of the
-/// same day. This crate's own.
+/// same day. The SDK has no such public call.
 ///
 /// # Errors
 ///
@@ -43,7 +43,7 @@ pub fn signing_key_of<S>(params: &SigningParams<'_, S>) -> Result<[u8; 32], Sign
 
 /// The scope of a signature: the date of a moment, the region, the name and `aws4_request`, with slashes between them.
 ///
-/// The moment has to lie in the years 0 to 9999. This crate's own.
+/// The moment has to lie in the years 0 to 9999. The SDK has no such public call.
 pub fn credential_scope(alloc: Global, time: Moment, region: &str, name: &str) -> Mem<String>
     requires { IsInYears time }
     ensures { IfOk result (λ text. string_bytes text ≡ scope time region.now name.now) }

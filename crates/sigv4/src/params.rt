@@ -125,7 +125,7 @@ pub struct Builder<'a, S> {
 }
 
 impl<'a, S: Drop> Builder<'a, S> {
-    /// With this identity.
+    /// Sets the identity.
     pub fn identity(self, identity: &'a Identity) -> Self
         ensures { result ≡ builder_with_identity self.entry (Some identity.entry) }
     {
@@ -135,7 +135,7 @@ impl<'a, S: Drop> Builder<'a, S> {
         }
     }
 
-    /// With this region.
+    /// Sets the region.
     pub fn region(self, region: &'a str) -> Self
         ensures { result ≡ builder_with_region self.entry (Some region.entry) }
     {
@@ -145,7 +145,7 @@ impl<'a, S: Drop> Builder<'a, S> {
         }
     }
 
-    /// With this name of the service.
+    /// Sets the name of the service.
     pub fn name(self, name: &'a str) -> Self
         ensures { result ≡ builder_with_name self.entry (Some name.entry) }
     {
@@ -155,7 +155,7 @@ impl<'a, S: Drop> Builder<'a, S> {
         }
     }
 
-    /// With this moment.
+    /// Sets the moment.
     pub fn time(self, time: Moment) -> Self
         ensures { result ≡ builder_with_time self.entry (Some time) }
     {
@@ -165,7 +165,7 @@ impl<'a, S: Drop> Builder<'a, S> {
         }
     }
 
-    /// With these settings.
+    /// Sets the settings.
     pub fn settings(self, settings: S) -> Self
         ensures { result ≡ builder_with_settings self.entry (Some settings) }
     {
@@ -175,7 +175,7 @@ impl<'a, S: Drop> Builder<'a, S> {
         }
     }
 
-    /// Gives or takes back the identity.
+    /// Sets the identity, or unsets it.
     pub fn set_identity(&mut self, identity: Option<&'a Identity>) -> &mut Self
         ensures same_builder { result.ghost_name ≡ self.entry.ghost_name }
         ensures given { result.now ≡ builder_with_identity self.old identity.entry }
@@ -184,7 +184,7 @@ impl<'a, S: Drop> Builder<'a, S> {
         self
     }
 
-    /// Gives or takes back the region.
+    /// Sets the region, or unsets it.
     pub fn set_region(&mut self, region: Option<&'a str>) -> &mut Self
         ensures same_builder { result.ghost_name ≡ self.entry.ghost_name }
         ensures given { result.now ≡ builder_with_region self.old region.entry }
@@ -193,7 +193,7 @@ impl<'a, S: Drop> Builder<'a, S> {
         self
     }
 
-    /// Gives or takes back the name of the service.
+    /// Sets the name of the service, or unsets it.
     pub fn set_name(&mut self, name: Option<&'a str>) -> &mut Self
         ensures same_builder { result.ghost_name ≡ self.entry.ghost_name }
         ensures given { result.now ≡ builder_with_name self.old name.entry }
@@ -202,7 +202,7 @@ impl<'a, S: Drop> Builder<'a, S> {
         self
     }
 
-    /// Gives or takes back the moment.
+    /// Sets the moment, or unsets it.
     pub fn set_time(&mut self, time: Option<Moment>) -> &mut Self
         ensures same_builder { result.ghost_name ≡ self.entry.ghost_name }
         ensures given { result.now ≡ builder_with_time self.old time }
@@ -211,7 +211,7 @@ impl<'a, S: Drop> Builder<'a, S> {
         self
     }
 
-    /// Gives or takes back the settings.
+    /// Sets the settings, or unsets it.
     pub fn set_settings(&mut self, settings: Option<S>) -> &mut Self
         ensures same_builder { result.ghost_name ≡ self.entry.ghost_name }
         ensures given { result.now ≡ builder_with_settings self.old settings }

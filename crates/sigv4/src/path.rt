@@ -10,7 +10,8 @@ use smithy_http::label::{self, EncodingStrategy};
 use std::alloc::Global;
 
 /// The path in its normal form (RFC 3986, section 5.2.4, with repeated slashes merged): it begins with `/`, has no segment
-/// that is empty, `.` or `..`, and ends with `/` where the path's last segment was one of these. This crate's own.
+/// that is empty, `.` or `..`, and ends with `/` where the path's last segment was one of these. The SDK has no such public
+/// call.
 pub fn normalize_uri_path(alloc: Global, path: &str) -> Mem<String>
     ensures { IfOk result (λ text. string_bytes text ≡ norm path.now) }
 {

@@ -71,7 +71,7 @@ impl<'a> SignableRequest<'a> {
         })
     }
 
-    /// The URI that was read of the request's target. This crate's own.
+    /// The URI that was read of the request's target. The SDK has no such public call.
     pub fn into_uri(self) -> Uri
         ensures { result ≡ request_uri self.entry }
     {

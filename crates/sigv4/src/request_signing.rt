@@ -53,11 +53,11 @@ pub fn sign(
     sign_request(alloc, &request, params)
 }
 
-/// Signs a request as [`sign`] does, under a signing key that is at hand. This crate's own.
+/// Signs a request as [`sign`] does, under a signing key that is at hand. The SDK has no such public call.
 ///
 /// Where the identity is credentials and the moment lies in the years 0 to 9999, the key has to be the signing key of the
-/// parameters; elsewhere it may be any. A key holds for the day, so one who signs thousands of requests for others, as a proxy
-/// does, derives it once:
+/// parameters; elsewhere it may be any. A key holds for the day, so a caller that signs thousands of requests for others, as a
+/// proxy does, derives it once:
 ///
 /// ```rust
 /// let params = v4::SigningParams::new(&identity, "us-east-1", "service", at, settings);
@@ -86,7 +86,7 @@ pub fn sign_with_key(
     sign_v4(alloc, &request, params, key)
 }
 
-/// Signs a request as [`sign`] does, and leaves it to its caller. This crate's own.
+/// Signs a request as [`sign`] does, and leaves it to its caller. The SDK has no such public call.
 ///
 /// With it a target is read once where the request itself is to be signed:
 ///

@@ -9,9 +9,9 @@ use std::alloc::Global;
 /// Whether the payload's text goes into the header `x-amz-content-sha256`.
 #[derive(Clone, Copy, Debug, PartialEq, Eq)]
 pub enum PayloadChecksumKind {
-    /// It does.
+    /// It does, where the signature goes into headers.
     XAmzSha256,
-    /// It doesn't.
+    /// It doesn't: there is no such header.
     NoHeader,
 }
 

@@ -13,7 +13,7 @@ use mac_core::hmac_sha256;
 use smithy_core::{Mem, Moment, push_line};
 use std::alloc::Global;
 
-/// The signature of a string to sign: its code under the signing key, in lower-case hexadecimal.
+/// The signature of a string to sign: its HMAC under the signing key, in lower-case hexadecimal.
 pub fn calculate_signature(alloc: Global, signing_key: &[u8], string_to_sign: &[u8]) -> Mem<String>
     ensures { IfOk result (λ text. string_bytes text ≡ encode_lower (mac signing_key.now string_to_sign.now)) }
 {
@@ -23,7 +23,7 @@ pub fn calculate_signature(alloc: Global, signing_key: &[u8], string_to_sign: &[
 
 /// The signature of a request with this canonical text.
 ///
-/// The moment has to lie in the years 0 to 9999. This crate's own.
+/// The moment has to lie in the years 0 to 9999. The SDK has no such public call.
 #[tactic(auto, unfolding(crate::specs::Signature::signature, crate::specs::Signature::string_to_sign))]
 pub fn request_signature(
     alloc: Global,

@@ -30,7 +30,7 @@ impl Model for SigningTime {
 }
 
 impl SigningTime {
-    /// The moment, where it lies in the years.
+    /// The moment, where it lies in the years 0 to 9999.
     pub(crate) fn new(time: Moment) -> Option<SigningTime>
         ensures { MatchOption result (IsInYears time → ⊥) (λ at. IsInYears time × (at ≡ time)) }
     {
