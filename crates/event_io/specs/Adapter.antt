@@ -31,12 +31,12 @@ next_size (Frame bytes) = byte_count (codes "Frame") (length bytes)
 next_size NotYet = codes "NotYet"
 next_size End = codes "End"
 
--- the frame of the message, or why it has none, or want of memory
+-- the frame of the message, or why it has none, or memory ran out
 abbrev pub FramesMessage : Parts → Result (List ℕ) Error → Type 0
 FramesMessage message (Ok bytes) = (unframed message ≡ None) × (bytes ≡ frame message)
 FramesMessage message (Err error) = (unframed message ≡ Some (error_kind error)) ⊎ (error_kind error ≡ kinds.NoMemory)
 
--- the frame of the message that the signer answered, or why it has none, or the signer's refusal; or want of memory
+-- the frame of the message that the signer answered, or why it has none, or the signer's refusal; or memory ran out
 abbrev pub Frames : Result Parts SignMessageError → Result Next SendError → Type 0
 Frames (Ok message) (Ok (Frame bytes)) = (unframed message ≡ None) × (bytes ≡ frame message)
 Frames (Ok message) (Err (ConstructionFailure (Write error))) = unframed message ≡ Some (error_kind error)
@@ -44,7 +44,7 @@ Frames (Err refusal) (Err (ConstructionFailure (Sign error))) = error ≡ refusa
 Frames signed (Err NoMemory) = Unit {0}
 Frames signed result = ⊥
 
--- a fault that is answered isn't want of memory
+-- a fault that is answered isn't `NoMemory`
 abbrev pub TellsWant : Result Next SendError → Type 0
 TellsWant (Err (ConstructionFailure fault)) = send_error fault ≡ ConstructionFailure fault
 TellsWant result = Unit {0}
@@ -92,7 +92,7 @@ module _ {S M EM G : Type 0} where
   abbrev pub IsEnded : MessageStreamAdapter S M EM G → Type 0
   IsEnded adapter = adapter.phase ≡ Ended
 
-  -- an adapter that wanted memory
+  -- an adapter that ran out of memory
   abbrev pub IsClosed : MessageStreamAdapter S M EM G → Type 0
   IsClosed adapter = adapter.phase ≡ Closed
 
@@ -160,7 +160,7 @@ module _ {S M EM G : Type 0} where
           (t : Instant) × TakesMoment clock before now old_moments moments t
           × (signed : Result Parts SignMessageError) × Asks old new t signed × Frames signed result
 
-      -- what a call answers: after the end, and after want of memory, the end again
+      -- what a call answers: after the end, and where memory ran out, the end again
       abbrev pub Polls : MessageStreamAdapter S M EM G → MessageStreamAdapter S M EM G → Result Next SendError → Type 0
       Polls old new result =
           (IsOpen old × PollsOpen old new result)

@@ -20,7 +20,7 @@ abbrev pub send_error_for : ErrorKind → AdapterFault → SendError
 send_error_for kinds.NoMemory fault = NoMemory
 send_error_for _ fault = ConstructionFailure fault
 
--- the error of an item that isn't sent: want of memory, at any depth, stays what it is
+-- the error of an item that isn't sent: `NoMemory`, at any depth, stays what it is
 abbrev pub send_error : AdapterFault → SendError
 send_error (Marshall error) = send_error_for (error_kind error) (Marshall error)
 send_error (Sign signing.NoMemory) = NoMemory

@@ -1,4 +1,4 @@
--- What an adapter answers whose items are messages as they are, and whose signer seals them: the frames of a chain, one by one.
+-- What an adapter answers whose items are messages as they are, and whose signer signs them: the frames of a chain, one by one.
 use Rattle.std.specs.Prelude.{◌≡◌, ℕ, ◌⊎◌, List, [], ◌∷◌, ◌++◌, map, Option, Some, None, Result, Ok, Err}
 use Rattle.smithy_core.specs.Message.{Parts}
 use Rattle.smithy_core.specs.Moment.{Instant}

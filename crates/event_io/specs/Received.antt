@@ -37,7 +37,7 @@ IsReceivedCopy events received.NotYet received.NotYet = Unit {0}
 IsReceivedCopy events received.OutOfTurns received.OutOfTurns = Unit {0}
 IsReceivedCopy events _ _ = ⊥
 
--- the same answer, with an equal message and a copy of what was made beside
+-- the same answer, with an equal message and a copy of what was made along with it
 abbrev pub IsTriedCopy : {M : Type 0} → (M → M → Type 0) → Tried M → Tried M → Type 0
 IsTriedCopy made (tried.Initial message beside) (tried.Initial copy beside_copy) = (copy ≡ message) × made beside beside_copy
 IsTriedCopy made tried.Other tried.Other = Unit {0}

@@ -65,7 +65,7 @@ terminates (Err (ServiceError error raw)) = true
 terminates (Err (ResponseError refusal raw)) = ends_reading refusal
 terminates _ = false
 
--- a fault that is answered isn't want of memory
+-- a fault that is answered isn't `NoMemory`
 abbrev pub TellsWantOfMemory : {A E : Type 0} → Result A (ReceiveError E) → Type 0
 TellsWantOfMemory (Err (ResponseError refusal raw)) = is_want refusal ≡ false
 TellsWantOfMemory result = Unit {0}
@@ -148,12 +148,12 @@ Unmarshals unmarshaller by message (Err (ServiceError error (Decoded raw))) = un
 Unmarshals unmarshaller by message (Err (ResponseError (Unmarshall error) (Decoded raw))) = unmarshaller.answers by message (Err error) × (raw ≡ message)
 Unmarshals unmarshaller by message _ = ⊥
 
--- the answer of which a message is handed over, and which isn't want of memory; or the message, given back
+-- the answer of which a message is handed over, and which isn't `NoMemory`; or the message, given back
 abbrev pub Hands : {U T E : Type 0} → UnmarshallMessage.Ghosts U T E → U → Parts → Result (Result (Received T) (ReceiveError E)) Parts → Type 0
 Hands unmarshaller by message (Ok answer) = Unmarshals unmarshaller by message answer × TellsWantOfMemory answer
 Hands unmarshaller by message (Err back) = back ≡ message
 
--- a preprocessor that leaves messages as they are, and makes nothing beside
+-- a preprocessor that leaves messages as they are, and makes nothing along with them
 abbrev pub LeavesMessage : Parts → Result (Parts × Unit {0}) Error → Type 0
 LeavesMessage message answer = answer ≡ Ok (message, tt)
 
@@ -164,7 +164,7 @@ TriesMessage {M = M} answers kind message (Ok tried.Other) = (found : Parts × M
 TriesMessage answers kind message (Err (ResponseError (Preprocessor error) (Invalid None))) = answers message (Err error)
 TriesMessage answers kind message result = ⊥
 
--- whether an answer is want of memory
+-- whether an answer is `NoMemory`
 abbrev pub is_no_memory : {A E : Type 0} → Result A (ReceiveError E) → Bool
 is_no_memory (Err NoMemory) = true
 is_no_memory result = false
@@ -233,7 +233,7 @@ module _ {F U : Type 0} where
       pub cause : IsCause source why (frames_of old) (frames_of new)
       pub turns : TakesTurns why (idle_count frames)
 
-  -- what the unmarshaller made of the kept message is the answer; for want of memory the message stays
+  -- what the unmarshaller made of the kept message is the answer; where memory runs out the message stays
   abbrev pub ReceivesKept : {T E : Type 0} → UnmarshallMessage.Ghosts U T E → Parts → Receiver F U → Receiver F U → Result (Received T) (ReceiveError E) → Type 0
   ReceivesKept unmarshaller message old new result =
       TakesNothing old new
@@ -247,7 +247,7 @@ module _ {F U : Type 0} where
   Receives source unmarshaller None false old new result =
       Reads source (recv_stop result) (λ message. Unmarshals unmarshaller (unmarshaller_of old) message result) old new × (kept_message new ≡ None)
 
-  -- what is answered of the kept message; for want of memory it stays
+  -- what is answered of the kept message; where memory runs out it stays
   abbrev pub TriesKept : {M E : Type 0} → (Parts → Result (Parts × M) Error → Type 0) → InitialMessageType → Parts → Receiver F U → Receiver F U
       → Result (Tried M) (ReceiveError E) → Type 0
   TriesKept answers kind message old new result =
@@ -266,7 +266,7 @@ module _ {F U : Type 0} where
   TriesFirst source answers kind None false old new result =
       Reads source (tried_stop result) (λ message. Tries answers kind message (kept_message new) result) old new × KeepsNone (tried_stop result) new
 
--- a message is at the front of the bytes, or there is none for this reason, of which want of memory is told as such
+-- a message is at the front of the bytes, or there is none for this reason, of which `NoMemory` is told as such
 abbrev pub FindsFront : List ℕ → Result Front Stop → Type 0
 FindsFront bytes (Ok front) = (front.len ≤ length bytes) × (first_of bytes ≡ begins front.message (drop front.len bytes))
 FindsFront bytes (Err why) = StopsAt why bytes × TellsStop why

@@ -13,19 +13,19 @@ use Rattle.event_io.specs.declared.response_fault.ResponseFault.TheVariants.{Fra
 abbrev pub ReceiveError : Type 0 → Type 0
 ReceiveError E = SdkError E ResponseFault RawMessage
 
--- whether an error is want of memory
+-- whether an error is `NoMemory`
 abbrev pub is_want_kind : ErrorKind → Bool
 is_want_kind kinds.NoMemory = true
 is_want_kind _ = false
 
--- whether a fault carries want of memory
+-- whether a fault carries `NoMemory`
 abbrev pub is_want : ResponseFault → Bool
 is_want (Frame error) = is_want_kind (error_kind error)
 is_want (UnexpectedEndOfStream end) = false
 is_want (Unmarshall error) = is_want_kind (error_kind error)
 is_want (Preprocessor error) = is_want_kind (error_kind error)
 
--- the error of a message that isn't received: want of memory stays what it is
+-- the error of a message that isn't received: `NoMemory` stays what it is
 abbrev pub response_error : {E : Type 0} → ResponseFault → RawMessage → ReceiveError E
 response_error fault raw = if is_want fault then NoMemory else ResponseError fault raw
 

@@ -6,11 +6,11 @@ use Rattle.event_io.specs.ResponseFault.{is_want_kind}
 use Rattle.event_io.specs.declared.stop.Stop.{Stop}
 use Rattle.event_io.specs.declared.stop.Stop.TheVariants.{CutOff, End, Faulty, NoMemory}
 
--- the fault of a frame, of which want of memory is told as such
+-- the fault of a frame, of which `NoMemory` is told as such
 abbrev pub stop_of : Error → Stop
 stop_of error = if is_want_kind (error_kind error) then NoMemory else Faulty error
 
--- a fault isn't want of memory
+-- a fault isn't `NoMemory`
 abbrev pub TellsStop : Stop → Type 0
 TellsStop (Faulty error) = is_want_kind (error_kind error) ≡ false
 TellsStop why = Unit {0}

@@ -9,7 +9,7 @@ use smithy_core::{Clock, Mem, Message, Moment, RawMessage, SdkError};
 use std::alloc::Global;
 use std::fmt;
 
-/// What an adapter has at a poll. [`Debug`](std::fmt::Debug) prints how long a frame is, since an event may hold a secret.
+/// What a poll of an adapter answers. [`Debug`](std::fmt::Debug) prints how long a frame is, since an event may hold a secret.
 #[derive(Drop)]
 pub enum Next {
     /// The next frame.
@@ -164,7 +164,7 @@ where
         answer
     }
 
-    // Polls an adapter that goes on, and leaves it open or ended: who calls closes it after want of memory.
+    // Polls an adapter that goes on, and leaves it open or ended: the caller closes it once memory ran out.
     #[tactic(auto, using(crate::proofs::AdapterLemmas::asked, crate::proofs::AdapterLemmas::refused))]
     fn poll_open<C: Clock>(
         &mut self,
@@ -234,7 +234,8 @@ fn frame_bytes(alloc: Global, message: &Message) -> Result<Bytes, Error>
     Ok(Bytes::from_vec(bytes)?)
 }
 
-/// Asks the clock for a moment, which `moments` gains. Room for it is made first, so want of memory leaves both.
+/// Asks the clock for a moment, which `moments` gains. Room for it is made first, so running out of memory leaves both as they
+/// were.
 pub fn take_moment<C: Clock>(clock: &mut C, moments: &mut Vec<Moment>) -> Mem<Moment>
     ensures ok { IfOk result (λ t. TakesMoment C.Clock clock.old clock.new moments.old.items moments.new.items t) }
     ensures err { OnErr result ((clock.new ≡ clock.old) × (moments.new.items ≡ moments.old.items)) }

@@ -26,7 +26,7 @@ pub enum Drained {
 /// # Errors
 ///
 /// As [`Receiver::recv`] has them, but for those of the unmarshaller, which takes messages as they are. `out` keeps the
-/// messages before them. Room in `out` is made before each message is taken, so none is lost for want of memory.
+/// messages before them. Room in `out` is made before each message is taken, so none is lost where memory runs out.
 pub fn receive_all<F: FrameSource>(
     receiver: &mut Receiver<F, IdentityUnmarshaller>,
     most: usize,

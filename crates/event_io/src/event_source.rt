@@ -7,7 +7,7 @@ use smithy_core::Mem;
 use std::collections::VecDeque;
 use std::marker::Model;
 
-/// What a source of events has at a poll.
+/// What a poll of a source of events answers.
 #[derive(Debug, Drop)]
 pub enum EventPolled<T, E> {
     /// The next item: an event, or an error in its place.
@@ -50,8 +50,8 @@ pub trait EventSource {
     // that it has answered the end
     ghost ended: { Self → Type 0 };
 
-    /// The next item. [`EventPolled::NotYet`] comes only where the count of waits rose, or stands at its last value. After
-    /// [`EventPolled::End`] it comes again.
+    /// The next item. [`EventPolled::NotYet`] comes only where the count of waits rose, or is saturated. After
+    /// [`EventPolled::End`] each call answers it again.
     fn poll_event(&mut self) -> EventPolled<Self::Item, Self::Error>
         ensures waits { waits self.old ≤ waits self.new }
         ensures waited { result ≡ polled.NotYet → RoseOrStands (waits self.old) (waits self.new) }

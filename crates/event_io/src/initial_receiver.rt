@@ -58,7 +58,7 @@ impl<F: FrameSource, U: UnmarshallMessage> Receiver<F, U> {
         answer
     }
 
-    // As the call above, but the receiver isn't terminated: who calls does that.
+    // As the call above, but the receiver isn't terminated: the caller does that.
     fn try_first<P, M: Drop>(
         &mut self,
         message_type: InitialMessageType,
@@ -104,7 +104,7 @@ impl<F: FrameSource, U: UnmarshallMessage> Receiver<F, U> {
         answer
     }
 
-    // Tries the next message of the stream. For want of memory it stays at the front of the buffer.
+    // Tries the next message of the stream. Where memory runs out it stays at the front of the buffer.
     fn try_next<P, M: Drop>(
         &mut self,
         message_type: InitialMessageType,
@@ -134,7 +134,7 @@ impl<F: FrameSource, U: UnmarshallMessage> Receiver<F, U> {
     }
 }
 
-// A preprocessor that makes nothing beside.
+// A preprocessor that leaves messages as they are, and makes nothing along with them.
 fn left_as_it_is(message: Message) -> Result<(Message, ()), Error>
     ensures { LeavesMessage message result }
 {
@@ -167,7 +167,7 @@ where
     }
 }
 
-// Whether an answer is want of memory.
+// Whether an answer is `NoMemory`.
 fn wants_memory<A, E>(answer: &Result<A, ReceiveError<E>>) -> bool
     ensures { result ≡ is_no_memory answer.now }
 {

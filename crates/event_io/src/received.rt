@@ -3,7 +3,7 @@ ghost use Rattle.event_io.specs.Received.{IsReceivedCopy, IsTriedCopy, initial_t
 
 use smithy_core::{Mem, Message};
 
-/// What a receiver has at a call.
+/// What a call of a receiver answers.
 #[derive(Debug, Drop)]
 pub enum Received<T> {
     /// The next event.
@@ -30,10 +30,10 @@ impl<T: Clone + Drop> Received<T> {
     }
 }
 
-/// What a receiver has where the message is looked for that begins a stream.
+/// What a receiver answers when it is asked for the message that begins the stream.
 #[derive(Debug, Drop)]
 pub enum Tried<M> {
-    /// The message that begins the stream, and what its preprocessor made of it beside.
+    /// The message that begins the stream, and what its preprocessor made along with it.
     Initial(Message, M),
     /// The first message is another one, and is kept.
     Other,
@@ -46,7 +46,7 @@ pub enum Tried<M> {
 }
 
 impl<M: Clone + Drop> Tried<M> {
-    /// The same answer, with an equal message and a copy of what was made beside.
+    /// The same answer, with an equal message and a copy of what was made along with it.
     pub fn try_clone(&self) -> Mem<Tried<M>>
         ensures { IfOk result (IsTriedCopy M.is_clone self.now) }
     {

@@ -71,7 +71,7 @@ impl<F: FrameSource, U: UnmarshallMessage> Receiver<F, U> {
         answer
     }
 
-    // As `recv`, but the receiver isn't terminated: who calls does that.
+    // As `recv`, but the receiver isn't terminated: the caller does that.
     fn receive(&mut self) -> Result<Received<U::Output>, ReceiveError<U::Error>>
         ensures receives { Receives F.FrameSource U.UnmarshallMessage (kept_message self.old) (is_terminated self.old) self.old self.new result }
         ensures open { is_terminated self.new ≡ is_terminated self.old }
@@ -85,7 +85,7 @@ impl<F: FrameSource, U: UnmarshallMessage> Receiver<F, U> {
         }
     }
 
-    // Hands the message that was kept to the unmarshaller. For want of memory it is kept again.
+    // Hands the message that was kept to the unmarshaller. Where memory runs out it is kept again.
     fn receive_kept(
         &mut self,
         message: Message,
@@ -105,7 +105,7 @@ impl<F: FrameSource, U: UnmarshallMessage> Receiver<F, U> {
         }
     }
 
-    // Hands the next message of the stream to the unmarshaller. For want of memory it stays at the front of the buffer.
+    // Hands the next message of the stream to the unmarshaller. Where memory runs out it stays at the front of the buffer.
     fn receive_next(&mut self) -> Result<Received<U::Output>, ReceiveError<U::Error>>
         ensures reads { Reads F.FrameSource (recv_stop result) (λ message. Unmarshals U.UnmarshallMessage (unmarshaller_of self.old) message result) self.old self.new }
         ensures kept { kept_message self.new ≡ kept_message self.old }
@@ -126,7 +126,7 @@ impl<F: FrameSource, U: UnmarshallMessage> Receiver<F, U> {
         }
     }
 
-    // Hands a message to the unmarshaller, or gives it back for want of memory.
+    // Hands a message to the unmarshaller, or gives it back where memory runs out.
     fn hand(
         &self,
         message: Message,

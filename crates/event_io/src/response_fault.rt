@@ -42,7 +42,7 @@ pub(crate) type ReceiveError<E> = SdkError<E, ResponseFault, RawMessage>;
 impl ResponseFault {
     ghost use Rattle.event_io.specs.ResponseFault.{IsSameResponseFault, is_want};
 
-    // Whether it carries want of memory.
+    // Whether it carries `NoMemory`.
     fn is_want(&self) -> bool
         ensures { result ≡ is_want self.now }
     {
@@ -85,14 +85,14 @@ impl fmt::Display for ResponseFault {
 
 impl std::error::Error for ResponseFault {}
 
-/// Whether an error is want of memory.
+/// Whether an error is `NoMemory`.
 pub(crate) fn is_want(error: &Error) -> bool
     ensures { result ≡ is_want_kind (error_kind error.now) }
 {
     matches!(error.kind(), ErrorKind::NoMemory)
 }
 
-/// The error of a message that isn't received for a reason. Want of memory stays what it is.
+/// The error of a message that isn't received for a reason. `NoMemory` stays what it is.
 pub(crate) fn response_error<E>(fault: ResponseFault, raw: RawMessage) -> ReceiveError<E>
     ensures { result ≡ response_error fault raw }
 {
