@@ -35,7 +35,7 @@ fn signature_told(alloc: Global, signed: &Signed) -> Mem<String> {
     format!(in alloc; "{signature} {starts}")
 }
 
-/// What the answer shows to one who debugs.
+/// What `Debug` shows of the answer.
 pub fn debug(alloc: Global, parts: &[&str]) -> Mem<String> {
     shown(alloc, debug_text(alloc, parts))
 }

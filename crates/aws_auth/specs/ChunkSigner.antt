@@ -23,7 +23,7 @@ abbrev pub chunk_told : {S : Type 0} → SignerState S → ChunkTold
 chunk_told signer = chunk_told_by signer.parts.identity (running_signature signer) (signer_in signer) signer.parts.time
 
 -- with no reason against it the answer is the signature that a part has over the last one, in whose place it comes; else it is the
--- reason, or want of memory, and the signer stays
+-- reason, or memory ran out, and the signer stays
 abbrev pub SignsOver : {S : Type 0} → (Signer → Instant → List ℕ → List ℕ) → SignerState S → Result (String Global) SigningError → SignerState S → Type 0
 SignsOver part old (Ok answer) new =
     (unsignable old.parts.identity old.parts.time ≡ None)

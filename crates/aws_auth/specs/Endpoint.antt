@@ -24,7 +24,7 @@ abbrev pub text_in : Option Data → Option (List ℕ)
 text_in (Some (text bytes)) = Some bytes
 text_in _ = None
 
--- the truth value, where the value is one
+-- the Boolean, where the value is one
 abbrev pub truth_in : Option Data → Option Bool
 truth_in (Some (truth value)) = Some value
 truth_in _ = None
@@ -35,7 +35,7 @@ unless_text field None = None
 unless_text field (Some (text bytes)) = None
 unless_text field (Some value) = Some (BadTypeInEndpointAuthSchemeConfig field)
 
--- the error of a field, whose value is there and no truth value
+-- the error of a field, whose value is there and no Boolean
 abbrev pub unless_truth : EndpointField → Option Data → Option SigV4SigningError
 unless_truth field None = None
 unless_truth field (Some (truth value)) = None

@@ -9,7 +9,7 @@ use Rattle.aws_auth.specs.declared.error.SigV4SigningError.TheVariants.{MissingO
 use Rattle.aws_auth.specs.declared.name_override.OverrideError.{OverrideError}
 use Rattle.aws_auth.specs.declared.name_override.OverrideError.TheVariants as overrides
 
--- the error of a request that isn't signed: want of memory stays what it is
+-- the error of a request that isn't signed: `NoMemory` stays what it is
 abbrev pub auth_error : SigningError → SigV4SigningError
 auth_error NoRoom = NoMemory
 auth_error error = Signing error

@@ -71,7 +71,7 @@ told_by (Token token) signature signer = untold
 abbrev pub told_of : {S : Type 0} → SignerState S → Told
 told_of signer = told_by signer.parts.identity (running_signature signer) (signer_in signer)
 
--- why an identity signs nothing at a moment: it has no secret, or the moment lies outside the years
+-- why an identity signs nothing at a moment: it has no secret, or the moment lies outside the years 0 to 9999
 abbrev pub unsigned_by : Identity → Instant → Option SignMessageError
 unsigned_by (Token token) t = Some refusals.UnsupportedIdentityType
 unsigned_by (Credentials credentials) t = unsigned_at t
@@ -81,7 +81,7 @@ abbrev pub unsigned_message_by : Identity → Parts → Instant → Option SignM
 unsigned_message_by identity message t = option_or (option_map encoding_refusal (unframed message)) (unsigned_by identity t)
 
 -- with no reason against it the answer is the link of the bytes over the last signature, in whose place the new one comes, and the
--- moment's key is kept; else it is the reason, or want of memory, and the signature stays
+-- moment's key is kept; else it is the reason, or memory ran out, and the signature stays
 abbrev pub SignsBytes : {S : Type 0} → Option SignMessageError → SignerState S → List ℕ → Instant → Result Parts SignMessageError → SignerState S → Type 0
 SignsBytes refused old bytes t (Ok answer) new =
     (refused ≡ None)
@@ -101,7 +101,7 @@ abbrev pub SignsEnd : {S : Type 0} → SignerState S → Instant → Option (Res
 SignsEnd old t None new = ⊥
 SignsEnd old t (Some result) new = SignsBytes (unsigned_by old.parts.identity t) old [] t result new
 
--- with no reason against it the answer is the signing key of a moment, which is kept; else it is the reason, or want of memory.
+-- with no reason against it the answer is the signing key of a moment, which is kept; else it is the reason, or memory ran out.
 -- All else stays
 abbrev pub GivesKey : {S : Type 0} → SignerState S → Instant → Result (List ℕ) SignMessageError → SignerState S → Type 0
 GivesKey old t (Ok key) new =

@@ -30,7 +30,7 @@ use Rattle.aws_auth.specs.declared.inputs.SigningInputs.{SigningInputs}
 use Rattle.aws_auth.specs.declared.options.SigV4OperationSigningConfig.{SigV4OperationSigningConfig}
 use Rattle.aws_auth.specs.declared.signer.Signed.{Signed}
 
--- the error of an identity that is no credentials
+-- the error of an identity that isn't credentials
 abbrev pub wrong_identity : Identity → Option SigV4SigningError
 wrong_identity (Credentials credentials) = None
 wrong_identity (Token token) = Some WrongIdentityType
@@ -49,7 +49,7 @@ refused_name (Err error) = Some (override_error error)
 abbrev pub out_of_years : Instant → Option SigV4SigningError
 out_of_years t = if is_in_years t then None else Some (Signing (MomentOutOfRange t))
 
--- the first of a region, a name and a moment that is missing or out of the years
+-- the first of a region, a name and a moment that is missing or outside the years 0 to 9999
 abbrev pub unfit_params : Option (List ℕ) → Option (List ℕ) → Instant → Option SigV4SigningError
 unfit_params region name at = option_or (unless_there region MissingSigningRegion) (option_or (unless_there name MissingSigningName) (out_of_years at))
 
@@ -123,7 +123,7 @@ module _ {F : Type 0} (calls : Shared F (Bor SigningSettings × (Bor SigV4Operat
     pub passed : signing_refusal old identity inputs now (Ok token_name) (Some target) ≡ None
     pub made : IsSignedCase identity (chosen_case old identity (chosen inputs now) (option_map string_bytes token_name) target) old new signed
 
-  -- with no test that fails the request is signed; with one it is the first, or want of memory
+  -- with no test that fails the request is signed; with one it is the first, or memory ran out
   abbrev pub SignsByInputs : HttpRequest → Result Signed SigV4SigningError → Type 0
   SignsByInputs new (Ok signed) = SignsRequest new signed
   SignsByInputs new (Err error) = RefusesRequest error ⊎ (error ≡ NoMemory)

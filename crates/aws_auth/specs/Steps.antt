@@ -53,7 +53,7 @@ abbrev pub FindsText : Option Data → EndpointField → Result (Option (Bor (Li
 FindsText endpoint field (Ok found) = (bad_text endpoint field ≡ None) × (option_copied found ≡ text_in (field_of endpoint field))
 FindsText endpoint field (Err error) = bad_text endpoint field ≡ Some error
 
--- the truth value of a field, or its error
+-- the Boolean of a field, or its error
 abbrev pub FindsTruth : Option Data → EndpointField → Result (Option Bool) SigV4SigningError → Type 0
 FindsTruth endpoint field (Ok found) = (bad_truth endpoint field ≡ None) × (found ≡ truth_in (field_of endpoint field))
 FindsTruth endpoint field (Err error) = bad_truth endpoint field ≡ Some error
@@ -95,7 +95,7 @@ module _ {F : Type 0} (calls : Shared F (Bor SigningSettings × (Bor SigV4Operat
   NamesToken closure settings config (Err error) =
       (refused : OverrideError) × Answers calls closure settings config (Err refused) × (error ≡ override_error refused)
 
--- the config and what is chosen, or the first test that fails before an override is asked, or want of memory
+-- the config and what is chosen, or the first test that fails before an override is asked, or memory ran out
 abbrev pub Chooses : Identity → SigningInputs → Instant → Result (Bor SigV4OperationSigningConfig × Choice) SigV4SigningError → Type 0
 Chooses identity inputs now (Ok chose) =
     (refusal_before_override identity inputs ≡ None) × (given_config inputs ≡ chose.0.now) × (chosen inputs now ≡ choice_of chose.1)
@@ -106,7 +106,7 @@ abbrev pub IsParamsOf : Identity → Option (List ℕ) → Option (List ℕ) →
 IsParamsOf identity region name at settings (V4 params) =
     (v4_identity params ≡ identity) × (Some (v4_region params) ≡ region) × (Some (v4_name params) ≡ name) × (v4_time params ≡ at) × (v4_settings params ≡ settings)
 
--- the parameters, or the first that is missing or out of the years
+-- the parameters, or the first that is missing or outside the years 0 to 9999
 abbrev pub TestsParams : Identity → Option (List ℕ) → Option (List ℕ) → Instant → SigningSettings → Result SigningParams SigV4SigningError → Type 0
 TestsParams identity region name at settings (Ok params) = (unfit_params region name at ≡ None) × IsParamsOf identity region name at settings params
 TestsParams identity region name at settings (Err error) = unfit_params region name at ≡ Some error

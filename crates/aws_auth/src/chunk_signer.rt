@@ -24,7 +24,8 @@ impl SigV4MessageSigner<SigningSettings> {
         )
     }
 
-    // Puts the signature of what was signed in place of the last one, and answers it too. After want of memory nothing has changed.
+    // Puts the signature of what was signed in place of the last one, and answers it too. Where memory ran out, nothing has
+    // changed.
     fn go_on(&mut self, signed: SigningOutput<()>) -> Mem<String>
         ensures answer { IfOk result (λ answer. string_bytes answer ≡ output_signature signed) }
         ensures ok { OnOk result (self.new ≡ record self.old { running_signature = output_signature signed }) }

@@ -14,14 +14,14 @@ pub enum EndpointField {
     SigningName,
     /// `signingRegion`, a text: the region.
     SigningRegion,
-    /// `disableDoubleEncoding`, a truth value: whether the path is escaped as in the request.
+    /// `disableDoubleEncoding`, a Boolean: whether the path is escaped as in the request.
     DisableDoubleEncoding,
-    /// `disableNormalizePath`, a truth value: whether the path stays as it is.
+    /// `disableNormalizePath`, a Boolean: whether the path stays as it is.
     DisableNormalizePath,
 }
 
 impl EndpointField {
-    /// The name that the field has in an endpoint. This crate's own.
+    /// The name that the field has in an endpoint. The SDK has no such public call.
     pub fn name(self) -> &'static str
         ensures { result.now ≡ field_name self }
     {
@@ -92,7 +92,7 @@ fn text_of(
     }
 }
 
-// The truth value of a field, which is to have one.
+// The Boolean of a field, which is to have one.
 fn truth_of(
     endpoint: Option<&Document>,
     field: EndpointField,

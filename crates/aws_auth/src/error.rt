@@ -17,7 +17,7 @@ pub enum SigV4SigningError {
     MissingSigningRegion,
     /// The endpoint, the inputs and the config have no name of the service.
     MissingSigningName,
-    /// The identity is no AWS credentials.
+    /// The identity isn't AWS credentials.
     WrongIdentityType,
     /// The value of this field of the endpoint is of another type.
     BadTypeInEndpointAuthSchemeConfig(EndpointField),

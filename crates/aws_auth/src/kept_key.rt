@@ -13,7 +13,7 @@ const FIRST_SECOND: i64 = -62_167_219_200;
 
 /// A signing key that is kept for the day that it holds for, and the number of keys that were derived.
 ///
-/// To derive a key takes four codes, which is as long as the rest of the signing of a small message.
+/// Deriving a key takes four HMACs, which is as long as the rest of the signing of a small message.
 ///
 /// ```rust
 /// let mut kept = KeptKey::new(secret, region, name);
@@ -87,7 +87,7 @@ impl KeptKey {
         }
     }
 
-    /// How many keys were derived. At its last value the number stands.
+    /// How many keys were derived. The number saturates.
     pub fn derivations(&self) -> u64
         ensures { result ≡ self.now.derivations }
     {

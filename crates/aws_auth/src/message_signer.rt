@@ -126,7 +126,7 @@ impl SigV4MessageSigner<()> {
         let key = self.key_at(now)?;
         let alloc = *self.running_signature.allocator();
         let params = self.params_at(now);
-        // With a key there is no refusal, so that an error is want of memory.
+        // With a key there is no refusal, so that an error is `NoMemory`.
         match sign_bytes_with_key(alloc, bytes, self.running_signature(), &params, &key) {
             Ok(signed) => {
                 let (message, signature) = signed.into_parts();

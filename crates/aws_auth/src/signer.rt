@@ -56,7 +56,7 @@ impl SigV4Signer {
         SigV4Signer
     }
 
-    /// Signs a request, which is the signed one then. The answer has the signature, and two signers that go on from it.
+    /// Signs a request in place. The answer has the signature, and two signers that go on from it.
     ///
     /// The region is the endpoint's, or else that of the inputs, or else the config's, and so is the name of the service. What
     /// is signed of the payload is what the inputs say, or else the config, or else the body. The moment is `now`, shifted by
@@ -67,7 +67,7 @@ impl SigV4Signer {
     ///
     /// The first of these, and the request stays as it is:
     ///
-    /// - [`SigV4SigningError::WrongIdentityType`] where the identity is no credentials;
+    /// - [`SigV4SigningError::WrongIdentityType`] where the identity isn't credentials;
     /// - [`SigV4SigningError::MissingOperationSigningConfig`] where the inputs have no config;
     /// - [`SigV4SigningError::BadTypeInEndpointAuthSchemeConfig`] with the first field of the endpoint whose value is of
     ///   another type: `signingName` and `signingRegion` are texts, `disableDoubleEncoding` and `disableNormalizePath` truth

@@ -22,7 +22,7 @@ throttling_codes =
     ∷ codes "RequestLimitExceeded" ∷ codes "BandwidthLimitExceeded" ∷ codes "LimitExceededException" ∷ codes "RequestThrottled"
     ∷ codes "SlowDown" ∷ codes "PriorRequestNotComplete" ∷ codes "EC2ThrottledException" ∷ []
 
--- the codes of errors that pass by themselves
+-- the codes of transient errors
 unfoldable pub transient_codes : List (List ℕ)
 transient_codes = codes "RequestTimeout" ∷ codes "RequestTimeoutException" ∷ []
 
@@ -36,7 +36,7 @@ skew_codes =
 abbrev pub is_listed : List (List ℕ) → List ℕ → Bool
 is_listed listed code = list_any (λ known. bytes_eq known code) listed
 
--- the codes that are set, or else those of errors that pass by themselves
+-- the codes that are set, or else those of transient errors
 abbrev pub codes_or_transient : Option (Vec (String Global) Global) → List (List ℕ)
 codes_or_transient set = option_map_or (λ listed. map string_bytes listed.items) set transient_codes
 
@@ -46,7 +46,7 @@ codes_or_transient set = option_map_or (λ listed. map string_bytes listed.items
 abbrev pub code_of : Option ErrorMetadata → Option (List ℕ)
 code_of error = option_and_then (λ e. option_map string_bytes e.code) error
 
--- the kind of the error with this code, where these are the codes of errors that pass by themselves
+-- the kind of the error with this code, where these are the codes of transient errors
 abbrev pub kind_of : List (List ℕ) → Option (List ℕ) → Option RetryKind
 kind_of transient None = None
 kind_of transient (Some code) =

@@ -5,14 +5,14 @@ use smithy_core::{ErrorMetadata, HttpResponse, Mem};
 use std::alloc::Global;
 use std::marker::Model;
 
-/// What kind of fault a retry answers.
+/// What kind of error a retry is for.
 #[derive(Clone, Copy, Debug, PartialEq, Eq)]
 pub enum RetryKind {
     /// The service failed.
     ServerError,
     /// The service has too many requests.
     ThrottlingError,
-    /// The fault passes by itself.
+    /// The error is transient: it may pass by itself.
     TransientError,
 }
 
@@ -23,7 +23,7 @@ pub enum RetryAction {
     NoActionIndicated,
     /// The attempt may be made again.
     Retryable {
-        /// What kind of fault it was.
+        /// What kind of error it was.
         kind: RetryKind,
         /// The milliseconds to wait, where the service told them.
         retry_after: Option<u64>,
@@ -48,12 +48,12 @@ pub const THROTTLING_ERRORS: [&str; 14] = [
     "EC2ThrottledException",
 ];
 
-/// The codes of errors that pass by themselves.
+/// The codes of transient errors.
 pub const TRANSIENT_ERRORS: [&str; 2] = ["RequestTimeout", "RequestTimeoutException"];
 
 /// Tells from the code of an error whether the attempt may be made again.
 ///
-/// Contracts see the codes of errors that pass by themselves.
+/// Contracts see the codes of transient errors.
 #[derive(Debug, Drop)]
 pub struct AwsErrorCodeClassifier {
     // `TRANSIENT_ERRORS` unless set.
@@ -71,7 +71,7 @@ impl Model for AwsErrorCodeClassifier {
 
 /// Builds an [`AwsErrorCodeClassifier`].
 ///
-/// Contracts see the codes of errors that pass by themselves.
+/// Contracts see the codes of transient errors.
 #[derive(Debug, Drop)]
 pub struct AwsErrorCodeClassifierBuilder {
     // `TRANSIENT_ERRORS` unless set.
@@ -88,7 +88,7 @@ impl Model for AwsErrorCodeClassifierBuilder {
 }
 
 impl AwsErrorCodeClassifierBuilder {
-    /// With these codes of errors that pass by themselves.
+    /// Sets the codes of transient errors.
     pub fn transient_errors(self, codes: Vec<String>) -> AwsErrorCodeClassifierBuilder
         ensures { result ≡ map string_bytes codes.items }
     {
@@ -117,7 +117,7 @@ impl AwsErrorCodeClassifierBuilder {
 }
 
 impl AwsErrorCodeClassifier {
-    /// A classifier whose errors that pass by themselves are [`TRANSIENT_ERRORS`].
+    /// A classifier whose transient errors are [`TRANSIENT_ERRORS`].
     pub fn new() -> AwsErrorCodeClassifier
         ensures { result ≡ transient_codes }
     {

@@ -9,7 +9,7 @@ use smithy_core::{Env, HttpRequest, Mem};
 use std::alloc::Global;
 use std::marker::Model;
 
-/// Tells a service which trace a request of a function belongs to, so that it can see a call that goes round in a circle.
+/// Tells a service which trace a request of a function belongs to, so that it can detect calls that go round in a loop.
 ///
 /// Contracts see the variables of its environment.
 #[derive(Drop)]

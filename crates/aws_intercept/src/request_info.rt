@@ -97,7 +97,7 @@ fn awaited(bag: &ConfigBag) -> Option<u64>
     }
 }
 
-// The stamp of the moment so many milliseconds and seconds later, where that lies in the years.
+// The stamp of the moment so many milliseconds and seconds later, where that lies in the years 0 to 9999.
 fn deadline_stamp(alloc: Global, moment: Moment, millis: i64, secs: u64) -> Mem<Option<String>>
     ensures { IfOk result (λ stamp. option_map string_bytes stamp ≡ option_and_then stamped (deadline moment millis secs)) }
 {
@@ -107,7 +107,7 @@ fn deadline_stamp(alloc: Global, moment: Moment, millis: i64, secs: u64) -> Mem<
     }
 }
 
-// The stamp of a moment in the years.
+// The stamp of a moment in the years 0 to 9999.
 #[tactic(auto, using(crate::proofs::RequestInfoLemmas::stamped_in_years, crate::proofs::RequestInfoLemmas::never_stamped))]
 fn stamped(alloc: Global, moment: Moment) -> Mem<Option<String>>
     ensures { IfOk result (λ stamp. option_map string_bytes stamp ≡ stamped moment) }

@@ -14,7 +14,7 @@ use Rattle.chain_check.specs.Walk.{carried}
 use Rattle.chain_check.specs.declared.chain_fault.ChainFault.{ChainFault}
 use Rattle.chain_check.specs.declared.chain_fault.ChainFault.TheVariants.{NoMemory}
 
--- each frame of the chain is defined, those of the events, of their signed messages and of the closing one; each moment lies in the years, and there
+-- each frame of the chain is defined, those of the events, of their signed messages and of the closing one; each moment lies in the years 0 to 9999, and there
 -- is one more than events
 abbrev pub IsChained : Signer → List Parts → List Instant → List ℕ → Type 0
 IsChained signer events [] signature = ⊥

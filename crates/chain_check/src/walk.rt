@@ -33,11 +33,11 @@ use std::alloc::Global;
 ///
 /// The first test that fails, frame by frame, each in this order: [`ChainFault::NotChain`] with
 /// [`ChainPart::NotFrame`] where the bytes are no frame, with [`ChainPart::Headers`] where its headers aren't exactly
-/// `:chunk-signature` with 32 bytes and `:date`, with [`ChainPart::Date`] where the date is no whole second in the years
-/// 0 to 9999, and with [`ChainPart::Inner`] where the payload isn't empty and is no frame of a message;
+/// `:chunk-signature` with 32 bytes and `:date`, with [`ChainPart::Date`] where the date is no whole second in the years 0 to
+/// 9999 0 to 9999, and with [`ChainPart::Inner`] where the payload isn't empty and is no frame of a message;
 /// [`ChainFault::Mismatch`] where it carries another signature than its own. The first frame with an empty payload is the
 /// closing one: bytes after it are [`ChainPart::AfterClosing`] at the next place, an end without it is
-/// [`ChainPart::NoClosing`] there. [`ChainFault::NoMemory`] for want of memory.
+/// [`ChainPart::NoClosing`] there. [`ChainFault::NoMemory`] where memory runs out.
 pub fn check_chain(
     alloc: Global,
     bytes: &[u8],

@@ -1,4 +1,4 @@
-//! What values that may hold secrets show to one who debugs.
+//! What `Debug` shows of values that may hold secrets.
 use crate::files::{file_of, sections_of};
 use crate::loading::stepped;
 use crate::profiles::fault_told;

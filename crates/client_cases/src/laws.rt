@@ -3,7 +3,7 @@ ghost use Rattle.aws_intercept.specs.Metric.{id_at};
 ghost use Rattle.aws_intercept.specs.MetricIds.{fitted};
 ghost use Rattle.aws_intercept.specs.Recursion.{escaped_trace};
 
-/// What the definitions say where no call can show it: the ids of places past the last metric, as the tests of the Rust
+/// What the definitions say where no call can show it: the ids of places past the last metric, as the tests of the SDK for Rust
 /// ask.
 #[tactic(auto, unfolding(aws_intercept::specs::Metric::id_at, aws_intercept::specs::Metric::sign))]
 pub fn ids_count_on()
@@ -12,7 +12,7 @@ pub fn ids_count_on()
     ensures later { id_at 349 ≡ codes "Ed" }
 {}
 
-/// What is left of ids by another limit than that of agents, as the tests of the Rust ask.
+/// What is left of ids by another limit than that of agents, as the tests of the SDK for Rust ask.
 #[tactic(auto, unfolding(aws_intercept::specs::MetricIds::fitted))]
 pub fn ids_that_do_not_fit()
     ensures within { fitted 5 (codes "A,10BC,E") ≡ codes "A" }

@@ -7,7 +7,7 @@ use case_lines::unknown;
 use smithy_core::{CalmDisk, CalmSink, CalmSource, FaultySink, ListClock, Mem};
 use std::alloc::Global;
 
-// What an object of the outside answers to a first step, and then what its copy answers to the others.
+// What an I/O object answers to a first step, and then what its copy answers to the others.
 pub fn answer(alloc: Global, call: &[&str]) -> Mem<String> {
     match call {
         [call, words @ ..] => answer_of(alloc, call, words),

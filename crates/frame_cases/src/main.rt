@@ -1,5 +1,5 @@
 //! Reads a case from each line of standard input and says each answer that isn't the wanted one: the checksums, the
-//! pieces of bytes, the base of the stack with its versions of the outside, and the event stream encoding.
+//! pieces of bytes, the base of the stack with its I/O objects in memory, and the event stream encoding.
 //!
 //! The first word of a line names the subject, and the second the call. In an argument
 //!

@@ -7,7 +7,7 @@ use smithy_core::{
 };
 use std::alloc::Global;
 
-// An object of the outside: a source, a sink or a disk.
+// An I/O object: a source, a sink or a disk.
 pub trait Outside: Sized {
     // What it answers to a step.
     fn answer(&mut self, alloc: Global, step: &str) -> Mem<String>;

@@ -16,7 +16,7 @@ key_block key = short_key key ++ replicate (64 - length (short_key key)) 0
 unfoldable pub xored : ℕ → List ℕ → List ℕ
 xored pad bytes = map (λ b. bit_xor b pad) bytes
 
--- the code of a text under a key block: the outer pad, and the digest of the inner pad and the text
+-- the HMAC of a text under a key block: the outer pad, and the digest of the inner pad and the text
 unfoldable pub mac_of_block : List ℕ → List ℕ → List ℕ
 mac_of_block block text = sha256 (xored 0x5C block ++ sha256 (xored 0x36 block ++ text))
 

@@ -26,14 +26,14 @@ pub struct HmacSha256 {
 }
 
 impl HmacSha256 {
-    /// A code under a key of any length, with no text yet.
+    /// An HMAC under a key of any length, with no text yet.
     pub fn new(key: &[u8]) -> Self
         ensures { HoldsMac result (key_block key.now) [] }
     {
         HmacSha256::with_block(block_of(key, &[]))
     }
 
-    /// A code under the two parts of a key, one after the other, with no text yet.
+    /// An HMAC under the two parts of a key, one after the other, with no text yet.
     pub fn new_from_parts(front: &[u8], back: &[u8]) -> Self
         ensures { HoldsMac result (key_block (front.now ++ back.now)) [] }
     {
@@ -58,7 +58,7 @@ impl HmacSha256 {
         self.inner.update(bytes);
     }
 
-    /// The code of the text.
+    /// The HMAC of the text.
     #[tactic(auto, unfolding(crate::specs::Mac::mac_of_block))]
     pub fn finalize(self) -> [u8; 32]
         ensures { (block text : List ℕ) → HoldsMac self block text → result ≡ mac_of_block block text }

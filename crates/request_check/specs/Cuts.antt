@@ -8,7 +8,7 @@ CutsLast mark text None = (front back : List ℕ) → text ≡ front ++ (mark ++
 CutsLast mark text (Some parts) =
     (text ≡ parts.0.now ++ (mark ++ parts.1.now)) × ((front back : List ℕ) → text ≡ front ++ (mark ++ back) → length front ≤ length parts.0.now)
 
--- what stands before an end, or that the text hasn't this end
+-- what stands before an end, or that the text doesn't have this end
 abbrev pub CutsEnd : List ℕ → List ℕ → Option (Bor (List ℕ)) → Type 0
 CutsEnd end text None = (front : List ℕ) → text ≡ front ++ end → ⊥
 CutsEnd end text (Some front) = text ≡ front.now ++ end

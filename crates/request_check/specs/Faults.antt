@@ -8,6 +8,6 @@ abbrev pub fault_for : SigningError → SigningError → CheckRequestFault
 fault_for NoRoom error = NoMemory
 fault_for _ error = Signing error
 
--- want of memory stays what it is
+-- `NoMemory` stays what it is
 abbrev pub fault_of : SigningError → CheckRequestFault
 fault_of error = fault_for error error

@@ -84,7 +84,7 @@ fn has_host(headers: &Headers) -> bool
     headers.contains_key("host")
 }
 
-// The host of a target, without the port where that is its scheme's own.
+// The host of a target, without the port where that is its scheme's default.
 #[tactic(auto, unfolding(sigv4::specs::Host::host_text))]
 fn host_text(uri: &Uri) -> Option<&str>
     ensures { option_copied result ≡ host_text (target_of uri.now) }

@@ -17,14 +17,14 @@ pub fn requests_have_one_seal()
     ensures { (request : HttpRequest) (region name : List ℕ) → HasOneSeal request region name }
 {}
 
-/// Whatever is answered of a signed request as its check says, both signatures are that of its case, unless memory runs out.
+/// For the signed request of a case, `check_request` answers the signature of the case twice, unless memory runs out.
 #[tactic(auto, using(crate::proofs::AlikeLemmas::recomputes))]
 pub fn signed_requests_recompute()
     ensures { (sent : HttpRequest) (settings : Settings) (payload : List ℕ) (signer : Signer) (result : Result Checked CheckRequestFault)
         → ChecksRequest sent settings payload signer result → Recomputes sent settings payload signer result }
 {}
 
-/// The text of a payload is trimmed, unless it is a digest that is given with more spaces.
+/// The text of a payload has no spaces to trim, unless it is a given digest that has some.
 #[tactic(auto, using(crate::proofs::NamesLemmas::payload_trimmed))]
 pub fn payload_texts_are_trimmed()
     ensures { (body : SignableBody) → IsTrimmedBody body → trim_all (payload_text body) ≡ payload_text body }

@@ -41,7 +41,7 @@ impl Model for SegBuf {
 }
 
 impl SegBuf {
-    /// A buffer without bytes. How much room it has is left open.
+    /// A buffer without bytes. Its capacity isn't specified.
     pub fn new(alloc: Global) -> SegBuf
         ensures bytes { result.bytes ≡ [] }
         ensures segments { result.segments ≡ [] }
@@ -289,7 +289,7 @@ impl fmt::Debug for SegBuf {
     }
 }
 
-// Writes a front of the bytes at the place, as many as there is room for, and tells how many.
+// Writes a prefix of the bytes at the place, as many as there is room for, and tells how many.
 fn put_at(into: &mut [u8], at: usize, bytes: &[u8]) -> usize
     requires { at ≤ length into.old }
     ensures count { result ≡ min (length bytes.now) (length into.old - at) }

@@ -1,4 +1,4 @@
--- The calls of an object of the outside in memory, which counts those that it fails.
+-- The calls of an I/O object in memory, which counts those that it fails.
 use Rattle.std.specs.Prelude.{◌≡◌, ℕ, ◌+◌, ◌-◌, ◌^◌, ◌↔◌, ◌≤◌, min, Contains, List}
 
 -- the calls of an object: the numbers of those that are to fail, how many were made, and how many failed
@@ -11,7 +11,7 @@ pub record Tally : Type 0 where
 abbrev pub no_calls : List ℕ → Tally
 no_calls fails = record { fails = fails; calls = 0; faults = 0 }
 
--- one more than a count, up to the greatest number that it can have
+-- one more than a count, saturating at the greatest number
 abbrev pub one_more : ℕ → ℕ
 one_more count = min (count + 1) (2 ^ 64 - 1)
 

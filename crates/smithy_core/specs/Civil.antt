@@ -30,29 +30,29 @@ is_in_years t = int_le (negsuc 62167219199) t.secs && int_le t.secs (pos 2534023
 abbrev pub IsInYears : Instant → Type 0
 IsInYears t = (negsuc 62167219199 ≤ℤ t.secs) × (t.secs ≤ℤ pos 253402300799)
 
--- the whole seconds from the begin of the year 0 to a moment in the years
+-- the whole seconds from the start of the year 0 to a moment in the years 0 to 9999
 abbrev pub year_seconds : Instant → ℕ
 year_seconds t = unsigned_abs (t.secs +ℤ pos 62167219200)
 
--- the day of the week of a moment in the years, from 0 for Saturday, which 1 January of the year 0 was
+-- the day of the week of a moment in the years 0 to 9999, from 0 for Saturday, which 1 January of the year 0 was
 abbrev pub weekday : Instant → ℕ
 weekday t = year_seconds t / 86400 % 7
 
--- the date and the time of day so many seconds after the begin of the year 0
+-- the date and the time of day so many seconds after the start of the year 0
 unfoldable pub civil_after : ℕ → Civil
 civil_after seconds =
     let day = day_after (seconds / 86400) in
     let second = seconds % 86400 in
     record { year = day.year; month = day.month; day = day.day; hour = second / 3600; minute = second / 60 % 60; second = second % 60 }
 
--- the date and the time of day of a moment in the years, in UTC, fractions dropped downwards
+-- the date and the time of day of a moment in the years 0 to 9999, in UTC, fractions rounded down
 unfoldable pub civil_of : Instant → Civil
 civil_of t = civil_after (year_seconds t)
 
--- the date of a moment in the years, as text
+-- the date of a moment in the years 0 to 9999, as text
 unfoldable pub date : Instant → List ℕ
 date t = date_of (civil_of t)
 
--- the date and the time of a moment in the years, as text
+-- the date and the time of a moment in the years 0 to 9999, as text
 unfoldable pub stamp : Instant → List ℕ
 stamp t = stamp_of (civil_of t)

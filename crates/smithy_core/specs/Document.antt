@@ -5,7 +5,7 @@ use Rattle.std.specs.declared.alloc.Global.{Global}
 use Rattle.smithy_core.specs.declared.document.Document.{Document, fold-Document}
 use Rattle.smithy_core.specs.declared.document.Document.TheOpen.{Document-F}
 
--- nothing, a truth value, a text, values in order, or names and their values in order
+-- nothing, a Boolean, a text, values in order, or names and their values in order
 mutual
   pub data Data : Type 0 where
     null : Data

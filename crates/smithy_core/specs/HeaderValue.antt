@@ -5,7 +5,7 @@ use Rattle.smithy_core.specs.Moment.{Instant}
 use Rattle.smithy_core.specs.declared.header.HeaderValue.{HeaderValue}
 use Rattle.smithy_core.specs.declared.header.HeaderValue.TheVariants.{Bool as Truth, Byte, Int16, Int32, Int64, ByteArray, String, Timestamp, Uuid}
 
--- the truth value of a value that is one
+-- the Boolean of a value that is one
 abbrev pub bool_of : HeaderValue → Option Bool
 bool_of (Truth value) = Some value
 bool_of _ = None

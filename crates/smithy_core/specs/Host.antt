@@ -1,4 +1,4 @@
--- How often the objects of the outside over the system have failed.
+-- How often the I/O objects over the operating system have failed.
 use Rattle.std.specs.Prelude.{ℕ}
 use Rattle.smithy_core.specs.declared.outside.host.HostDisk.{HostDisk}
 use Rattle.smithy_core.specs.declared.outside.host.StdSink.{StdSink}

@@ -22,7 +22,7 @@ secret_access_key credentials = string_bytes credentials.secret
 abbrev pub session_token : Credentials → Option (List ℕ)
 session_token credentials = option_map string_bytes credentials.token
 
--- when the credentials end, where that is known
+-- when the credentials expire, where that is known
 abbrev pub credentials_expiry : Credentials → Option Instant
 credentials_expiry credentials = credentials.expiry
 

@@ -1,8 +1,8 @@
--- What contracts say of the objects of the outside. What an object holds or has left is optional: it need not tell.
+-- What contracts say of I/O objects. What an object holds or has left is optional: it need not tell.
 use Rattle.std.specs.Prelude.{◌≡◌, ℕ, ◌<◌, ◌≤◌, ◌⊎◌, ◌-◌, ◌^◌, List, [], ◌++◌, length, take, drop, Option, Some, None}
 use Rattle.smithy_core.specs.TextPairs.{last_value}
 
--- the count rose, or stands at its last value
+-- the count rose, or is saturated: it stays at 2^64 - 1, the greatest number that it can have
 abbrev pub RoseOrStands : ℕ → ℕ → Type 0
 RoseOrStands before now = (before < now) ⊎ (now ≡ 2 ^ 64 - 1)
 
@@ -31,7 +31,7 @@ abbrev pub IsCutOf : Option (List ℕ) → List ℕ → Option (List ℕ) → Ty
 IsCutOf None read now = now ≡ None
 IsCutOf (Some all) read now = (rest : List ℕ) × (now ≡ Some rest) × (all ≡ read ++ rest)
 
--- what is left now is a rest of what was left
+-- what is left now is a suffix of what was left
 abbrev pub IsRestOf : Option (List ℕ) → Option (List ℕ) → Type 0
 IsRestOf all now = (read : List ℕ) × IsCutOf all read now
 
@@ -50,11 +50,11 @@ pub record GainsRest (before now : Option (List ℕ)) (rest text : List ℕ) : T
   pub gained : Gains before now front
   pub whole : text ≡ front ++ rest
 
--- what is held has gained a front of the text
+-- what is held has gained a prefix of the text
 abbrev pub GainsPrefix : Option (List ℕ) → Option (List ℕ) → List ℕ → Type 0
 GainsPrefix before now text = (rest : List ℕ) × GainsRest before now rest text
 
--- what is held has gained a front of the text, and not all of it
+-- what is held has gained a prefix of the text, and not all of it
 abbrev pub GainsProperPrefix : Option (List ℕ) → Option (List ℕ) → List ℕ → Type 0
 GainsProperPrefix before now text = (rest : List ℕ) × (0 < length rest) × GainsRest before now rest text
 

@@ -6,7 +6,7 @@ use std::fmt;
 use std::marker::Model;
 
 /// Binary data. [`Debug`](std::fmt::Debug) prints how many bytes there are, and none of them, since they may hold a secret
-/// (the Rust's type prints them).
+/// (the SDK's type prints them).
 ///
 /// Contracts see it as its bytes.
 #[derive(Drop)]

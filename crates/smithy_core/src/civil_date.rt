@@ -27,7 +27,7 @@ pub fn civil(moment: Moment) -> Option<Civil>
     Some(civil_at(since))
 }
 
-// The day of the week of a moment in the years, from 0 for Saturday.
+// The day of the week of a moment in the years 0 to 9999, from 0 for Saturday.
 pub(crate) fn weekday(moment: Moment) -> u8
     requires { IsInYears moment }
     ensures { result ≡ weekday moment }
@@ -36,7 +36,7 @@ pub(crate) fn weekday(moment: Moment) -> u8
     (since / 86400 % 7) as u8
 }
 
-// The date and the time of day so many seconds after the begin of the year 0.
+// The date and the time of day so many seconds after the start of the year 0.
 fn civil_at(since: u64) -> Civil
     requires { since < 315_569_520_000 }
     ensures { result ≡ civil_after since }

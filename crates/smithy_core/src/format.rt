@@ -65,7 +65,7 @@ impl DateTime {
     /// # Errors
     ///
     /// [`FormatFault::OutOfRange`] where the form shows a date and the moment lies outside the years 0 to 9999, and
-    /// [`FormatFault::NoMemory`] for want of memory.
+    /// [`FormatFault::NoMemory`] where memory runs out.
     #[tactic(auto, unfolding(crate::specs::Format::formatted), using(crate::proofs::DayLemmas::civil_fits))]
     pub fn fmt(self, alloc: Global, format: Format) -> Result<String, FormatFault>
         ensures { Formats format self result }

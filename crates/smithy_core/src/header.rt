@@ -10,7 +10,7 @@ use std::marker::Model;
 
 /// The value of a [`Header`]: one of the nine kinds of the event stream encoding.
 ///
-/// [`Debug`](std::fmt::Debug) prints the value, its bytes or its text too, as the Rust's type does: a header tells what a
+/// [`Debug`](std::fmt::Debug) prints the value, its bytes or its text too, as the SDK's type does: a header tells what a
 /// message is. That of a [`Message`](crate::Message) prints none.
 #[derive(Debug, Drop)]
 pub enum HeaderValue {
@@ -49,7 +49,7 @@ impl HeaderValue {
         }
     }
 
-    /// The truth value of a [`HeaderValue::Bool`].
+    /// The Boolean of a [`HeaderValue::Bool`].
     ///
     /// # Errors
     ///
@@ -215,7 +215,7 @@ impl fmt::Display for HeaderValue {
     }
 }
 
-/// A header of a [`Message`](crate::Message): a name and a value. [`Debug`](std::fmt::Debug) prints both, as the Rust's type
+/// A header of a [`Message`](crate::Message): a name and a value. [`Debug`](std::fmt::Debug) prints both, as the SDK's type
 /// does.
 ///
 /// Contracts see it as its name and its value.

@@ -4,7 +4,7 @@ ghost use Rattle.smithy_core.specs.Identity.{IsSameCredentials, IsSameIdentity, 
 use crate::memory::Mem;
 use crate::moment::Moment;
 
-/// Credentials of an account. [`Debug`](std::fmt::Debug) isn't there, so that no secret is printed.
+/// Credentials of an account. There is no [`Debug`](std::fmt::Debug), so that no secret is printed.
 #[derive(Drop)]
 pub struct Credentials {
     key_id: String,
@@ -55,7 +55,7 @@ impl Credentials {
         }
     }
 
-    /// When the credentials end, where that is known.
+    /// When the credentials expire, where that is known.
     pub fn expiry(&self) -> Option<Moment>
         ensures { result ≡ credentials_expiry self.now }
     {

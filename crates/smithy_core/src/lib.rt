@@ -1,9 +1,9 @@
 //! The base of the stack: moments and civil dates, messages and their headers, requests,
-//! credentials, the environment, and the traits of the outside with their versions in memory.
+//! credentials, the environment, and the I/O traits with their versions in memory.
 //!
 //! The layer above is promised that a [`Message`] is a list of headers and a payload, that
 //! [`Headers`] is a list of pairs under `insert` and `append`, that [`civil`] counts the days of the
-//! Gregorian calendar, and that each object of the outside counts its faults
+//! Gregorian calendar, and that each I/O object counts its faults
 //! (`specs/Outside.antt`, `specs/Clock.antt`, `specs/FrameSource.antt`), in memory exactly at the calls
 //! that are to fail (`specs/Calls.antt`).
 #![tactic(auto)]

@@ -1,7 +1,8 @@
 ghost use Rattle.std.specs.Prelude.{◌≡◌, bytes_eq};
 ghost use Rattle.smithy_core.specs.TextPairs.{lower};
 
-/// Whether the text is the name with its ASCII letters in lower case, without making that text. This crate's own.
+/// Whether the text is the name with its ASCII letters in lower case, without making that text. The SDK has no such public
+/// call.
 pub fn is_lower_of(text: &str, name: &str) -> bool
     ensures { result ≡ bytes_eq text.now (lower name.now) }
 {

@@ -8,7 +8,7 @@ use std::fmt;
 use std::marker::Model;
 
 /// A message of an event stream: headers in order, and a payload. [`Debug`](std::fmt::Debug) prints how many headers and
-/// bytes there are, and nothing of them, since an event may hold a secret (the Rust's type prints all of it).
+/// bytes there are, and nothing of them, since an event may hold a secret (the SDK's type prints all of it).
 ///
 /// Contracts see it as its `Parts`.
 #[derive(Drop)]

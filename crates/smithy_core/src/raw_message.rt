@@ -6,7 +6,7 @@ use bytes::Bytes;
 use std::fmt;
 
 /// What an error of an event stream tells of the bytes behind it. [`Debug`](std::fmt::Debug) prints how many there are,
-/// and none of them, since they may hold a secret (the Rust's type prints them).
+/// and none of them, since they may hold a secret (the SDK's type prints them).
 #[derive(Drop)]
 pub enum RawMessage {
     /// The message that was read.

@@ -6,7 +6,7 @@ use std::alloc::AllocError;
 use std::error::Error;
 use std::fmt;
 
-/// Why an operation wasn't done. `E` is what the service answered, `F` is what kept a request or a response from being
+/// Why an operation failed. `E` is what the service answered, `F` is what kept a request or a response from being
 /// made or read, and `R` is the response.
 #[derive(Debug, Drop)]
 pub enum SdkError<E, F, R> {
@@ -16,7 +16,7 @@ pub enum SdkError<E, F, R> {
     DispatchFailure,
     /// The response wasn't read.
     ResponseError {
-        /// Why it wasn't.
+        /// Why it wasn't read.
         source: F,
         /// The response.
         raw: R,

@@ -4,7 +4,7 @@ ghost use Rattle.smithy_core.specs.Text.{line};
 
 use crate::memory::Mem;
 
-/// Appends a line of bytes, ended by LF. After want of memory nothing is appended.
+/// Appends a line of bytes, ended by LF. Where memory ran out, nothing is appended.
 pub fn push_line(buffer: &mut Vec<u8>, text: &[u8]) -> Mem<()>
     ensures ok { OnOk result (buffer.new.items ≡ buffer.old.items ++ line text.now) }
     ensures err { OnErr result (buffer.new.items ≡ buffer.old.items) }
@@ -15,7 +15,7 @@ pub fn push_line(buffer: &mut Vec<u8>, text: &[u8]) -> Mem<()>
     Ok(())
 }
 
-/// Appends a line of text, ended by LF. After want of memory nothing is appended.
+/// Appends a line of text, ended by LF. Where memory ran out, nothing is appended.
 pub fn push_text_line(text: &mut String, content: &str) -> Mem<()>
     ensures ok { OnOk result (string_bytes text.new ≡ string_bytes text.old ++ line content.now) }
     ensures err { OnErr result (string_bytes text.new ≡ string_bytes text.old) }

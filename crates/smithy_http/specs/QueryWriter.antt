@@ -31,7 +31,7 @@ escaped_pair p = (escaped base_set p.0, escaped base_set p.1)
 abbrev pub without_query : Target → Target
 without_query t = record t { query = None }
 
--- the text spells this target, which hasn't an authority without a scheme
+-- the text spells this target, which doesn't have an authority without a scheme
 abbrev pub SpellsTarget : List ℕ → Uri → Type 0
 SpellsTarget text uri = Spells text uri × ¬ (IsAuthorityAlone (target_of uri))
 

@@ -51,7 +51,7 @@ impl<'a> Writer<'a> {
         }
     }
 
-    /// Appends a key and its value, with `=` between. After want of memory nothing is appended.
+    /// Appends a key and its value, with `=` between. Where memory ran out, nothing is appended.
     pub fn push_kv(&mut self, k: &str, v: &str) -> Mem<()>
         ensures same_text { (held_text self.new).ghost_name ≡ (held_text self.old).ghost_name }
         ensures ok { OnOk result (written_query self.new ≡ with_piece (written_query self.old) (pair k.now v.now)) }
@@ -61,7 +61,7 @@ impl<'a> Writer<'a> {
         self.push(piece.as_str())
     }
 
-    /// Appends a value, which is its own key. After want of memory nothing is appended.
+    /// Appends a value, which is its own key. Where memory ran out, nothing is appended.
     pub fn push_v(&mut self, v: &str) -> Mem<()>
         ensures same_text { (held_text self.new).ghost_name ≡ (held_text self.old).ghost_name }
         ensures ok { OnOk result (written_query self.new ≡ with_piece (written_query self.old) v.now) }

@@ -77,7 +77,7 @@ impl QueryWriter {
         self.has_query = false;
     }
 
-    /// Adds a parameter, its key and its value escaped. After want of memory nothing is added.
+    /// Adds a parameter, its key and its value escaped. Where memory ran out, nothing is added.
     pub fn insert(&mut self, k: &str, v: &str) -> Mem<()>
         ensures ok { OnOk result (self.new ≡ with_pair self.old (escaped base_set k.now) (escaped base_set v.now)) }
         ensures err { OnErr result (self.new ≡ self.old) }
@@ -88,7 +88,7 @@ impl QueryWriter {
         self.insert_encoded(key.as_str(), value.as_str())
     }
 
-    /// Adds a parameter as it is given. After want of memory nothing is added.
+    /// Adds a parameter as it is given. Where memory ran out, nothing is added.
     pub fn insert_encoded(&mut self, encoded_k: &str, encoded_v: &str) -> Mem<()>
         ensures ok { OnOk result (self.new ≡ with_pair self.old encoded_k.now encoded_v.now) }
         ensures err { OnErr result (self.new ≡ self.old) }

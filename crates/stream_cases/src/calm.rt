@@ -1,4 +1,4 @@
-//! Runs over objects of the outside that never fail, under a clock that stands.
+//! Runs over I/O objects that never fail, under a clock that stands.
 use crate::jobs::{clock_of, env_of, files_of, input_of};
 use crate::runs::{with_held, words_of};
 use crate::texts::bytes_on_one_line;

@@ -110,7 +110,7 @@ fn push_file(alloc: Global, files: &mut Vec<(String, Vec<u8>)>, line: &str) -> M
     Ok(())
 }
 
-/// The calls that fail on an object of the outside.
+/// The calls that fail on an I/O object.
 pub fn fails_of(alloc: Global, lines: &[&str], object: &str) -> Mem<Vec<u64>> {
     let mut fails = Vec::new(alloc);
     for line in lines {

@@ -196,7 +196,7 @@ impl AwsUserAgent {
         self.metrics.extend_from_slice(metrics)
     }
 
-    /// Appends the metric. After want of memory the agent is as it was.
+    /// Appends the metric. Where memory ran out, the agent is as it was.
     pub fn add_business_metric(&mut self, metric: BusinessMetric) -> Mem<&mut AwsUserAgent>
         ensures same_agent { IfOk result (λ agent. agent.ghost_name ≡ self.entry.ghost_name) }
         ensures added { IfOk result (λ agent. agent.now ≡ record self.old { metrics = self.old.metrics ++ metric ∷ [] }) }
@@ -205,7 +205,7 @@ impl AwsUserAgent {
         Ok(self)
     }
 
-    /// Appends the framework. After want of memory the agent is as it was.
+    /// Appends the framework. Where memory ran out, the agent is as it was.
     pub fn add_framework_metadata(&mut self, metadata: FrameworkMetadata) -> Mem<&mut AwsUserAgent>
         ensures same_agent { IfOk result (λ agent. agent.ghost_name ≡ self.entry.ghost_name) }
         ensures added { IfOk result (λ agent. agent.now ≡ record self.old { frameworks = self.old.frameworks ++ metadata ∷ [] }) }
@@ -214,7 +214,7 @@ impl AwsUserAgent {
         Ok(self)
     }
 
-    /// Appends the additional value. After want of memory the agent is as it was.
+    /// Appends the additional value. Where memory ran out, the agent is as it was.
     pub fn add_additional_metadata(
         &mut self,
         metadata: AdditionalMetadata,

@@ -148,7 +148,7 @@ fn make_agent(
     Ok(agent)
 }
 
-// The text of the agent with what the bag tells besides.
+// The text of the agent with what else the bag tells.
 fn sent_text(bag: &ConfigBag, agent: &AwsUserAgent) -> Result<String, UserAgentFault>
     ensures { SendsText bag.now agent.now result }
 {

@@ -59,7 +59,7 @@ pub trait Disk {
     /// # Errors
     ///
     /// [`DiskError::NotFound`] where there is no such file, [`DiskError::Failed`] where the count of faults rose, or
-    /// stands at its last value, and [`DiskError::NoMemory`] for want of memory. Any answer but
+    /// is saturated, and [`DiskError::NoMemory`] where memory runs out. Any answer but
     /// a failure leaves the count.
     fn read(&mut self, path: &str) -> Result<Vec<u8>, DiskError>
         ensures count { faults self.old ≤ faults self.new }
@@ -71,7 +71,7 @@ pub trait Disk {
         ensures answers { answers self.old path.now result self.new };
 }
 
-/// Files in memory that never fail. [`Debug`](std::fmt::Debug) isn't there, so that no secret is printed.
+/// Files in memory that never fail. There is no [`Debug`](std::fmt::Debug), so that no secret is printed.
 ///
 /// Contracts see the paths and the bytes.
 #[derive(Drop)]

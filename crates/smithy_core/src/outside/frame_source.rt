@@ -27,9 +27,9 @@ pub trait FrameSource {
 
     /// The next frame.
     ///
-    /// [`Polled::NotYet`] comes only where the count of waits rose, or stands at its last value, and
-    /// [`Polled::Failed`] only where the count of faults did. After [`Polled::End`] it comes again. A piece of data has
-    /// at most 4,294,967,295 bytes.
+    /// [`Polled::NotYet`] comes only where the count of waits rose, or is saturated, and
+    /// [`Polled::Failed`] only where the count of faults did. After [`Polled::End`] each call answers it again. A piece of data
+    /// has at most 4,294,967,295 bytes.
     fn poll_frame(&mut self) -> Polled
         ensures count { faults self.old ≤ faults self.new }
         ensures cause { result ≡ polled.Failed → RoseOrStands (faults self.old) (faults self.new) }
@@ -43,7 +43,7 @@ pub trait FrameSource {
 
 /// Frames in memory, with the calls of `poll_frame` that are to fail and those that are to wait, counted from 1. A call
 /// in both lists fails. After the end was answered it is answered again, and no call is counted.
-/// [`Debug`](std::fmt::Debug) isn't there, so that no secret is printed.
+/// There is no [`Debug`](std::fmt::Debug), so that no secret is printed.
 ///
 /// Contracts see a `FramesState`.
 #[derive(Drop)]
@@ -131,7 +131,7 @@ impl FrameSource for FaultyFrames {
     }
 }
 
-/// Frames in memory that neither fail nor wait. [`Debug`](std::fmt::Debug) isn't there, so that no secret is printed.
+/// Frames in memory that neither fail nor wait. There is no [`Debug`](std::fmt::Debug), so that no secret is printed.
 ///
 /// Contracts see the frames that are left.
 #[derive(Drop)]

@@ -13,7 +13,7 @@ use std::io::{ErrorKind, Read, Write};
 use std::rt;
 use std::time::{SystemTime, UNIX_EPOCH};
 
-/// Standard input, of which nothing is told.
+/// Standard input. Contracts aren't told what it has left.
 #[derive(Drop)]
 pub struct StdSource<R> {
     reader: R,
@@ -46,7 +46,7 @@ impl<R: Read> ByteSource for StdSource<R> {
     }
 }
 
-/// Standard output or error, of which nothing is told. Each write is flushed.
+/// Standard output or error. Contracts aren't told what it holds. Each write is flushed.
 #[derive(Drop)]
 pub struct StdSink<W> {
     writer: W,
@@ -84,7 +84,7 @@ impl<W: Write> ByteSink for StdSink<W> {
 /// The most bytes of a file that a [`HostDisk`] reads.
 const FILE_LIMIT: usize = 16_777_216;
 
-/// The files of the system, of which nothing is told. A file over 16,777,216 bytes counts as a fault.
+/// The files of the operating system. Contracts aren't told what they hold. A file over 16,777,216 bytes counts as a fault.
 #[derive(Drop)]
 pub struct HostDisk<R> {
     alloc: Global,
@@ -134,7 +134,7 @@ fn read_file<R: Files>(alloc: Global, runtime: &R, path: &str) -> Result<Vec<u8>
     }
 }
 
-/// The clock of the system, of which nothing is told. Where the runtime gives no time it answers second 0.
+/// The clock of the operating system. Contracts aren't told what it gave. Where the runtime gives no time it answers second 0.
 #[derive(Drop)]
 pub struct SystemClock<R> {
     runtime: R,

@@ -5,8 +5,8 @@ use std::env::{Env as Variables, FillError};
 use std::str;
 
 impl Env {
-    /// The variables of the system, of which nothing is told. Those that aren't UTF-8 are left out, and of equal names
-    /// the first one counts, as it does for the system.
+    /// The environment variables of the process. Contracts aren't told what they hold. Those that aren't UTF-8 are left out,
+    /// and of equal names the first one counts, as it does for the operating system.
     pub fn real<R: Variables>(alloc: Global, runtime: &R) -> Mem<Env> {
         let mut env = Env::new(alloc);
         for at in 0..usize::MAX {

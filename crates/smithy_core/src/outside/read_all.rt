@@ -49,8 +49,8 @@ impl From<AllocError> for ReadFault {
 /// # Errors
 ///
 /// [`ReadFault::Failed`] where the source's count of faults rose, [`ReadFault::TooLarge`] where the
-/// source has more bytes than the limit, [`ReadFault::NoMemory`] for want of memory. After each the source
-/// has a rest of its bytes left. Any answer but the first leaves the count.
+/// source has more bytes than the limit, [`ReadFault::NoMemory`] where memory runs out. After each the source
+/// has a suffix of its bytes left. Any answer but the first leaves the count.
 #[tactic(auto, using(crate::proofs::CutLemmas::cuts))]
 pub fn read_all<S: ByteSource>(
     alloc: Global,

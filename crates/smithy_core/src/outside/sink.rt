@@ -35,7 +35,7 @@ impl fmt::Display for SinkError {
 
 impl Error for SinkError {}
 
-/// Takes bytes to the outside.
+/// A sink for bytes.
 pub trait ByteSink {
     // what it holds, where it is told
     ghost held: { Self → Option (List ℕ) };
@@ -47,8 +47,8 @@ pub trait ByteSink {
     ///
     /// # Errors
     ///
-    /// [`SinkError::Failed`] where the count of faults rose, or stands at its last value;
-    /// [`SinkError::NoMemory`] for want of memory. Both leave what is held. Any answer but the
+    /// [`SinkError::Failed`] where the count of faults rose, or is saturated;
+    /// [`SinkError::NoMemory`] where memory runs out. Both leave what is held. Any answer but the
     /// first leaves the count.
     fn write(&mut self, piece: &[u8]) -> Result<usize, SinkError>
         ensures count { faults self.old ≤ faults self.new }
@@ -61,7 +61,7 @@ pub trait ByteSink {
 }
 
 /// Holds bytes in memory, with the calls of `write` that are to fail, counted from 1. It takes each piece whole.
-/// [`Debug`](std::fmt::Debug) isn't there, so that no secret is printed.
+/// There is no [`Debug`](std::fmt::Debug), so that no secret is printed.
 ///
 /// Contracts see a `SinkState`.
 #[derive(Drop)]
@@ -125,7 +125,7 @@ impl ByteSink for FaultySink {
     }
 }
 
-/// Holds bytes in memory, and never fails. It takes each piece whole. [`Debug`](std::fmt::Debug) isn't there, so that no
+/// Holds bytes in memory, and never fails. It takes each piece whole. There is no [`Debug`](std::fmt::Debug), so that no
 /// secret is printed.
 ///
 /// Contracts see the bytes that are held.

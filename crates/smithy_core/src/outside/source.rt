@@ -8,7 +8,7 @@ use std::error::Error;
 use std::fmt;
 use std::marker::Model;
 
-/// A call of the outside failed.
+/// An I/O call failed.
 #[derive(Clone, Copy, Debug, PartialEq, Eq)]
 pub struct Failed;
 
@@ -24,7 +24,7 @@ impl fmt::Display for Failed {
 
 impl Error for Failed {}
 
-/// Bytes that come from outside.
+/// A source of bytes.
 pub trait ByteSource {
     // what is left, where it is told
     ghost left: { Self → Option (List ℕ) };
@@ -38,7 +38,7 @@ pub trait ByteSource {
     ///
     /// # Errors
     ///
-    /// [`Failed`] where the count of faults rose, or stands at its last value; nothing is taken. Any other
+    /// [`Failed`] where the count of faults rose, or is saturated; nothing is taken. Any other
     /// answer leaves the count.
     fn read(&mut self, into: &mut [u8]) -> Result<usize, Failed>
         ensures count { faults self.old ≤ faults self.new }
@@ -127,7 +127,7 @@ impl ByteSource for FaultySource {
     }
 }
 
-/// Bytes in memory that never fail. [`Debug`](std::fmt::Debug) isn't there, so that no secret is printed.
+/// Bytes in memory that never fail. There is no [`Debug`](std::fmt::Debug), so that no secret is printed.
 ///
 /// Contracts see the bytes that are left.
 #[derive(Drop)]

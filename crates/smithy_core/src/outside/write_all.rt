@@ -7,8 +7,8 @@ use crate::outside::sink::{ByteSink, SinkError};
 ///
 /// # Errors
 ///
-/// [`SinkError::Failed`] where the sink's count of faults rose, [`SinkError::NoMemory`] for want of memory.
-/// After both the sink has gained a front of the piece, and not all of it. Any answer but the
+/// [`SinkError::Failed`] where the sink's count of faults rose, [`SinkError::NoMemory`] where memory runs out.
+/// After both the sink has gained a prefix of the piece, and not all of it. Any answer but the
 /// first leaves the count.
 #[tactic(auto, using(crate::proofs::GainLemmas::writes))]
 pub fn write_all<K: ByteSink>(sink: &mut K, piece: &[u8]) -> Result<(), SinkError>
