@@ -14,11 +14,11 @@ use Rattle.eventstream.specs.Kind.{true_kind, false_kind, byte_kind, int16_kind,
 use Rattle.eventstream.specs.declared.error.ErrorKind.{ErrorKind}
 use Rattle.eventstream.specs.declared.error.ErrorKind.TheVariants.{InvalidHeaderNameLength, HeaderValueTooLong, TimestampValueTooLarge, HeadersTooLong, PayloadTooLong, MessageTooLong}
 
--- the most bytes of a header's name
+-- the most bytes of a header's name, whose length is one byte
 abbrev pub most_name : ℕ
 most_name = 255
 
--- the most bytes of a header's byte array or text
+-- the most bytes of a header's byte array or text: 32,767, which the SDKs for Java and Go and the AWS Common Runtime accept, though the field could hold 65,535
 abbrev pub most_value : ℕ
 most_value = 32767
 
