@@ -65,7 +65,7 @@ unfoldable pub canonical_headers : Case → List Pair
 canonical_headers c =
     with_signing_headers c.settings (stamp c.at) c.token (told_payload c.settings.payload_checksum_kind c.payload) (hosted_headers c.target c.headers)
 
--- the name of a token that isn't signed
+-- the name of a token that isn't signed, for services to whose requests it is added after signing
 abbrev pub excluded_token : SessionTokenMode → List ℕ → List (List ℕ)
 excluded_token Include name = []
 excluded_token Exclude name = name ∷ []

@@ -15,7 +15,7 @@ has_default_port (Some scheme) authority =
     (bytes_eq scheme (codes "http") && has_port (codes "80") authority)
     || (bytes_eq scheme (codes "https") && has_port (codes "443") authority)
 
--- the host alone before the scheme's default port, and else the whole authority, its user and its port included
+-- the host alone before the scheme's default port, which clients don't send (RFC 9110, section 4.2), and else the whole authority, its user and its port included
 abbrev pub host_of : Option (List ℕ) → List ℕ → List ℕ
 host_of scheme authority = if has_default_port scheme authority then authority_host authority else authority
 

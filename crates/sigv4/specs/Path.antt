@@ -60,7 +60,7 @@ abbrev pub normalized : UriPathNormalizationMode → List ℕ → List ℕ
 normalized Enabled path = norm path
 normalized Disabled path = path
 
--- the path, escaped once more unless it is to be escaped a single time
+-- the path, escaped once more unless it is to be escaped a single time: a service decodes the path once before it checks the signature
 abbrev pub encoded_again : PercentEncodingMode → List ℕ → List ℕ
 encoded_again Double path = escaped greedy_set path
 encoded_again Single path = path

@@ -35,7 +35,8 @@ settings_of s = record {
   session_token_name_override = option_map string_bytes s.session_token_name_override;
 }
 
--- the names that aren't signed unless the settings say otherwise
+-- the names that aren't signed unless the settings say otherwise: the signature makes the first, proxies change the second and the third, and each hop may
+-- drop the last
 abbrev pub default_exclusions : List (List ℕ)
 default_exclusions = codes "authorization" ∷ codes "user-agent" ∷ codes "x-amzn-trace-id" ∷ codes "transfer-encoding" ∷ []
 
@@ -52,7 +53,8 @@ default_settings = record {
   session_token_name_override = None;
 }
 
--- the settings of header form for Amazon S3: the path is escaped once and stays as it is, and the payload's text has a header
+-- the settings of header form for Amazon S3, whose keys may hold any text, `//` and `..` too: the path is escaped once and stays as it is, and the payload's
+-- text has a header
 abbrev pub s3_settings : Settings
 s3_settings = record default_settings {
   percent_encoding_mode = Single;
