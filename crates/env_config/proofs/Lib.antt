@@ -17,4 +17,8 @@ pub mod ParseLemmas
 pub mod NarrowLemmas
 pub mod NarrowMergeLemmas
 pub mod NarrowServiceLemmas
+pub mod LatestLemmas
+pub mod LatestViewLemmas
+pub mod ProfileLemmas
+pub mod MergedProfileLemmas
 pub mod SelectedLemmas

@@ -7,6 +7,7 @@ use Rattle.std.specs.List.{AllByRecursion, filter}
 use Rattle.std.proofs.lemmas.List.{append-nil}
 use Rattle.std.proofs.lemmas.List.Elements.{filter-append}
 use Rattle.env_config.specs.Line.{is_blank, is_skipped, profile_lines, property_of, section_name}
+use Rattle.env_config.specs.Order.{IsRising}
 use Rattle.env_config.specs.Raw.{Keeps, Last, Open, State, after_line, begun_property, continued_or, everything, last_step, profile_line_step, properties_of, put_property, put_section, raw, raw_from, section_step, start, within_section}
 use Rattle.env_config.specs.Texts.{Named, put, put_named, text_cmp, value_under}
 use Rattle.env_config.proofs.ApartLemmas.{all_of}
@@ -15,30 +16,25 @@ use Rattle.env_config.proofs.LowerLemmas.{tied_same}
 
 -- ## Keys in order
 
--- each key is below those after it
-abbrev pub IsRising : List (List ℕ × List ℕ) → Type 0
-IsRising [] = Unit {0}
-IsRising (e ∷ es) = AllByRecursion (λ (d : List ℕ × List ℕ). text_cmp e.0 d.0 ≡ Less) es × IsRising es
-
-put_above : (low : List ℕ) (es : List (List ℕ × List ℕ)) (key value : List ℕ) → AllByRecursion (λ (d : List ℕ × List ℕ). text_cmp low d.0 ≡ Less) es → text_cmp low key ≡ Less
-    → AllByRecursion (λ (d : List ℕ × List ℕ). text_cmp low d.0 ≡ Less) (put es key value)
+put_above : {X : Type 0} (low : List ℕ) (es : List (List ℕ × X)) (key : List ℕ) (value : X) → AllByRecursion (λ (d : List ℕ × X). text_cmp low d.0 ≡ Less) es → text_cmp low key ≡ Less
+    → AllByRecursion (λ (d : List ℕ × X). text_cmp low d.0 ≡ Less) (put es key value)
 put_above low [] key value all is = (is, tt)
-put_above low (e ∷ es) key value all is = by (text_cmp key e.0) (put_above low es key value all.1 is)
+put_above {X} low (e ∷ es) key value all is = by (text_cmp key e.0) (put_above low es key value all.1 is)
   where
-    by : (o : Ordering) → AllByRecursion (λ (d : List ℕ × List ℕ). text_cmp low d.0 ≡ Less) (put es key value)
-        → AllByRecursion (λ (d : List ℕ × List ℕ). text_cmp low d.0 ≡ Less) (match_ordering o ((key, value) ∷ e ∷ es) ((e.0, value) ∷ es) (e ∷ put es key value))
+    by : (o : Ordering) → AllByRecursion (λ (d : List ℕ × X). text_cmp low d.0 ≡ Less) (put es key value)
+        → AllByRecursion (λ (d : List ℕ × X). text_cmp low d.0 ≡ Less) (match_ordering o ((key, value) ∷ e ∷ es) ((e.0, value) ∷ es) (e ∷ put es key value))
     by Less more = (is, all)
     by Equal more = all
     by Greater more = (all.0, more)
 
-put_rising : (es : List (List ℕ × List ℕ)) (key value : List ℕ) → IsRising es → IsRising (put es key value)
+pub put_rising : {X : Type 0} (es : List (List ℕ × X)) (key : List ℕ) (value : X) → IsRising es → IsRising (put es key value)
 put_rising [] key value is = (tt, tt)
-put_rising (e ∷ es) key value is = by (text_cmp key e.0) refl (put_rising es key value is.1)
+put_rising {X} (e ∷ es) key value is = by (text_cmp key e.0) refl (put_rising es key value is.1)
   where
     by : (o : Ordering) → text_cmp key e.0 ≡ o → IsRising (put es key value) → IsRising (match_ordering o ((key, value) ∷ e ∷ es) ((e.0, value) ∷ es) (e ∷ put es key value))
     by Less below more =
-        let above : AllByRecursion (λ (d : List ℕ × List ℕ). text_cmp key d.0 ≡ Less) es =
-        all_of (λ (d : List ℕ × List ℕ). text_cmp e.0 d.0 ≡ Less) (λ (d : List ℕ × List ℕ). text_cmp key d.0 ≡ Less) (λ d later. nat_list_cmp_total.trans key e.0 d.0 below later) es is.0 in
+        let above : AllByRecursion (λ (d : List ℕ × X). text_cmp key d.0 ≡ Less) es =
+        all_of (λ (d : List ℕ × X). text_cmp e.0 d.0 ≡ Less) (λ (d : List ℕ × X). text_cmp key d.0 ≡ Less) (λ d later. nat_list_cmp_total.trans key e.0 d.0 below later) es is.0 in
         ((below, above), is)
     by Equal tied more = is
     by Greater above more = (put_above e.0 es key value is.0 (nat_list_cmp_total.antisymm e.0 key ∙ ap ordering_reverse above), more)

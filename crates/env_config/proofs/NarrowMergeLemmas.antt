@@ -11,12 +11,13 @@ use Rattle.std.proofs.lemmas.Map.Views.{any-filter_same}
 use Rattle.env_config.specs.declared.source.EnvConfigFileKind.{EnvConfigFileKind}
 use Rattle.env_config.specs.Kept.{has_heading, is_kept_key, keys_in}
 use Rattle.env_config.specs.Laws.{value_in}
+use Rattle.env_config.specs.Order.{IsRising}
 use Rattle.env_config.specs.Raw.{Keeps, everything, properties_of, raw}
 use Rattle.env_config.specs.Sections.{FaultyLine, FileText, Heading, Section, Sections, after_file, files_from, has_profile_default, heading_of, is_identifier, is_profile_default, is_taken_from, merged_into, put_identifiers, put_others, section_properties, with_file, with_names, with_raw, with_section}
 use Rattle.env_config.specs.Texts.{Named, put, text_cmp, value_under}
 use Rattle.env_config.proofs.LaterLemmas.{at_put, both, held}
 use Rattle.env_config.proofs.LowerLemmas.{either, tied_same}
-use Rattle.env_config.proofs.NarrowLemmas.{AlikePairs, AlikeReads, AlikeSections, IsRising, found_alike, none_above, raw_alike}
+use Rattle.env_config.proofs.NarrowLemmas.{AlikePairs, AlikeReads, AlikeSections, found_alike, none_above, raw_alike}
 
 -- texts that are tied
 pub tied_is : (x y : List ℕ) → is_eq (text_cmp x y) ≡ bytes_eq y x
@@ -57,7 +58,7 @@ identifiers_give properties (pair ∷ pairs) key rising =
     now_is true = at_put text_cmp nat_list_cmp_total properties pair.0 pair.1 key
     now_is false = refl
 
-merged_gives : (sections : Named Section) (called : List ℕ) (pairs : List (List ℕ × List ℕ)) (name key : List ℕ) → (bytes_eq called name ≡ true → IsRising pairs)
+pub merged_gives : (sections : Named Section) (called : List ℕ) (pairs : List (List ℕ × List ℕ)) (name key : List ℕ) → (bytes_eq called name ≡ true → IsRising pairs)
     → value_in (merged_into sections called pairs) name key ≡ cond (bytes_eq called name) (over key (value_under pairs key) (value_in sections name key)) (value_in sections name key)
 merged_gives sections called pairs name key rising =
     ap (option_and_then (λ (s : Section). value_under s.properties key)) (at_put text_cmp nat_list_cmp_total sections.values called grown name)
@@ -78,7 +79,7 @@ merged_gives sections called pairs name key rising =
     by false is = refl
 
 -- what a raw section makes of the value of a key of a profile
-profile_gives : (keeps : Keeps) (s : Sections) (prefix : Option (List ℕ)) (called : List ℕ) (pairs : List (List ℕ × List ℕ)) (name key : List ℕ)
+pub profile_gives : (keeps : Keeps) (s : Sections) (prefix : Option (List ℕ)) (called : List ℕ) (pairs : List (List ℕ × List ℕ)) (name key : List ℕ)
     → (has_heading (codes "profile") name (record { prefix = prefix; name = called }) ≡ true → IsRising pairs)
     → value_in (with_section keeps s prefix called pairs).profiles name key
     ≡ cond (has_heading (codes "profile") name (record { prefix = prefix; name = called })) (over key (value_under pairs key) (value_in s.profiles name key)) (value_in s.profiles name key)

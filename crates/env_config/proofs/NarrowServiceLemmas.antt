@@ -9,12 +9,13 @@ use Rattle.std.proofs.lemmas.Bool.{false≢true}
 use Rattle.std.proofs.lemmas.Slice.Eq.{bytes_eq-Decides}
 use Rattle.env_config.specs.Kept.{has_heading, is_kept_key, is_kept_sub, keys_in}
 use Rattle.env_config.specs.Line.{is_equals, trimmed}
+use Rattle.env_config.specs.Order.{IsRising}
 use Rattle.env_config.specs.Raw.{Keeps, everything}
 use Rattle.env_config.specs.Sections.{Key, Sections, heading_of, is_identifier, is_profile_default, key_cmp, merged_into, put_at_key, put_others, put_sub, put_subs, value_at_key, value_pieces, with_section}
 use Rattle.env_config.specs.Texts.{text_cmp, value_under}
 use Rattle.env_config.proofs.LaterLemmas.{at_put, key_total}
 use Rattle.env_config.proofs.LowerLemmas.{tied_same}
-use Rattle.env_config.proofs.NarrowLemmas.{IsRising, none_above}
+use Rattle.env_config.proofs.NarrowLemmas.{none_above}
 use Rattle.env_config.proofs.NarrowMergeLemmas.{IsKeptValue, tied_is}
 
 -- ## Keys

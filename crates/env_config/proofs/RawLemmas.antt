@@ -68,7 +68,7 @@ taken_is keeps sections left name fresh properties before later before_is fresh_
     ∙ sym (ap (λ (b : Bool). at b sections (properties_of sections name)) kept)
 
 -- a continuation keeps the key
-key_kept : (last next : Last) (line : List ℕ) → continued last line ≡ Ok next → next.key ≡ last.key
+pub key_kept : (last next : Last) (line : List ℕ) → continued last line ≡ Ok next → next.key ≡ last.key
 unfolding continued
 key_kept last next line is = by last.is_parent (property_of line) is
   where

@@ -12,9 +12,10 @@ use Rattle.env_config.specs.declared.sections.EnvConfigSections.{EnvConfigSectio
 use Rattle.env_config.specs.EnvConfigSections.{ParsesSections, sections_of, selected_of}
 use Rattle.env_config.specs.Kept.{has_heading, is_kept_key, is_kept_sub, keys_in}
 use Rattle.env_config.specs.Laws.{value_in}
+use Rattle.env_config.specs.MergedProfile.{ParsesProfile}
 use Rattle.env_config.specs.ParseFault.{faulty_line_of}
 use Rattle.env_config.specs.Properties.{others_of}
-use Rattle.env_config.specs.Raw.{everything}
+use Rattle.env_config.specs.Raw.{Keeps, everything}
 use Rattle.env_config.specs.Sections.{FaultyLine, FileText, Sections, files_from, no_sections, sections, value_at_key}
 use Rattle.env_config.specs.Selected.{GivesSelected, GivesService, ParsesSelected, ParsesService}
 use Rattle.env_config.specs.Value.{id_in_sections, service_sub, with_spaces_as}
@@ -40,22 +41,46 @@ keys_given (Err line) profile keys some alike selected = absurd (alike (codes "s
 keys_given (Ok all) profile keys some alike selected =
     (selected, λ key asked. ap (λ (name : List ℕ). value_in (sections_of some).profiles name (lower key)) selected ∙ alike (lower key) asked, tt)
 
+-- what some sections have, all have
+alike_values : (at : Sections → Option (List ℕ)) (full kept : Result Sections FaultyLine) (all some : Sections) → AlikeMerged at full kept → kept ≡ Ok all → at some ≡ at all → AlikeMerged at full (Ok some)
+alike_values at full (Ok here) all some alike is same = by full alike
+  where
+    ok_or : Result Sections FaultyLine → Sections
+    ok_or (Ok s) = s
+    ok_or (Err line) = all
+
+    by : (full : Result Sections FaultyLine) → AlikeMerged at full (Ok here) → AlikeMerged at full (Ok some)
+    by (Ok s) alike = same ∙ ap at (sym (ap ok_or is)) ∙ alike
+    by (Err line) alike = absurd alike
+alike_values at full (Err line) all some alike is same = absurd cc
+
 pub keys_parsed : (files : List FileText) (profile name : List ℕ) (keys subs : List (List ℕ)) (result : Result EnvConfigSections ParseFault) → name ≡ profile
-    → ParsesSections (files_from (keys_in (codes "profile") name keys subs) no_sections files) profile result → ParsesSelected (sections files) profile keys None result
+    → ParsesProfile (keys_in (codes "profile") name keys subs) (files_from (keys_in (codes "profile") name keys subs) no_sections files) profile result → ParsesSelected (sections files) profile keys None result
 unfolding sections
 keys_parsed files profile name keys subs result named parses =
-    by result (subst (λ (n : List ℕ). ParsesSections (files_from (keys_in (codes "profile") n keys subs) no_sections files) profile result) named parses)
+    by result (subst (λ (n : List ℕ). ParsesProfile (keys_in (codes "profile") n keys subs) (files_from (keys_in (codes "profile") n keys subs) no_sections files) profile result) named parses)
   where
-    by : (result : Result EnvConfigSections ParseFault) → ParsesSections (files_from (keys_in (codes "profile") profile keys subs) no_sections files) profile result
-        → ParsesSelected (files_from everything no_sections files) profile keys None result
-    by (Ok some) parses =
-        keys_given (files_from everything no_sections files) profile keys some
-        (λ key asked. subst (λ (r : Result Sections FaultyLine). AlikeMerged (λ s. value_in s.profiles profile key) (files_from everything no_sections files) r) parses.0 (keys_alike files profile keys subs key asked))
+    keeps : Keeps
+    keeps = keys_in (codes "profile") profile keys subs
+
+    full : Result Sections FaultyLine
+    full = files_from everything no_sections files
+
+    at : List ℕ → Sections → Option (List ℕ)
+    at key s = value_in s.profiles profile key
+
+    given : (some : EnvConfigSections) (kept : Result Sections FaultyLine) → files_from keeps no_sections files ≡ kept → ParsesProfile keeps kept profile (Ok some) → ParsesSelected full profile keys None (Ok some)
+    given some (Ok all) is parses =
+        keys_given full profile keys some
+        (λ key asked. alike_values (at key) full (files_from keeps no_sections files) all (sections_of some) (keys_alike files profile keys subs key asked) is (parses.0 key asked))
         parses.1
+    given some (Err line) is parses = absurd parses
+
+    by : (result : Result EnvConfigSections ParseFault) → ParsesProfile keeps (files_from keeps no_sections files) profile result → ParsesSelected full profile keys None result
+    by (Ok some) parses = given some (files_from keeps no_sections files) refl parses
     by (Err (Parse error)) parses =
-        let at : Sections → Option (List ℕ) = λ s. value_in s.profiles profile (codes "services") in
-        refused at (files_from everything no_sections files) (faulty_line_of error)
-        (subst (λ (r : Result Sections FaultyLine). AlikeMerged at (files_from everything no_sections files) r) parses (keys_alike files profile keys subs (codes "services") refl))
+        refused (at (codes "services")) full (faulty_line_of error)
+        (subst (λ (r : Result Sections FaultyLine). AlikeMerged (at (codes "services")) full r) parses (keys_alike files profile keys subs (codes "services") refl))
     by (Err NoMemory) parses = tt
 
 -- ## A service

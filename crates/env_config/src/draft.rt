@@ -30,9 +30,9 @@ struct OpenSection {
 
 /// The property that was begun last, which later lines may go on with.
 #[derive(Drop)]
-struct LastProperty {
-    key: String,
-    value: String,
+pub struct LastProperty {
+    pub key: String,
+    pub value: String,
     is_parent: bool,
 }
 
@@ -210,8 +210,12 @@ impl OpenSection {
 }
 
 impl LastProperty {
-    // The property that the line begins.
-    fn read(alloc: Global, line: &str) -> Result<LastProperty, LineFault>
+    /// The property that the line begins.
+    ///
+    /// # Errors
+    ///
+    /// [`LineFault::Bad`] where the line is no property.
+    pub fn read(alloc: Global, line: &str) -> Result<LastProperty, LineFault>
         ensures { MakesLast (begun_property (property_of line.now)) result }
     {
         match cut_property(line) {
@@ -237,9 +241,13 @@ impl LastProperty {
         Ok(())
     }
 
-    // The value goes on with the line.
+    /// The value goes on with the line.
+    ///
+    /// # Errors
+    ///
+    /// [`LineFault::Bad`] where the line stands below an empty value and is no property.
     #[tactic(auto, unfolding(crate::specs::Raw::continued))]
-    fn go_on(&mut self, line: &str) -> Result<(), LineFault>
+    pub fn go_on(&mut self, line: &str) -> Result<(), LineFault>
         ensures { TakesStep (continued (last_of self.old) line.now) (last_of self.new) result }
     {
         if self.is_parent {

@@ -61,8 +61,8 @@ fn is_kept_heading(heading: &Heading<'_>, prefix: &str, name: &str) -> bool
     has_heading(heading, prefix, name) || heading.is_profile_default()
 }
 
-// A section without prefix is a profile.
-fn has_heading(heading: &Heading<'_>, prefix: &str, name: &str) -> bool
+/// Whether the section has this prefix and this name. One without prefix is a profile.
+pub fn has_heading(heading: &Heading<'_>, prefix: &str, name: &str) -> bool
     ensures { result ≡ has_heading prefix.now name.now (heading_seen heading.now) }
 {
     heading.prefix.unwrap_or("profile") == prefix && heading.name == name

@@ -1,5 +1,6 @@
 ghost use Rattle.std.specs.Prelude.{IfOk};
 ghost use Rattle.env_config.specs.Kept.{keeps_of};
+ghost use Rattle.env_config.specs.ProfileDraft.{ReadsLatest};
 ghost use Rattle.env_config.specs.Raw.{raw, ReadsRaw};
 ghost use Rattle.env_config.specs.Texts.{IsApart};
 
@@ -7,7 +8,9 @@ use crate::by_name::ByName;
 use crate::draft::Draft;
 use crate::fault::RawFault;
 use crate::kept::Kept;
+use crate::latest::Latest;
 use crate::line::cut_line;
+use crate::profile_draft::ProfileDraft;
 use crate::texts::Texts;
 use std::alloc::Global;
 
@@ -34,6 +37,37 @@ pub fn read_raw(alloc: Global, kept: &Kept<'_>, text: &str) -> Result<ByName<Tex
     }
     match draft.into_sections(kept) {
         Ok(sections) => Ok(sections),
+        Err(_) => Err(RawFault::NoMemory),
+    }
+}
+
+/// The values of the profile that are kept, of those that the raw sections of a profile text give.
+///
+/// # Errors
+///
+/// [`RawFault::Line`] with the number of the first line outside the grammar, and the message.
+#[tactic(auto, unfolding(crate::specs::Raw::raw))]
+pub fn read_latest<'t>(
+    alloc: Global,
+    kept: &Kept<'_>,
+    profile: &str,
+    text: &'t str,
+) -> Result<Latest<'t>, RawFault>
+    ensures { ReadsLatest profile.now (raw (keeps_of kept.now) text.now) result }
+{
+    let mut draft = ProfileDraft::new(alloc);
+    let mut number = 1;
+    let mut rest = text;
+    while !rest.is_empty() {
+        let (line, others) = cut_line(rest);
+        if let Err(fault) = draft.take_line(alloc, kept, profile, line) {
+            return Err(fault.at(number));
+        }
+        rest = others;
+        number += 1;
+    }
+    match draft.into_latest(kept) {
+        Ok(latest) => Ok(latest),
         Err(_) => Err(RawFault::NoMemory),
     }
 }

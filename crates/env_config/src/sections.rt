@@ -3,6 +3,9 @@ ghost use Rattle.std.specs.Ordering.{is_eq};
 ghost use Rattle.std.specs.String.{string_bytes};
 ghost use Rattle.env_config.specs.Heading.{heading_seen};
 ghost use Rattle.env_config.specs.Kept.{keeps_of};
+ghost use Rattle.env_config.specs.Latest.{taken_values};
+ghost use Rattle.env_config.specs.MergedProfile.{MergesProfile, ParsesProfile, with_taken};
+ghost use Rattle.env_config.specs.Raw.{raw};
 ghost use Rattle.env_config.specs.Sections.{files_from, heading_of, no_sections, sections, with_file, with_raw, with_section};
 ghost use Rattle.env_config.specs.Texts.{IsApart, by_text, text_cmp, value_under};
 ghost use Rattle.env_config.specs.Value.{selected_value};
@@ -19,11 +22,12 @@ use crate::by_name::ByName;
 use crate::fault::RawFault;
 use crate::heading::{Heading, has_profile_default};
 use crate::kept::Kept;
+use crate::latest::Latest;
 use crate::merge::{merge_into, merge_others};
 use crate::parse_fault::{EnvConfigParseError, ParseFault};
 use crate::profile::{Profile, SsoSession};
 use crate::properties::Properties;
-use crate::raw::read_raw;
+use crate::raw::{read_latest, read_raw};
 use crate::service_id::id_in_sections;
 use crate::source::{EnvConfigFileKind, File, Source};
 use crate::texts::Texts;
@@ -129,7 +133,58 @@ impl EnvConfigSections {
             keys,
             sub_properties: keys,
         };
-        EnvConfigSections::parse_kept(alloc, &kept, source)
+        EnvConfigSections::parse_profile(alloc, &kept, source)
+    }
+
+    // What is kept of the selected profile in the files, merged.
+    fn parse_profile(
+        alloc: Global,
+        kept: &Kept<'_>,
+        source: &Source,
+    ) -> Result<EnvConfigSections, ParseFault>
+        ensures { ParsesProfile (keeps_of kept.now) (files_from (keeps_of kept.now) no_sections (map file_of source.now.files.items)) (string_bytes source.now.profile) result }
+    {
+        let selected = String::from_str(alloc, source.profile.as_str())?;
+        let mut sections = EnvConfigSections::with_selected(alloc, selected);
+        for file in &source.files {
+            sections.merge_profile(alloc, kept, source.profile.as_str(), file)?;
+        }
+        Ok(sections)
+    }
+
+    // Merges what is kept of the profile in the text of a file.
+    fn merge_profile(
+        &mut self,
+        alloc: Global,
+        kept: &Kept<'_>,
+        profile: &str,
+        file: &File,
+    ) -> Result<(), ParseFault>
+        ensures sections { MergesProfile (keeps_of kept.now) profile.now (raw (keeps_of kept.now) (file_of file.now).contents) (file_of file.now) (sections_of self.old) (sections_of self.new) result }
+        ensures selected { selected_of self.new ≡ selected_of self.old }
+    {
+        match read_latest(alloc, kept, profile, file.contents.as_str()) {
+            Ok(latest) => Ok(self.merge_latest(alloc, file.kind, profile, latest)?),
+            Err(RawFault::Line(number, message)) => Err(line_fault(alloc, file, number, message)),
+            Err(RawFault::NoMemory) => Err(ParseFault::NoMemory),
+        }
+    }
+
+    // Merges the values of the profile that are taken from a file.
+    fn merge_latest(
+        &mut self,
+        alloc: Global,
+        kind: EnvConfigFileKind,
+        profile: &str,
+        latest: Latest<'_>,
+    ) -> Mem<()>
+        ensures sections { OnOk result (sections_of self.new ≡ with_taken (sections_of self.old) profile.now (taken_values latest.entry kind profile.now)) }
+        ensures selected { selected_of self.new ≡ selected_of self.old }
+    {
+        match latest.into_taken(alloc, kind, profile)? {
+            Some(pairs) => merge_into(alloc, &mut self.profiles, profile, pairs),
+            None => Ok(()),
+        }
     }
 
     // These sections with the service's own sub-properties with these keys.

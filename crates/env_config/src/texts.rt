@@ -19,7 +19,7 @@ pub struct Texts {
 /// The pairs in the order of their keys.
 #[derive(Drop)]
 enum Pairs {
-    /// A list, which has room for no more than there are: a node of a map has room for eleven pairs.
+    /// A list, which has room for no more than there are: a node of a map has room for fifteen pairs.
     Few(Vec<(String, String)>),
     Many(BTreeMap<String, String>),
 }
@@ -49,6 +49,15 @@ impl Texts {
     {
         Texts {
             pairs: Pairs::Few(Vec::new(alloc)),
+        }
+    }
+
+    /// These few pairs, which are in the order of their keys.
+    pub fn of_few(pairs: Vec<(String, String)>) -> Texts
+        ensures { result ≡ pairs_of pairs.items }
+    {
+        Texts {
+            pairs: Pairs::Few(pairs),
         }
     }
 

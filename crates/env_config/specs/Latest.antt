@@ -1,0 +1,64 @@
+-- The values of a profile's keys in a file: of those that the sections with its heading have, the one whose section came first last.
+use Rattle.std.specs.Prelude.{◌≡◌, ℕ, Bool, true, false, not, ◌||◌, ◌&&◌, nat_lt, List, [], length, map, codes, bytes_eq, Option, Some, None, is_some, option_map, string_bytes, String, if◌then◌else◌, Result, Ok, Err}
+use Rattle.std.specs.Option.{option_or}
+use Rattle.std.specs.Borrow.{Bor}
+use Rattle.std.specs.declared.alloc.Global.{Global}
+use Rattle.env_config.specs.declared.source.EnvConfigFileKind.{EnvConfigFileKind}
+use Rattle.env_config.specs.Kept.{has_heading, keys_in}
+use Rattle.env_config.specs.Raw.{Keeps, Last}
+use Rattle.env_config.specs.Sections.{Heading, heading_of, is_profile_default, is_taken_from}
+use Rattle.env_config.specs.Texts.{Named, put, value_under}
+
+-- the places of sections by the texts between their brackets, in the order of their first appearance; under each key its value in the
+-- sections without prefix, and in those with one, with the place of its section; and whether `[profile default]` is there
+pub record Latest : Type 0 where
+  pub places : List (List ℕ × ℕ)
+  pub bare : List (List ℕ × (ℕ × List ℕ))
+  pub prefixed : List (List ℕ × (ℕ × List ℕ))
+  pub overridden : Bool
+
+abbrev pub no_latest : Latest
+no_latest = record { places = []; bare = []; prefixed = []; overridden = false }
+
+-- the values in the sections with a prefix, or in those without
+abbrev pub values_in : Latest → Bool → List (List ℕ × (ℕ × List ℕ))
+values_in latest true = latest.prefixed
+values_in latest false = latest.bare
+
+-- a section has its place; a new one comes last
+abbrev pub with_place : Latest → List ℕ → Latest
+with_place latest name =
+    if is_some (value_under latest.places name) then latest
+    else record latest { places = put latest.places name (length latest.places); overridden = latest.overridden || is_profile_default (heading_of name).prefix (heading_of name).name }
+
+-- a later section has a value
+abbrev pub is_beaten : Option (ℕ × List ℕ) → ℕ → Bool
+is_beaten None place = false
+is_beaten (Some before) place = nat_lt place before.0
+
+-- the value stands at the key, where no later section has one
+abbrev pub put_placed : List (List ℕ × (ℕ × List ℕ)) → ℕ → List ℕ → List ℕ → List (List ℕ × (ℕ × List ℕ))
+put_placed values place key value = if is_beaten (value_under values key) place then values else put values key (place, value)
+
+abbrev pub put_latest : Latest → Bool → ℕ → List ℕ → List ℕ → Latest
+put_latest latest true place key value = record latest { prefixed = put_placed latest.prefixed place key value }
+put_latest latest false place key value = record latest { bare = put_placed latest.bare place key value }
+
+-- whether a section of the profile has a prefix; nothing where it is another section
+abbrev pub group_of : List ℕ → Heading → Option Bool
+group_of profile heading = if has_heading (codes "profile") profile heading then Some (is_some heading.prefix) else None
+
+-- which sections of the profile are taken from a file
+abbrev pub group_taken : EnvConfigFileKind → Bool → List ℕ → Option Bool
+group_taken kind overridden profile =
+    if is_taken_from kind overridden None profile then Some false
+    else if is_taken_from kind overridden (Some (codes "profile")) profile then Some true
+    else None
+
+-- the values without the places of their sections
+abbrev pub without_places : List (List ℕ × (ℕ × List ℕ)) → List (List ℕ × List ℕ)
+without_places values = map (λ e. (e.0, e.1.1)) values
+
+-- the values of the profile that are taken from a file
+abbrev pub taken_values : Latest → EnvConfigFileKind → List ℕ → Option (List (List ℕ × List ℕ))
+taken_values latest kind profile = option_map (λ group. without_places (values_in latest group)) (group_taken kind latest.overridden profile)
