@@ -79,7 +79,7 @@ none_left : (x : ℕ) → after_bits 0 x 0 ≡ x
 unfolding after_bits
 none_left x = refl
 
-joined : (n j k x : ℕ) → n ≡ j + k → after_bits n x 0 ≡ after_bits k (after_bits j x 0) 0
+pub joined : (n j k x : ℕ) → n ≡ j + k → after_bits n x 0 ≡ after_bits k (after_bits j x 0) 0
 unfolding after_bits
 joined n zero k x e = let same : n ≡ k = omega arith in rw same refl
 joined zero (suc j) k x e = absurd (omega arith)
@@ -144,24 +144,46 @@ into_front r a b c d bytes short la lb lc ld =
 next_alone : (s n b : ℕ) (bytes : List ℕ) → b < 256 → n ≡ 8 * length bytes + 8 → bit_xor s (after_bytes 0 (b ∷ bytes)) ≡ bit_xor (bit_xor s (after_bits n b 0)) (after_bytes 0 bytes)
 next_alone s n b bytes l e = ap (bit_xor s) (first_alone n b bytes l e) ∙ sym (xor_assoc s (after_bits n b 0) (after_bytes 0 bytes))
 
--- eight bytes from a register of 0, each with as many zero bytes after it as there are bytes to come
-abbrev entries : (a b c d e f g h : ℕ) → ℕ
-entries a b c d e f g h =
-    bit_xor (bit_xor (bit_xor (bit_xor (bit_xor (bit_xor (bit_xor (after_bits 64 a 0) (after_bits 56 b 0)) (after_bits 48 c 0)) (after_bits 40 d 0)) (after_bits 32 e 0)) (after_bits 24 f 0)) (after_bits 16 g 0)) (after_bits 8 h 0)
+-- twelve bytes from a register of 0, each with as many zero bytes after it as there are bytes to come
+abbrev behind : (e f g h i j k l m n o p : ℕ) → ℕ
+behind e f g h i j k l m n o p =
+    bit_xor (bit_xor (bit_xor (bit_xor (bit_xor (bit_xor (bit_xor (bit_xor (bit_xor (bit_xor (bit_xor (after_bits 96 e 0) (after_bits 88 f 0)) (after_bits 80 g 0)) (after_bits 72 h 0)) (after_bits 64 i 0)) (after_bits 56 j 0)) (after_bits 48 k 0)) (after_bits 40 l 0)) (after_bits 32 m 0)) (after_bits 24 n 0)) (after_bits 16 o 0)) (after_bits 8 p 0)
 
-eight_alone : (a b c d e f g h : ℕ) → a < 256 → b < 256 → c < 256 → d < 256 → e < 256 → f < 256 → g < 256 → h < 256 → after_bytes 0 (a ∷ b ∷ c ∷ d ∷ e ∷ f ∷ g ∷ h ∷ []) ≡ entries a b c d e f g h
-eight_alone a b c d e f g h la lb lc ld le lf lg lh =
-    first_alone 64 a (b ∷ c ∷ d ∷ e ∷ f ∷ g ∷ h ∷ []) la refl
-    ∙ next_alone _ 56 b (c ∷ d ∷ e ∷ f ∷ g ∷ h ∷ []) lb refl
-    ∙ next_alone _ 48 c (d ∷ e ∷ f ∷ g ∷ h ∷ []) lc refl
-    ∙ next_alone _ 40 d (e ∷ f ∷ g ∷ h ∷ []) ld refl
-    ∙ next_alone _ 32 e (f ∷ g ∷ h ∷ []) le refl
-    ∙ next_alone _ 24 f (g ∷ h ∷ []) lf refl
-    ∙ next_alone _ 16 g (h ∷ []) lg refl
-    ∙ next_alone _ 8 h [] lh refl
+behind_alone : (e f g h i j k l m n o p : ℕ) → e < 256 → f < 256 → g < 256 → h < 256 → i < 256 → j < 256 → k < 256 → l < 256 → m < 256 → n < 256 → o < 256 → p < 256 → after_bytes 0 (e ∷ f ∷ g ∷ h ∷ i ∷ j ∷ k ∷ l ∷ m ∷ n ∷ o ∷ p ∷ []) ≡ behind e f g h i j k l m n o p
+behind_alone e f g h i j k l m n o p le lf lg lh li lj lk ll lm ln lo lp =
+    first_alone 96 e (f ∷ g ∷ h ∷ i ∷ j ∷ k ∷ l ∷ m ∷ n ∷ o ∷ p ∷ []) le refl
+    ∙ next_alone _ 88 f (g ∷ h ∷ i ∷ j ∷ k ∷ l ∷ m ∷ n ∷ o ∷ p ∷ []) lf refl
+    ∙ next_alone _ 80 g (h ∷ i ∷ j ∷ k ∷ l ∷ m ∷ n ∷ o ∷ p ∷ []) lg refl
+    ∙ next_alone _ 72 h (i ∷ j ∷ k ∷ l ∷ m ∷ n ∷ o ∷ p ∷ []) lh refl
+    ∙ next_alone _ 64 i (j ∷ k ∷ l ∷ m ∷ n ∷ o ∷ p ∷ []) li refl
+    ∙ next_alone _ 56 j (k ∷ l ∷ m ∷ n ∷ o ∷ p ∷ []) lj refl
+    ∙ next_alone _ 48 k (l ∷ m ∷ n ∷ o ∷ p ∷ []) lk refl
+    ∙ next_alone _ 40 l (m ∷ n ∷ o ∷ p ∷ []) ll refl
+    ∙ next_alone _ 32 m (n ∷ o ∷ p ∷ []) lm refl
+    ∙ next_alone _ 24 n (o ∷ p ∷ []) ln refl
+    ∙ next_alone _ 16 o (p ∷ []) lo refl
+    ∙ next_alone _ 8 p [] lp refl
     ∙ xor_zero_r _
 
-pub eight_by_entries : (r a b c d e f g h : ℕ) → r < 2 ^ 32 → a < 256 → b < 256 → c < 256 → d < 256 → e < 256 → f < 256 → g < 256 → h < 256 → after_bytes r (a ∷ b ∷ c ∷ d ∷ e ∷ f ∷ g ∷ h ∷ []) ≡ entries (bit_xor (r % 256) a) (bit_xor (r / 256 % 256) b) (bit_xor (r / 65536 % 256) c) (bit_xor (r / 16777216 % 256) d) e f g h
-eight_by_entries r a b c d e f g h short la lb lc ld le lf lg lh =
-    into_front r a b c d (e ∷ f ∷ g ∷ h ∷ []) short la lb lc ld
-    ∙ eight_alone _ _ _ _ e f g h (xor_lt 8 (r % 256) a (omega arith) la) (xor_lt 8 (r / 256 % 256) b (omega arith) lb) (xor_lt 8 (r / 65536 % 256) c (omega arith) lc) (xor_lt 8 (r / 16777216 % 256) d (omega arith) ld) le lf lg lh
+-- four bytes from a register of 0, before twelve others that leave s
+abbrev before : (s a b c d : ℕ) → ℕ
+before s a b c d = bit_xor (bit_xor (bit_xor (bit_xor s (after_bits 128 a 0)) (after_bits 120 b 0)) (after_bits 112 c 0)) (after_bits 104 d 0)
+
+moved_last : (s x y z w : ℕ) → bit_xor (bit_xor (bit_xor (bit_xor x y) z) w) s ≡ bit_xor (bit_xor (bit_xor (bit_xor s x) y) z) w
+moved_last s x y z w =
+    xor_comm (bit_xor (bit_xor (bit_xor x y) z) w) s ∙ sym (xor_assoc s (bit_xor (bit_xor x y) z) w)
+    ∙ ap (λ (t : ℕ). bit_xor t w) (sym (xor_assoc s (bit_xor x y) z) ∙ ap (λ (t : ℕ). bit_xor t z) (sym (xor_assoc s x y)))
+
+before_alone : (a b c d s : ℕ) (bytes : List ℕ) → a < 256 → b < 256 → c < 256 → d < 256 → length bytes ≡ 12 → after_bytes 0 bytes ≡ s → after_bytes 0 (a ∷ b ∷ c ∷ d ∷ bytes) ≡ before s a b c d
+before_alone a b c d s bytes la lb lc ld n is =
+    first_alone 128 a (b ∷ c ∷ d ∷ bytes) la (omega (arith, n))
+    ∙ next_alone _ 120 b (c ∷ d ∷ bytes) lb (omega (arith, n))
+    ∙ next_alone _ 112 c (d ∷ bytes) lc (omega (arith, n))
+    ∙ next_alone _ 104 d bytes ld (omega (arith, n))
+    ∙ ap (bit_xor _) is
+    ∙ moved_last s (after_bits 128 a 0) (after_bits 120 b 0) (after_bits 112 c 0) (after_bits 104 d 0)
+
+pub sixteen_by_entries : (r a b c d e f g h i j k l m n o p : ℕ) → r < 2 ^ 32 → a < 256 → b < 256 → c < 256 → d < 256 → e < 256 → f < 256 → g < 256 → h < 256 → i < 256 → j < 256 → k < 256 → l < 256 → m < 256 → n < 256 → o < 256 → p < 256 → after_bytes r (a ∷ b ∷ c ∷ d ∷ e ∷ f ∷ g ∷ h ∷ i ∷ j ∷ k ∷ l ∷ m ∷ n ∷ o ∷ p ∷ []) ≡ before (behind e f g h i j k l m n o p) (bit_xor (r % 256) a) (bit_xor (r / 256 % 256) b) (bit_xor (r / 65536 % 256) c) (bit_xor (r / 16777216 % 256) d)
+sixteen_by_entries r a b c d e f g h i j k l m n o p short la lb lc ld le lf lg lh li lj lk ll lm ln lo lp =
+    into_front r a b c d (e ∷ f ∷ g ∷ h ∷ i ∷ j ∷ k ∷ l ∷ m ∷ n ∷ o ∷ p ∷ []) short la lb lc ld
+    ∙ before_alone _ _ _ _ _ (e ∷ f ∷ g ∷ h ∷ i ∷ j ∷ k ∷ l ∷ m ∷ n ∷ o ∷ p ∷ []) (xor_lt 8 (r % 256) a (omega arith) la) (xor_lt 8 (r / 256 % 256) b (omega arith) lb) (xor_lt 8 (r / 65536 % 256) c (omega arith) lc) (xor_lt 8 (r / 16777216 % 256) d (omega arith) ld) refl (behind_alone e f g h i j k l m n o p le lf lg lh li lj lk ll lm ln lo lp)

@@ -58,8 +58,8 @@ fn next_bytes(register: u32, bytes: &[u8]) -> u32
 {
     let mut left = register;
     let mut rest = bytes;
-    'eights: while let [a, b, c, d, e, f, g, h, more @ ..] = rest {
-        left = next_eight(left, [*a, *b, *c, *d, *e, *f, *g, *h]);
+    'sixteens: while let Some((front, more)) = rest.split_first_chunk::<16>() {
+        left = next_sixteen(left, *front);
         rest = more;
     }
     next_each(left, rest)
@@ -76,21 +76,27 @@ fn next_each(register: u32, bytes: &[u8]) -> u32
 }
 
 // The steps are linear, so no look-up waits for another one: the register is xored into the first four
-// bytes, and what each byte leaves with the zeros after it is xored together.
+// bytes, and what each byte leaves with the zeros after it is xored together. The four that wait for
+// the register come last.
 #[inline(always)]
-fn next_eight(register: u32, bytes: [u8; 8]) -> u32
+fn next_sixteen(register: u32, bytes: [u8; 16]) -> u32
     ensures { result ≡ after_bytes register bytes }
 {
-    let [a, b, c, d, e, f, g, h] = bytes;
+    let [a, b, c, d, e, f, g, h, i, j, k, l, m, n, o, p] = bytes;
     let [low, second, third, high] = register.to_le_bytes();
-    entry(low ^ a, 7)
-        ^ entry(second ^ b, 6)
-        ^ entry(third ^ c, 5)
-        ^ entry(high ^ d, 4)
-        ^ entry(e, 3)
-        ^ entry(f, 2)
-        ^ entry(g, 1)
-        ^ entry(h, 0)
+    let behind = entry(e, 11)
+        ^ entry(f, 10)
+        ^ entry(g, 9)
+        ^ entry(h, 8)
+        ^ entry(i, 7)
+        ^ entry(j, 6)
+        ^ entry(k, 5)
+        ^ entry(l, 4)
+        ^ entry(m, 3)
+        ^ entry(n, 2)
+        ^ entry(o, 1)
+        ^ entry(p, 0);
+    behind ^ entry(low ^ a, 15) ^ entry(second ^ b, 14) ^ entry(third ^ c, 13) ^ entry(high ^ d, 12)
 }
 
 #[inline(always)]
@@ -105,7 +111,7 @@ fn next_byte(register: u32, byte: u8) -> u32
 // byte is left so by as many bits of 0.
 #[inline(always)]
 fn entry(byte: u8, zeros: usize) -> u32
-    requires { zeros < 8 }
+    requires { zeros < 16 }
     ensures { result ≡ after_bits (8 * zeros + 8) byte 0 }
 {
     TABLES[zeros][usize::from(byte)]
