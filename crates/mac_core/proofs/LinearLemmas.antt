@@ -75,7 +75,7 @@ shifted_out (suc k) a = ap (λ (z : ℕ). after_bits k z 0) (twice (a * 2 ^ k) (
     times : (a p q : ℕ) → q ≡ 2 * p → a * q ≡ 2 * (a * p)
     times a p q e = rw e (omega arith)
 
-none_left : (x : ℕ) → after_bits 0 x 0 ≡ x
+pub none_left : (x : ℕ) → after_bits 0 x 0 ≡ x
 unfolding after_bits
 none_left x = refl
 
@@ -144,46 +144,47 @@ into_front r a b c d bytes short la lb lc ld =
 next_alone : (s n b : ℕ) (bytes : List ℕ) → b < 256 → n ≡ 8 * length bytes + 8 → bit_xor s (after_bytes 0 (b ∷ bytes)) ≡ bit_xor (bit_xor s (after_bits n b 0)) (after_bytes 0 bytes)
 next_alone s n b bytes l e = ap (bit_xor s) (first_alone n b bytes l e) ∙ sym (xor_assoc s (after_bits n b 0) (after_bytes 0 bytes))
 
--- twelve bytes from a register of 0, each with as many zero bytes after it as there are bytes to come
-abbrev behind : (e f g h i j k l m n o p : ℕ) → ℕ
-behind e f g h i j k l m n o p =
-    bit_xor (bit_xor (bit_xor (bit_xor (bit_xor (bit_xor (bit_xor (bit_xor (bit_xor (bit_xor (bit_xor (after_bits 96 e 0) (after_bits 88 f 0)) (after_bits 80 g 0)) (after_bits 72 h 0)) (after_bits 64 i 0)) (after_bits 56 j 0)) (after_bits 48 k 0)) (after_bits 40 l 0)) (after_bits 32 m 0)) (after_bits 24 n 0)) (after_bits 16 o 0)) (after_bits 8 p 0)
-
-behind_alone : (e f g h i j k l m n o p : ℕ) → e < 256 → f < 256 → g < 256 → h < 256 → i < 256 → j < 256 → k < 256 → l < 256 → m < 256 → n < 256 → o < 256 → p < 256 → after_bytes 0 (e ∷ f ∷ g ∷ h ∷ i ∷ j ∷ k ∷ l ∷ m ∷ n ∷ o ∷ p ∷ []) ≡ behind e f g h i j k l m n o p
-behind_alone e f g h i j k l m n o p le lf lg lh li lj lk ll lm ln lo lp =
-    first_alone 96 e (f ∷ g ∷ h ∷ i ∷ j ∷ k ∷ l ∷ m ∷ n ∷ o ∷ p ∷ []) le refl
-    ∙ next_alone _ 88 f (g ∷ h ∷ i ∷ j ∷ k ∷ l ∷ m ∷ n ∷ o ∷ p ∷ []) lf refl
-    ∙ next_alone _ 80 g (h ∷ i ∷ j ∷ k ∷ l ∷ m ∷ n ∷ o ∷ p ∷ []) lg refl
-    ∙ next_alone _ 72 h (i ∷ j ∷ k ∷ l ∷ m ∷ n ∷ o ∷ p ∷ []) lh refl
-    ∙ next_alone _ 64 i (j ∷ k ∷ l ∷ m ∷ n ∷ o ∷ p ∷ []) li refl
-    ∙ next_alone _ 56 j (k ∷ l ∷ m ∷ n ∷ o ∷ p ∷ []) lj refl
-    ∙ next_alone _ 48 k (l ∷ m ∷ n ∷ o ∷ p ∷ []) lk refl
-    ∙ next_alone _ 40 l (m ∷ n ∷ o ∷ p ∷ []) ll refl
-    ∙ next_alone _ 32 m (n ∷ o ∷ p ∷ []) lm refl
-    ∙ next_alone _ 24 n (o ∷ p ∷ []) ln refl
-    ∙ next_alone _ 16 o (p ∷ []) lo refl
-    ∙ next_alone _ 8 p [] lp refl
+-- four bytes from a register of 0, each with as many zero bytes after it as there are bytes to come
+four_alone : (a b c d : ℕ) → a < 256 → b < 256 → c < 256 → d < 256 → after_bytes 0 (a ∷ b ∷ c ∷ d ∷ []) ≡ bit_xor (bit_xor (bit_xor (after_bits 32 a 0) (after_bits 24 b 0)) (after_bits 16 c 0)) (after_bits 8 d 0)
+four_alone a b c d la lb lc ld =
+    first_alone 32 a (b ∷ c ∷ d ∷ []) la refl
+    ∙ next_alone _ 24 b (c ∷ d ∷ []) lb refl
+    ∙ next_alone _ 16 c (d ∷ []) lc refl
+    ∙ next_alone _ 8 d [] ld refl
     ∙ xor_zero_r _
 
--- four bytes from a register of 0, before twelve others that leave s
-abbrev before : (s a b c d : ℕ) → ℕ
-before s a b c d = bit_xor (bit_xor (bit_xor (bit_xor s (after_bits 128 a 0)) (after_bits 120 b 0)) (after_bits 112 c 0)) (after_bits 104 d 0)
+-- so many bits of 0 after four numbers, and after their xor
+each_after : (k x y z w : ℕ) → after_bits k (bit_xor (bit_xor (bit_xor x y) z) w) 0 ≡ bit_xor (bit_xor (bit_xor (after_bits k x 0) (after_bits k y 0)) (after_bits k z 0)) (after_bits k w 0)
+each_after k x y z w =
+    linear k (bit_xor (bit_xor x y) z) w 0
+    ∙ ap (λ (t : ℕ). bit_xor t (after_bits k w 0)) (linear k (bit_xor x y) z 0 ∙ ap (λ (t : ℕ). bit_xor t (after_bits k z 0)) (linear k x y 0))
 
-moved_last : (s x y z w : ℕ) → bit_xor (bit_xor (bit_xor (bit_xor x y) z) w) s ≡ bit_xor (bit_xor (bit_xor (bit_xor s x) y) z) w
-moved_last s x y z w =
-    xor_comm (bit_xor (bit_xor (bit_xor x y) z) w) s ∙ sym (xor_assoc s (bit_xor (bit_xor x y) z) w)
-    ∙ ap (λ (t : ℕ). bit_xor t w) (sym (xor_assoc s (bit_xor x y) z) ∙ ap (λ (t : ℕ). bit_xor t z) (sym (xor_assoc s x y)))
+pub four_by_entries : (r a b c d zeros : ℕ) → r < 2 ^ 32 → a < 256 → b < 256 → c < 256 → d < 256
+    → after_bits (8 * zeros) (after_bytes r (a ∷ b ∷ c ∷ d ∷ [])) 0
+    ≡ bit_xor (bit_xor (bit_xor (after_bits (8 * (zeros + 3) + 8) (bit_xor (r % 256) a) 0) (after_bits (8 * (zeros + 2) + 8) (bit_xor (r / 256 % 256) b) 0)) (after_bits (8 * (zeros + 1) + 8) (bit_xor (r / 65536 % 256) c) 0)) (after_bits (8 * zeros + 8) (bit_xor (r / 16777216 % 256) d) 0)
+four_by_entries r a b c d zeros short la lb lc ld =
+    let a' : ℕ = bit_xor (r % 256) a in
+    let b' : ℕ = bit_xor (r / 256 % 256) b in
+    let c' : ℕ = bit_xor (r / 65536 % 256) c in
+    let d' : ℕ = bit_xor (r / 16777216 % 256) d in
+    ap (λ (z : ℕ). after_bits (8 * zeros) z 0) (into_front r a b c d [] short la lb lc ld
+    ∙ four_alone a' b' c' d' (xor_lt 8 (r % 256) a (omega arith) la) (xor_lt 8 (r / 256 % 256) b (omega arith) lb) (xor_lt 8 (r / 65536 % 256) c (omega arith) lc) (xor_lt 8 (r / 16777216 % 256) d (omega arith) ld))
+    ∙ each_after (8 * zeros) (after_bits 32 a' 0) (after_bits 24 b' 0) (after_bits 16 c' 0) (after_bits 8 d' 0)
+    ∙ sym (joined_four (joined (8 * (zeros + 3) + 8) 32 (8 * zeros) a' (omega arith)) (joined (8 * (zeros + 2) + 8) 24 (8 * zeros) b' (omega arith)) (joined (8 * (zeros + 1) + 8) 16 (8 * zeros) c' (omega arith)) (joined (8 * zeros + 8) 8 (8 * zeros) d' (omega arith)))
+  where
+    joined_four : {x y z w x' y' z' w' : ℕ} → x ≡ x' → y ≡ y' → z ≡ z' → w ≡ w' → bit_xor (bit_xor (bit_xor x y) z) w ≡ bit_xor (bit_xor (bit_xor x' y') z') w'
+    joined_four e f g h = rw (e, f, g, h) refl
 
-before_alone : (a b c d s : ℕ) (bytes : List ℕ) → a < 256 → b < 256 → c < 256 → d < 256 → length bytes ≡ 12 → after_bytes 0 bytes ≡ s → after_bytes 0 (a ∷ b ∷ c ∷ d ∷ bytes) ≡ before s a b c d
-before_alone a b c d s bytes la lb lc ld n is =
-    first_alone 128 a (b ∷ c ∷ d ∷ bytes) la (omega (arith, n))
-    ∙ next_alone _ 120 b (c ∷ d ∷ bytes) lb (omega (arith, n))
-    ∙ next_alone _ 112 c (d ∷ bytes) lc (omega (arith, n))
-    ∙ next_alone _ 104 d bytes ld (omega (arith, n))
-    ∙ ap (bit_xor _) is
-    ∙ moved_last s (after_bits 128 a 0) (after_bits 120 b 0) (after_bits 112 c 0) (after_bits 104 d 0)
+-- four bytes and those behind them: what the four leave with zeros in place of the others, and what the others leave of 0
+four_in_front : (n r a b c d : ℕ) (bytes : List ℕ) → n ≡ 8 * length bytes → after_bytes r (a ∷ b ∷ c ∷ d ∷ bytes) ≡ bit_xor (after_bytes 0 bytes) (after_bits n (after_bytes r (a ∷ b ∷ c ∷ d ∷ [])) 0)
+four_in_front n r a b c d bytes e =
+    let left : ℕ = after_bytes r (a ∷ b ∷ c ∷ d ∷ []) in
+    ap (λ (z : ℕ). after_bytes z bytes) (sym (xor_zero_r left)) ∙ bytes_linear n left 0 bytes e ∙ xor_comm (after_bits n left 0) (after_bytes 0 bytes)
 
-pub sixteen_by_entries : (r a b c d e f g h i j k l m n o p : ℕ) → r < 2 ^ 32 → a < 256 → b < 256 → c < 256 → d < 256 → e < 256 → f < 256 → g < 256 → h < 256 → i < 256 → j < 256 → k < 256 → l < 256 → m < 256 → n < 256 → o < 256 → p < 256 → after_bytes r (a ∷ b ∷ c ∷ d ∷ e ∷ f ∷ g ∷ h ∷ i ∷ j ∷ k ∷ l ∷ m ∷ n ∷ o ∷ p ∷ []) ≡ before (behind e f g h i j k l m n o p) (bit_xor (r % 256) a) (bit_xor (r / 256 % 256) b) (bit_xor (r / 65536 % 256) c) (bit_xor (r / 16777216 % 256) d)
-sixteen_by_entries r a b c d e f g h i j k l m n o p short la lb lc ld le lf lg lh li lj lk ll lm ln lo lp =
-    into_front r a b c d (e ∷ f ∷ g ∷ h ∷ i ∷ j ∷ k ∷ l ∷ m ∷ n ∷ o ∷ p ∷ []) short la lb lc ld
-    ∙ before_alone _ _ _ _ _ (e ∷ f ∷ g ∷ h ∷ i ∷ j ∷ k ∷ l ∷ m ∷ n ∷ o ∷ p ∷ []) (xor_lt 8 (r % 256) a (omega arith) la) (xor_lt 8 (r / 256 % 256) b (omega arith) lb) (xor_lt 8 (r / 65536 % 256) c (omega arith) lc) (xor_lt 8 (r / 16777216 % 256) d (omega arith) ld) refl (behind_alone e f g h i j k l m n o p le lf lg lh li lj lk ll lm ln lo lp)
+pub sixteen_by_fours : (r a b c d e f g h i j k l m n o p : ℕ) → after_bytes r (a ∷ b ∷ c ∷ d ∷ e ∷ f ∷ g ∷ h ∷ i ∷ j ∷ k ∷ l ∷ m ∷ n ∷ o ∷ p ∷ [])
+    ≡ bit_xor (bit_xor (bit_xor (after_bits 0 (after_bytes 0 (m ∷ n ∷ o ∷ p ∷ [])) 0) (after_bits 32 (after_bytes 0 (i ∷ j ∷ k ∷ l ∷ [])) 0)) (after_bits 64 (after_bytes 0 (e ∷ f ∷ g ∷ h ∷ [])) 0)) (after_bits 96 (after_bytes r (a ∷ b ∷ c ∷ d ∷ [])) 0)
+sixteen_by_fours r a b c d e f g h i j k l m n o p =
+    four_in_front 96 r a b c d (e ∷ f ∷ g ∷ h ∷ i ∷ j ∷ k ∷ l ∷ m ∷ n ∷ o ∷ p ∷ []) refl
+    ∙ ap (λ (z : ℕ). bit_xor z (after_bits 96 (after_bytes r (a ∷ b ∷ c ∷ d ∷ [])) 0)) (four_in_front 64 0 e f g h (i ∷ j ∷ k ∷ l ∷ m ∷ n ∷ o ∷ p ∷ []) refl
+    ∙ ap (λ (z : ℕ). bit_xor z (after_bits 64 (after_bytes 0 (e ∷ f ∷ g ∷ h ∷ [])) 0)) (four_in_front 32 0 i j k l (m ∷ n ∷ o ∷ p ∷ []) refl
+    ∙ ap (λ (z : ℕ). bit_xor z (after_bits 32 (after_bytes 0 (i ∷ j ∷ k ∷ l ∷ [])) 0)) (sym (none_left (after_bytes 0 (m ∷ n ∷ o ∷ p ∷ []))))))

@@ -1,4 +1,4 @@
-ghost use Rattle.std.specs.Prelude.{◌≡◌, ℕ, ◌+◌, ◌-◌, ◌*◌, ◌<◌};
+ghost use Rattle.std.specs.Prelude.{◌≡◌, ℕ, ◌+◌, ◌-◌, ◌*◌, ◌<◌, ◌≤◌};
 ghost use Rattle.mac_core.specs.Crc.{after_bits, after_bytes, before_any, remainder};
 
 use crate::tables::TABLES;
@@ -62,6 +62,19 @@ fn next_bytes(register: u32, bytes: &[u8]) -> u32
         left = next_sixteen(left, *front);
         rest = more;
     }
+    next_few(left, rest)
+}
+
+#[tactic(auto, using(crate::proofs::LinearLemmas::none_left))]
+fn next_few(register: u32, bytes: &[u8]) -> u32
+    ensures { result ≡ after_bytes register bytes.now }
+{
+    let mut left = register;
+    let mut rest = bytes;
+    'fours: while let Some((front, more)) = rest.split_first_chunk::<4>() {
+        left = next_four(left, *front, 0);
+        rest = more;
+    }
     next_each(left, rest)
 }
 
@@ -75,28 +88,32 @@ fn next_each(register: u32, bytes: &[u8]) -> u32
     left
 }
 
-// The steps are linear, so no look-up waits for another one: the register is xored into the first four
-// bytes, and what each byte leaves with the zeros after it is xored together. The four that wait for
-// the register come last.
+// The steps are linear, so what each four bytes leave, with the zeros after them, is xored together. The
+// four that wait for the register come last.
 #[inline(always)]
 fn next_sixteen(register: u32, bytes: [u8; 16]) -> u32
     ensures { result ≡ after_bytes register bytes }
 {
     let [a, b, c, d, e, f, g, h, i, j, k, l, m, n, o, p] = bytes;
+    next_four(0, [m, n, o, p], 0)
+        ^ next_four(0, [i, j, k, l], 4)
+        ^ next_four(0, [e, f, g, h], 8)
+        ^ next_four(register, [a, b, c, d], 12)
+}
+
+// What four bytes leave, with so many zero bytes after them. The register is xored into them in advance,
+// and no look-up waits for another one.
+#[inline(always)]
+fn next_four(register: u32, bytes: [u8; 4], zeros: usize) -> u32
+    requires { zeros ≤ 12 }
+    ensures { result ≡ after_bits (8 * zeros) (after_bytes register bytes) 0 }
+{
+    let [a, b, c, d] = bytes;
     let [low, second, third, high] = register.to_le_bytes();
-    let behind = entry(e, 11)
-        ^ entry(f, 10)
-        ^ entry(g, 9)
-        ^ entry(h, 8)
-        ^ entry(i, 7)
-        ^ entry(j, 6)
-        ^ entry(k, 5)
-        ^ entry(l, 4)
-        ^ entry(m, 3)
-        ^ entry(n, 2)
-        ^ entry(o, 1)
-        ^ entry(p, 0);
-    behind ^ entry(low ^ a, 15) ^ entry(second ^ b, 14) ^ entry(third ^ c, 13) ^ entry(high ^ d, 12)
+    entry(low ^ a, zeros + 3)
+        ^ entry(second ^ b, zeros + 2)
+        ^ entry(third ^ c, zeros + 1)
+        ^ entry(high ^ d, zeros)
 }
 
 #[inline(always)]
