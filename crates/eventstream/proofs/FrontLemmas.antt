@@ -1,12 +1,22 @@
 -- The front of a stream of bytes.
-use Rattle.std.proofs.Common.{◌≡◌, ℕ, ◌<◌, ◌≤◌, nat_lt, ◌==◌, Bool, true, false, if◌then◌else◌, List, [], ◌∷◌, ◌++◌, length, take, ap, refl, sym, ◌∙◌, arith}
+use Rattle.std.proofs.Common.{◌≡◌, ℕ, ◌<◌, ◌≤◌, nat_lt, ◌==◌, Bool, true, false, if◌then◌else◌, List, [], ◌∷◌, ◌++◌, length, take, Some, None, ap, refl, sym, ◌∙◌, arith}
 use Rattle.std.specs.Int.{w32}
+use Rattle.std.specs.List.{flat_map}
 use Rattle.std.proofs.lemmas.Bool.{le-ltb, lt-ltb, ne_eqb}
-use Rattle.std.proofs.lemmas.List.{take_at, drop_at, length-append}
+use Rattle.std.proofs.lemmas.List.{take_at, drop_at, take-append-le, length-append}
+use Rattle.seg_buf.specs.Segments.{LieIn, first_segment}
 use Rattle.eventstream.specs.declared.error.ErrorKind.TheVariants.{InvalidMessageLength}
 use Rattle.eventstream.specs.Read.{big_endian, read, read_after, announced}
 use Rattle.eventstream.specs.Reading.{First, nothing, leftover, fault, as_first, first_of}
 use Rattle.eventstream.specs.Decode.{IsUnfinished}
+
+-- the first four bytes of the first segment, where it has so many
+pub four_in_first : (bytes first : List ℕ) (segments : List (List ℕ)) → LieIn bytes segments → Some first ≡ first_segment segments → 4 ≤ length first → take 4 first ≡ take 4 bytes
+four_in_first bytes first [] lies is long = absurd (let none : Some first ≡ None = is in cc)
+four_in_first bytes first (segment ∷ segments) lies is long =
+    let some : Some first ≡ Some segment = is in
+    let same : first ≡ segment = cc in
+    rw (lies.whole, same) (sym (take-append-le 4 segment (flat_map (λ (part : List ℕ). part) segments) (rw (← same) long)))
 
 first_four : (bytes : List ℕ) → take 4 (take 12 bytes) ≡ take 4 bytes
 first_four [] = refl

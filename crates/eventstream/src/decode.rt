@@ -1,4 +1,4 @@
-ghost use Rattle.std.specs.Prelude.{◌≡◌, ℕ, List, ◌+◌, ◌-◌, ◌^◌, ◌≤◌, ◌<◌, ◌++◌, length, drop, None, Some, IfOk};
+ghost use Rattle.std.specs.Prelude.{◌≡◌, ℕ, List, ◌+◌, ◌-◌, ◌^◌, ◌≤◌, ◌<◌, ◌++◌, length, take, drop, None, Some, IfOk, IfSome};
 ghost use Rattle.eventstream.specs.Decode.{DecodesAll, Finishes, DecodesFrame, appended_messages, end_of, undecoded_bytes, least_len};
 ghost use Rattle.seg_buf.specs.Segments.{prelude_len};
 ghost use Rattle.eventstream.specs.Read.{announced};
@@ -244,6 +244,9 @@ pub fn front_announced(buffer: &SegBuf) -> usize
     ensures is { result ≡ announced buffer.now.bytes }
     ensures bound { result < 2 ^ 32 }
 {
+    if let Some(front) = four_of_first(buffer) {
+        return u32::from_be_bytes(front) as usize;
+    }
     let front = [
         buffer.peek(0),
         buffer.peek(1),
@@ -251,6 +254,15 @@ pub fn front_announced(buffer: &SegBuf) -> usize
         buffer.peek(3),
     ];
     u32::from_be_bytes(front) as usize
+}
+
+// The first four bytes, where they lie in the first segment, as they mostly do.
+#[tactic(auto, using(crate::proofs::FrontLemmas::four_in_first))]
+fn four_of_first(buffer: &SegBuf) -> Option<[u8; 4]>
+    ensures { IfSome result (λ front. front ≡ take 4 buffer.now.bytes) }
+{
+    let (front, _) = buffer.first()?.split_first_chunk::<4>()?;
+    Some(*front)
 }
 
 // How a stream ends with `kept` and then `left` bytes of a frame that has at least `least` bytes.

@@ -18,6 +18,9 @@ pub(crate) const MOST_NAME: usize = 255;
 /// The most bytes of a header's byte array or text.
 const MOST_VALUE: usize = 32_767;
 
+/// The bytes that the headers of a usual message take, those of a signed one among them.
+const HEADERS_ROOM: usize = 128;
+
 /// The most bytes of a header block, of a payload and of a frame.
 const MOST_FRAME: usize = 4_294_967_295;
 
@@ -154,10 +157,21 @@ fn push_headers(buffer: &mut Vec<u8>, headers: &[Header]) -> Mem<()>
     requires { first_unspelled headers.now ≡ None }
     ensures { OnOk result (buffer.new.items ≡ buffer.old.items ++ block headers.now) }
 {
+    reserve_headers(buffer, headers)?;
     for header in headers {
         push_header(buffer, header)?;
     }
     Ok(())
+}
+
+// Makes room for the headers of a usual message, so that the buffer seldom grows as they come.
+fn reserve_headers(buffer: &mut Vec<u8>, headers: &[Header]) -> Mem<()>
+    ensures { buffer.new.items ≡ buffer.old.items }
+{
+    if headers.is_empty() {
+        return Ok(());
+    }
+    buffer.reserve(HEADERS_ROOM)
 }
 
 fn push_header(buffer: &mut Vec<u8>, header: &Header) -> Mem<()>

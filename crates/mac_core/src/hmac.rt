@@ -16,6 +16,9 @@ const INNER_PAD: u8 = 0x36;
 /// The byte that the outer pad repeats (RFC 2104, section 2).
 const OUTER_PAD: u8 = 0x5C;
 
+/// The SHA-256 of no bytes, in lower-case hexadecimal.
+const NONE_DIGESTED: &str = "e3b0c44298fc1c149afbf4c8996fb92427ae41e4649b934ca495991b7852b855";
+
 /// HMAC over SHA-256 (RFC 2104), its text taken in pieces.
 ///
 /// Contracts see it as its key block and the text so far, by the relation `HoldsMac`.
@@ -82,9 +85,14 @@ pub fn hmac_sha256(key: &[u8], text: &[u8]) -> [u8; 32]
 }
 
 /// The SHA-256 of the bytes (FIPS 180-4), in lower-case hexadecimal.
+#[tactic(auto, using(crate::proofs::MacLemmas::none_digested))]
 pub fn sha256_hex(alloc: Global, bytes: &[u8]) -> Result<String, AllocError>
     ensures { IfOk result (λ text. string_bytes text ≡ encode_lower (sha256 bytes.now)) }
 {
+    // Most requests have no body.
+    if bytes.is_empty() {
+        return String::from_str(alloc, NONE_DIGESTED);
+    }
     let digest = Sha256::digest(bytes);
     hex::encode(alloc, digest.as_slice())
 }

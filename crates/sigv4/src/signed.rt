@@ -71,10 +71,14 @@ fn authorization_of(alloc: Global, texts: &SigningTexts, signature: &str) -> Mem
     ensures { IfOk result (λ text. string_bytes text
         ≡ authorization_text (string_bytes texts.now.credential) (string_bytes texts.now.names) signature.now) }
 {
-    let (credential, names) = (&texts.credential, &texts.names);
-    format!(in alloc;
-        "AWS4-HMAC-SHA256 Credential={credential}, SignedHeaders={names}, Signature={signature}"
-    )
+    let mut text = String::with_capacity(alloc, 320)?;
+    text.push_str("AWS4-HMAC-SHA256 Credential=")?;
+    text.push_str(texts.credential.as_str())?;
+    text.push_str(", SignedHeaders=")?;
+    text.push_str(texts.names.as_str())?;
+    text.push_str(", Signature=")?;
+    text.push_str(signature)?;
+    Ok(text)
 }
 
 // Appends the header of the payload's text, where that has one.

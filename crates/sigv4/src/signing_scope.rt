@@ -36,7 +36,10 @@ impl SigningScope {
     pub(crate) fn credential(&self, alloc: Global, key_id: &str) -> Mem<String>
         ensures { IfOk result (λ text. string_bytes text ≡ key_id.now ++ codes "/" ++ string_bytes self.now.scope) }
     {
-        let scope = &self.scope;
-        format!(in alloc; "{key_id}/{scope}")
+        let mut text = String::with_capacity(alloc, 128)?;
+        text.push_str(key_id)?;
+        text.push('/')?;
+        text.push_str(self.scope.as_str())?;
+        Ok(text)
     }
 }
