@@ -2,7 +2,7 @@
 use crate::events::{WaitingEvents, first_item, given, initial_items_of, items_of};
 use crate::marshalling::Telling;
 use crate::parts::{count, push};
-use crate::signers::{LastSignature, MarkSigner, bearer, sigv4};
+use crate::signers::{LastSignature, MarkSigner, PlainSigner, bearer, sigv4};
 use case_lines::{number, part, unknown};
 use event_io::{
     AdapterFault, EventOrInitialMarshaller, EventSource, EventStreamSender, MessageStreamAdapter,
@@ -27,6 +27,7 @@ fn of_name(alloc: Global, kind: &str, name: &str, parts: &[&str]) -> Mem<String>
     match name {
         "no-op" => of_kind(alloc, kind, NoOpSigner, parts),
         "mark" => of_kind(alloc, kind, MarkSigner::new(alloc), parts),
+        "plain" => of_kind(alloc, kind, PlainSigner::new(alloc), parts),
         "deferred" => deferred(alloc, kind, parts),
         "bearer" => of_kind(alloc, kind, bearer(alloc)?, parts),
         _ => of_kind(alloc, kind, sigv4(alloc)?, parts),

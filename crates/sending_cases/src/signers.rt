@@ -37,6 +37,32 @@ impl SignMessage for MarkSigner {
     }
 }
 
+/// Leaves messages as they are, and ends a stream with one that has neither headers nor a payload.
+#[derive(Clone, Copy)]
+pub struct PlainSigner {
+    alloc: Global,
+}
+
+impl PlainSigner {
+    pub fn new(alloc: Global) -> PlainSigner {
+        PlainSigner { alloc }
+    }
+}
+
+impl SignMessage for PlainSigner {
+    ghost use Rattle.eventstream.specs.Told.{untold};
+
+    ghost told = { λ _. untold };
+
+    fn sign(&mut self, message: Message, _now: Moment) -> Result<Message, SignMessageError> {
+        Ok(message)
+    }
+
+    fn sign_empty(&mut self, _now: Moment) -> Option<Result<Message, SignMessageError>> {
+        Some(Ok(Message::new(self.alloc, Bytes::new())))
+    }
+}
+
 fn marked(alloc: Global, payload: Bytes) -> Mem<Message> {
     let mark = Header::new(StrBytes::from_static("signed"), HeaderValue::Bool(true));
     Message::new(alloc, payload).add_header(mark)
@@ -58,6 +84,12 @@ impl LastSignature for NoOpSigner {
 }
 
 impl LastSignature for MarkSigner {
+    fn last_signature(&self) -> &str {
+        "none"
+    }
+}
+
+impl LastSignature for PlainSigner {
     fn last_signature(&self) -> &str {
         "none"
     }
