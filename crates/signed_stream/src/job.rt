@@ -82,28 +82,39 @@ pub fn read_job(alloc: Global, bytes: &[u8]) -> Result<Job, JobFault>
     read_lines(alloc, text_of(bytes)?)
 }
 
-/// The texts of profile files that the bytes spell, which have nothing else.
+/// The job that the bytes spell. They go once it is read.
+///
+/// # Errors
+///
+/// As those of [`read_job`].
+pub fn take_job(alloc: Global, bytes: Vec<u8>) -> Result<Job, JobFault>
+    ensures { ReadsJob (job bytes.items) result }
+{
+    read_job(alloc, bytes.as_slice())
+}
+
+/// The texts of profile files that the bytes spell, which have nothing else. The bytes go once these are read.
 ///
 /// # Errors
 ///
 /// As those of [`read_job`].
 #[tactic(auto, unfolding(crate::specs::ProfileTexts::profile_texts))]
-pub fn read_profile_texts(alloc: Global, bytes: &[u8]) -> Result<ProfileTexts, JobFault>
-    ensures { ReadsTexts (profile_texts bytes.now) result }
+pub fn take_profile_texts(alloc: Global, bytes: Vec<u8>) -> Result<ProfileTexts, JobFault>
+    ensures { ReadsTexts (profile_texts bytes.items) result }
 {
-    read_texts(alloc, text_of(bytes)?)
+    read_texts(alloc, text_of(bytes.as_slice())?)
 }
 
-/// The record that the bytes spell, behind profile texts.
+/// The record that the bytes spell, behind profile texts. The bytes go once it is read.
 ///
 /// # Errors
 ///
 /// As those of [`read_job`].
 #[tactic(auto, unfolding(crate::specs::Record::spelled_record))]
-pub fn read_record(alloc: Global, bytes: &[u8]) -> Result<RecordDraft, JobFault>
-    ensures { ReadsRecord (spelled_record bytes.now) result }
+pub fn take_record(alloc: Global, bytes: Vec<u8>) -> Result<RecordDraft, JobFault>
+    ensures { ReadsRecord (spelled_record bytes.items) result }
 {
-    read_record_lines(alloc, text_of(bytes)?)
+    read_record_lines(alloc, text_of(bytes.as_slice())?)
 }
 
 // The bytes as text.

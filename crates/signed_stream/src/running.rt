@@ -15,7 +15,7 @@ ghost use Rattle.signed_stream.specs.Stream.{ReadsUnfitTarget};
 use crate::check_record::check_record;
 use crate::command::{Command, InputCommand, WordsFault, read_words};
 use crate::generate::show_generated;
-use crate::job::{JobFault, read_job, read_profile_texts, read_record};
+use crate::job::{JobFault, take_job, take_profile_texts, take_record};
 use crate::saying::say;
 use crate::show_chunked::show_chunked;
 use crate::show_settings::show_settings;
@@ -149,28 +149,29 @@ fn answer_command<S: ByteSource, D: Disk, C: Clock, K: ByteSink>(
         × (S.faults input.old ≤ S.faults input.new) × (D.faults disk.old ≤ D.faults disk.new) × (K.faults out.old ≤ K.faults out.new) }
 {
     match read_all(alloc, input, MOST_INPUT) {
-        Ok(bytes) => answer_bytes(alloc, command, bytes.as_slice(), env, disk, clock, out),
+        Ok(bytes) => answer_bytes(alloc, command, bytes, env, disk, clock, out),
         Err(ReadFault::Failed) => Status::ReadFault,
         Err(ReadFault::TooLarge) => Status::JobTooLarge,
         Err(ReadFault::NoMemory) => Status::NoMemory,
     }
 }
 
-// Does what the command asks for on the bytes of the input, and answers how it ended.
+// Does what the command asks for on the bytes of the input, and answers how it ended. The bytes go as soon as they are
+// read, so that they take no room beside what is made of them.
 #[tactic(auto, using(crate::proofs::RunLemmas::after_output))]
 fn answer_bytes<D: Disk, C: Clock, K: ByteSink>(
     alloc: Global,
     command: InputCommand<'_>,
-    bytes: &[u8],
+    bytes: Vec<u8>,
     env: &Env,
     disk: &mut D,
     clock: &mut C,
     out: &mut K,
 ) -> Status
-    requires { length bytes.now ≤ most_input }
+    requires { length bytes.items ≤ most_input }
     ensures end { IsAfterInput (ending_of result) }
     ensures planned { GoesForBytes (DiskGives D.answers D.faults (D.files disk.old) env.now disk.old disk.new) (λ taken. Gives C.Clock clock.old taken clock.new) env.now
-        (input_commanded command.entry) bytes.now (ending_of result) (K.held out.old) (K.held out.new) }
+        (input_commanded command.entry) bytes.items (ending_of result) (K.held out.old) (K.held out.new) }
     ensures named { (path : List ℕ) → ending_of result ≡ could_not_read_file path
         → NamesUnreadable (DiskGives D.answers D.faults (D.files disk.old) env.now disk.old disk.new) (input_commanded command.entry) path }
     ensures disk { KeepsDisk (ending_of result) disk.old disk.new }
@@ -180,17 +181,17 @@ fn answer_bytes<D: Disk, C: Clock, K: ByteSink>(
     ensures count { (D.faults disk.old ≤ D.faults disk.new) × (K.faults out.old ≤ K.faults out.new) }
 {
     match command {
-        InputCommand::Stream(words) => match read_job(alloc, bytes) {
+        InputCommand::Stream(words) => match take_job(alloc, bytes) {
             Ok(job) => stream_job(alloc, job, words, env, disk, clock, out),
             Err(JobFault::BadLine(place)) => Status::BadJob(place),
             Err(JobFault::NoMemory) => Status::NoMemory,
         },
-        InputCommand::Check(words) => match read_record(alloc, bytes) {
+        InputCommand::Check(words) => match take_record(alloc, bytes) {
             Ok(draft) => check_record(alloc, draft, words, env, disk, out),
             Err(JobFault::BadLine(place)) => Status::BadJob(place),
             Err(JobFault::NoMemory) => Status::NoMemory,
         },
-        InputCommand::Settings(options) => match read_profile_texts(alloc, bytes) {
+        InputCommand::Settings(options) => match take_profile_texts(alloc, bytes) {
             Ok(texts) => show_settings(alloc, texts, options, env, disk, out),
             Err(JobFault::BadLine(place)) => Status::BadJob(place),
             Err(JobFault::NoMemory) => Status::NoMemory,

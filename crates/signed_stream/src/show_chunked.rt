@@ -28,12 +28,12 @@ type Chunks = AwsChunkedBody<CalmFrames, ChunkDeferredSigner>;
 pub fn show_chunked<K: ByteSink>(
     alloc: Global,
     words: ChunkWords,
-    bytes: &[u8],
+    bytes: Vec<u8>,
     out: &mut K,
 ) -> Status
-    requires { length bytes.now ≤ most_input }
+    requires { length bytes.items ≤ most_input }
     ensures end { IsOfOutput (ending_of result) }
-    ensures planned { GoesAsPlanned (chunk_plan (chunk_wanted words) bytes.now) (ending_of result) (K.held out.old) (K.held out.new) }
+    ensures planned { GoesAsPlanned (chunk_plan (chunk_wanted words) bytes.items) (ending_of result) (K.held out.old) (K.held out.new) }
     ensures output_failed { ending_of result ≡ output_fault → RoseOrStands (K.faults out.old) (K.faults out.new) }
     ensures output_steady { (ending_of result ≡ output_fault → ⊥) → K.faults out.new ≡ K.faults out.old }
     ensures count { K.faults out.old ≤ K.faults out.new }
@@ -46,12 +46,12 @@ pub fn show_chunked<K: ByteSink>(
 fn write_chunked<K: ByteSink>(
     alloc: Global,
     words: ChunkWords,
-    bytes: &[u8],
+    bytes: Vec<u8>,
     out: &mut K,
 ) -> Result<(), StreamFault>
-    requires { length bytes.now ≤ most_input }
+    requires { length bytes.items ≤ most_input }
     ensures count { K.faults out.old ≤ K.faults out.new }
-    ensures sends { Sends None (shown_chunks (chunk_wanted words) bytes.now) (K.held out.old) (K.held out.new) result }
+    ensures sends { Sends None (shown_chunks (chunk_wanted words) bytes.items) (K.held out.old) (K.held out.new) result }
     ensures failed { IsErrOf result StreamFault.SinkFault → RoseOrStands (K.faults out.old) (K.faults out.new) }
     ensures steady { (IsErrOf result StreamFault.SinkFault → ⊥) → K.faults out.new ≡ K.faults out.old }
 {
@@ -89,9 +89,9 @@ fn next_bytes(body: &mut Chunks) -> Mem<Bytes>
 }
 
 // The body of the bytes and the trailers, in chunks of the size that the words ask for.
-fn body_of(alloc: Global, words: ChunkWords, bytes: &[u8]) -> Mem<Chunks>
-    requires { length bytes.now ≤ most_input }
-    ensures { IfOk result (IsBodyOf ⟦<CalmFrames as FrameSource>⟧ (shown_chunks (chunk_wanted words) bytes.now)) }
+fn body_of(alloc: Global, words: ChunkWords, bytes: Vec<u8>) -> Mem<Chunks>
+    requires { length bytes.items ≤ most_input }
+    ensures { IfOk result (IsBodyOf ⟦<CalmFrames as FrameSource>⟧ (shown_chunks (chunk_wanted words) bytes.items)) }
 {
     let lengths = lengths_of(alloc, &words.trailers)?;
     let options = AwsChunkedBodyOptions::new(bytes.len() as u64, lengths);
@@ -115,13 +115,13 @@ fn lengths_of(alloc: Global, trailers: &Headers) -> Mem<Vec<u64>>
 }
 
 // The bytes in one frame, and the trailers in another.
-fn frames_of(alloc: Global, bytes: &[u8], trailers: Headers) -> Mem<Vec<FramePart>>
-    requires { length bytes.now ≤ most_input }
-    ensures frames { IfOk result (λ frames. frames.items ≡ frame.Data bytes.now ∷ frame.Trailers trailers ∷ []) }
+fn frames_of(alloc: Global, bytes: Vec<u8>, trailers: Headers) -> Mem<Vec<FramePart>>
+    requires { length bytes.items ≤ most_input }
+    ensures frames { IfOk result (λ frames. frames.items ≡ frame.Data bytes.items ∷ frame.Trailers trailers ∷ []) }
     ensures short { IfOk result (λ frames. AreShort frames.items) }
 {
     let mut frames = Vec::new(alloc);
-    frames.push(FramePart::Data(Bytes::copy_from_slice(alloc, bytes)?))?;
+    frames.push(FramePart::Data(Bytes::from_vec(bytes)?))?;
     frames.push(FramePart::Trailers(trailers))?;
     Ok(frames)
 }

@@ -13,10 +13,11 @@ pub struct OpenEvent {
 }
 
 impl OpenEvent {
-    /// The message of the event.
-    pub fn into_message(self) -> Message
+    /// The message of the event. Its headers take no room for more, which a list of them has as it grows.
+    pub fn into_message(mut self) -> Message
         ensures { result ≡ event_message (event_of self) }
     {
+        self.headers.shrink_to_fit();
         Message::new_from_parts(self.headers, self.payload.unwrap_or(Bytes::new()))
     }
 }

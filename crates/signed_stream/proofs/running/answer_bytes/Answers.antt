@@ -13,60 +13,60 @@ pub returns-in-Ok-clause-planned : goal.returns-in-Ok-clause-planned
 returns-in-Ok-clause-planned g c =
     rw c.in-Stream.is
     (job_was_read (DiskGives g.D.Disk.answers g.D.Disk.faults (g.D.Disk.files c.args.disk.now) c.args.env.now c.args.disk.now c.stream_job.new.disk)
-    (λ taken. Gives g.C.Clock c.args.clock.now taken c.stream_job.new.clock) c.args.env.now (wanted_of c.in-Stream.words) c.args.bytes.now _ _ _ _ c.in-Ok.ensures c.stream_job.ensures.planned)
+    (λ taken. Gives g.C.Clock c.args.clock.now taken c.stream_job.new.clock) c.args.env.now (wanted_of c.in-Stream.words) c.args.bytes.items _ _ _ _ c.in-Ok.ensures c.stream_job.ensures.planned)
 
 pub returns-in-Stream-clause-planned : goal.returns-in-Stream-clause-planned
 returns-in-Stream-clause-planned g c =
     bytes_no_memory (DiskGives g.D.Disk.answers g.D.Disk.faults (g.D.Disk.files c.args.disk.now) c.args.env.now c.args.disk.now c.args.disk.now) (λ places. tt)
-    (λ taken. Gives g.C.Clock c.args.clock.now taken c.args.clock.now) (given_none g.C.Clock c.args.clock.now) c.args.env.now (input_commanded c.args.command) c.args.bytes.now (g.K.ByteSink.held c.args.out.now)
+    (λ taken. Gives g.C.Clock c.args.clock.now taken c.args.clock.now) (given_none g.C.Clock c.args.clock.now) c.args.env.now (input_commanded c.args.command) c.args.bytes.items (g.K.ByteSink.held c.args.out.now)
 
 pub returns-in-Err-BadLine-clause-planned : goal.returns-in-Err-BadLine-clause-planned
 returns-in-Err-BadLine-clause-planned g c =
     let read = rw c.in-Err-BadLine.field-0-is at c.in-Err-BadLine.ensures in
     rw (c.in-Stream.is, c.in-Err-BadLine.field-0-is)
     (job_is_bad (DiskGives g.D.Disk.answers g.D.Disk.faults (g.D.Disk.files c.args.disk.now) c.args.env.now c.args.disk.now c.args.disk.now) (λ places. tt)
-    (λ taken. Gives g.C.Clock c.args.clock.now taken c.args.clock.now) (given_none g.C.Clock c.args.clock.now) c.args.env.now (wanted_of c.in-Stream.words) c.args.bytes.now _ (g.K.ByteSink.held c.args.out.now) read)
+    (λ taken. Gives g.C.Clock c.args.clock.now taken c.args.clock.now) (given_none g.C.Clock c.args.clock.now) c.args.env.now (wanted_of c.in-Stream.words) c.args.bytes.items _ (g.K.ByteSink.held c.args.out.now) read)
 
-pub returns-in-Ok-read_record-clause-planned : goal.returns-in-Ok-read_record-clause-planned
-returns-in-Ok-read_record-clause-planned g c =
+pub returns-in-Ok-take_record-clause-planned : goal.returns-in-Ok-take_record-clause-planned
+returns-in-Ok-take_record-clause-planned g c =
     rw c.in-Check.is
     (record_was_read (DiskGives g.D.Disk.answers g.D.Disk.faults (g.D.Disk.files c.args.disk.now) c.args.env.now c.args.disk.now c.check_record.new.disk) (λ places. tt)
-    (λ taken. Gives g.C.Clock c.args.clock.now taken c.args.clock.now) (given_none g.C.Clock c.args.clock.now) c.args.env.now (check_wanted c.in-Check.words) c.args.bytes.now
-    (record_parts c.in-Ok-read_record.draft) _ _ _ c.in-Ok-read_record.ensures c.check_record.ensures.planned)
+    (λ taken. Gives g.C.Clock c.args.clock.now taken c.args.clock.now) (given_none g.C.Clock c.args.clock.now) c.args.env.now (check_wanted c.in-Check.words) c.args.bytes.items
+    (record_parts c.in-Ok-take_record.draft) _ _ _ c.in-Ok-take_record.ensures c.check_record.ensures.planned)
 
-pub returns-in-Err-BadLine-read_record-clause-planned : goal.returns-in-Err-BadLine-read_record-clause-planned
-returns-in-Err-BadLine-read_record-clause-planned g c =
-    let read = rw c.in-Err-BadLine-read_record.field-0-is at c.in-Err-BadLine-read_record.ensures in
-    rw (c.in-Check.is, c.in-Err-BadLine-read_record.field-0-is)
+pub returns-in-Err-BadLine-take_record-clause-planned : goal.returns-in-Err-BadLine-take_record-clause-planned
+returns-in-Err-BadLine-take_record-clause-planned g c =
+    let read = rw c.in-Err-BadLine-take_record.field-0-is at c.in-Err-BadLine-take_record.ensures in
+    rw (c.in-Check.is, c.in-Err-BadLine-take_record.field-0-is)
     (record_is_bad (DiskGives g.D.Disk.answers g.D.Disk.faults (g.D.Disk.files c.args.disk.now) c.args.env.now c.args.disk.now c.args.disk.now) (λ places. tt)
-    (λ taken. Gives g.C.Clock c.args.clock.now taken c.args.clock.now) (given_none g.C.Clock c.args.clock.now) c.args.env.now (check_wanted c.in-Check.words) c.args.bytes.now _ (g.K.ByteSink.held c.args.out.now) read)
+    (λ taken. Gives g.C.Clock c.args.clock.now taken c.args.clock.now) (given_none g.C.Clock c.args.clock.now) c.args.env.now (check_wanted c.in-Check.words) c.args.bytes.items _ (g.K.ByteSink.held c.args.out.now) read)
 
 pub returns-in-Check-clause-planned : goal.returns-in-Check-clause-planned
 returns-in-Check-clause-planned g c =
     bytes_no_memory (DiskGives g.D.Disk.answers g.D.Disk.faults (g.D.Disk.files c.args.disk.now) c.args.env.now c.args.disk.now c.args.disk.now) (λ places. tt)
-    (λ taken. Gives g.C.Clock c.args.clock.now taken c.args.clock.now) (given_none g.C.Clock c.args.clock.now) c.args.env.now (input_commanded c.args.command) c.args.bytes.now (g.K.ByteSink.held c.args.out.now)
+    (λ taken. Gives g.C.Clock c.args.clock.now taken c.args.clock.now) (given_none g.C.Clock c.args.clock.now) c.args.env.now (input_commanded c.args.command) c.args.bytes.items (g.K.ByteSink.held c.args.out.now)
 
-pub returns-in-Ok-read_profile_texts-clause-planned : goal.returns-in-Ok-read_profile_texts-clause-planned
-returns-in-Ok-read_profile_texts-clause-planned g c =
+pub returns-in-Ok-take_profile_texts-clause-planned : goal.returns-in-Ok-take_profile_texts-clause-planned
+returns-in-Ok-take_profile_texts-clause-planned g c =
     rw c.in-Settings.is
     (texts_were_read (DiskGives g.D.Disk.answers g.D.Disk.faults (g.D.Disk.files c.args.disk.now) c.args.env.now c.args.disk.now c.show_settings.new.disk) (λ places. tt)
-    (λ taken. Gives g.C.Clock c.args.clock.now taken c.args.clock.now) (given_none g.C.Clock c.args.clock.now) c.args.env.now (profile_wanted c.in-Settings.options) c.args.bytes.now
-    (texts_of c.in-Ok-read_profile_texts.texts) _ _ _ c.in-Ok-read_profile_texts.ensures c.show_settings.ensures.planned)
+    (λ taken. Gives g.C.Clock c.args.clock.now taken c.args.clock.now) (given_none g.C.Clock c.args.clock.now) c.args.env.now (profile_wanted c.in-Settings.options) c.args.bytes.items
+    (texts_of c.in-Ok-take_profile_texts.texts) _ _ _ c.in-Ok-take_profile_texts.ensures c.show_settings.ensures.planned)
 
-pub returns-in-Err-BadLine-read_profile_texts-clause-planned : goal.returns-in-Err-BadLine-read_profile_texts-clause-planned
-returns-in-Err-BadLine-read_profile_texts-clause-planned g c =
-    let read = rw c.in-Err-BadLine-read_profile_texts.field-0-is at c.in-Err-BadLine-read_profile_texts.ensures in
-    rw (c.in-Settings.is, c.in-Err-BadLine-read_profile_texts.field-0-is)
+pub returns-in-Err-BadLine-take_profile_texts-clause-planned : goal.returns-in-Err-BadLine-take_profile_texts-clause-planned
+returns-in-Err-BadLine-take_profile_texts-clause-planned g c =
+    let read = rw c.in-Err-BadLine-take_profile_texts.field-0-is at c.in-Err-BadLine-take_profile_texts.ensures in
+    rw (c.in-Settings.is, c.in-Err-BadLine-take_profile_texts.field-0-is)
     (texts_are_bad (DiskGives g.D.Disk.answers g.D.Disk.faults (g.D.Disk.files c.args.disk.now) c.args.env.now c.args.disk.now c.args.disk.now) (λ places. tt)
-    (λ taken. Gives g.C.Clock c.args.clock.now taken c.args.clock.now) (given_none g.C.Clock c.args.clock.now) c.args.env.now (profile_wanted c.in-Settings.options) c.args.bytes.now _ (g.K.ByteSink.held c.args.out.now) read)
+    (λ taken. Gives g.C.Clock c.args.clock.now taken c.args.clock.now) (given_none g.C.Clock c.args.clock.now) c.args.env.now (profile_wanted c.in-Settings.options) c.args.bytes.items _ (g.K.ByteSink.held c.args.out.now) read)
 
 pub returns-in-Settings-clause-planned : goal.returns-in-Settings-clause-planned
 returns-in-Settings-clause-planned g c =
     bytes_no_memory (DiskGives g.D.Disk.answers g.D.Disk.faults (g.D.Disk.files c.args.disk.now) c.args.env.now c.args.disk.now c.args.disk.now) (λ places. tt)
-    (λ taken. Gives g.C.Clock c.args.clock.now taken c.args.clock.now) (given_none g.C.Clock c.args.clock.now) c.args.env.now (input_commanded c.args.command) c.args.bytes.now (g.K.ByteSink.held c.args.out.now)
+    (λ taken. Gives g.C.Clock c.args.clock.now taken c.args.clock.now) (given_none g.C.Clock c.args.clock.now) c.args.env.now (input_commanded c.args.command) c.args.bytes.items (g.K.ByteSink.held c.args.out.now)
 
 pub returns-clause-planned : goal.returns-clause-planned
 returns-clause-planned g c =
     rw c.in-Chunk.is
     (chunks_written (DiskGives g.D.Disk.answers g.D.Disk.faults (g.D.Disk.files c.args.disk.now) c.args.env.now c.args.disk.now c.args.disk.now) (λ places. tt)
-    (λ taken. Gives g.C.Clock c.args.clock.now taken c.args.clock.now) (given_none g.C.Clock c.args.clock.now) c.args.env.now (chunk_wanted c.in-Chunk.words) c.args.bytes.now _ _ _ c.show_chunked.ensures.planned)
+    (λ taken. Gives g.C.Clock c.args.clock.now taken c.args.clock.now) (given_none g.C.Clock c.args.clock.now) c.args.env.now (chunk_wanted c.in-Chunk.words) c.args.bytes.items _ _ _ c.show_chunked.ensures.planned)

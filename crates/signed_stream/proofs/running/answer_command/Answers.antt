@@ -11,16 +11,15 @@ use Rattle.signed_stream.proofs.running.answer_command.Goals as goal
 
 pub returns-in-Ok-clause-planned : goal.returns-in-Ok-clause-planned
 returns-in-Ok-clause-planned g c =
-    let counted = rw c.as_slice.ensures.value at c.as_slice.ensures.len in
-    let short : length c.in-Ok.bytes.items ≤ most_input = omega (arith, counted, c.in-Ok.ensures.short) in
+    let short : length c.in-Ok.bytes.items ≤ most_input = omega (arith, c.in-Ok.bytes.ok.0, c.in-Ok.ensures.short) in
     read_runs (DiskGives g.D.Disk.answers g.D.Disk.faults (g.D.Disk.files c.args.disk.now) c.args.env.now c.args.disk.now c.answer_bytes.new.disk)
     (λ taken. Gives g.C.Clock c.args.clock.now taken c.answer_bytes.new.clock) c.args.env.now (input_commanded c.args.command) (g.S.ByteSource.left c.args.input.now) c.in-Ok.bytes.items (ending_of c.answer_bytes.result)
-    (g.K.ByteSink.held c.args.out.now) (g.K.ByteSink.held c.answer_bytes.new.out) (reads c.args.command) c.in-Ok.ensures.bytes short (rw c.as_slice.ensures.value at c.answer_bytes.ensures.planned)
+    (g.K.ByteSink.held c.args.out.now) (g.K.ByteSink.held c.answer_bytes.new.out) (reads c.args.command) c.in-Ok.ensures.bytes short c.answer_bytes.ensures.planned
 
 pub returns-in-Ok-clause-kept : goal.returns-in-Ok-clause-kept
 returns-in-Ok-clause-kept g c =
     keeps_bytes (DiskGives g.D.Disk.answers g.D.Disk.faults (g.D.Disk.files c.args.disk.now) c.args.env.now c.args.disk.now c.answer_bytes.new.disk)
-    (λ taken. Gives g.C.Clock c.args.clock.now taken c.answer_bytes.new.clock) c.args.env.now (input_commanded c.args.command) c.as_slice.result.now (ending_of c.answer_bytes.result)
+    (λ taken. Gives g.C.Clock c.args.clock.now taken c.answer_bytes.new.clock) c.args.env.now (input_commanded c.args.command) c.in-Ok.bytes.items (ending_of c.answer_bytes.result)
     (g.K.ByteSink.held c.args.out.now) (g.K.ByteSink.held c.answer_bytes.new.out) c.answer_bytes.ensures.planned
 
 pub returns-in-Err-TooLarge-clause-planned : goal.returns-in-Err-TooLarge-clause-planned

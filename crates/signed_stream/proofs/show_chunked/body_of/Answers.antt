@@ -9,7 +9,7 @@ pub returns : goal.returns
 unfolding shown_chunks
 returns g c =
     let body =
-    new_body calm.ghosts c.with_chunk_size.result c.args.bytes.now c.args.words.trailers c.new.result c.new-2.result
+    new_body calm.ghosts c.with_chunk_size.result c.args.bytes.items c.args.words.trailers c.new.result c.new-2.result
     (c.new.ensures.left ∙ ap Some c.in_ok-frames.ensures.frames) c.new-2.ensures.starts c.new-2.ensures.due c.new-2.ensures.parts c.new-2.ensures.total
     (search rules) (search rules) (search rules) c.requires in
-    (body.0, body.1 ∙ ap (λ n. chunked_text n c.args.bytes.now c.args.words.trailers) (search rules))
+    (body.0, body.1 ∙ ap (λ n. chunked_text n c.args.bytes.items c.args.words.trailers) (search rules))
