@@ -1,25 +1,26 @@
 //! What goes around each attempt of an operation.
+use crate::signed_requests::sign_for;
 use aws_intercept::{
     ApiMetadata, AwsErrorCodeClassifier, BuildMetadata, ConfigBag, InvocationIdGenerator,
     InvocationIdInterceptor, OsFamily, RecursionDetectionInterceptor, RequestInfoInterceptor,
     RetryAction, UserAgentInterceptor,
 };
-use sigv4::{SignableRequest, SigningParams, SigningSettings, sign, v4};
+use sigv4::SigningSettings;
 use smithy_core::{Env, ErrorMetadata, HttpRequest, Identity, Moment, RetryConfig};
 use std::alloc::{AllocError, Global};
 
-/// What the interceptors of one operation share, once it has begun: before its first attempt.
-pub fn begun<G: InvocationIdGenerator>(
+/// Puts into the bag what the interceptors of one operation share, before its first attempt.
+pub fn begin<G: InvocationIdGenerator>(
     alloc: Global,
     env: &Env,
     ids: &mut G,
-) -> anyhow::Result<ConfigBag> {
-    let mut bag = ConfigBag::new(alloc);
+    bag: &mut ConfigBag,
+) -> anyhow::Result<()> {
     bag.retry = Some(RetryConfig::standard());
     bag.api_metadata = Some(api_of(alloc)?);
-    UserAgentInterceptor::new().read_after_serialization(env, &build_of(alloc)?, &mut bag)?;
-    InvocationIdInterceptor::new().modify_before_retry_loop(ids, &mut bag)?;
-    Ok(bag)
+    UserAgentInterceptor::new().read_after_serialization(env, &build_of(alloc)?, bag)?;
+    InvocationIdInterceptor::new().modify_before_retry_loop(ids, bag)?;
+    Ok(())
 }
 
 fn api_of(alloc: Global) -> Result<ApiMetadata, AllocError> {
@@ -36,34 +37,27 @@ fn build_of(alloc: Global) -> Result<BuildMetadata, AllocError> {
     })
 }
 
-/// The request of an attempt, as it is sent: the agent and the trace are signed, the id and the attempt's number come after.
-pub fn attempt(
+/// Readies the request of an attempt: the agent and the trace are signed, the id and the attempt's number come after.
+pub fn ready(
     alloc: Global,
-    env: Env,
+    request: &mut HttpRequest,
+    trace: &mut RecursionDetectionInterceptor,
     identity: &Identity,
     bag: &mut ConfigBag,
     now: Moment,
-) -> anyhow::Result<HttpRequest> {
-    let mut request = HttpRequest::new(alloc, "GET", "https://iam.amazonaws.com/")?;
-    UserAgentInterceptor::new().modify_before_signing(&mut request, bag)?;
-    RecursionDetectionInterceptor::new(env).modify_before_signing(&mut request, bag)?;
-    sign_it(alloc, identity, now, &mut request)?;
-    InvocationIdInterceptor::new().modify_before_transmit(&mut request, bag)?;
-    RequestInfoInterceptor::new().modify_before_transmit(&mut request, now, bag)?;
-    Ok(request)
-}
-
-fn sign_it(
-    alloc: Global,
-    identity: &Identity,
-    now: Moment,
-    request: &mut HttpRequest,
 ) -> anyhow::Result<()> {
-    let settings = SigningSettings::new(alloc)?;
-    let params = v4::SigningParams::new(identity, "us-east-1", "iam", now, settings);
-    let signable = SignableRequest::from_http_request(alloc, request)?;
-    let (instructions, _) = sign(alloc, signable, &SigningParams::V4(params))?.into_parts();
-    instructions.apply_to_request(request)?;
+    UserAgentInterceptor::new().modify_before_signing(request, bag)?;
+    trace.modify_before_signing(request, bag)?;
+    sign_for(
+        alloc,
+        request,
+        identity,
+        "iam",
+        now,
+        SigningSettings::new(alloc)?,
+    )?;
+    InvocationIdInterceptor::new().modify_before_transmit(request, bag)?;
+    RequestInfoInterceptor::new().modify_before_transmit(request, now, bag)?;
     Ok(())
 }
 

@@ -6,20 +6,22 @@ use bytes::Bytes;
 use smithy_core::{CalmFrames, FramePart, Headers};
 use std::alloc::Global;
 
+type Body = AwsChunkedBody<CalmFrames, ChunkDeferredSigner>;
+
 /// The text of a body that isn't signed, with the checksum of its data as a trailer.
 pub fn body(alloc: Global) -> anyhow::Result<Vec<u8>> {
+    let options = AwsChunkedBodyOptions::new(5, vec![in alloc; 29]?);
     let mut trailers = Headers::new(alloc);
     trailers.append("x-amz-checksum-crc32", "NhCmhg==")?;
     let frames = vec![in alloc;
         FramePart::Data(Bytes::from_static(b"hello")),
         FramePart::Trailers(trailers),
     ]?;
-    let options = AwsChunkedBodyOptions::new(5, vec![in alloc; 29]?);
-    let mut body: AwsChunkedBody<CalmFrames, ChunkDeferredSigner> = AwsChunkedBody::new(
-        alloc,
-        CalmFrames::new(frames),
-        options,
-    );
+    let mut body: Body = AwsChunkedBody::new(alloc, CalmFrames::new(frames), options);
+    text_of(alloc, &mut body)
+}
+
+fn text_of(alloc: Global, body: &mut Body) -> anyhow::Result<Vec<u8>> {
     let mut text = Vec::new(alloc);
     for _ in 0..u32::MAX {
         match body.poll_frame() {

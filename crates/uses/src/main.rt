@@ -11,9 +11,11 @@ mod shown;
 mod signed_events;
 mod signed_requests;
 
-use crate::shown::{lines_of_bytes, lines_of_request};
-use aws_intercept::{InvocationId, PredefinedInvocationIdGenerator};
-use smithy_core::{CalmDisk, Credentials, Env, ErrorMetadata, Identity, Moment};
+use crate::shown::{push_lines, push_request};
+use aws_intercept::{
+    ConfigBag, InvocationId, PredefinedInvocationIdGenerator, RecursionDetectionInterceptor,
+};
+use smithy_core::{CalmDisk, Credentials, Env, ErrorMetadata, HttpRequest, Identity, Moment};
 use std::alloc::{AllocError, Global};
 use std::io;
 use std::process::ExitCode;
@@ -37,73 +39,112 @@ fn main(rt: HostRuntime) -> io::Result<ExitCode> {
 // What comes of each use.
 fn uses(alloc: Global) -> anyhow::Result<String> {
     let mut text = String::new(alloc);
-    text.push_str(shown_requests(alloc)?.as_str())?;
-    text.push_str(shown_streams(alloc)?.as_str())?;
-    text.push_str(shown_region(alloc)?.as_str())?;
-    text.push_str(shown_attempts(alloc)?.as_str())?;
+    push_requests(alloc, &mut text, &example_identity(alloc)?)?;
+    push_events(alloc, &mut text)?;
+    push_lines(alloc, &mut text, chunked_upload::body(alloc)?.as_slice())?;
+    push_region(alloc, &mut text)?;
+    push_operation(alloc, &mut text)?;
     Ok(text)
 }
 
-fn shown_requests(alloc: Global) -> anyhow::Result<String> {
-    let identity = example_identity(alloc)?;
-    let signed = signed_requests::signed(alloc, &identity, example_moment())?;
-    let mut text = lines_of_request(alloc, &signed)?;
-    let presigned = signed_requests::presigned(alloc, &identity, example_moment())?;
-    text.push_str(lines_of_request(alloc, &presigned)?.as_str())?;
-    let is_good = signed_requests::is_good(alloc, &presigned, SECRET)?;
-    text.push_str(format!(in alloc; "good: {is_good}\n\n")?.as_str())?;
-    Ok(text)
+fn push_requests(alloc: Global, text: &mut String, identity: &Identity) -> anyhow::Result<()> {
+    push_signed(alloc, text, identity)?;
+    push_presigned(alloc, text, identity)
 }
 
-fn shown_streams(alloc: Global) -> anyhow::Result<String> {
+fn push_signed(alloc: Global, text: &mut String, identity: &Identity) -> anyhow::Result<()> {
+    let request = signed_requests::signed(alloc, identity, example_moment())?;
+    push_request(text, &request)?;
+    Ok(())
+}
+
+fn push_presigned(alloc: Global, text: &mut String, identity: &Identity) -> anyhow::Result<()> {
+    let request = signed_requests::presigned(alloc, identity, example_moment())?;
+    push_checked(alloc, text, &request)
+}
+
+fn push_checked(alloc: Global, text: &mut String, request: &HttpRequest) -> anyhow::Result<()> {
+    push_request(text, request)?;
+    let is_good = signed_requests::is_good(alloc, request, SECRET)?;
+    write!(text, "good: {is_good}\n\n")?;
+    Ok(())
+}
+
+fn push_events(alloc: Global, text: &mut String) -> anyhow::Result<()> {
     let frames = signed_events::frames(alloc, example_identity(alloc)?, example_moment())?;
     let count = received_events::count(alloc, frames.as_slice())?;
-    let mut text = format!(in alloc; "{} bytes, {count} messages\n\n", frames.len())?;
-    let body = chunked_upload::body(alloc)?;
-    text.push_str(lines_of_bytes(alloc, body.as_slice())?.as_str())?;
-    Ok(text)
+    write!(text, "{} bytes, {count} messages\n\n", frames.len())?;
+    Ok(())
 }
 
-fn shown_region(alloc: Global) -> anyhow::Result<String> {
+fn push_region(alloc: Global, text: &mut String) -> anyhow::Result<()> {
+    match example_region(alloc)? {
+        Some(region) => write!(text, "region {region}\n\n")?,
+        None => text.push_str("no region\n\n")?,
+    }
+    Ok(())
+}
+
+fn example_region(alloc: Global) -> anyhow::Result<Option<String>> {
+    let env = example_env(alloc)?;
+    let mut disk = example_disk(alloc)?;
+    profile_settings::region_of(alloc, &env, &mut disk)
+}
+
+fn example_env(alloc: Global) -> anyhow::Result<Env> {
     let mut env = Env::new(alloc);
     env.set("HOME", "/home/a")?;
     env.set("AWS_PROFILE", "night")?;
+    Ok(env)
+}
+
+fn example_disk(alloc: Global) -> anyhow::Result<CalmDisk> {
     let path = String::from_str(alloc, "/home/a/.aws/config")?;
     let text = String::from_str(
         alloc,
         "[default]\nregion = us-east-1\n[profile night]\nregion = eu-west-1\n",
     )?;
-    let mut disk = CalmDisk::new(vec![in alloc; (path, text.into_bytes())]?);
-    match profile_settings::region_of(alloc, &env, &mut disk)? {
-        Some(region) => Ok(format!(in alloc; "region {region}\n\n")?),
-        None => Ok(String::from_str(alloc, "no region\n\n")?),
-    }
+    Ok(CalmDisk::new(vec![in alloc; (path, text.into_bytes())]?))
 }
 
-fn shown_attempts(alloc: Global) -> anyhow::Result<String> {
-    let identity = example_identity(alloc)?;
-    let mut ids = PredefinedInvocationIdGenerator::new(vec![in alloc; example_id(alloc)?]?);
-    let mut bag = attempts::begun(alloc, &Env::new(alloc), &mut ids)?;
+fn push_operation(alloc: Global, text: &mut String) -> anyhow::Result<()> {
+    let mut bag = ConfigBag::new(alloc);
+    push_attempts(alloc, text, &mut bag)
+}
+
+// Appends the request of each attempt at an operation that the service answers by `Throttling`.
+fn push_attempts(alloc: Global, text: &mut String, bag: &mut ConfigBag) -> anyhow::Result<()> {
+    begin(alloc, bag)?;
     let error = ErrorMetadata {
         code: Some(String::from_str(alloc, "Throttling")?),
         message: None,
     };
-    let mut text = String::new(alloc);
     for number in 1..4 {
         bag.attempts = Some(number);
-        let request = attempts::attempt(
-            alloc,
-            Env::new(alloc),
-            &identity,
-            &mut bag,
-            example_moment(),
-        )?;
-        text.push_str(lines_of_request(alloc, &request)?.as_str())?;
-        if !attempts::is_retried(&bag, &error) {
-            return Ok(text);
+        push_attempt(alloc, text, bag)?;
+        if !attempts::is_retried(bag, &error) {
+            return Ok(());
         }
     }
-    Ok(text)
+    Ok(())
+}
+
+fn begin(alloc: Global, bag: &mut ConfigBag) -> anyhow::Result<()> {
+    let mut ids = PredefinedInvocationIdGenerator::new(vec![in alloc; example_id(alloc)?]?);
+    attempts::begin(alloc, &Env::new(alloc), &mut ids, bag)
+}
+
+fn push_attempt(alloc: Global, text: &mut String, bag: &mut ConfigBag) -> anyhow::Result<()> {
+    let mut request = HttpRequest::new(alloc, "GET", "https://iam.amazonaws.com/")?;
+    ready(alloc, &mut request, bag)?;
+    push_request(text, &request)?;
+    Ok(())
+}
+
+fn ready(alloc: Global, request: &mut HttpRequest, bag: &mut ConfigBag) -> anyhow::Result<()> {
+    let identity = example_identity(alloc)?;
+    let mut trace = RecursionDetectionInterceptor::new(Env::new(alloc));
+    attempts::ready(alloc, request, &mut trace, &identity, bag, example_moment())
 }
 
 fn example_id(alloc: Global) -> anyhow::Result<InvocationId> {

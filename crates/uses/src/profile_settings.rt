@@ -9,11 +9,23 @@ pub fn region_of<D: Disk>(
     env: &Env,
     disk: &mut D,
 ) -> anyhow::Result<Option<String>> {
+    let sections = sections_of(alloc, env, disk)?;
+    copied(alloc, sections.get("region"))
+}
+
+fn sections_of<D: Disk>(
+    alloc: Global,
+    env: &Env,
+    disk: &mut D,
+) -> anyhow::Result<EnvConfigSections> {
     let files = EnvConfigFiles::default_files(alloc)?;
     let source = load(alloc, env, disk, &files)?;
-    let sections = EnvConfigSections::parse(alloc, &source)?;
-    match sections.get("region") {
-        Some(region) => Ok(Some(String::from_str(alloc, region)?)),
+    Ok(EnvConfigSections::parse(alloc, &source)?)
+}
+
+fn copied(alloc: Global, value: Option<&str>) -> anyhow::Result<Option<String>> {
+    match value {
+        Some(value) => Ok(Some(String::from_str(alloc, value)?)),
         None => Ok(None),
     }
 }

@@ -16,6 +16,10 @@ const PIECE: usize = 100;
 pub fn count(alloc: Global, stream: &[u8]) -> anyhow::Result<u32> {
     let source = CalmFrames::new(pieces_of(alloc, stream)?);
     let mut receiver = Receiver::new(alloc, IdentityUnmarshaller, source);
+    count_all(&mut receiver)
+}
+
+fn count_all(receiver: &mut Receiver<CalmFrames, IdentityUnmarshaller>) -> anyhow::Result<u32> {
     for count in 0..u32::MAX {
         match receiver.recv() {
             Ok(Received::Event(_)) => {}

@@ -8,12 +8,23 @@ use smithy_core::{FixedClock, Identity, Message, Moment, Region, SigningName};
 use std::alloc::Global;
 use std::collections::VecDeque;
 
+type Events = MessageStreamAdapter<
+    ListEvents<Message, Message>,
+    IdentityMarshaller,
+    IdentityMarshaller,
+    SigV4MessageSigner<()>,
+>;
+
 /// The frames of two events and of the end, one after another.
 pub fn frames(alloc: Global, identity: Identity, at: Moment) -> anyhow::Result<Vec<u8>> {
     let signer = signer_of(alloc, identity, at)?;
     let marshaller = IdentityMarshaller;
     let items = ListEvents::new(items(alloc)?);
     let mut adapter = MessageStreamAdapter::new(alloc, marshaller, marshaller, signer, items);
+    all_frames(alloc, &mut adapter, at)
+}
+
+fn all_frames(alloc: Global, adapter: &mut Events, at: Moment) -> anyhow::Result<Vec<u8>> {
     let mut clock = FixedClock::new(at);
     let mut moments = Vec::new(alloc);
     let mut frames = Vec::new(alloc);
@@ -33,15 +44,17 @@ fn signer_of(
     identity: Identity,
     at: Moment,
 ) -> anyhow::Result<SigV4MessageSigner<()>> {
+    let (signature, region, name) = signed_for(alloc)?;
+    Ok(SigV4MessageSigner::new(signature, identity, region, name, at, ()))
+}
+
+// The signature of the request, and the region and the name that it was signed for.
+fn signed_for(alloc: Global) -> anyhow::Result<(String, Region, SigningName)> {
     let signature = "c54b62272527f8b9970c8a395563b2c5be9a414bd0e0b0908885246d76fbc87a";
-    Ok(SigV4MessageSigner::new(
-        String::from_str(alloc, signature)?,
-        identity,
-        Region::new(String::from_str(alloc, "us-east-1")?),
-        SigningName::new(String::from_str(alloc, "transcribe")?),
-        at,
-        (),
-    ))
+    let signature = String::from_str(alloc, signature)?;
+    let region = Region::new(String::from_str(alloc, "us-east-1")?);
+    let name = SigningName::new(String::from_str(alloc, "transcribe")?);
+    Ok((signature, region, name))
 }
 
 fn items(alloc: Global) -> anyhow::Result<VecDeque<Result<Message, Message>>> {
