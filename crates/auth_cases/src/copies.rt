@@ -20,55 +20,61 @@ pub fn answer(alloc: Global, words: &[&str]) -> Mem<String> {
         ["SigV4OperationSigningConfig", parts @ ..] => config(alloc, parts),
         ["SigV4SigningError", name, rest @ ..] => error(alloc, name, rest),
         ["SigV4SessionTokenNameOverride", name] => shown(alloc, name_override(alloc, name)),
-        [kind, parts @ ..] => shown(alloc, of_signed(alloc, kind, parts)),
+        [kind, parts @ ..] => of_signed(alloc, kind, parts),
         [] => unknown(alloc),
     }
 }
 
 fn payload(alloc: Global, text: &str) -> Mem<String> {
     let payload = override_of(alloc, text)?;
-    let copy = payload.try_clone()?;
-    let is_equal = copy == payload;
-    format!(in alloc; "{copy:?}, equal: {is_equal}")
+    equal(alloc, &payload, payload.try_clone())
 }
 
 fn options(alloc: Global, parts: &[&str]) -> Mem<String> {
     let options = options_of(alloc, parts)?;
-    let copy = options.try_clone()?;
-    let is_equal = copy == options;
-    format!(in alloc; "{copy:?}, equal: {is_equal}")
+    equal(alloc, &options, options.try_clone())
 }
 
 fn config(alloc: Global, parts: &[&str]) -> Mem<String> {
     let config = config_of(alloc, parts)?;
-    let copy = config.try_clone()?;
-    let is_equal = copy == config;
+    equal(alloc, &config, config.try_clone())
+}
+
+// What a copy shows, and whether it is equal to what it was made of.
+fn equal<T: fmt::Debug + PartialEq + Drop>(alloc: Global, value: &T, copy: Mem<T>) -> Mem<String> {
+    let copy = copy?;
+    let is_equal = copy == *value;
     format!(in alloc; "{copy:?}, equal: {is_equal}")
 }
 
 fn error(alloc: Global, name: &str, rest: &[&str]) -> Mem<String> {
     let error = error_of(name, rest);
-    let copy = error.try_clone()?;
-    compared(alloc, &error, &copy)
+    compared(alloc, &error, error.try_clone())
 }
 
-fn of_signed(alloc: Global, kind: &str, parts: &[&str]) -> Result<String, SigV4SigningError> {
-    let signed = sign_anew(alloc, parts)?;
-    Ok(match kind {
-        "Signed" => compared(alloc, &signed, &signed.try_clone()?)?,
-        "message_signer" => signer(alloc, &signed.message_signer)?,
-        "chunk_signer" => signer(alloc, &signed.chunk_signer)?,
-        _ => unknown(alloc)?,
-    })
+fn of_signed(alloc: Global, kind: &str, parts: &[&str]) -> Mem<String> {
+    match sign_anew(alloc, parts) {
+        Ok(signed) => copied(alloc, kind, &signed),
+        Err(error) => format!(in alloc; "{error:?}"),
+    }
+}
+
+fn copied(alloc: Global, kind: &str, signed: &Signed) -> Mem<String> {
+    match kind {
+        "Signed" => compared(alloc, signed, signed.try_clone()),
+        "message_signer" => signer(alloc, &signed.message_signer),
+        "chunk_signer" => signer(alloc, &signed.chunk_signer),
+        _ => unknown(alloc),
+    }
 }
 
 fn signer<S: Clone + Drop>(alloc: Global, signer: &SigV4MessageSigner<S>) -> Mem<String> {
-    let copy = signer.try_clone()?;
-    compared(alloc, signer, &copy)
+    compared(alloc, signer, signer.try_clone())
 }
 
 // What a value and its copy show, once where that is the same.
-fn compared<T: fmt::Debug>(alloc: Global, value: &T, copy: &T) -> Mem<String> {
+fn compared<T: fmt::Debug + Drop>(alloc: Global, value: &T, copy: Mem<T>) -> Mem<String> {
+    let copy = copy?;
     let text = format!(in alloc; "{value:?}")?;
     let copied = format!(in alloc; "{copy:?}")?;
     if text == copied {
@@ -79,13 +85,22 @@ fn compared<T: fmt::Debug>(alloc: Global, value: &T, copy: &T) -> Mem<String> {
 
 // The name that a copy of an override gives.
 fn name_override(alloc: Global, name: &str) -> Result<String, OverrideError> {
-    let config = SigV4OperationSigningConfig::default();
     let settings = SigningSettings::new(alloc)?;
+    let config = SigV4OperationSigningConfig::default();
+    name_asked(alloc, name, &settings, &config)
+}
+
+fn name_asked(
+    alloc: Global,
+    name: &str,
+    settings: &SigningSettings,
+    config: &SigV4OperationSigningConfig,
+) -> Result<String, OverrideError> {
     let name_override = SigV4SessionTokenNameOverride::new(
         move |_: &SigningSettings, _: &SigV4OperationSigningConfig| name_given(alloc, name),
     );
     let copy = name_override.try_clone()?;
-    let given = copy.name_override(&settings, &config)?;
+    let given = copy.name_override(settings, config)?;
     Ok(format!(in alloc; "{copy:?} {given:?}")?)
 }
 

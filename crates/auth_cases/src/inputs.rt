@@ -24,12 +24,12 @@ impl Given {
     /// and the words of the config.
     pub fn of(alloc: Global, parts: &[&str]) -> Mem<Given> {
         Ok(Given {
-            config: given_config(alloc, parts)?,
-            endpoint: endpoint_of(alloc, parts)?,
+            skew_millis: skew_of(parts),
             name: name_of(alloc, parts)?,
             region: region_of(alloc, parts)?,
             payload: payload_of(alloc, part(parts, "payload"))?,
-            skew_millis: skew_of(parts),
+            endpoint: endpoint_of(alloc, parts)?,
+            config: given_config(alloc, parts)?,
         })
     }
 
@@ -55,15 +55,25 @@ fn given_config(alloc: Global, parts: &[&str]) -> Mem<Option<SigV4OperationSigni
 
 /// The config with the region `us-east-1` and the name `service`, or with `no-region` and `no-name`.
 pub fn config_of(alloc: Global, parts: &[&str]) -> Mem<SigV4OperationSigningConfig> {
-    let mut config = SigV4OperationSigningConfig::default();
-    if !has_part(parts, "no-region") {
-        config.region = Some(Region::new(String::from_str(alloc, "us-east-1")?));
+    Ok(SigV4OperationSigningConfig {
+        region: config_region(alloc, parts)?,
+        name: config_name(alloc, parts)?,
+        signing_options: options_of(alloc, parts)?,
+    })
+}
+
+fn config_region(alloc: Global, parts: &[&str]) -> Mem<Option<Region>> {
+    if has_part(parts, "no-region") {
+        return Ok(None);
     }
-    if !has_part(parts, "no-name") {
-        config.name = Some(SigningName::new(String::from_str(alloc, "service")?));
+    Ok(Some(Region::new(String::from_str(alloc, "us-east-1")?)))
+}
+
+fn config_name(alloc: Global, parts: &[&str]) -> Mem<Option<SigningName>> {
+    if has_part(parts, "no-name") {
+        return Ok(None);
     }
-    config.signing_options = options_of(alloc, parts)?;
-    Ok(config)
+    Ok(Some(SigningName::new(String::from_str(alloc, "service")?)))
 }
 
 /// The options: `encode-once`, `sha256`, `keep-path`, `omit-token`, `option-payload TEXT`, `query`, `optional` and

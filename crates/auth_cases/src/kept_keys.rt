@@ -21,15 +21,24 @@ pub fn answer(alloc: Global, call: &str, parts: &[&str]) -> Mem<String> {
 // The keys at the moments of `at SECONDS ..`, one after another, and how many were derived.
 fn keys(alloc: Global, parts: &[&str]) -> Mem<String> {
     let mut kept = kept_of(alloc, parts)?;
+    keys_told(alloc, &mut kept, parts)
+}
+
+fn keys_told(alloc: Global, kept: &mut KeptKey, parts: &[&str]) -> Mem<String> {
     let mut told = String::new(alloc);
     for seconds in part(parts, "at").unwrap_or("").split(' ') {
-        push_key(alloc, &mut told, &mut kept, Moment::new(number(seconds), 0))?;
+        push_key(alloc, &mut told, kept, Moment::new(number(seconds), 0))?;
     }
-    if has_part(parts, "copied") {
-        kept = kept.try_clone()?;
-    }
-    write!(told, "derived {}", kept.derivations())?;
+    write!(told, "derived {}", derivations_of(kept, parts)?)?;
     Ok(told)
+}
+
+// How many keys were derived, as a copy tells it with `copied`.
+fn derivations_of(kept: &KeptKey, parts: &[&str]) -> Mem<u64> {
+    if has_part(parts, "copied") {
+        return Ok(kept.try_clone()?.derivations());
+    }
+    Ok(kept.derivations())
 }
 
 // Appends the key at a moment that has one.
@@ -54,10 +63,35 @@ fn kept_of(alloc: Global, parts: &[&str]) -> Mem<KeptKey> {
 // Signs messages one after another: the last signature, or what the first refusal is, and how many keys were derived.
 fn messages(alloc: Global, parts: &[&str]) -> Mem<String> {
     let mut signer = signer_of(alloc, parts)?;
-    let signed = sign_each(alloc, &mut signer, parts);
+    messages_told(alloc, &mut signer, parts)
+}
+
+fn messages_told(
+    alloc: Global,
+    signer: &mut SigV4MessageSigner<()>,
+    parts: &[&str],
+) -> Mem<String> {
+    let signed = sign_each(alloc, signer, parts);
     if has_part(parts, "copied") {
-        signer = signer.try_clone()?;
+        return copy_told(alloc, signer, &signed);
     }
+    signer_told(alloc, signer, &signed)
+}
+
+fn copy_told(
+    alloc: Global,
+    signer: &SigV4MessageSigner<()>,
+    signed: &Result<(), SignMessageError>,
+) -> Mem<String> {
+    let copy = signer.try_clone()?;
+    signer_told(alloc, &copy, signed)
+}
+
+fn signer_told(
+    alloc: Global,
+    signer: &SigV4MessageSigner<()>,
+    signed: &Result<(), SignMessageError>,
+) -> Mem<String> {
     let (signature, derivations) = (signer.running_signature(), signer.derivations());
     match signed {
         Ok(()) => format!(in alloc; "{signature} derived {derivations}"),
@@ -67,14 +101,11 @@ fn messages(alloc: Global, parts: &[&str]) -> Mem<String> {
 
 // A signer that goes on from a signature without digits.
 fn signer_of(alloc: Global, parts: &[&str]) -> Mem<SigV4MessageSigner<()>> {
-    Ok(SigV4MessageSigner::new(
-        String::new(alloc),
-        identity_of(alloc, parts)?,
-        Region::new(String::from_str(alloc, "us-east-1")?),
-        SigningName::new(String::from_str(alloc, "service")?),
-        Moment::new(1_440_938_160, 0),
-        (),
-    ))
+    let region = Region::new(String::from_str(alloc, "us-east-1")?);
+    let name = SigningName::new(String::from_str(alloc, "service")?);
+    let identity = identity_of(alloc, parts)?;
+    let at = Moment::new(1_440_938_160, 0);
+    Ok(SigV4MessageSigner::new(String::new(alloc), identity, region, name, at, ()))
 }
 
 // Signs `count N` messages, the first at `at SECONDS`, each other so many seconds after the last as `step SECONDS` says.

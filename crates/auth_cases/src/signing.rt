@@ -6,7 +6,7 @@ use aws_auth::{
     OverrideError, SigV4AuthScheme, SigV4OperationSigningConfig, SigV4SessionTokenNameOverride,
     SigV4SigningError, Signed,
 };
-use case_lines::{has_part, number, part, shown};
+use case_lines::{has_part, number, part};
 use sigv4::SigningSettings;
 use smithy_core::{HttpRequest, Identity, Mem, Moment};
 use std::alloc::Global;
@@ -14,13 +14,20 @@ use std::alloc::Global;
 /// The signature and which signers start at it, or the refusal, and then the request as it is after the call.
 pub fn answer(alloc: Global, parts: &[&str]) -> Mem<String> {
     let mut request = request_of(alloc, parts)?;
-    let signed = signed(alloc, &mut request, parts);
-    let signed = match signed {
-        Ok(signed) => signature_told(alloc, &signed)?,
-        Err(error) => format!(in alloc; "{error:?}")?,
-    };
-    let request = request_told(alloc, &request)?;
+    answer_of(alloc, &mut request, parts)
+}
+
+fn answer_of(alloc: Global, request: &mut HttpRequest, parts: &[&str]) -> Mem<String> {
+    let signed = signed_told(alloc, signed(alloc, request, parts))?;
+    let request = request_told(alloc, request)?;
     format!(in alloc; "{signed}: {request}")
+}
+
+fn signed_told(alloc: Global, signed: Result<Signed, SigV4SigningError>) -> Mem<String> {
+    match signed {
+        Ok(signed) => signature_told(alloc, &signed),
+        Err(error) => format!(in alloc; "{error:?}"),
+    }
 }
 
 fn signature_told(alloc: Global, signed: &Signed) -> Mem<String> {
@@ -37,12 +44,10 @@ fn signature_told(alloc: Global, signed: &Signed) -> Mem<String> {
 
 /// What `Debug` shows of the answer.
 pub fn debug(alloc: Global, parts: &[&str]) -> Mem<String> {
-    shown(alloc, debug_text(alloc, parts))
-}
-
-fn debug_text(alloc: Global, parts: &[&str]) -> Result<String, SigV4SigningError> {
-    let signed = sign_anew(alloc, parts)?;
-    Ok(format!(in alloc; "{signed:?}")?)
+    match sign_anew(alloc, parts) {
+        Ok(signed) => format!(in alloc; "{signed:?}"),
+        Err(error) => format!(in alloc; "{error:?}"),
+    }
 }
 
 /// Signs a request that isn't kept.
@@ -57,13 +62,22 @@ fn signed(
     parts: &[&str],
 ) -> Result<Signed, SigV4SigningError> {
     let identity = identity_of(alloc, parts)?;
+    signed_by(alloc, request, &identity, parts)
+}
+
+fn signed_by(
+    alloc: Global,
+    request: &mut HttpRequest,
+    identity: &Identity,
+    parts: &[&str],
+) -> Result<Signed, SigV4SigningError> {
     let given = Given::of(alloc, parts)?;
-    sign_by(alloc, request, &identity, &given, parts)
+    sign_with(alloc, request, identity, &given, parts)
 }
 
 // Signs by `override NAME`, `override-none` or `override-refuses`, and at the moment of `at SECONDS`, or else at that of
 // the AWS signing test suite.
-fn sign_by(
+fn sign_with(
     alloc: Global,
     request: &mut HttpRequest,
     identity: &Identity,

@@ -2,7 +2,7 @@
 use crate::events::{WaitingEvents, first_item, given, initial_items_of, items_of};
 use crate::marshalling::Telling;
 use crate::parts::{count, push};
-use crate::signers::{LastSignature, MarkSigner, PlainSigner, bearer, sigv4};
+use crate::signers::{LastSignature, MarkSigner, PlainSigner, bearer, sigv4, wire};
 use case_lines::{number, part, unknown};
 use event_io::{
     AdapterFault, EventOrInitialMarshaller, EventSource, EventStreamSender, MessageStreamAdapter,
@@ -37,10 +37,8 @@ fn of_name(alloc: Global, kind: &str, name: &str, parts: &[&str]) -> Mem<String>
 // With `wire NAME` the deferred signer is handed that one.
 fn deferred(alloc: Global, kind: &str, parts: &[&str]) -> Mem<String> {
     let mut signer = DeferredSigner::new();
-    match part(parts, "wire") {
-        Some("mark") => signer.wire(Box::new(alloc, MarkSigner::new(alloc))?),
-        Some(_) => signer.wire(Box::new(alloc, sigv4(alloc)?)?),
-        None => {}
+    if let Some(name) = part(parts, "wire") {
+        wire(alloc, &mut signer, name)?;
     }
     of_kind(alloc, kind, signer, parts)
 }
@@ -61,7 +59,6 @@ fn of_kind<G: SignMessage + LastSignature>(
     }
 }
 
-// After the polls, what the source gives next and the last signature of the signer.
 fn of_events<G: SignMessage + LastSignature>(
     alloc: Global,
     signer: G,
@@ -71,10 +68,24 @@ fn of_events<G: SignMessage + LastSignature>(
     let source = WaitingEvents::of(alloc, parts)?;
     let mut adapter = MessageStreamAdapter::new(alloc, marshaller, marshaller, signer, source);
     let answers = polls(alloc, &mut adapter, parts)?;
-    let (_, _, signer, source) = adapter.into_parts();
-    let mut source = source;
-    let next = given(alloc, &mut source, 1)?;
-    format!(in alloc; "{answers}; {next}; {}", signer.last_signature())
+    let (_, _, signer, mut source) = adapter.into_parts();
+    with_rest(
+        alloc,
+        answers.as_str(),
+        &mut source,
+        signer.last_signature(),
+    )
+}
+
+// After the polls, what the source gives next and the last signature of the signer.
+fn with_rest(
+    alloc: Global,
+    answers: &str,
+    source: &mut WaitingEvents,
+    signature: &str,
+) -> Mem<String> {
+    let next = given(alloc, source, 1)?;
+    format!(in alloc; "{answers}; {next}; {signature}")
 }
 
 fn of_list<G: SignMessage>(alloc: Global, signer: G, parts: &[&str]) -> Mem<String> {
@@ -115,8 +126,15 @@ fn of_copy(alloc: Global, parts: &[&str]) -> Mem<String> {
     let source = WaitingEvents::of(alloc, parts)?;
     let mut adapter = MessageStreamAdapter::new(alloc, marshaller, marshaller, NoOpSigner, source);
     let mut copy = adapter.try_clone()?;
-    let answers = polls(alloc, &mut adapter, parts)?;
-    let of_copy = polls(alloc, &mut copy, parts)?;
+    joined(
+        alloc,
+        polls(alloc, &mut adapter, parts),
+        polls(alloc, &mut copy, parts),
+    )
+}
+
+fn joined(alloc: Global, answers: Mem<String>, of_copy: Mem<String>) -> Mem<String> {
+    let (answers, of_copy) = (answers?, of_copy?);
     format!(in alloc; "{answers}; {of_copy}")
 }
 
@@ -136,8 +154,10 @@ where
     let mut moments = Vec::new(alloc);
     let mut answers = String::new(alloc);
     for _ in 0..count(parts, "polls") {
-        let next = adapter.poll_next(&mut clock, &mut moments);
-        push(&mut answers, told(alloc, &next)?.as_str())?;
+        push(
+            &mut answers,
+            told(alloc, adapter.poll_next(&mut clock, &mut moments)),
+        )?;
     }
     with_moments(answers, moments.as_slice())
 }
@@ -145,7 +165,7 @@ where
 /// The frame of an answer, or its name.
 pub fn told(
     alloc: Global,
-    next: &Result<Next, SdkError<AdapterFault, AdapterFault, RawMessage>>,
+    next: Result<Next, SdkError<AdapterFault, AdapterFault, RawMessage>>,
 ) -> Mem<String> {
     match next {
         Ok(Next::Frame(bytes)) => hex::encode(alloc, bytes.as_slice()),

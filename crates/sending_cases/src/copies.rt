@@ -6,12 +6,14 @@ use crate::marshalling::{Telling, event_or_initial, told};
 use crate::parts::count;
 use crate::signers::sigv4;
 use crate::signing::sign;
+use aws_auth::SigV4MessageSigner;
 use bytes::Bytes;
 use case_lines::{bytes_of_hex, unknown};
-use event_io::{EventOrInitialMarshaller, EventPolled, Next};
+use event_io::{EventOrInitialMarshaller, EventPolled, MessageStreamError, Next};
 use eventstream::MarshallMessage;
 use smithy_core::Mem;
 use std::alloc::Global;
+use std::fmt;
 
 /// What the copy of a value of this kind shows.
 pub fn answer(alloc: Global, words: &[&str]) -> Mem<String> {
@@ -29,9 +31,9 @@ fn of_word(alloc: Global, kind: &str, word: &str) -> Mem<String> {
         "EventPolled" => polled(alloc, word),
         "EventOrInitial" => event(alloc, word),
         "EventOrInitialMarshaller" => marshaller(alloc, word),
-        "MessageStreamError" => stream_error(alloc, &stream_error_of(alloc, word)?.try_clone()?),
+        "MessageStreamError" => stream_error_copy(alloc, &stream_error_of(alloc, word)?),
         "SignMessageError" => sign_error(alloc, word),
-        "SigV4MessageSigner" => sign(alloc, &mut sigv4(alloc)?.try_clone()?, word),
+        "SigV4MessageSigner" => signed_by_copy(alloc, &sigv4(alloc)?, word),
         _ => unknown(alloc),
     }
 }
@@ -42,13 +44,28 @@ fn list(alloc: Global, parts: &[&str]) -> Mem<String> {
 }
 
 fn fault(alloc: Global, name: &str, rest: &str) -> Mem<String> {
-    let copy = fault_of(alloc, name, rest)?.try_clone()?;
-    format!(in alloc; "{copy:?}")
+    let fault = fault_of(alloc, name, rest)?;
+    copy_shown(alloc, fault.try_clone())
 }
 
 fn sign_error(alloc: Global, word: &str) -> Mem<String> {
-    let copy = sign_error_of(alloc, word)?.try_clone()?;
+    let error = sign_error_of(alloc, word)?;
+    copy_shown(alloc, error.try_clone())
+}
+
+fn copy_shown<T: fmt::Debug + Drop>(alloc: Global, copy: Mem<T>) -> Mem<String> {
+    let copy = copy?;
     format!(in alloc; "{copy:?}")
+}
+
+fn stream_error_copy(alloc: Global, error: &MessageStreamError) -> Mem<String> {
+    let copy = error.try_clone()?;
+    stream_error(alloc, &copy)
+}
+
+fn signed_by_copy(alloc: Global, signer: &SigV4MessageSigner<()>, word: &str) -> Mem<String> {
+    let mut copy = signer.try_clone()?;
+    sign(alloc, &mut copy, word)
 }
 
 fn next(alloc: Global, word: &str) -> Mem<String> {
@@ -57,7 +74,7 @@ fn next(alloc: Global, word: &str) -> Mem<String> {
         "End" => Next::End,
         digits => Next::Frame(Bytes::from_vec(bytes_of_hex(alloc, digits)?)?),
     };
-    adapters::told(alloc, &Ok(next.try_clone()?))
+    adapters::told(alloc, Ok(next.try_clone()?))
 }
 
 fn polled(alloc: Global, word: &str) -> Mem<String> {
@@ -66,8 +83,7 @@ fn polled(alloc: Global, word: &str) -> Mem<String> {
         None if word == "NotYet" => EventPolled::NotYet,
         None => EventPolled::End,
     };
-    let copy = polled.try_clone()?;
-    format!(in alloc; "{copy:?}")
+    copy_shown(alloc, polled.try_clone())
 }
 
 fn event(alloc: Global, word: &str) -> Mem<String> {

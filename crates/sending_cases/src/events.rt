@@ -103,8 +103,16 @@ where
 {
     let mut answers = String::new(alloc);
     for _ in 0..count {
-        let polled = source.poll_event();
-        push(&mut answers, format!(in alloc; "{polled:?}")?.as_str())?;
+        push(&mut answers, polled(alloc, source))?;
     }
     Ok(answers)
+}
+
+fn polled<S: EventSource>(alloc: Global, source: &mut S) -> Mem<String>
+where
+    S::Item: fmt::Debug + Drop,
+    S::Error: fmt::Debug + Drop,
+{
+    let polled = source.poll_event();
+    format!(in alloc; "{polled:?}")
 }

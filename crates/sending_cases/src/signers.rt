@@ -107,6 +107,16 @@ impl LastSignature for SigV4MessageSigner<()> {
     }
 }
 
+/// Hands the signer of a name to a deferred one.
+pub fn wire(alloc: Global, deferred: &mut DeferredSigner, name: &str) -> Mem<()> {
+    match name {
+        "no-op" => deferred.wire(Box::new(alloc, NoOpSigner)?),
+        "mark" => deferred.wire(Box::new(alloc, MarkSigner::new(alloc))?),
+        _ => deferred.wire(Box::new(alloc, sigv4(alloc)?)?),
+    }
+    Ok(())
+}
+
 /// The signer by the credentials of AWS's examples.
 pub fn sigv4(alloc: Global) -> Mem<SigV4MessageSigner<()>> {
     let key_id = String::from_str(alloc, "AKIDEXAMPLE")?;
@@ -122,9 +132,14 @@ pub fn bearer(alloc: Global) -> Mem<SigV4MessageSigner<()>> {
 
 // The signer that goes on from the SHA-256 of `last message sts`, for `us-east-1` and `testservice`.
 fn sigv4_of(alloc: Global, identity: Identity) -> Mem<SigV4MessageSigner<()>> {
+    let (signature, region, name) = scope_of(alloc)?;
+    let time = Moment::new(1_440_938_160, 0);
+    Ok(SigV4MessageSigner::new(signature, identity, region, name, time, ()))
+}
+
+fn scope_of(alloc: Global) -> Mem<(String, Region, SigningName)> {
     let signature = sha256_hex(alloc, b"last message sts")?;
     let region = Region::new(String::from_str(alloc, "us-east-1")?);
     let name = SigningName::new(String::from_str(alloc, "testservice")?);
-    let time = Moment::new(1_440_938_160, 0);
-    Ok(SigV4MessageSigner::new(signature, identity, region, name, time, ()))
+    Ok((signature, region, name))
 }

@@ -1,7 +1,7 @@
 //! The calls of signers.
 use crate::marshalling::{framed, message_of};
 use crate::parts::push;
-use crate::signers::{LastSignature, MarkSigner, bearer, sigv4};
+use crate::signers::{LastSignature, MarkSigner, bearer, sigv4, wire};
 use case_lines::{halves, number, unknown};
 use eventstream::{DeferredSigner, NoOpSigner, SignMessage, SignMessageError};
 use smithy_core::{Mem, Message, Moment};
@@ -26,7 +26,7 @@ fn steps_of<G: SignMessage + LastSignature>(
 ) -> Mem<String> {
     let mut answers = String::new(alloc);
     for step in steps {
-        push(&mut answers, step_of(alloc, signer, step)?.as_str())?;
+        push(&mut answers, step_of(alloc, signer, step))?;
     }
     Ok(answers)
 }
@@ -37,10 +37,8 @@ fn deferred_steps(alloc: Global, steps: &[&str]) -> Mem<String> {
     let mut answers = String::new(alloc);
     for step in steps {
         match halves(step) {
-            ("wire", "no-op") => signer.wire(Box::new(alloc, NoOpSigner)?),
-            ("wire", "mark") => signer.wire(Box::new(alloc, MarkSigner::new(alloc))?),
-            ("wire", _) => signer.wire(Box::new(alloc, sigv4(alloc)?)?),
-            _ => push(&mut answers, step_of(alloc, &mut signer, step)?.as_str())?,
+            ("wire", name) => wire(alloc, &mut signer, name)?,
+            _ => push(&mut answers, step_of(alloc, &mut signer, step))?,
         }
     }
     Ok(answers)
