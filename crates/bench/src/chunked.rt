@@ -31,9 +31,13 @@ pub fn signed(alloc: Global, count: u32, size: usize) -> anyhow::Result<Digest> 
     encoded(AwsChunkedBody::new(alloc, source, options).with_signer(signer_of(alloc)?))
 }
 
-// The digest of the frames of a body.
 fn encoded<G: SignChunk>(body: AwsChunkedBody<CalmFrames, G>) -> anyhow::Result<Digest> {
     let mut body = body;
+    digest_of(&mut body)
+}
+
+// The digest of the frames of a body.
+fn digest_of<G: SignChunk>(body: &mut AwsChunkedBody<CalmFrames, G>) -> anyhow::Result<Digest> {
     let mut digest = Digest::new();
     for _ in 0..u32::MAX {
         match body.poll_frame() {
@@ -64,12 +68,10 @@ fn options_of(alloc: Global, count: u32, size: usize) -> AwsChunkedBodyOptions {
 }
 
 fn signer_of(alloc: Global) -> Result<SigV4MessageSigner<SigningSettings>, AllocError> {
-    Ok(SigV4MessageSigner::new(
-        String::new(alloc),
-        example_identity(alloc)?,
-        Region::new(String::from_str(alloc, "us-east-1")?),
-        SigningName::new(String::from_str(alloc, "s3")?),
-        moment_of(0),
-        SigningSettings::new(alloc)?,
-    ))
+    let region = Region::new(String::from_str(alloc, "us-east-1")?);
+    let name = SigningName::new(String::from_str(alloc, "s3")?);
+    let settings = SigningSettings::new(alloc)?;
+    let identity = example_identity(alloc)?;
+    let at = moment_of(0);
+    Ok(SigV4MessageSigner::new(String::new(alloc), identity, region, name, at, settings))
 }

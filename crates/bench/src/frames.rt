@@ -47,10 +47,23 @@ pub fn decoded(alloc: Global, count: u32) -> anyhow::Result<Digest> {
     let mut buffer = SegBuf::new(alloc);
     let mut digest = Digest::new();
     for _ in 0..count {
-        for piece in &pieces {
-            push(&mut buffer, piece.clone()?)?;
-            digest = with_messages(alloc, digest, &mut decoder, &mut buffer)?;
-        }
+        digest = with_pieces(alloc, digest, &pieces, &mut decoder, &mut buffer)?;
+    }
+    Ok(digest)
+}
+
+// The digest of the messages more that come in these pieces.
+fn with_pieces(
+    alloc: Global,
+    digest: Digest,
+    pieces: &[Bytes],
+    decoder: &mut MessageFrameDecoder,
+    buffer: &mut SegBuf,
+) -> anyhow::Result<Digest> {
+    let mut digest = digest;
+    for piece in pieces {
+        push(buffer, piece.clone()?)?;
+        digest = with_messages(alloc, digest, decoder, buffer)?;
     }
     Ok(digest)
 }

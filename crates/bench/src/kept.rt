@@ -34,14 +34,7 @@ pub fn chain(alloc: Global, count: u32, size: usize) -> anyhow::Result<Digest> {
         frame: Vec::new(alloc),
         digest: Digest::new(),
     };
-    for _ in 0..count {
-        let signed = chain.signer.sign(event.try_clone()?, moment_of(0));
-        chain.push(alloc, signed)?;
-    }
-    if let Some(signed) = chain.signer.sign_empty(moment_of(0)) {
-        chain.push(alloc, signed)?;
-    }
-    Ok(chain.digest)
+    chain.push_all(alloc, &event, count)
 }
 
 fn signer_of(alloc: Global) -> Result<SigV4MessageSigner<()>, AllocError> {
@@ -60,6 +53,18 @@ struct SignedFrames {
 }
 
 impl SignedFrames {
+    // Signs the event so many times and closes the chain, whose digest it gives.
+    fn push_all(&mut self, alloc: Global, event: &Message, count: u32) -> anyhow::Result<Digest> {
+        for _ in 0..count {
+            let signed = self.signer.sign(event.try_clone()?, moment_of(0));
+            self.push(alloc, signed)?;
+        }
+        if let Some(signed) = self.signer.sign_empty(moment_of(0)) {
+            self.push(alloc, signed)?;
+        }
+        Ok(self.digest)
+    }
+
     fn push(
         &mut self,
         alloc: Global,

@@ -10,11 +10,15 @@ pub fn parsed(alloc: Global, count: u32) -> anyhow::Result<Digest> {
     let source = example_source(alloc)?;
     let mut digest = Digest::new();
     for _ in 0..count {
-        let sections = EnvConfigSections::parse(alloc, &source)?;
-        let region = sections.get("region").unwrap_or("");
-        digest = digest.with(region.as_bytes());
+        digest = with_region(alloc, digest, &source)?;
     }
     Ok(digest)
+}
+
+// The digest of the region more that a profile has.
+fn with_region(alloc: Global, digest: Digest, source: &Source) -> anyhow::Result<Digest> {
+    let sections = EnvConfigSections::parse(alloc, source)?;
+    Ok(digest.with(sections.get("region").unwrap_or("").as_bytes()))
 }
 
 fn example_source(alloc: Global) -> Result<Source, AllocError> {

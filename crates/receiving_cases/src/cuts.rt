@@ -5,8 +5,8 @@ use crate::shown::received;
 use crate::unmarshalling::Texts;
 use bytes::Bytes;
 use case_lines::{bytes_of_hex, unknown};
-use event_io::{Received, Receiver};
-use smithy_core::{CalmFrames, Mem};
+use event_io::{Received, Receiver, ResponseFault};
+use smithy_core::{CalmFrames, Mem, RawMessage, SdkError};
 use std::alloc::Global;
 
 /// The answers for a stream that is cut at each place (`places`), or at each pair of places (`pairs`), where all cuts have
@@ -47,20 +47,44 @@ fn differing(alloc: Global, bytes: &[u8], first: usize, whole: &str) -> Mem<Opti
     Ok(None)
 }
 
-// The answers up to the first that is no event, and the one after it.
 fn answers(alloc: Global, bytes: &[u8], first: usize, second: usize) -> Mem<String> {
     let source = cut(alloc, bytes, first, second)?;
     let mut receiver = Receiver::new(alloc, Texts::of(alloc, &[])?, source);
+    answers_of(alloc, &mut receiver, bytes.len())
+}
+
+// The answers up to the first that is no event, and the one after it.
+fn answers_of(
+    alloc: Global,
+    receiver: &mut Receiver<CalmFrames, Texts>,
+    most: usize,
+) -> Mem<String> {
     let mut answers = String::new(alloc);
-    for _ in 0..=bytes.len() {
-        let answer = receiver.recv();
-        push(&mut answers, received(alloc, &answer)?.as_str())?;
-        if !matches!(answer, Ok(Received::Event(_))) {
+    for _ in 0..=most {
+        if !push_next(alloc, &mut answers, receiver)? {
             break;
         }
     }
-    push(&mut answers, received(alloc, &receiver.recv())?.as_str())?;
+    push_next(alloc, &mut answers, receiver)?;
     Ok(answers)
+}
+
+// Adds the next answer, and tells whether it is an event.
+fn push_next(
+    alloc: Global,
+    answers: &mut String,
+    receiver: &mut Receiver<CalmFrames, Texts>,
+) -> Mem<bool> {
+    push_received(alloc, answers, &receiver.recv())
+}
+
+fn push_received(
+    alloc: Global,
+    answers: &mut String,
+    answer: &Result<Received<String>, SdkError<String, ResponseFault, RawMessage>>,
+) -> Mem<bool> {
+    push(answers, received(alloc, answer))?;
+    Ok(matches!(answer, Ok(Received::Event(_))))
 }
 
 // The bytes in three pieces.

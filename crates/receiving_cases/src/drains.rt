@@ -5,24 +5,29 @@ use crate::parts::push;
 use crate::shown::{drained, framed};
 use crate::sources::source_of;
 use case_lines::halves;
-use event_io::{Receiver, receive_all};
-use eventstream::IdentityUnmarshaller;
-use smithy_core::{FrameSource, Mem, Message};
+use event_io::{Drained, Receiver, ResponseFault, receive_all};
+use eventstream::{Error, IdentityUnmarshaller};
+use smithy_core::{FaultyFrames, FrameSource, Mem, Message, RawMessage, SdkError};
 use std::alloc::Global;
 
 /// What the calls `all N` among the words answer, which tell the source too: before each answer the frames of the messages
 /// that the call gained.
 pub fn answer(alloc: Global, words: &[&str]) -> Mem<String> {
     let mut receiver = Receiver::new(alloc, IdentityUnmarshaller, source_of(alloc, words)?);
+    answers_of(alloc, &mut receiver, words)
+}
+
+fn answers_of(
+    alloc: Global,
+    receiver: &mut Receiver<FaultyFrames, IdentityUnmarshaller>,
+    words: &[&str],
+) -> Mem<String>
+    requires { kept_message receiver.old ≡ None }
+{
     let mut answers = String::new(alloc);
     'words: for word in words {
         if let ("all", most) = halves(word) {
-            push_all(
-                alloc,
-                &mut receiver,
-                most.parse().unwrap_or(0),
-                &mut answers,
-            )?;
+            push_all(alloc, receiver, most.parse().unwrap_or(0), &mut answers)?;
         }
     }
     Ok(answers)
@@ -39,13 +44,17 @@ fn push_all<F: FrameSource>(
 {
     let mut gained = Vec::new(alloc);
     let answer = receive_all(receiver, most, &mut gained);
-    push_frames(alloc, &gained, answers)?;
-    push(answers, drained(alloc, &answer)?.as_str())
+    push_drained(alloc, answers, &gained, &answer)
 }
 
-fn push_frames(alloc: Global, messages: &[Message], answers: &mut String) -> Mem<()> {
-    for message in messages {
-        push(answers, framed(alloc, message)?.as_str())?;
+fn push_drained(
+    alloc: Global,
+    answers: &mut String,
+    gained: &[Message],
+    answer: &Result<Drained, SdkError<Error, ResponseFault, RawMessage>>,
+) -> Mem<()> {
+    for message in gained {
+        push(answers, framed(alloc, message))?;
     }
-    Ok(())
+    push(answers, drained(alloc, answer))
 }

@@ -29,49 +29,106 @@ where
     U: Drop,
 {
     let mut receiver = Receiver::new(alloc, unmarshaller, source_of(alloc, words)?);
-    let mut answers = String::new(alloc);
-    for word in words {
-        if let Some(answer) = called(alloc, &mut receiver, word)? {
-            push(&mut answers, answer.as_str())?;
-        }
-    }
-    Ok(answers)
+    answers_of(alloc, &mut receiver, words)
 }
 
-// The answer to a call. Other words are none.
-fn called<U: UnmarshallMessage>(
+fn answers_of<U: UnmarshallMessage>(
     alloc: Global,
     receiver: &mut Receiver<FaultyFrames, U>,
-    word: &str,
-) -> Mem<Option<String>>
+    words: &[&str],
+) -> Mem<String>
 where
     U::Output: Shown + fmt::Debug + Drop,
     U::Error: fmt::Debug + Drop,
 {
-    Ok(match halves(word) {
-        ("recv", _) => Some(received(alloc, &receiver.recv())?),
-        ("initial", kind) => { Some(tried(alloc, &receiver.try_recv_initial(message_type(kind)))?) }
-        ("refusing", kind) => {
-            let kind = message_type(kind);
-            Some(tried(
-                alloc,
-                &receiver.try_recv_initial_with_preprocessor(kind, refusing),
-            )?)
-        }
-        ("beginning", kind) => {
-            let kind = message_type(kind);
-            Some(tried(
-                alloc,
-                &receiver.try_recv_initial_with_preprocessor(kind, beginning),
-            )?)
-        }
-        ("marking", kind) => {
-            let kind = message_type(kind);
-            Some(tried(
-                alloc,
-                &receiver.try_recv_initial_with_preprocessor(kind, marking),
-            )?)
-        }
-        _ => None,
-    })
+    let mut answers = String::new(alloc);
+    for word in words {
+        push_called(alloc, &mut answers, receiver, word)?;
+    }
+    Ok(answers)
+}
+
+// Adds the answer to a call. Other words are none.
+fn push_called<U: UnmarshallMessage>(
+    alloc: Global,
+    answers: &mut String,
+    receiver: &mut Receiver<FaultyFrames, U>,
+    word: &str,
+) -> Mem<()>
+where
+    U::Output: Shown + fmt::Debug + Drop,
+    U::Error: fmt::Debug + Drop,
+{
+    match halves(word) {
+        ("recv", _) => push(answers, next(alloc, receiver)),
+        ("initial", kind) => push(answers, initial(alloc, receiver, kind)),
+        ("refusing", kind) => push(answers, initial_refusing(alloc, receiver, kind)),
+        ("beginning", kind) => push(answers, initial_beginning(alloc, receiver, kind)),
+        ("marking", kind) => push(answers, initial_marking(alloc, receiver, kind)),
+        _ => Ok(()),
+    }
+}
+
+fn next<U: UnmarshallMessage>(
+    alloc: Global,
+    receiver: &mut Receiver<FaultyFrames, U>,
+) -> Mem<String>
+where
+    U::Output: Shown + fmt::Debug + Drop,
+    U::Error: fmt::Debug + Drop,
+{
+    received(alloc, &receiver.recv())
+}
+
+fn initial<U: UnmarshallMessage>(
+    alloc: Global,
+    receiver: &mut Receiver<FaultyFrames, U>,
+    kind: &str,
+) -> Mem<String>
+where
+    U::Error: fmt::Debug + Drop,
+{
+    tried(alloc, &receiver.try_recv_initial(message_type(kind)))
+}
+
+fn initial_refusing<U: UnmarshallMessage>(
+    alloc: Global,
+    receiver: &mut Receiver<FaultyFrames, U>,
+    kind: &str,
+) -> Mem<String>
+where
+    U::Error: fmt::Debug + Drop,
+{
+    tried(
+        alloc,
+        &receiver.try_recv_initial_with_preprocessor(message_type(kind), refusing),
+    )
+}
+
+fn initial_beginning<U: UnmarshallMessage>(
+    alloc: Global,
+    receiver: &mut Receiver<FaultyFrames, U>,
+    kind: &str,
+) -> Mem<String>
+where
+    U::Error: fmt::Debug + Drop,
+{
+    tried(
+        alloc,
+        &receiver.try_recv_initial_with_preprocessor(message_type(kind), beginning),
+    )
+}
+
+fn initial_marking<U: UnmarshallMessage>(
+    alloc: Global,
+    receiver: &mut Receiver<FaultyFrames, U>,
+    kind: &str,
+) -> Mem<String>
+where
+    U::Error: fmt::Debug + Drop,
+{
+    tried(
+        alloc,
+        &receiver.try_recv_initial_with_preprocessor(message_type(kind), marking),
+    )
 }

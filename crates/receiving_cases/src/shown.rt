@@ -107,22 +107,31 @@ pub fn framed(alloc: Global, message: &Message) -> Mem<String> {
 /// What the copy of an answer or a fault shows, and what is printed of a fault.
 pub fn copied(alloc: Global, words: &[&str]) -> Mem<String> {
     match words {
-        ["Received", text] => {
-            let copy = Received::Event(String::from_str(alloc, text)?).try_clone()?;
-            format!(in alloc; "{copy:?}")
-        }
-        ["Tried", text] => {
-            let payload = Bytes::copy_from_slice(alloc, text.as_bytes())?;
-            let copy = Tried::Initial(Message::new(alloc, payload), 7u8).try_clone()?;
-            tried::<u8, Error>(alloc, &Ok(copy))
-        }
-        ["ResponseFault", name] => fault(alloc, &fault_of(name).try_clone()?),
+        ["Received", text] => copied_received(alloc, text),
+        ["Tried", text] => copied_tried(alloc, text),
+        ["ResponseFault", name] => copied_fault(alloc, &fault_of(name)),
         _ => unknown(alloc),
     }
 }
 
-fn fault(alloc: Global, fault: &ResponseFault) -> Mem<String> {
-    format!(in alloc; "{fault:?}: {fault}")
+fn copied_received(alloc: Global, text: &str) -> Mem<String> {
+    let copy = Received::Event(String::from_str(alloc, text)?).try_clone()?;
+    format!(in alloc; "{copy:?}")
+}
+
+fn copied_tried(alloc: Global, text: &str) -> Mem<String> {
+    let payload = Bytes::copy_from_slice(alloc, text.as_bytes())?;
+    tried_copy(alloc, &Tried::Initial(Message::new(alloc, payload), 7))
+}
+
+fn tried_copy(alloc: Global, answer: &Tried<u8>) -> Mem<String> {
+    let copy = answer.try_clone()?;
+    tried::<u8, Error>(alloc, &Ok(copy))
+}
+
+fn copied_fault(alloc: Global, fault: &ResponseFault) -> Mem<String> {
+    let copy = fault.try_clone()?;
+    format!(in alloc; "{copy:?}: {copy}")
 }
 
 fn fault_of(name: &str) -> ResponseFault {

@@ -1,6 +1,6 @@
 use Rattle.std.proofs.Common.{◌≡◌, None}
 use Rattle.event_io.specs.Receiver.{kept_message}
-use Rattle.receiving_cases.proofs.drains.answer.Given as goal
+use Rattle.receiving_cases.proofs.drains.answers_of.Given as goal
 
 -- no message is kept
 abbrev pub invariant-words : goal.invariant-words
