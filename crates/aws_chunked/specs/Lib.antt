@@ -1,8 +1,13 @@
 pub mod Body
+pub mod Decoded
 pub mod Error
+pub mod Laws
 pub mod Lengths
 pub mod Made
 pub mod Options
 pub mod Passing
+pub mod Reading
+pub mod Rests
 pub mod Signing
+pub mod TailRests
 pub mod Text

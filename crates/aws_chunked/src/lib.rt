@@ -8,7 +8,9 @@
 #![tactic(auto)]
 
 mod body;
+mod decode;
 mod error;
+mod laws;
 mod made_text;
 mod options;
 mod phase;
@@ -22,7 +24,9 @@ mod text;
 mod trailers;
 
 pub use crate::body::{AwsChunkedBody, ChunkNext};
+pub use crate::decode::{DecodeFault, Decoded, decode_chunked};
 pub use crate::error::AwsChunkedBodyError;
+pub use crate::laws::{signed_texts_are_as_long, texts_are_whole, whole_texts_are_decoded};
 pub use crate::options::AwsChunkedBodyOptions;
 
 /// The header of the trailers' signature.

@@ -2,6 +2,7 @@
 #![tactic(auto)]
 
 mod bodies;
+mod decoding;
 mod frames;
 mod lengths;
 mod parts;
@@ -32,6 +33,7 @@ impl Answers for Calls {
             ["text", parts @ ..] => bodies::text(alloc, parts),
             ["pieces", parts @ ..] => bodies::pieces(alloc, parts),
             ["digest", parts @ ..] => bodies::digest(alloc, parts),
+            ["decode", parts @ ..] => decoding::answer(alloc, parts),
             _ => unknown(alloc),
         }
     }

@@ -1,0 +1,174 @@
+-- Laws of texts in chunks.
+use Rattle.std.proofs.Common.{◌≡◌, ℕ, zero, suc, ◌+◌, ◌*◌, ◌/◌, ◌%◌, ◌<◌, ◌≤◌, Bool, true, false, List, [], ◌∷◌, ◌++◌, length, length-append, length-drop, length-take, take, drop, take_all, map, Option, Some, None, Result, Ok, Err, inl, inr, refl, ap, sym, subst, ◌∙◌, arith, append-nil, take-append-drop}
+use Rattle.std.specs.Prelude.{codes}
+use Rattle.std.specs.List.{AllByRecursion, flat_map}
+use Rattle.std.proofs.lemmas.List.{drop_all}
+use Rattle.std.proofs.lemmas.Nat.{div-add-mod', mod_below}
+use Rattle.std.proofs.lemmas.List.Concat.{length-flat_map}
+use Rattle.std.proofs.lemmas.List.Sums.{sum-map}
+use Rattle.aws_chunked.specs.Body.{Trailer, actual_length, lines_length}
+use Rattle.aws_chunked.specs.Decoded.{Begins, Decodes, DecodesOnly, IsBadAt, IsPiecesText, IsSignature, IsText, IsTextOf, IsTrailer, StopsAt, TakesSignature}
+use Rattle.aws_chunked.specs.Laws.{Answers, IsSignedLengthOf}
+use Rattle.aws_chunked.specs.Options.{IsChunkSize, Options, chunk_length, chunks_length, encoded_length, head_length, last_length}
+use Rattle.aws_chunked.specs.Signing.{has_signature}
+use Rattle.aws_chunked.specs.Text.{chunk, chunk_text, chunked_text, crlf, cut, cut_within, head_text, last_line, length_text, part_text, parts_text, signature_text, tail, tail_text, trailer_line}
+use Rattle.aws_chunked.specs.declared.decode.DecodeFault.{DecodeFault}
+use Rattle.aws_chunked.specs.declared.decode.DecodeFault.TheVariants.{BadChunk, NoMemory}
+use Rattle.aws_chunked.specs.declared.decode.Decoded.{Decoded}
+use Rattle.aws_chunked.proofs.CutLemmas.{cut_first}
+
+-- ## Decoding
+
+unsigned_none : (trailers : List Trailer) → TakesSignature (has_signature false trailers) [] None []
+unsigned_none [] = (refl, refl)
+unsigned_none (trailer ∷ trailers) = (refl, refl)
+
+pieces_text : (pieces : List (List ℕ)) (trailers : List Trailer) → IsPiecesText false pieces [] trailers (parts_text (map chunk pieces ++ tail trailers ∷ []))
+pieces_text [] trailers = (None, [], None, (refl, refl), unsigned_none trailers, append-nil (tail_text None trailers None))
+pieces_text (piece ∷ pieces) trailers =
+    (None, [], parts_text (map chunk pieces ++ tail trailers ∷ []), (refl, refl), refl, pieces_text pieces trailers)
+
+pub unsigned_whole : (size : ℕ) (body : List ℕ) (trailers : List Trailer) → IsChunkSize size → AllByRecursion IsTrailer trailers
+    → IsTextOf body [] trailers (chunked_text size body trailers)
+unfolding chunked_text
+unsigned_whole size body trailers in_range are =
+    record { size = size; size_in_range = in_range; is_signed = false; trailers_are = are; is_text = pieces_text (cut size body) trailers }
+
+no_stop : (bytes : List ℕ) (k : ℕ) → IsText bytes → StopsAt IsText bytes k → ⊥
+no_stop bytes k is (inl stops) = stops.1 (drop (k + 1) bytes, subst IsText (sym (take-append-drop (k + 1) bytes)) is)
+no_stop bytes k is (inr ends) = ends.1 is
+
+pub whole_decoded : (bytes body : List ℕ) (signatures : List (List ℕ)) (trailers : List Trailer) (result : Result Decoded DecodeFault)
+    → IsTextOf body signatures trailers bytes → Decodes bytes result → DecodesOnly bytes result → Answers body signatures trailers result
+whole_decoded bytes body signatures trailers (Ok decoded) is decodes only = only body signatures trailers is
+whole_decoded bytes body signatures trailers (Err (BadChunk k)) is decodes only = no_stop bytes k (body, signatures, trailers, is) decodes.0
+whole_decoded bytes body signatures trailers (Err NoMemory) is decodes only = tt
+
+-- ## Lengths
+
+-- how long the chunks of pieces are
+pieces_length : Bool → List (List ℕ) → ℕ
+pieces_length is_signed [] = 0
+pieces_length is_signed (piece ∷ pieces) = chunk_length is_signed (length piece) + pieces_length is_signed pieces
+
+cut_none : (size : ℕ) → cut size [] ≡ []
+unfolding cut cut_within
+cut_none size = refl
+
+last_long : (is_signed : Bool) (n : ℕ) → 0 < n → last_length is_signed n ≡ chunk_length is_signed n
+last_long is_signed zero some = absurd (omega (arith, some))
+last_long is_signed (suc n) some = refl
+
+-- full chunks, and one of the rest
+cut_long : (is_signed : Bool) (q size r : ℕ) (bytes : List ℕ) → r < size → length bytes ≡ q * size + r
+    → pieces_length is_signed (cut size bytes) ≡ q * chunk_length is_signed size + last_length is_signed r
+unfolding pieces_length
+cut_long is_signed zero size zero [] small is = ap (pieces_length is_signed) (cut_none size) ∙ grind arith
+cut_long is_signed zero size (suc r) [] small is = absurd (grind (arith, is))
+cut_long is_signed (suc q) size r [] small is = absurd (grind (arith, is, small))
+cut_long is_signed zero size r (byte ∷ bytes) small is =
+    ap (pieces_length is_signed)
+    (cut_first size (byte ∷ bytes) (omega (arith, small)) (omega arith)
+    ∙ (λ i. take_all size (byte ∷ bytes) (omega (arith, long, small)) i ∷ (ap (cut size) (drop_all size (byte ∷ bytes) (omega (arith, long, small))) ∙ cut_none size) i))
+    ∙ grind (arith, ap (chunk_length is_signed) long, last_long is_signed r (omega (arith, long)))
+  where
+    long : length (byte ∷ bytes) ≡ r
+    long = grind (arith, is)
+cut_long is_signed (suc q) size r (byte ∷ bytes) small is =
+    ap (pieces_length is_signed) (cut_first size (byte ∷ bytes) (omega (arith, small)) (omega arith))
+    ∙ grind (arith, ap (chunk_length is_signed) taken, cut_long is_signed q size r (drop size (byte ∷ bytes)) small dropped)
+  where
+    enough : size ≤ length (byte ∷ bytes)
+    enough = grind (arith, is)
+
+    taken : length (take size (byte ∷ bytes)) ≡ size
+    taken = omega (arith, length-take size (byte ∷ bytes), enough)
+
+    dropped : length (drop size (byte ∷ bytes)) ≡ q * size + r
+    dropped = grind (arith, length-drop size (byte ∷ bytes), is)
+
+lines_long : (trailers : List Trailer) → length (flat_map trailer_line trailers) ≡ lines_length trailers
+lines_long trailers = length-flat_map trailer_line trailers ∙ sym (sum-map (λ (t : Trailer). length (trailer_line t)) trailers)
+
+head_long : (n : ℕ) (signature : List ℕ) → length signature ≡ 64 → length (head_text n (Some signature)) ≡ head_length true n
+head_long n signature long =
+    omega (
+      arith,
+      long,
+      length-append (length_text n ++ signature_text (Some signature)) crlf,
+      length-append (length_text n) (signature_text (Some signature)),
+      length-append (codes ";chunk-signature=") signature,
+    )
+
+last_line_long : (trailers : List Trailer) (signatures : List (List ℕ)) (last : Option (List ℕ)) → TakesSignature (has_signature true trailers) signatures last []
+    → length (last_line last) + lines_length trailers ≡ actual_length true trailers
+last_line_long [] signatures last takes = ap (λ (o : Option (List ℕ)). length (last_line o) + lines_length []) takes.0
+last_line_long (trailer ∷ trailers) signatures None takes = absurd takes
+last_line_long (trailer ∷ trailers) signatures (Some signature) takes =
+    omega (
+      arith,
+      takes.0.0,
+      length-append ((codes "x-amz-trailer-signature" ++ codes ":") ++ signature) crlf,
+      length-append (codes "x-amz-trailer-signature" ++ codes ":") signature,
+    )
+
+tail_long : (signature last : Option (List ℕ)) (trailers : List Trailer) → length (tail_text signature trailers last)
+    ≡ length (head_text 0 signature) + (length (last_line last) + lines_length trailers) + 2
+unfolding tail_text
+tail_long signature last trailers =
+    omega (
+      arith,
+      length-append (head_text 0 signature ++ flat_map trailer_line trailers ++ last_line last) crlf,
+      length-append (head_text 0 signature ++ flat_map trailer_line trailers) (last_line last),
+      length-append (head_text 0 signature) (flat_map trailer_line trailers),
+      lines_long trailers,
+    )
+
+chunk_long : (signature : Option (List ℕ)) (piece : List ℕ) → length (chunk_text signature piece) ≡ length (head_text (length piece) signature) + length piece + 2
+unfolding chunk_text
+chunk_long signature piece =
+    omega (arith, length-append (head_text (length piece) signature ++ piece) crlf, length-append (head_text (length piece) signature) piece)
+
+-- how long a signed text is
+pieces_long : (pieces signatures : List (List ℕ)) (trailers : List Trailer) (text : List ℕ) → IsPiecesText true pieces signatures trailers text
+    → length text ≡ pieces_length true pieces + head_length true 0 + actual_length true trailers + 2
+unfolding pieces_length
+pieces_long [] signatures trailers text is = by is.0 is.3 is.5
+  where
+    by : (signature : Option (List ℕ)) → TakesSignature true signatures signature is.1 → text ≡ tail_text signature trailers is.2
+        → length text ≡ 0 + head_length true 0 + actual_length true trailers + 2
+    by None takes same = absurd takes
+    by (Some signature) takes same =
+        omega (arith, ap length same, tail_long (Some signature) is.2 trailers, head_long 0 signature takes.0.0, last_line_long trailers is.1 is.2 is.4)
+pieces_long (piece ∷ pieces) signatures trailers text is = by is.0 is.3 is.4
+  where
+    by : (signature : Option (List ℕ)) → TakesSignature true signatures signature is.1 → text ≡ chunk_text signature piece ++ is.2
+        → length text ≡ (chunk_length true (length piece) + pieces_length true pieces) + head_length true 0 + actual_length true trailers + 2
+    by None takes same = absurd takes
+    by (Some signature) takes same =
+        omega (
+          arith,
+          ap length same,
+          length-append (chunk_text (Some signature) piece) is.2,
+          chunk_long (Some signature) piece,
+          head_long (length piece) signature takes.0.0,
+          pieces_long pieces is.1 trailers is.2 is.5,
+        )
+
+pub signed_long : (options : Options) → IsChunkSize options.chunk_size → options.is_signed ≡ true → IsSignedLengthOf options (encoded_length options)
+unfolding encoded_length
+signed_long options size_in_range signed bytes signatures trailers text long is =
+    omega (
+      arith,
+      pieces_long (cut size bytes) signatures trailers text is,
+      cut_long true (length bytes / size) size (length bytes % size) bytes (mod_below (length bytes) size (omega (arith, size_in_range.0)))
+          (sym (div-add-mod' (length bytes) size)),
+      ap (λ n. (n / size) * chunk_length true size + last_length true (n % size)) long,
+      signs,
+    )
+  where
+    size : ℕ
+    size = options.chunk_size
+
+    signs : chunks_length options ≡ (options.stream_length / size) * chunk_length true size + last_length true (options.stream_length % size) + head_length true 0 + 2
+    signs = ap (λ (b : Bool). (options.stream_length / size) * chunk_length b size + last_length b (options.stream_length % size) + head_length b 0 + 2) signed

@@ -1,0 +1,23 @@
+-- Laws of texts in chunks.
+use Rattle.std.specs.Prelude.{◌≡◌, ℕ, ◌+◌, true, List, length, map, Result, Ok, Err, string_bytes}
+use Rattle.aws_chunked.specs.Body.{Trailer, actual_length}
+use Rattle.aws_chunked.specs.Decoded.{IsPiecesText}
+use Rattle.aws_chunked.specs.Options.{Options, declared_length}
+use Rattle.aws_chunked.specs.Text.{cut}
+use Rattle.aws_chunked.specs.declared.decode.DecodeFault.{DecodeFault}
+use Rattle.aws_chunked.specs.declared.decode.DecodeFault.TheVariants.{BadChunk, NoMemory}
+use Rattle.aws_chunked.specs.declared.decode.Decoded.{Decoded}
+
+-- this data, these signatures and these trailers are answered, but where memory ran out
+abbrev pub Answers : List ℕ → List (List ℕ) → List Trailer → Result Decoded DecodeFault → Type 0
+Answers body signatures trailers (Ok decoded) =
+    (body ≡ decoded.body) × (signatures ≡ map string_bytes decoded.signatures.items) × (trailers ≡ decoded.trailers)
+Answers body signatures trailers (Err (BadChunk k)) = ⊥
+Answers body signatures trailers (Err NoMemory) = Unit {0}
+
+-- the number is the length of the signed text of any data of the declared length, with the declared lengths of the trailers in place of
+-- those of their lines and of the line of their signature
+abbrev pub IsSignedLengthOf : Options → ℕ → Type 0
+IsSignedLengthOf options n = (bytes : List ℕ) (signatures : List (List ℕ)) (trailers : List Trailer) (text : List ℕ) → length bytes ≡ options.stream_length
+    → IsPiecesText true (cut options.chunk_size bytes) signatures trailers text
+    → length text + declared_length options.trailer_lengths ≡ n + actual_length true trailers
