@@ -1,5 +1,5 @@
 -- A trailer's line: its name, its value and its end.
-use Rattle.std.proofs.Common.{◌≡◌, ℕ, zero, suc, ◌+◌, ◌<◌, ◌≤◌, Bool, true, false, ◌&&◌, not, List, [], ◌∷◌, ◌++◌, length, length-append, take, drop, get_or, slice_index, map, All, IsTrue, IsUtf8, inl, inr, refl, ap, sym, subst, ◌∙◌, arith, append_assoc, append-nil, take-append-drop, take_all, drop_at, drop-cons, le-ltb, lt-ltb}
+use Rattle.std.proofs.Common.{◌≡◌, ℕ, zero, suc, ◌+◌, ◌-◌, ◌<◌, ◌≤◌, Bool, true, false, ◌&&◌, not, List, [], ◌∷◌, ◌++◌, length, length-append, length-drop, take, drop, get_or, slice_index, map, All, IsTrue, IsUtf8, inl, inr, refl, ap, sym, subst, ◌∙◌, arith, append_assoc, append-nil, take-append-drop, take_all, drop_at, drop-cons, le-ltb, lt-ltb}
 use Rattle.std.specs.Prelude.{codes}
 use Rattle.std.specs.Char.{to_ascii_lowercase}
 use Rattle.std.specs.Int.{is_in_range}
@@ -356,7 +356,8 @@ value_found bytes value text rest n there all ends front back same is = (
 
 pub value_bad : (bytes value rest : List ℕ) (n m : ℕ) (fault : ReadFault) → n ≤ length bytes → ((k : ℕ) → k < n → IsTrue (is_value_byte (slice_index bytes k)))
     → (n < length bytes → is_value_byte (slice_index bytes n) ≡ false) → value ≡ take n bytes → rest ≡ drop n bytes → (IsUtf8 value → ⊥) → IsSound value m
-    → fault ≡ Bad (length (drop m bytes)) → Tells IsValuePart (Led IsValuePart) bytes fault
+    → fault ≡ Bad (length (take (length bytes - m) (drop m bytes))) → Tells IsValuePart (Led IsValuePart) bytes fault
 value_bad bytes value rest n m fault there all ends front back not sound told =
     value_stops bytes value rest m fault (sym (take-append-drop n bytes) ∙ (λ i. sym front i ++ sym back i)) (value_all bytes value n there all front)
-    (subst (EndsRun is_value_byte) (sym back) (run_ended is_value_byte bytes n there ends)) not sound told
+    (subst (EndsRun is_value_byte) (sym back) (run_ended is_value_byte bytes n there ends)) not sound
+    (told ∙ ap (λ (l : List ℕ). Bad (length l)) (take_all (length bytes - m) (drop m bytes) (omega (arith, length-drop m bytes))))

@@ -44,6 +44,13 @@ pub enum DecodeFault {
 /// Reads a whole text in the encoding aws-chunked, in the form for HTTP 1.x: the data, the signatures and the trailers. The chunks
 /// have one size from 1 to 4,294,967,295 bytes, of which the last may have less. A text is signed whole or not at all; trailers have
 /// names in lower case.
+///
+/// So `3\r\nhel\r\n2\r\nlo\r\n0\r\n\r\n` says `hello`, with neither signatures nor trailers, and of `5\r\nhelloX` the byte at the place 8
+/// is told: where the end of the chunk's line has to be.
+///
+/// # Errors
+///
+/// [`DecodeFault::BadChunk`] exactly where the bytes aren't a whole text.
 #[tactic(auto, using(crate::proofs::PlaceLemmas::left_low, crate::proofs::PlaceLemmas::place_told))]
 pub fn decode_chunked(alloc: Global, bytes: &[u8]) -> Result<Decoded, DecodeFault>
     ensures reads { Decodes bytes.now result }

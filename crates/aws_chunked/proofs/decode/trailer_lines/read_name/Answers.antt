@@ -23,3 +23,9 @@ returns c =
     let n = c.name_length.ensures in
     let s = c.split_at.ensures in
     name_found _ _ _ _ _ _ n.most n.there n.all s.front s.front_len s.back (eqb-false _ 0 (sym c.if-is_empty.ensures)) c.in-Ok.ensures.cases.0 c.in_ok-rest.ensures
+
+pub returns-in_default : goal.returns-in_default
+returns-in_default c =
+    let n = c.name_length.ensures in
+    let s = c.split_at.ensures in
+    absurd (c.in_default.ensures.cases.0 (name_text _ _ _ n.there n.all s.front (eqb-false _ 0 (sym c.if-is_empty.ensures))))
