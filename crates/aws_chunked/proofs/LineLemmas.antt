@@ -116,6 +116,7 @@ no_name bytes fault ends told = subst (Tells IsNamePart (Led IsNamePart) bytes) 
         let found = same_run is_name_byte [] word.0 text (58 ∷ led.1) (All-nil (λ byte. IsTrue (is_name_byte byte))) (name_bytes word.0 word.1.0.1 word.2) ends_ colon_ends
         (led.3 ∙ ap (λ (w : List ℕ). w ++ led.1) word.3 ∙ append_assoc word.0 (58 ∷ []) led.1) in
         omega (arith, word.1.0.0, ap length found.0)
+
     refuses : (back : List ℕ) → EndsRun is_name_byte back → Refuses (Led IsNamePart) [] back
     refuses [] ends_ = λ led. none [] tt led
     refuses (b ∷ back) ends_ = λ begins. none (b ∷ begins.0) ends_ begins.1
@@ -127,10 +128,10 @@ name_ends name other text more all ends is same parted =
     elim (cases_lt (length name) 65535) [
       | inl short ↦ (same_run is_name_byte name other text (58 ∷ more) all (name_bytes other is.0.1 same) (ends short) colon_ends parted).1
       | inr long ↦ (
-        let found = run_within is_name_byte name other 58 more text all colon_ends parted in
-        let none : found.0 ≡ [] = empty found.0 (omega (arith, long, is.1, ap length found.1, length-append name found.0)) in
-        append_cancel_left name text (58 ∷ more)
-        (parted ∙ ap (λ (o : List ℕ). o ++ 58 ∷ more) (found.1 ∙ ap (λ (z : List ℕ). name ++ z) none ∙ append-nil name)))
+          let found = run_within is_name_byte name other 58 more text all colon_ends parted in
+          let none : found.0 ≡ [] = empty found.0 (omega (arith, long, is.1, ap length found.1, length-append name found.0)) in
+          append_cancel_left name text (58 ∷ more)
+          (parted ∙ ap (λ (o : List ℕ). o ++ 58 ∷ more) (found.1 ∙ ap (λ (z : List ℕ). name ++ z) none ∙ append-nil name)))
     ]
   where
     empty : (zs : List ℕ) → length zs ≡ 0 → zs ≡ []
@@ -145,10 +146,13 @@ colon_stops bytes name rest fault parted some low all ends told =
     stops_behind_word (λ word. word ≡ codes ":") (Led (λ word. word ≡ codes ":")) IsNamePart (Led IsNamePart) name bytes rest fault parted
     (λ text same. (name, is.0, is.1, ap (λ (t : List ℕ). name ++ t) same))
     (λ text same led.
-    let word = led.2 in
-    (codes ":", led.1, refl,
-    name_ends name word.0 text led.1 all (λ short. same_first is_name_byte text rest same (ends short)) word.1 word.2
-    (led.3 ∙ ap (λ (w : List ℕ). w ++ led.1) word.3 ∙ append_assoc word.0 (58 ∷ []) led.1)))
+    let word = led.2 in (
+      codes ":",
+      led.1,
+      refl,
+      name_ends name word.0 text led.1 all (λ short. same_first is_name_byte text rest same (ends short)) word.1 word.2
+          (led.3 ∙ ap (λ (w : List ℕ). w ++ led.1) word.3 ∙ append_assoc word.0 (58 ∷ []) led.1),
+    ))
     told
 
 -- ## Values
@@ -180,10 +184,13 @@ value_stops bytes value rest m fault parted all ends not_text sound told =
   where
     front : List ℕ
     front = take m value
+
     taken : take m bytes ≡ take m value
     taken = ap (take m) parted ∙ take-append-le m value rest sound.low
+
     front_all : All (λ byte. IsTrue (is_value_byte byte)) (take m value)
     front_all = All-take (λ byte. IsTrue (is_value_byte byte)) m value all
+
     refuses : (back : List ℕ) → drop m bytes ≡ back → Refuses (Led IsValuePart) (take m value) back
     refuses [] is = λ led.
         let word = led.2 in
@@ -202,22 +209,22 @@ value_stops bytes value rest m fault parted all ends not_text sound told =
         let same = led.3 ∙ ap (λ (w : List ℕ). w ++ led.1) word.3 ∙ append_assoc word.0 crlf led.1 in
         elim (cases_lt m (length value)) [
           | inl short ↦ (
-            let dropped : drop m bytes ≡ get_or value m 0 ∷ drop (suc m) bytes =
-            drop-cons bytes m 0 (omega (arith, short, ap length parted, length-append value rest))
-            ∙ ap (λ (b : ℕ). b ∷ drop (suc m) bytes) (ap (λ (l : List ℕ). get_or l m 0) parted ∙ get_or_append_left value rest 0 m short) in
-            let next : byte ≡ get_or value m 0 = ap (λ (l : List ℕ). get_or l 0 0) (sym is ∙ dropped) in
-            let found = run_within is_value_byte (take m value ++ byte ∷ []) word.0 13 (10 ∷ led.1) begins.0
-            (All-push (λ byte. IsTrue (is_value_byte byte)) (take m value) byte front_all
-            (subst (λ (b : ℕ). IsTrue (is_value_byte b)) (sym next) (All-get_or (λ byte. IsTrue (is_value_byte byte)) value m 0 short all))) refl same in
-            sound.stops short found.0 (subst IsUtf8 (found.1 ∙ ap (λ (b : ℕ). (take m value ++ b ∷ []) ++ found.0) next) word.1))
+              let dropped : drop m bytes ≡ get_or value m 0 ∷ drop (suc m) bytes =
+              drop-cons bytes m 0 (omega (arith, short, ap length parted, length-append value rest))
+              ∙ ap (λ (b : ℕ). b ∷ drop (suc m) bytes) (ap (λ (l : List ℕ). get_or l m 0) parted ∙ get_or_append_left value rest 0 m short) in
+              let next : byte ≡ get_or value m 0 = ap (λ (l : List ℕ). get_or l 0 0) (sym is ∙ dropped) in
+              let found = run_within is_value_byte (take m value ++ byte ∷ []) word.0 13 (10 ∷ led.1) begins.0
+              (All-push (λ byte. IsTrue (is_value_byte byte)) (take m value) byte front_all
+              (subst (λ (b : ℕ). IsTrue (is_value_byte b)) (sym next) (All-get_or (λ byte. IsTrue (is_value_byte byte)) value m 0 short all))) refl same in
+              sound.stops short found.0 (subst IsUtf8 (found.1 ∙ ap (λ (b : ℕ). (take m value ++ b ∷ []) ++ found.0) next) word.1))
           | inr long ↦ (
-            let whole : take m value ≡ value = take_all m value long in
-            let behind : rest ≡ byte ∷ back =
-            sym (ap (drop m) parted ∙ drop_at value rest m (omega (arith, long, sound.low))) ∙ is in
-            let found = same_run is_value_byte value word.0 (byte ∷ begins.0) (crlf ++ led.1) all word.2
-            (same_first is_value_byte (byte ∷ begins.0) rest (ap first_byte (sym behind)) ends) refl
-            (ap (λ (v : List ℕ). v ++ (byte ∷ begins.0)) (sym whole) ∙ sym (append_assoc (take m value) (byte ∷ []) begins.0) ∙ same) in
-            not_text (subst IsUtf8 (sym found.0) word.1))
+              let whole : take m value ≡ value = take_all m value long in
+              let behind : rest ≡ byte ∷ back =
+              sym (ap (drop m) parted ∙ drop_at value rest m (omega (arith, long, sound.low))) ∙ is in
+              let found = same_run is_value_byte value word.0 (byte ∷ begins.0) (crlf ++ led.1) all word.2
+              (same_first is_value_byte (byte ∷ begins.0) rest (ap first_byte (sym behind)) ends) refl
+              (ap (λ (v : List ℕ). v ++ (byte ∷ begins.0)) (sym whole) ∙ sym (append_assoc (take m value) (byte ∷ []) begins.0) ∙ same) in
+              not_text (subst IsUtf8 (sym found.0) word.1))
         ]
 
 -- ## Lines
@@ -262,22 +269,35 @@ crlf_stops_line bytes name behind value rest is same parted text all read ends f
 pub name_stops_line : (bytes : List ℕ) (fault : ReadFault) → Tells IsNamePart (Led IsNamePart) bytes fault → Tells IsLine (Led IsLine) bytes fault
 name_stops_line bytes fault told =
     stops_first IsNamePart (Led IsNamePart) IsLine (Led IsLine) bytes fault
-    (λ word is. (crlf, ((is.0, []), (is.1, is.2, IsUtf8-nil, All-nil (λ byte. IsTrue (is_value_byte byte))),
-    ap (λ (w : List ℕ). w ++ crlf) (is.3 ∙ sym (append-nil (is.0 ++ codes ":"))))))
+    (λ word is. (
+      crlf,
+      (
+        (is.0, []),
+        (is.1, is.2, IsUtf8-nil, All-nil (λ byte. IsTrue (is_value_byte byte))),
+        ap (λ (w : List ℕ). w ++ crlf) (is.3 ∙ sym (append-nil (is.0 ++ codes ":"))),
+      ),
+    ))
     (λ all led.
     let word = led.2 in
-    let trailer = word.0 in
-    (trailer.0 ++ codes ":", trailer.1 ++ (crlf ++ led.1), (trailer.0, word.1.0, word.1.1, refl),
-    led.3 ∙ ap (λ (w : List ℕ). w ++ led.1) word.2 ∙ append_assoc ((trailer.0 ++ codes ":") ++ trailer.1) crlf led.1
-    ∙ append_assoc (trailer.0 ++ codes ":") trailer.1 (crlf ++ led.1)))
+    let trailer = word.0 in (
+      trailer.0 ++ codes ":",
+      trailer.1 ++ (crlf ++ led.1),
+      (trailer.0, word.1.0, word.1.1, refl),
+      led.3 ∙ ap (λ (w : List ℕ). w ++ led.1) word.2 ∙ append_assoc ((trailer.0 ++ codes ":") ++ trailer.1) crlf led.1
+          ∙ append_assoc (trailer.0 ++ codes ":") trailer.1 (crlf ++ led.1),
+    ))
     told
 
 pub value_stops_line : (bytes name behind : List ℕ) (fault : ReadFault) → IsHeaderName name → lower name ≡ name → bytes ≡ name ++ codes ":" ++ behind
     → Tells IsValuePart (Led IsValuePart) behind fault → Tells IsLine (Led IsLine) bytes fault
 value_stops_line bytes name behind fault is same parted told =
     stops_next IsValuePart (Led IsValuePart) IsLine (Led IsLine) (name ++ codes ":") bytes behind fault parted
-    (λ text value. ((name, value.0), (is, same, value.1, value.2), ap (λ (t : List ℕ). (name ++ codes ":") ++ t) value.3
-    ∙ sym (append_assoc (name ++ codes ":") value.0 crlf)))
+    (λ text value. (
+      (name, value.0),
+      (is, same, value.1, value.2),
+      ap (λ (t : List ℕ). (name ++ codes ":") ++ t) value.3
+          ∙ sym (append_assoc (name ++ codes ":") value.0 crlf),
+    ))
     (λ text led.
     let word = led.2 in
     let trailer = word.0 in

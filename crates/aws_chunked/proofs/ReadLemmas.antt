@@ -52,9 +52,13 @@ data_read n bytes data_ rest old new (Err fault) parted long grown told =
     stops_next (λ word. word ≡ crlf) (Led (λ word. word ≡ crlf)) (IsData n) (Led (IsData n)) data_ bytes rest fault parted
     (λ text is. (data_, long, ap (λ (t : List ℕ). data_ ++ t) is))
     (λ text led.
-    let found = led.2 in
-    (crlf, led.1, refl, (same_word data_ found.0 text (crlf ++ led.1) (omega (arith, long, found.1))
-    (led.3 ∙ ap (λ (w : List ℕ). w ++ led.1) found.2 ∙ append_assoc found.0 crlf led.1)).1))
+    let found = led.2 in (
+      crlf,
+      led.1,
+      refl,
+      (same_word data_ found.0 text (crlf ++ led.1) (omega (arith, long, found.1))
+          (led.3 ∙ ap (λ (w : List ℕ). w ++ led.1) found.2 ∙ append_assoc found.0 crlf led.1)).1,
+    ))
     told
 
 -- ## Behind a length
@@ -135,8 +139,7 @@ pub mark_stops : (bytes : List ℕ) (chunks : Chunks) (fault : ReadFault) → ch
 unfolding mark
 mark_stops bytes chunks fault signed told =
     stops_first (λ word. word ≡ mark) (Led (λ word. word ≡ mark)) (IsHeadEnd chunks.is_signed) (Led (IsHeadEnd chunks.is_signed)) bytes fault
-    (λ word is.
-    (
+    (λ word is. (
       some_signature ++ crlf,
       word_signed chunks.is_signed (word ++ (some_signature ++ crlf)) some_signature signed some_sound
           (ap (λ (w : List ℕ). w ++ (some_signature ++ crlf)) is ∙ sym (append_assoc mark some_signature crlf)),

@@ -61,11 +61,11 @@ after_two z b c before lead third =
     elim (cases_lt b 0xe0) [
       | inl low ↦ ([], All-nil (λ byte. IsTrue (is_value_byte byte)), (before, low, omega (arith, third)))
       | inr high ↦ (
-        let end = after_three b c 128 (high, lead.1) third (omega arith, omega arith) in (
-          128 ∷ end.0,
-          All-cons (λ byte. IsTrue (is_value_byte byte)) 128 end.0 (high_value 128 (omega arith)) end.1,
-          (later (inr high) (omega (arith, third), omega (arith, third)) (omega arith, omega arith), end.2),
-        ))
+          let end = after_three b c 128 (high, lead.1) third (omega arith, omega arith) in (
+            128 ∷ end.0,
+            All-cons (λ byte. IsTrue (is_value_byte byte)) 128 end.0 (high_value 128 (omega arith)) end.1,
+            (later (inr high) (omega (arith, third), omega (arith, third)) (omega arith, omega arith), end.2),
+          ))
     ]
 
 least_continues : (b : ℕ) → (128 ≤ least_after b) × (least_after b < 192) × (least_after b ≤ most_after b)
@@ -188,20 +188,20 @@ three_part x y z b c d bytes closed lead next third none stops =
     elim (cases_lt b 0xe0) [
       | inl low ↦ absurd (none (two_steps x y z b c closed lead next low))
       | inr high ↦ (
-        let cont = continues b c next.0 next.1 in
-        let end = after_three b c d (high, lead.1) cont third in record {
-          low = omega arith;
-          more = end.0;
-          more_are = end.1;
-          begins = (
-            begin x y z b closed lead.0,
-            (
-              second (omega (arith, closed), omega (arith, closed)) lead next,
-              (later (inr high) (omega (arith, cont), omega (arith, cont)) (omega (arith, third), omega (arith, third)), end.2),
-            ),
-          );
-          stops = stops;
-        })
+          let cont = continues b c next.0 next.1 in
+          let end = after_three b c d (high, lead.1) cont third in record {
+            low = omega arith;
+            more = end.0;
+            more_are = end.1;
+            begins = (
+              begin x y z b closed lead.0,
+              (
+                second (omega (arith, closed), omega (arith, closed)) lead next,
+                (later (inr high) (omega (arith, cont), omega (arith, cont)) (omega (arith, third), omega (arith, third)), end.2),
+              ),
+            );
+            stops = stops;
+          })
     ]
 
 three_steps : (x y z b c d : ℕ) → IsClosed x y z → (0xe0 ≤ b) × (b ≤ 0xf4) → (least_after b ≤ c) × (c ≤ most_after b) → (128 ≤ d) × (d < 192)
@@ -256,15 +256,16 @@ third_part x y z b c (d ∷ bytes) closed none lead next = by (nat_lt (length (b
   where
     third_by : (s : Bool) → is_in_range 0x80 0xBF d ≡ s
         → Part x y z (b ∷ c ∷ d ∷ bytes)
-            (unwrap_or (if s then (if nat_lt (length (b ∷ c ∷ d ∷ bytes)) 4 then None else Some 3) else Some 2) (length (b ∷ c ∷ d ∷ bytes)))
+        (unwrap_or (if s then (if nat_lt (length (b ∷ c ∷ d ∷ bytes)) 4 then None else Some 3) else Some 2) (length (b ∷ c ∷ d ∷ bytes)))
     third_by true is = fourth_part x y z b c d bytes closed none lead next
         (let low = in_range 0x80 0xBF d is in (low.0, omega (arith, low.1)))
     third_by false is = two_part x y z b c (d ∷ bytes) closed lead next
         (λ low behind steps. no_third x y z b c d behind closed lead next (none 2 (omega arith)) is steps)
+
     by : (t : Bool) → nat_lt (length (b ∷ c ∷ d ∷ bytes)) 3 ≡ t
         → Part x y z (b ∷ c ∷ d ∷ bytes)
-            (unwrap_or (if t then None else (if is_in_range 0x80 0xBF d then (if nat_lt (length (b ∷ c ∷ d ∷ bytes)) 4 then None else Some 3) else Some 2))
-            (length (b ∷ c ∷ d ∷ bytes)))
+        (unwrap_or (if t then None else (if is_in_range 0x80 0xBF d then (if nat_lt (length (b ∷ c ∷ d ∷ bytes)) 4 then None else Some 3) else Some 2))
+        (length (b ∷ c ∷ d ∷ bytes)))
     by true is = absurd (omega (arith, ltb-true (length (b ∷ c ∷ d ∷ bytes)) 3 is))
     by false is = third_by (is_in_range 0x80 0xBF d) refl
 
@@ -279,10 +280,11 @@ lead_part x y z b (c ∷ bytes) closed none lead = by (nat_lt (length (b ∷ c �
         → Part x y z (b ∷ c ∷ bytes) (unwrap_or (if s then error_len_after_two (b ∷ c ∷ bytes) else Some 1) (length (b ∷ c ∷ bytes)))
     second_by true is = third_part x y z b c bytes closed none lead (in_range (second_byte_min b) (second_byte_max b) c is)
     second_by false is = one_part x y z b (c ∷ bytes) closed lead (λ low behind steps. no_second x y z b c behind closed lead is steps)
+
     by : (t : Bool) → nat_lt (length (b ∷ c ∷ bytes)) 2 ≡ t
         → Part x y z (b ∷ c ∷ bytes)
-            (unwrap_or (if t then None else (if is_in_range (second_byte_min b) (second_byte_max b) c then error_len_after_two (b ∷ c ∷ bytes) else Some 1))
-            (length (b ∷ c ∷ bytes)))
+        (unwrap_or (if t then None else (if is_in_range (second_byte_min b) (second_byte_max b) c then error_len_after_two (b ∷ c ∷ bytes) else Some 1))
+        (length (b ∷ c ∷ bytes)))
     by true is = absurd (omega (arith, ltb-true (length (b ∷ c ∷ bytes)) 2 is))
     by false is = second_by (is_in_range (second_byte_min b) (second_byte_max b) c) refl
 

@@ -113,8 +113,7 @@ follows_length most n Rest rest bound low other all_other = record {
   comes_so = λ all_b all_s t text all is same whole.
       let found = same_length whole.0 n whole.1 text (omega (arith, bound, whole.2)) (omega (arith, bound, low))
       (other_ends whole.1 (all_other whole.0 all_b all_s t whole.1 whole.4)) (same_first is_length_digit text rest same (other_ends rest other))
-      (sym whole.3 ∙ is) in
-      (
+      (sym whole.3 ∙ is) in (
         all_b,
         all_s,
         refl,
@@ -186,8 +185,7 @@ same_end true (Some one) (Some two) rest more first second same =
       length-append (mark ++ two) crlf,
       length-append mark one,
       length-append mark two,
-    )) same in
-    (
+    )) same in (
       ap (λ (x : List ℕ). Some x) (append_cancel_left mark one two (append_cancel_right (mark ++ one) (mark ++ two) crlf found.0)),
       found.1,
     )
@@ -198,8 +196,7 @@ follows_head is_signed Rest signature rest signed = record {
   goes_on = λ b all_b s all_s t text all is_b is_s is part.
       (signature, s, text, signed, is_s, is, says_same Rest b all_b s s t text text is_b refl refl part);
   comes_so = λ all_b all_s t text all is same whole.
-      let found = same_end is_signed whole.0 signature whole.2 text whole.3 signed (sym whole.5 ∙ is) in
-      (
+      let found = same_end is_signed whole.0 signature whole.2 text whole.3 signed (sym whole.5 ∙ is) in (
         all_b,
         whole.1,
         refl,
@@ -212,8 +209,7 @@ stops_head : (is_signed : Bool) (Rest : Says) (bytes : List ℕ) (fault : ReadFa
     → Tells (Said (HeadEndThen is_signed Rest)) (Said (HeadEndThen is_signed Rest)) bytes fault
 stops_head is_signed Rest bytes fault more told =
     stops_part (IsHeadEnd is_signed) (Led (IsHeadEnd is_signed)) (Said (HeadEndThen is_signed Rest)) bytes fault
-    (λ word is.
-    (
+    (λ word is. (
       more.0,
       (
         more.1.0,
@@ -242,8 +238,7 @@ follows_next is_signed size n rest some =
     by (suc k) b s t text is =
         let data_ = is.1 in
         let next = data_.6 in
-        let end = next.4 in
-        (
+        let end = next.4 in (
           data_.0,
           data_.1,
           data_.2,
@@ -268,8 +263,7 @@ follows_data n Rest piece rest long = record {
   goes_on = λ b all_b s all_s t text all is_b is_s is part. (piece, b, text, long, is_b, is, says_same Rest b b s all_s t text text refl is_s refl part);
   comes_so = λ all_b all_s t text all is same whole.
       let found = same_word (whole.0 ++ crlf) (piece ++ crlf) whole.2 text
-      (omega (arith, whole.3, long, length-append whole.0 crlf, length-append piece crlf)) (sym whole.5 ∙ is) in
-      (
+      (omega (arith, whole.3, long, length-append whole.0 crlf, length-append piece crlf)) (sym whole.5 ∙ is) in (
         whole.1,
         all_s,
         whole.4 ∙ ap (λ (p : List ℕ). p ++ whole.1) (append_cancel_right whole.0 piece crlf found.0),
@@ -282,8 +276,7 @@ stops_data : (n : ℕ) (Rest : Says) (bytes : List ℕ) (fault : ReadFault) → 
     → Tells (Said (DataThen n Rest)) (Said (DataThen n Rest)) bytes fault
 stops_data n Rest bytes fault more told =
     stops_part (IsData n) (Led (IsData n)) (Said (DataThen n Rest)) bytes fault
-    (λ word is.
-    (
+    (λ word is. (
       more.0,
       (
         is.0 ++ more.1.0,

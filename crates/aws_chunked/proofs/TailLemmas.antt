@@ -269,6 +269,7 @@ split_stops is_signed lines rest fault begins none told =
         let says = is.3 in
         let empty = no_more is_signed lines says.0 text says.3 says.6 cr in
         none is.2 says.1 (sym (append-nil lines) ∙ ap (λ (m : List Trailer). lines ++ m) (sym empty) ∙ says.4.0, says.4.1)
+
     refuses : (back : List ℕ) → IsTrue (begins_with 13 back) → Refuses (Said (LinesSay is_signed lines)) [] back
     refuses [] cr = absurd (false≢true cr)
     refuses (b ∷ back) cr = λ begins_. not (b ∷ begins_.0) cr begins_.1

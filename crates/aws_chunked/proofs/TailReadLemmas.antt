@@ -68,6 +68,7 @@ split_none true lines trailers last is split other (trailer ∷ others) (Some si
     name_of : List Trailer → List ℕ
     name_of [] = []
     name_of (t ∷ ts) = t.0
+
     value_of : List Trailer → List ℕ
     value_of [] = []
     value_of (t ∷ ts) = t.1
