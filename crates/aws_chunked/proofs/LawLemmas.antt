@@ -4,18 +4,18 @@ use Rattle.std.specs.Prelude.{codes}
 use Rattle.std.specs.List.{AllByRecursion, flat_map}
 use Rattle.std.proofs.lemmas.List.{drop_all}
 use Rattle.std.proofs.lemmas.Nat.{div-add-mod', mod_below}
-use Rattle.std.proofs.lemmas.List.Concat.{length-flat_map}
-use Rattle.std.proofs.lemmas.List.Sums.{sum-map}
 use Rattle.aws_chunked.specs.Body.{Trailer, actual_length, lines_length}
-use Rattle.aws_chunked.specs.Decoded.{Begins, Decodes, DecodesOnly, IsBadAt, IsPiecesText, IsSignature, IsText, IsTextOf, IsTrailer, StopsAt, TakesSignature}
+use Rattle.aws_chunked.specs.Decoded.{Decodes, DecodesOnly, IsPiecesText, IsText, IsTextOf, IsTrailer, StopsAt, TakesSignature}
 use Rattle.aws_chunked.specs.Laws.{Answers, IsSignedLengthOf}
 use Rattle.aws_chunked.specs.Options.{IsChunkSize, Options, chunk_length, chunks_length, encoded_length, head_length, last_length}
 use Rattle.aws_chunked.specs.Signing.{has_signature}
-use Rattle.aws_chunked.specs.Text.{chunk, chunk_text, chunked_text, crlf, cut, cut_within, head_text, last_line, length_text, part_text, parts_text, signature_text, tail, tail_text, trailer_line}
+use Rattle.aws_chunked.specs.Text.{chunk, chunk_text, chunked_text, crlf, cut, head_text, last_line, length_text, parts_text, signature_text, tail, tail_text, trailer_line}
 use Rattle.aws_chunked.specs.declared.decode.DecodeFault.{DecodeFault}
 use Rattle.aws_chunked.specs.declared.decode.DecodeFault.TheVariants.{BadChunk, NoMemory}
 use Rattle.aws_chunked.specs.declared.decode.Decoded.{Decoded}
 use Rattle.aws_chunked.proofs.CutLemmas.{cut_first}
+use Rattle.aws_chunked.proofs.LengthLemmas.{lines_long}
+use Rattle.aws_chunked.proofs.PieceLemmas.{cut_none}
 
 -- ## Decoding
 
@@ -51,10 +51,6 @@ pieces_length : Bool → List (List ℕ) → ℕ
 pieces_length is_signed [] = 0
 pieces_length is_signed (piece ∷ pieces) = chunk_length is_signed (length piece) + pieces_length is_signed pieces
 
-cut_none : (size : ℕ) → cut size [] ≡ []
-unfolding cut cut_within
-cut_none size = refl
-
 last_long : (is_signed : Bool) (n : ℕ) → 0 < n → last_length is_signed n ≡ chunk_length is_signed n
 last_long is_signed zero some = absurd (omega (arith, some))
 last_long is_signed (suc n) some = refl
@@ -86,9 +82,6 @@ cut_long is_signed (suc q) size r (byte ∷ bytes) small is =
 
     dropped : length (drop size (byte ∷ bytes)) ≡ q * size + r
     dropped = grind (arith, length-drop size (byte ∷ bytes), is)
-
-lines_long : (trailers : List Trailer) → length (flat_map trailer_line trailers) ≡ lines_length trailers
-lines_long trailers = length-flat_map trailer_line trailers ∙ sym (sum-map (λ (t : Trailer). length (trailer_line t)) trailers)
 
 head_long : (n : ℕ) (signature : List ℕ) → length signature ≡ 64 → length (head_text n (Some signature)) ≡ head_length true n
 head_long n signature long =
@@ -140,19 +133,20 @@ pieces_long [] signatures trailers text is = by is.0 is.3 is.5
     by None takes same = absurd takes
     by (Some signature) takes same =
         omega (arith, ap length same, tail_long (Some signature) is.2 trailers, head_long 0 signature takes.0.0, last_line_long trailers is.1 is.2 is.4)
-pieces_long (piece ∷ pieces) signatures trailers text is = by is.0 is.3 is.4
+pieces_long (piece ∷ pieces) signatures trailers text is = by is.0 is.3 is.4 (pieces_long pieces is.1 trailers is.2 is.5)
   where
     by : (signature : Option (List ℕ)) → TakesSignature true signatures signature is.1 → text ≡ chunk_text signature piece ++ is.2
+        → length is.2 ≡ pieces_length true pieces + head_length true 0 + actual_length true trailers + 2
         → length text ≡ (chunk_length true (length piece) + pieces_length true pieces) + head_length true 0 + actual_length true trailers + 2
-    by None takes same = absurd takes
-    by (Some signature) takes same =
+    by None takes same rest = absurd takes
+    by (Some signature) takes same rest =
         omega (
           arith,
           ap length same,
           length-append (chunk_text (Some signature) piece) is.2,
           chunk_long (Some signature) piece,
           head_long (length piece) signature takes.0.0,
-          pieces_long pieces is.1 trailers is.2 is.5,
+          rest,
         )
 
 pub signed_long : (options : Options) → IsChunkSize options.chunk_size → options.is_signed ≡ true → IsSignedLengthOf options (encoded_length options)

@@ -26,7 +26,7 @@ chunk_long piece =
       head_long (length piece),
     )
 
-lines_long : (trailers : List Trailer) → length (flat_map trailer_line trailers) ≡ lines_length trailers
+pub lines_long : (trailers : List Trailer) → length (flat_map trailer_line trailers) ≡ lines_length trailers
 lines_long trailers = length-flat_map trailer_line trailers ∙ sym (sum-map (λ (t : Trailer). length (trailer_line t)) trailers)
 
 tail_long : (trailers : List Trailer) → length (tail_text None trailers None) ≡ head_length false 0 + lines_length trailers + 2

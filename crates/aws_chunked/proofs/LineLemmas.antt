@@ -1,5 +1,5 @@
 -- A trailer's line: its name, its value and its end.
-use Rattle.std.proofs.Common.{◌≡◌, ℕ, zero, suc, ◌+◌, ◌-◌, ◌<◌, ◌≤◌, Bool, true, false, ◌&&◌, not, List, [], ◌∷◌, ◌++◌, length, length-append, length-drop, take, drop, get_or, slice_index, map, All, IsTrue, IsUtf8, inl, inr, refl, ap, sym, subst, ◌∙◌, arith, append_assoc, append-nil, take-append-drop, take_all, drop_at, drop-cons, le-ltb, lt-ltb}
+use Rattle.std.proofs.Common.{◌≡◌, ℕ, zero, suc, ◌+◌, ◌-◌, ◌<◌, ◌≤◌, Bool, true, false, ◌&&◌, not, List, [], ◌∷◌, ◌++◌, length, length-append, length-drop, take, drop, get_or, slice_index, All, IsTrue, IsUtf8, inl, inr, refl, ap, sym, subst, ◌∙◌, arith, append_assoc, append-nil, take-append-drop, take_all, drop_at, drop-cons, le-ltb, lt-ltb}
 use Rattle.std.specs.Prelude.{codes}
 use Rattle.std.specs.Char.{to_ascii_lowercase}
 use Rattle.std.specs.Int.{is_in_range}
@@ -8,7 +8,7 @@ use Rattle.std.proofs.lemmas.List.{append_cancel_left, get_or_append_left, take-
 use Rattle.std.proofs.lemmas.List.Elements.{All-append, All-cons, All-get_or, All-head, All-nil, All-push, All-tail, All-take}
 use Rattle.std.proofs.lemmas.Str.{IsUtf8-nil}
 use Rattle.http_header.specs.Token.{is_token_byte, is_value_byte}
-use Rattle.http_header.proofs.TokenLemmas.{IsUtf8-from_token, token_byte_range}
+use Rattle.http_header.proofs.TokenLemmas.{IsUtf8-from_token}
 use Rattle.smithy_core.specs.HeaderGrammar.{IsHeaderName, IsHeaderValue}
 use Rattle.smithy_core.specs.TextPairs.{lower}
 use Rattle.aws_chunked.specs.Body.{Trailer}

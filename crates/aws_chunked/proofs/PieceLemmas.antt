@@ -1,13 +1,12 @@
 -- A whole text, from its first length on.
 use Rattle.std.proofs.Common.{◌≡◌, ℕ, zero, suc, ◌+◌, ◌-◌, ◌<◌, ◌≤◌, Bool, true, false, nat_lt, List, [], ◌∷◌, ◌++◌, length, length-append, length-drop, take, drop, Option, Some, None, inl, inr, refl, ap, sym, subst, ◌∙◌, arith, append_assoc, append-nil, take-append-drop, take_at, drop_at, take_all}
-use Rattle.std.specs.Prelude.{codes, if◌then◌else◌}
+use Rattle.std.specs.Prelude.{if◌then◌else◌}
 use Rattle.std.specs.List.{AllByRecursion, concat, flat_map}
 use Rattle.std.proofs.lemmas.Bool.{cases_lt, ltb-false}
 use Rattle.std.proofs.lemmas.List.{drop_all}
 use Rattle.aws_chunked.specs.Body.{Trailer}
-use Rattle.aws_chunked.specs.Decoded.{IsPiecesText, IsSignature, IsTextOf, IsTrailer, TakesSignature}
-use Rattle.aws_chunked.specs.Rests.{ChunkRest, ChunksThen, Follows, IsSignedBy, IsTail, WholeSays, given, most_after}
-use Rattle.aws_chunked.specs.Signing.{has_signature}
+use Rattle.aws_chunked.specs.Decoded.{IsPiecesText, IsTextOf, IsTrailer, TakesSignature}
+use Rattle.aws_chunked.specs.Rests.{ChunkRest, ChunksThen, Follows, IsSignedBy, WholeSays, given, most_after}
 use Rattle.aws_chunked.specs.Text.{chunk_text, crlf, cut, cut_within, head_text, last_line, length_text, signature_text, tail_text, trailer_line}
 use Rattle.aws_chunked.proofs.CutLemmas.{cut_first}
 use Rattle.aws_chunked.proofs.FollowLemmas.{follows_as, says_same}
@@ -27,7 +26,7 @@ within_none : (k size : ℕ) → cut_within k size [] ≡ []
 unfolding cut_within
 within_none k size = refl
 
-cut_none : (size : ℕ) → cut size [] ≡ []
+pub cut_none : (size : ℕ) → cut size [] ≡ []
 unfolding cut cut_within
 cut_none size = refl
 

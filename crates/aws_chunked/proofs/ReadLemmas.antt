@@ -1,20 +1,20 @@
 -- Chunks that are read, part by part.
-use Rattle.std.proofs.Common.{◌≡◌, ℕ, zero, suc, ◌+◌, ◌-◌, ◌<◌, ◌≤◌, Bool, true, false, List, [], ◌∷◌, ◌++◌, length, length-append, map, replicate, All, IsTrue, IsErrAnd, Option, Some, None, Result, Ok, Err, String, string_bytes, refl, ap, sym, subst, ◌∙◌, arith, append_assoc, append-nil}
+use Rattle.std.proofs.Common.{◌≡◌, ℕ, ◌+◌, ◌-◌, ◌<◌, ◌≤◌, Bool, true, false, List, [], ◌∷◌, ◌++◌, length, length-append, map, replicate, IsErrAnd, Option, Some, None, Result, Ok, Err, String, string_bytes, refl, ap, sym, subst, ◌∙◌, arith, append_assoc, append-nil}
 use Rattle.std.specs.Prelude.{codes}
 use Rattle.std.specs.Borrow.{Bor}
 use Rattle.std.specs.declared.alloc.Global.{Global}
 use Rattle.std.proofs.lemmas.Bool.{false≢true}
 use Rattle.std.proofs.lemmas.List.{append_cancel_left, length-replicate, map-append}
-use Rattle.std.proofs.lemmas.List.Elements.{All-replicate}
-use Rattle.aws_chunked.specs.Decoded.{Begins, IsSignature, is_signature_digit}
+use Rattle.aws_chunked.specs.Decoded.{IsSignature}
 use Rattle.aws_chunked.specs.Reading.{Expects, Led, Tells}
-use Rattle.aws_chunked.specs.Rests.{IsData, IsHeadEnd, IsSignedBy, ReadsData, ReadsHeadEnd, given, signature_texts}
+use Rattle.aws_chunked.specs.Rests.{IsData, IsHeadEnd, IsSignedBy, ReadsData, ReadsHeadEnd, signature_texts}
 use Rattle.aws_chunked.specs.Text.{crlf, signature_text}
 use Rattle.aws_chunked.specs.declared.decode.chunks.Chunks.{Chunks}
 use Rattle.aws_chunked.specs.declared.decode.fault.ReadFault.{ReadFault}
 use Rattle.aws_chunked.specs.declared.decode.fault.ReadFault.TheVariants.{Bad}
 use Rattle.aws_chunked.proofs.PlaceLemmas.{stops_first, stops_next}
 use Rattle.aws_chunked.proofs.RunLemmas.{same_word}
+use Rattle.aws_chunked.proofs.SignatureLemmas.{signed_some, zeros, zeros_sound}
 
 -- what is told of a fault is told of the answer that passes it on
 pub err_exit : {T : Type 0} (Reads : Result T ReadFault → Type 0) (result : Result T ReadFault) (fault : ReadFault) → IsErrAnd result (λ f. f ≡ fault) → Reads (Err fault)
@@ -63,10 +63,6 @@ data_read n bytes data_ rest old new (Err fault) parted long grown told =
 
 -- ## Behind a length
 
-signed_some : (is_signed : Bool) (signature : List ℕ) → is_signed ≡ true → IsSignature signature → IsSignedBy is_signed (Some signature)
-signed_some true signature is sound = sound
-signed_some false signature is sound = absurd (false≢true is)
-
 plain_none : (is_signed : Bool) → is_signed ≡ false → IsSignedBy is_signed None
 plain_none false is = tt
 plain_none true is = absurd (false≢true (sym is))
@@ -96,13 +92,6 @@ mark = codes ";chunk-signature="
 -- a signature and the end of the line
 IsSigned : List ℕ → Type 0
 IsSigned word = (signature : List ℕ) × IsSignature signature × (word ≡ signature ++ crlf)
-
-some_signature : List ℕ
-some_signature = replicate 64 48
-
-some_sound : IsSignature some_signature
-unfolding some_signature
-some_sound = (length-replicate {A = ℕ} 64 48, All-replicate (λ byte. IsTrue (is_signature_digit byte)) 64 48 refl)
 
 -- the words behind a length of a signed text
 signed_word : (is_signed : Bool) (word : List ℕ) → is_signed ≡ true → IsHeadEnd is_signed word → (signature : List ℕ) × IsSignature signature × (word ≡ (mark ++ signature) ++ crlf)
@@ -140,9 +129,9 @@ unfolding mark
 mark_stops bytes chunks fault signed told =
     stops_first (λ word. word ≡ mark) (Led (λ word. word ≡ mark)) (IsHeadEnd chunks.is_signed) (Led (IsHeadEnd chunks.is_signed)) bytes fault
     (λ word is. (
-      some_signature ++ crlf,
-      word_signed chunks.is_signed (word ++ (some_signature ++ crlf)) some_signature signed some_sound
-          (ap (λ (w : List ℕ). w ++ (some_signature ++ crlf)) is ∙ sym (append_assoc mark some_signature crlf)),
+      zeros ++ crlf,
+      word_signed chunks.is_signed (word ++ (zeros ++ crlf)) zeros signed zeros_sound
+          (ap (λ (w : List ℕ). w ++ (zeros ++ crlf)) is ∙ sym (append_assoc mark zeros crlf)),
     ))
     (λ all led.
     let word = signed_word chunks.is_signed led.0 signed led.2 in

@@ -1,17 +1,40 @@
 -- Signatures that are read.
-use Rattle.std.proofs.Common.{◌≡◌, ℕ, ◌+◌, ◌-◌, ◌<◌, ◌≤◌, Bool, true, false, List, [], ◌∷◌, ◌++◌, length, get_or, replicate, refl, ap, sym, subst, ◌∙◌, arith, append_assoc}
+use Rattle.std.proofs.Common.{◌≡◌, ℕ, ◌+◌, ◌-◌, ◌<◌, ◌≤◌, Bool, true, false, List, [], ◌∷◌, ◌++◌, length, get_or, replicate, Option, Some, None, refl, ap, sym, subst, ◌∙◌, arith, append_assoc}
 use Rattle.std.specs.Prelude.{All, IsTrue}
 use Rattle.std.proofs.lemmas.Bool.{false≢true}
-use Rattle.std.proofs.lemmas.List.{get_or_append_left, length-append, length-replicate, length_push}
+use Rattle.std.proofs.lemmas.List.{get_or_append_left, length-append, length-replicate}
 use Rattle.std.proofs.lemmas.List.Elements.{All-append, All-push, All-replicate}
 use Rattle.aws_chunked.specs.Decoded.{Begins, IsSignature, is_signature_digit}
 use Rattle.aws_chunked.specs.Reading.{Led, Refuses, Tells}
+use Rattle.aws_chunked.specs.Rests.{IsSignedBy}
 use Rattle.aws_chunked.specs.declared.decode.fault.ReadFault.{ReadFault}
 use Rattle.aws_chunked.specs.declared.decode.fault.ReadFault.TheVariants.{Bad}
 use Rattle.aws_chunked.proofs.StopLemmas.{byte_behind, empty_list, stops_behind}
 
-AreSignatureDigits : List ℕ → Type 0
-AreSignatureDigits text = All (λ byte. IsTrue (is_signature_digit byte)) text
+-- ## There are signatures
+
+pub zeros : List ℕ
+zeros = replicate 64 48
+
+pub zeros_sound : IsSignature zeros
+unfolding zeros
+zeros_sound = (length-replicate {A = ℕ} 64 48, All-replicate (λ byte. IsTrue (is_signature_digit byte)) 64 48 refl)
+
+-- a signature, where the text is signed
+pub some_signature : Bool → Option (List ℕ)
+some_signature false = None
+some_signature true = Some zeros
+
+pub some_signed : (is_signed : Bool) → IsSignedBy is_signed (some_signature is_signed)
+unfolding some_signature
+some_signed false = tt
+some_signed true = zeros_sound
+
+pub signed_some : (is_signed : Bool) (signature : List ℕ) → is_signed ≡ true → IsSignature signature → IsSignedBy is_signed (Some signature)
+signed_some true signature is sound = sound
+signed_some false signature is sound = absurd (false≢true is)
+
+-- ## Signatures that are read
 
 pub digit_low : (byte : ℕ) → is_signature_digit byte ≡ true → byte < 128
 digit_low byte is = grind arith

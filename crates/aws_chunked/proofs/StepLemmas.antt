@@ -3,11 +3,11 @@ use Rattle.std.proofs.Common.{◌≡◌, ℕ, zero, suc, ◌+◌, ◌<◌, ◌�
 use Rattle.std.specs.Prelude.{codes}
 use Rattle.std.specs.Str.Parse.{digits_value_after}
 use Rattle.std.proofs.lemmas.List.{append_cancel_left, append_cancel_right, length-replicate}
-use Rattle.std.proofs.lemmas.List.Elements.{All-cons, All-nil, All-replicate}
+use Rattle.std.proofs.lemmas.List.Elements.{All-cons, All-nil}
 use Rattle.aws_chunked.specs.Body.{Trailer}
-use Rattle.aws_chunked.specs.Decoded.{Begins, IsSignature, IsTextOf, is_signature_digit}
+use Rattle.aws_chunked.specs.Decoded.{IsTextOf}
 use Rattle.aws_chunked.specs.Reading.{BeginsOther, IsEndedLength, IsLength, Led, Tells, is_length_digit}
-use Rattle.aws_chunked.specs.Rests.{ChunkRest, ChunksThen, DataThen, FirstRest, Follows, HeadEndThen, IsData, IsHeadEnd, IsSignedBy, IsTail, LengthThen, NextRest, Said, Says, TailSays, WholeSays, begins_with, first_byte, given, most_after}
+use Rattle.aws_chunked.specs.Rests.{ChunkRest, ChunksThen, DataThen, FirstRest, Follows, HeadEndThen, IsData, IsHeadEnd, IsSignedBy, IsTail, LengthThen, NextRest, Said, Says, TailSays, WholeSays, begins_with, given, most_after}
 use Rattle.aws_chunked.specs.TailRests.{EndsRun}
 use Rattle.aws_chunked.specs.Text.{crlf, length_text, signature_text}
 use Rattle.aws_chunked.specs.declared.decode.fault.ReadFault.{ReadFault}
@@ -15,17 +15,9 @@ use Rattle.aws_chunked.proofs.FollowLemmas.{follows_as, follows_both, says_same,
 use Rattle.aws_chunked.proofs.LengthTextLemmas.{AreDigits, text_digits, text_value}
 use Rattle.aws_chunked.proofs.PieceLemmas.{after_bound, follows_whole}
 use Rattle.aws_chunked.proofs.RunLemmas.{same_begin, same_first, same_run, same_word}
+use Rattle.aws_chunked.proofs.SignatureLemmas.{some_signature, some_signed}
 
 -- ## There are rests
-
-some_signature : Bool → Option (List ℕ)
-some_signature false = None
-some_signature true = Some (replicate 64 48)
-
-some_signed : (is_signed : Bool) → IsSignedBy is_signed (some_signature is_signed)
-unfolding some_signature
-some_signed false = tt
-some_signed true = (length-replicate {A = ℕ} 64 48, All-replicate (λ byte. IsTrue (is_signature_digit byte)) 64 48 refl)
 
 pub tail_some : (is_signed : Bool) → IsTail is_signed [] [] crlf
 tail_some is_signed = (None, tt, (refl, refl), refl)

@@ -1,11 +1,10 @@
 -- The lines of the tail, one behind another.
-use Rattle.std.proofs.Common.{◌≡◌, ℕ, zero, suc, ◌+◌, ◌<◌, ◌≤◌, Bool, true, false, List, [], ◌∷◌, ◌++◌, length, length-append, map, replicate, All, IsTrue, Option, Some, None, refl, ap, sym, subst, ◌∙◌, arith, append_assoc, append-nil}
+use Rattle.std.proofs.Common.{◌≡◌, ℕ, ◌+◌, ◌<◌, ◌≤◌, Bool, true, false, List, [], ◌∷◌, ◌++◌, length, length-append, All, IsTrue, Option, Some, None, refl, ap, sym, subst, ◌∙◌, arith, append_assoc, append-nil}
 use Rattle.std.specs.Prelude.{codes}
 use Rattle.std.specs.List.{AllByRecursion, flat_map}
 use Rattle.std.proofs.lemmas.Bool.{eqb-true, false≢true}
 use Rattle.std.proofs.lemmas.Grind.{flat_map-append}
-use Rattle.std.proofs.lemmas.List.{length-replicate}
-use Rattle.std.proofs.lemmas.List.Elements.{All-head, All-nil, All-replicate, All-weaker}
+use Rattle.std.proofs.lemmas.List.Elements.{All-head, All-nil, All-weaker}
 use Rattle.std.proofs.lemmas.Str.{IsUtf8-from_ascii, IsUtf8-nil}
 use Rattle.std.proofs.lemmas.Str.Ascii.{IsAscii-from_all}
 use Rattle.http_header.specs.Token.{is_token_byte, is_value_byte}
@@ -15,15 +14,15 @@ use Rattle.aws_chunked.specs.Decoded.{Begins, IsSignature, IsTrailer, TakesSigna
 use Rattle.aws_chunked.specs.Reading.{Led, Refuses, Tells}
 use Rattle.aws_chunked.specs.Rests.{Follows, IsSignedBy, IsTail, Said, Says, TailSays, begins_with, first_byte, given}
 use Rattle.aws_chunked.specs.Signing.{has_signature}
-use Rattle.aws_chunked.specs.TailRests.{EndsRun, IsLine, IsSplit, is_name_byte, last_trailer}
+use Rattle.aws_chunked.specs.TailRests.{IsLine, IsSplit, is_name_byte, last_trailer}
 use Rattle.aws_chunked.specs.Text.{crlf, last_line, trailer_line}
 use Rattle.aws_chunked.specs.declared.decode.fault.ReadFault.{ReadFault}
 use Rattle.aws_chunked.specs.declared.decode.fault.ReadFault.TheVariants.{Bad}
-use Rattle.aws_chunked.proofs.FollowLemmas.{follows_as, follows_both, says_same, stops_part, stops_rest}
+use Rattle.aws_chunked.proofs.FollowLemmas.{follows_as, follows_both, stops_part, stops_rest}
 use Rattle.aws_chunked.proofs.LineLemmas.{a_name, cr_ends, name_bytes, same_line}
 use Rattle.aws_chunked.proofs.PieceLemmas.{takes_given, takes_is}
-use Rattle.aws_chunked.proofs.RunLemmas.{same_begin, same_run, same_word}
-use Rattle.aws_chunked.proofs.SignatureLemmas.{digit_low}
+use Rattle.aws_chunked.proofs.RunLemmas.{same_begin, same_word}
+use Rattle.aws_chunked.proofs.SignatureLemmas.{digit_low, some_signature, some_signed}
 
 -- ## The signature of trailers is one
 
@@ -192,22 +191,9 @@ lines_stop is_signed lines bytes rest fault are parted told =
 
 -- ## More lines may always stand behind some
 
-some_signature : Bool → Option (List ℕ)
-some_signature false = None
-some_signature true = Some (replicate 64 48)
-
 signs_more : (is_signed : Bool) (lines : List Trailer) (line : Trailer) → IsSignedBy (has_signature is_signed (lines ++ line ∷ [])) (some_signature is_signed)
-unfolding some_signature
-signs_more is_signed [] line = some is_signed
-  where
-    some : (b : Bool) → IsSignedBy b (some_signature b)
-    some false = tt
-    some true = (length-replicate {A = ℕ} 64 48, All-replicate (λ byte. IsTrue (is_signature_digit byte)) 64 48 refl)
-signs_more is_signed (first ∷ lines) line = some is_signed
-  where
-    some : (b : Bool) → IsSignedBy b (some_signature b)
-    some false = tt
-    some true = (length-replicate {A = ℕ} 64 48, All-replicate (λ byte. IsTrue (is_signature_digit byte)) 64 48 refl)
+signs_more is_signed [] line = some_signed is_signed
+signs_more is_signed (first ∷ lines) line = some_signed is_signed
 
 more_lines : (is_signed : Bool) (lines : List Trailer) (line : Trailer) → IsTrailer line → Begins (Said (LinesSay is_signed lines)) (trailer_line line)
 unfolding LinesSay
@@ -327,6 +313,11 @@ same_last one two first second same =
     value [] = []
     value (trailer ∷ trailers) = trailer.1
 
+unsigned : (b : Bool) → IsSignedBy b None → (trailers : List Trailer) (x : List ℕ) → IsSignedBy (has_signature b trailers) (Some x) → ⊥
+unsigned true none trailers x some = none
+unsigned false none [] x some = some
+unsigned false none (trailer ∷ trailers) x some = some
+
 same_split : (is_signed : Bool) (lines first second : List Trailer) (one two : Option (List ℕ)) → IsSplit is_signed lines first one → IsSplit is_signed lines second two
     → (first ≡ second) × (one ≡ two)
 same_split is_signed lines first second None None is other =
@@ -336,18 +327,8 @@ same_split is_signed lines first second (Some one) (Some two) is other =
     (found.0, ap (λ (x : List ℕ). Some x) found.1)
 same_split is_signed lines [] second None (Some two) is other = absurd (omega (arith, ap length (sym is.0 ∙ other.0), length-append second (last_trailer (Some two))))
 same_split is_signed lines (t ∷ first) second None (Some two) is other = absurd (unsigned is_signed is.1 second two other.1)
-  where
-    unsigned : (b : Bool) → IsSignedBy b None → (ts : List Trailer) (x : List ℕ) → IsSignedBy (has_signature b ts) (Some x) → ⊥
-    unsigned true none ts x some = none
-    unsigned false none [] x some = some
-    unsigned false none (t_ ∷ ts) x some = some
 same_split is_signed lines first [] (Some one) None is other = absurd (omega (arith, ap length (sym other.0 ∙ is.0), length-append first (last_trailer (Some one))))
 same_split is_signed lines first (t ∷ second) (Some one) None is other = absurd (unsigned is_signed other.1 first one is.1)
-  where
-    unsigned : (b : Bool) → IsSignedBy b None → (ts : List Trailer) (x : List ℕ) → IsSignedBy (has_signature b ts) (Some x) → ⊥
-    unsigned true none ts x some = none
-    unsigned false none [] x some = some
-    unsigned false none (t_ ∷ ts) x some = some
 
 pub tail_whole : (is_signed : Bool) (lines trailers : List Trailer) (last : Option (List ℕ)) (bytes rest final : List ℕ) → AllByRecursion IsTrailer lines
     → bytes ≡ flat_map trailer_line lines ++ rest → IsSplit is_signed lines trailers last → rest ≡ crlf ++ final → final ≡ []

@@ -12,6 +12,7 @@ use Rattle.aws_chunked.specs.Rests.{Follows, IsSignedBy, IsTail, TailSays}
 use Rattle.aws_chunked.specs.Signing.{has_signature}
 use Rattle.aws_chunked.specs.TailRests.{IsSplit, last_trailer, pair_texts}
 use Rattle.aws_chunked.proofs.RunLemmas.{same_word}
+use Rattle.aws_chunked.proofs.SignatureLemmas.{signed_some}
 use Rattle.aws_chunked.proofs.StopLemmas.{empty_list}
 use Rattle.aws_chunked.proofs.TailLemmas.{all_front}
 
@@ -23,10 +24,6 @@ lower_pairs (pair ∷ pairs) are = λ i. (are.0.1 i, pair.1.now) ∷ lower_pairs
 pub lower_split : (pairs : List (Bor (List ℕ) × Bor (List ℕ))) (lines more : List Trailer) → AllByRecursion IsTrailer lines → lines ≡ map pair_texts pairs ++ more
     → map lower_name pairs ≡ map pair_texts pairs
 lower_split pairs lines more are split = lower_pairs pairs (all_front (map pair_texts pairs) more (subst (λ (ts : List Trailer). AllByRecursion IsTrailer ts) split are))
-
-signed_some : (is_signed : Bool) (signature : List ℕ) → is_signed ≡ true → IsSignature signature → IsSignedBy is_signed (Some signature)
-signed_some true signature is sound = sound
-signed_some false signature is sound = absurd (false≢true is)
 
 signed_trailers : (is_signed : Bool) (trailers : List Trailer) (signature : List ℕ) → is_signed ≡ true → (length trailers ≡ 0 → ⊥) → IsSignature signature
     → IsSignedBy (has_signature is_signed trailers) (Some signature)

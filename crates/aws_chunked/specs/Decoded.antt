@@ -1,8 +1,7 @@
 -- What a whole text says, and where bytes stop being one.
-use Rattle.std.specs.Prelude.{◌≡◌, ℕ, suc, ◌+◌, ◌<◌, ◌⊎◌, Bool, true, false, ◌||◌, List, [], ◌∷◌, ◌++◌, length, take, map, All, IsTrue, Option, Some, None, Result, Ok, Err, String, string_bytes, IsUtf8}
+use Rattle.std.specs.Prelude.{◌≡◌, ℕ, ◌+◌, ◌<◌, ◌⊎◌, Bool, true, false, ◌||◌, List, [], ◌∷◌, ◌++◌, length, take, map, All, IsTrue, Option, Some, None, Result, Ok, Err, string_bytes, IsUtf8}
 use Rattle.std.specs.Int.{is_in_range}
 use Rattle.std.specs.List.{AllByRecursion}
-use Rattle.std.specs.declared.alloc.Global.{Global}
 use Rattle.smithy_core.specs.HeaderGrammar.{IsHeaderName, IsHeaderValue}
 use Rattle.smithy_core.specs.TextPairs.{lower}
 use Rattle.aws_chunked.specs.Body.{Trailer}

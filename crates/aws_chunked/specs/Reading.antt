@@ -1,11 +1,9 @@
 -- What the steps of the reader of whole texts read, and where they stop.
-use Rattle.std.specs.Prelude.{◌≡◌, ℕ, ◌+◌, ◌-◌, ◌*◌, ◌<◌, ◌≤◌, ◌⊎◌, Bool, true, false, ◌||◌, List, [], ◌∷◌, ◌++◌, length, codes, IsTrue, All, IsUtf8, Option, Some, None, Result, Ok, Err, String, string_bytes}
+use Rattle.std.specs.Prelude.{◌≡◌, ℕ, ◌+◌, ◌-◌, ◌*◌, ◌<◌, ◌≤◌, ◌⊎◌, Bool, true, false, ◌||◌, List, [], ◌∷◌, ◌++◌, length, Option, Some, None, Result, Ok, Err, String, string_bytes}
 use Rattle.std.specs.Borrow.{Bor}
 use Rattle.std.specs.Fmt.{digit_glyph}
 use Rattle.std.specs.Int.{is_in_range}
 use Rattle.std.specs.declared.alloc.Global.{Global}
-use Rattle.smithy_core.specs.HeaderGrammar.{IsHeaderName, IsHeaderValue}
-use Rattle.smithy_core.specs.TextPairs.{lower}
 use Rattle.aws_chunked.specs.Decoded.{Begins, IsSignature}
 use Rattle.aws_chunked.specs.Text.{length_text}
 use Rattle.aws_chunked.specs.declared.decode.fault.ReadFault.{ReadFault}

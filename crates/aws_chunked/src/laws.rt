@@ -18,7 +18,6 @@ pub fn texts_are_whole()
 
 /// What [`crate::decode_chunked`] answers of a whole text, signed or not, is its data, its signatures and its trailers, but where
 /// memory ran out.
-#[tactic(auto, using(crate::proofs::LawLemmas::whole_decoded))]
 pub fn whole_texts_are_decoded()
     ensures { (bytes body : List ℕ) (signatures : List (List ℕ)) (trailers : List Trailer) (result : Result Decoded DecodeFault)
         → IsTextOf body signatures trailers bytes → Decodes bytes result → DecodesOnly bytes result → Answers body signatures trailers result }
