@@ -4,7 +4,8 @@
 //! (`specs/Text.antt`), whatever the pieces in which the data comes: each call answers the front of the text that is due and leaves
 //! the rest (`specs/Body.antt`), or tells why there is none. Those of [`AwsChunkedBody::poll_data`] are the pieces of the form for
 //! HTTP 0.x, one by one (`specs/Passing.antt`). [`AwsChunkedBodyOptions::encoded_length`] is how long the text is
-//! (`specs/Options.antt`).
+//! (`specs/Options.antt`). [`decode_chunked`] reads a whole text back, or tells the least place where the bytes stop being one
+//! (`specs/Decoded.antt`).
 #![tactic(auto)]
 
 mod body;
