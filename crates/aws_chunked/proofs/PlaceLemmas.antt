@@ -1,6 +1,5 @@
 -- The place where reading stops, from one part to the whole.
 use Rattle.std.proofs.Common.{◌≡◌, ℕ, ◌+◌, ◌-◌, ◌<◌, ◌≤◌, inl, inr, List, [], ◌∷◌, ◌++◌, length, take, drop, ap, sym, subst, ◌∙◌, arith, append_assoc}
-use Rattle.std.specs.Prelude.{◌⊎◌}
 use Rattle.std.proofs.lemmas.List.{append-nil, length-append, take-append-drop, take-append-le, take_at}
 use Rattle.aws_chunked.specs.Decoded.{Begins, IsBadAt, StopsAt}
 use Rattle.aws_chunked.specs.Reading.{Refuses, Stops, Tells}

@@ -1,5 +1,5 @@
 -- How far bytes that aren't UTF-8 begin a text.
-use Rattle.std.proofs.Common.{◌≡◌, ℕ, suc, ◌+◌, ◌<◌, ◌≤◌, ◌⊎◌, ◌&&◌, Bool, true, false, nat_lt, List, [], ◌∷◌, ◌++◌, length, length-drop, take, drop, get_or, All, IsTrue, Option, Some, None, unwrap_or, inl, inr, refl, ap, sym, subst, ◌∙◌, arith, append_assoc, ltb-true, ne_eqb, drop-cons}
+use Rattle.std.proofs.Common.{◌≡◌, ℕ, suc, ◌+◌, ◌<◌, ◌≤◌, ◌&&◌, Bool, true, false, nat_lt, List, [], ◌∷◌, ◌++◌, length, length-drop, take, drop, get_or, All, IsTrue, Option, Some, None, unwrap_or, inl, inr, refl, ap, sym, subst, ◌∙◌, arith, append_assoc, ltb-true, ne_eqb, drop-cons}
 use Rattle.std.specs.Prelude.{if◌then◌else◌}
 use Rattle.std.specs.Int.{is_in_range}
 use Rattle.std.specs.Str.{IsUtf8, IsValidUpTo}
