@@ -85,14 +85,14 @@ pub record Follows (keeps : Keeps) (profile : List ℕ) (all : State) (draft : P
   pub place : HasPlace keeps profile draft.latest draft.at
   pub latest : IsLatest profile all.sections (with_open keeps draft.latest draft.at)
 
--- the draft stands for what the step gives, or the step refuses with the message; want of memory says nothing
+-- the draft stands for what the step gives, or the step refuses with the message; running out of memory says nothing
 abbrev pub FollowsStep : Keeps → List ℕ → Result State (List ℕ) → ProfileDraft → Result (Unit {0}) LineFault → Type 0
 FollowsStep keeps profile step now (Err (line.Bad message)) = step ≡ Err message.now
 FollowsStep keeps profile step now (Err line.NoMemory) = Unit {0}
 FollowsStep keeps profile (Ok all) now (Ok _) = Follows keeps profile all now
 FollowsStep keeps profile (Err message) now (Ok _) = ⊥
 
--- the values that the raw sections give, or the number and the message of the first faulty line; want of memory says nothing
+-- the values that the raw sections give, or the number and the message of the first faulty line; running out of memory says nothing
 abbrev pub ReadsLatest : List ℕ → Result (Named (List (List ℕ × List ℕ))) (ℕ × List ℕ) → Result Latest RawFault → Type 0
 ReadsLatest profile read (Err (faults.Line number message)) = read ≡ Err (number, message.now)
 ReadsLatest profile read (Err faults.NoMemory) = Unit {0}

@@ -20,7 +20,7 @@ use Rattle.event_io.specs.declared.adapter_fault.AdapterFault.{AdapterFault}
 use Rattle.event_io.specs.declared.adapter_fault.AdapterFault.TheVariants.{Marshall, Sign, Write}
 use Rattle.event_io.specs.declared.event_source.EventSource as EventSource
 
--- the error of an item that isn't sent is want of memory, or the fault
+-- the error of an item that isn't sent is that memory ran out, or the fault
 error_is : (kind : ErrorKind) (fault : AdapterFault) → (send_error_for kind fault ≡ NoMemory) ⊎ (send_error_for kind fault ≡ ConstructionFailure fault)
 error_is kinds.NoMemory fault = inl refl
 error_is kinds.HeadersTooLong fault = inr refl

@@ -43,7 +43,7 @@ not_used_up first rest used = let no : ⊥ = cc in no
 ok_same : (message other : Parts) → (let answer : Parts → Result Parts Error = λ m. Ok m in answer message ≡ answer other) → message ≡ other
 ok_same message other is = cc
 
--- want of memory isn't answered as a fault
+-- that memory ran out isn't answered as a fault
 no_want : (error : SignMessageError) → error ≡ signing.NoMemory → send_error (Sign error) ≡ ConstructionFailure (Sign error) → ⊥
 no_want error is tells =
     let wants : send_error (Sign error) ≡ NoMemory = ap (λ (e : SignMessageError). send_error (Sign e)) is in

@@ -120,7 +120,7 @@ lacks_is bytes (stop.Faulty error) lacks less = absurd lacks
 pub peeked_none : (bytes : List ℕ) (found : Option (Parts × ℕ)) → PeeksMessage bytes (Ok found) → found ≡ None → IsUnfinished (first_of bytes)
 peeked_none bytes found peeks is = subst (λ (f : Option (Parts × ℕ)). PeeksMessage bytes (Ok f)) is peeks
 
--- a fault, or want of memory
+-- a fault, or memory ran out
 faulty_is : (bytes : List ℕ) (error : Error) → PeeksMessage bytes (Err error) → StopsAt (stop_of error) bytes × TellsStop (stop_of error) × TakesTurnsLess (stop_of error)
 faulty_is bytes error peeks = by (is_want_kind (error_kind error)) refl peeks
   where
@@ -336,7 +336,7 @@ tried_no_stop answers kind message (Err (ResponseError (UnexpectedEndOfStream en
 tried_no_stop answers kind message (Err (ResponseError (Unmarshall error) raw)) says = absurd says
 tried_no_stop answers kind message (Err (ResponseError (Preprocessor error) raw)) says = refl
 
--- without want of memory there is an answer of the message
+-- where memory doesn't run out, there is an answer of the message
 tried_says : {M E : Type 0} (answers : Parts → Result (Parts × M) Error → Type 0) (kind : InitialMessageType) (message : Parts) (result : Result (Tried M) (ReceiveError E))
     → TriesMessage answers kind message result ⊎ (result ≡ Err NoMemory) → is_no_memory result ≡ false → TriesMessage answers kind message result
 tried_says answers kind message result (inl says) is = says

@@ -309,7 +309,7 @@ has_done_where gave env command bytes given answer before now is runs = has_done
 
 -- ## What can be done
 
--- what stops for want of memory completes
+-- what stops where memory ran out completes
 stopped_completes : (answer : Ending) → EndsAsPlanned (stops no_memory) answer → Completes answer
 stopped_completes answer (inl is) = inr (inr (inr is))
 stopped_completes answer (inr (inl is)) = inr (inl is)

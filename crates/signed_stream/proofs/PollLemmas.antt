@@ -35,7 +35,7 @@ use Rattle.signed_stream.proofs.ChainLemmas.{IsOver, SoFar, begins_so, front_unr
 refused_before : (refused : Option RunFault) (told : RunFault) (line : List ℕ) (held : Option (List ℕ)) → refused ≡ Some told → Halts refused (unless_refused refused line) held held (refuses told)
 refused_before refused told line held is = rw is (refl, gains_nothing held)
 
--- want of memory halts it too
+-- running out of memory halts it too
 wanting_before : (refused : Option RunFault) (line : List ℕ) (held : Option (List ℕ)) → Halts refused (unless_refused refused line) held held wants
 wanting_before refused line held = prefix_at_start held _
 

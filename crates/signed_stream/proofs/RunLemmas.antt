@@ -51,7 +51,7 @@ use Rattle.signed_stream.specs.Written.{case_refusal, written_end, written_until
 pub goes_stopped : (end : Ending) (held : Option (List ℕ)) → GoesAsPlanned (stops end) end held held
 goes_stopped end held = record { ends = inl refl; gains = refl }
 
--- want of memory before any write goes as every plan
+-- running out of memory before any write goes as every plan
 pub goes_no_memory : (plan : Plan) (held : Option (List ℕ)) → GoesAsPlanned plan no_memory held held
 goes_no_memory (stops end) held = record { ends = inr (inr refl); gains = refl }
 goes_no_memory (writes text end) held = record { ends = inr (inr (inr refl)); gains = prefix_at_start held text }
@@ -565,7 +565,7 @@ reads_touched command P is = rw is tt
 pub unread_rest : (left : Option (List ℕ)) → IsRestOf left left
 unread_rest left = ([], cut_at_start left)
 
--- want of memory ends every run
+-- running out of memory ends every run
 pub asked_no_memory : (command : Command) → EndsAsAsked command no_memory
 asked_no_memory (bad_word place) = inr refl
 asked_no_memory (stream wanted) = tt

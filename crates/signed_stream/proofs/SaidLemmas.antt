@@ -1,4 +1,4 @@
--- A run that says how it ended: the end stays, or want of memory takes its place.
+-- A run that says how it ended: the end stays, or that memory ran out takes its place.
 use Rattle.std.proofs.Common.{◌≡◌, ℕ, ◌≤◌, ◌⊎◌, inl, inr, Bool, true, false, List, Option, refl, sym, ◌∙◌}
 use Rattle.smithy_core.specs.Outside.{RoseOrStands}
 use Rattle.smithy_core.proofs.GainLemmas.{prefix_at_start, prefix_from_whole}
@@ -9,7 +9,7 @@ use Rattle.signed_stream.specs.Running.{CountsReads, CountsWrites, EndsAsAsked, 
 use Rattle.signed_stream.specs.Status.{Ending, RunFault, bad_job, bad_words, check_failed, could_not_read_file, done, job_too_large, no_memory, output_fault, read_fault, refused}
 use Rattle.signed_stream.proofs.RunLemmas.{asked_no_memory, goes_no_memory}
 
--- the answer is the end, or want of memory
+-- the answer is the end, or that memory ran out
 abbrev pub IsSaid : Ending → Ending → Type 0
 IsSaid end answer = (answer ≡ end) ⊎ (answer ≡ no_memory)
 
@@ -50,7 +50,7 @@ pub said_disk : {D : Type 0} (end answer : Ending) (before now : D) → KeepsDis
 said_disk end answer before now keeps (inl is) = rw is keeps
 said_disk end answer before now keeps (inr is) = rw is tt
 
--- an answer other than want of memory is the end itself
+-- an answer other than that memory ran out is the end itself
 pub said_is : (end answer told : Ending) → IsSaid end answer → answer ≡ told → (told ≡ no_memory → ⊥) → end ≡ told
 said_is end answer told (inl is) reached other = sym is ∙ reached
 said_is end answer told (inr is) reached other = absurd (other (sym reached ∙ is))

@@ -89,7 +89,7 @@ test_error : (c : Case) (error : SigningError) → IsTestError c error → IsReq
 test_error c error (inl target) = rw target.0 tt
 test_error c error (inr part) = part_error error part
 
--- want of memory
+-- memory that ran out
 no_memory_told : (text : List ℕ) (at : Instant) (case : Target → Case) (error : SigV4SigningError) → error ≡ auth.NoMemory → TellsFault text at case error
 no_memory_told text at case error is = rw is (tt, tt)
 
