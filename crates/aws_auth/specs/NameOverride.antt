@@ -22,7 +22,7 @@ module _ {F : Type 0} (calls : Shared F (Bor SigningSettings × (Bor SigV4Operat
     pub shows_config : shown_config.now ≡ config
     pub says : FnReturns calls closure (shown_settings, (shown_config, tt)) answer
 
-  -- the same of an override that may be missing: then no name is given
+  -- the name that an override gives, and none where there is no override
   abbrev pub Answers : Option F → Settings → SigV4OperationSigningConfig → NameAnswer → Type 0
   Answers None settings config answer = answer ≡ Ok None
   Answers (Some closure) settings config answer = MayAnswer closure settings config answer
