@@ -1,5 +1,5 @@
 -- The values that sections give, section by section: what a place changes, and what a value.
-use Rattle.std.proofs.Common.{◌≡◌, ℕ, ◌+◌, ◌<◌, Bool, true, false, cond, ◌&&◌, ◌||◌, List, [], ◌∷◌, ◌++◌, length, map, Ordering, Less, Equal, Greater, is_eq, refl, sym, ap, ap₂, subst, subst₂, ◌∙◌, arith}
+use Rattle.std.proofs.Common.{◌≡◌, ℕ, ◌+◌, ◌<◌, Bool, true, false, cond, ◌&&◌, ◌||◌, List, [], ◌∷◌, ◌++◌, length, Ordering, Less, Equal, Greater, is_eq, refl, sym, ap, ap₂, subst, subst₂, ◌∙◌, arith}
 use Rattle.std.specs.Prelude.{Option, Some, None, is_some, unwrap_or, option_map, nat_lt}
 use Rattle.std.specs.Cmp.{tied_itself}
 use Rattle.std.specs.Cmp.Lexicographic.{nat_list_cmp_total}
@@ -9,7 +9,7 @@ use Rattle.std.specs.Ordering.{match_ordering}
 use Rattle.std.proofs.lemmas.Bool.{false≢true, le-ltb, lt-ltb}
 use Rattle.std.proofs.lemmas.List.Folds.{list_any-append}
 use Rattle.std.proofs.Math.Bool.{or-false}
-use Rattle.env_config.specs.Latest.{Latest, group_of, is_beaten, put_latest, put_placed, values_in, with_place, without_places}
+use Rattle.env_config.specs.Latest.{Latest, group_of, is_beaten, put_latest, put_placed, values_in, with_place}
 use Rattle.env_config.specs.Order.{IsRising}
 use Rattle.env_config.specs.ProfileDraft.{IsInOrder, IsLatest, is_among, is_in, latest_of, place_in, value_in_group, with_last}
 use Rattle.env_config.specs.Raw.{Keeps, Last, properties_of, put_property, put_section}

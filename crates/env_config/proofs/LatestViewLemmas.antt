@@ -1,5 +1,5 @@
 -- Places and values, as the code keeps them, are those of the definitions.
-use Rattle.std.proofs.Common.{◌≡◌, ◌∙◌, ℕ, Bool, cond, ◌||◌, List, [], ◌∷◌, length, map, String, string_bytes, string_cmp, Global, Ordering, Bor, suc, refl, sym, ap, ap₂}
+use Rattle.std.proofs.Common.{◌≡◌, ◌∙◌, ℕ, Bool, cond, ◌||◌, List, [], ◌∷◌, length, String, string_bytes, string_cmp, Global, Ordering, Bor, suc, refl, sym, ap, ap₂}
 use Rattle.std.specs.Prelude.{Option, Some, None, is_some, option_map}
 use Rattle.std.specs.BTreeMap.{insert_entry, is_at}
 use Rattle.std.specs.Map.{lookup}

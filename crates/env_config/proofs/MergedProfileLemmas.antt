@@ -1,13 +1,11 @@
 -- The values that are taken from each file give the selected profile.
-use Rattle.std.proofs.Common.{◌≡◌, ◌∙◌, ℕ, ◌+◌, ◌<◌, Bool, true, false, cond, ◌&&◌, ◌||◌, not, List, [], ◌∷◌, map, drop, refl, sym, ap, ap₂, subst}
+use Rattle.std.proofs.Common.{◌≡◌, ◌∙◌, ℕ, Bool, true, false, cond, ◌&&◌, ◌||◌, not, List, [], ◌∷◌, refl, sym, ap, ap₂, subst}
 use Rattle.std.specs.Prelude.{Option, Some, None, is_some, unwrap_or, option_map, Result, Ok, Err, bytes_eq, codes}
 use Rattle.std.specs.Option.{option_or}
 use Rattle.std.specs.List.{AllByRecursion}
 use Rattle.std.proofs.Common.{Less}
 use Rattle.std.proofs.lemmas.Bool.{false≢true}
 use Rattle.std.proofs.lemmas.Slice.Eq.{bytes_eq-Decides}
-use Rattle.env_config.specs.declared.fault.RawFault.{RawFault}
-use Rattle.env_config.specs.declared.fault.RawFault.TheVariants as faults
 use Rattle.env_config.specs.declared.parse_fault.ParseFault.{ParseFault}
 use Rattle.env_config.specs.declared.parse_fault.ParseFault.TheVariants.{Parse, NoMemory}
 use Rattle.env_config.specs.declared.sections.EnvConfigSections.{EnvConfigSections}
@@ -19,10 +17,9 @@ use Rattle.env_config.specs.Latest.{Latest, group_of, group_taken, taken_values,
 use Rattle.env_config.specs.Laws.{value_in}
 use Rattle.env_config.specs.MergedProfile.{HasSame, MergesProfile, ParsesProfile, with_taken}
 use Rattle.env_config.specs.Order.{IsRising}
-use Rattle.env_config.specs.ParseFault.{faulty_line_of}
 use Rattle.env_config.specs.ProfileDraft.{IsLatest, ReadsLatest, is_in, latest_of, place_in, value_in_group}
 use Rattle.env_config.specs.Raw.{Keeps, properties_of, raw}
-use Rattle.env_config.specs.Sections.{FaultyLine, FileText, Heading, Sections, after_file, files_from, has_profile_default, heading_of, is_default, is_identifier, is_profile_default, is_taken_from, merged_into, no_sections, with_file, with_names, with_raw, with_section}
+use Rattle.env_config.specs.Sections.{FaultyLine, FileText, Heading, Sections, after_file, files_from, has_profile_default, heading_of, is_default, is_identifier, is_profile_default, is_taken_from, no_sections, with_file, with_names, with_raw, with_section}
 use Rattle.env_config.specs.Texts.{Named, text_cmp, value_under}
 use Rattle.env_config.proofs.NarrowMergeLemmas.{merged_gives, over, profile_gives}
 use Rattle.env_config.proofs.TextsLemmas.{entries_at}

@@ -1,13 +1,13 @@
 -- The draft of a profile goes on with what all lines give.
-use Rattle.std.proofs.Common.{◌≡◌, ℕ, ◌+◌, Bool, true, false, cond, List, [], ◌∷◌, is_eq, refl, sym, ap, ap₂, subst, ◌∙◌, arith}
-use Rattle.std.specs.Prelude.{Option, Some, None, option_map, Result, Ok, Err, codes, nat_lt}
+use Rattle.std.proofs.Common.{◌≡◌, ℕ, ◌+◌, Bool, true, false, cond, List, [], ◌∷◌, refl, sym, ap, ap₂, subst, ◌∙◌, arith}
+use Rattle.std.specs.Prelude.{Option, Some, None, option_map, Result, Ok, Err}
 use Rattle.std.proofs.lemmas.Bool.{false≢true, le-ltb}
 use Rattle.env_config.specs.declared.draft.LastProperty.{LastProperty}
 use Rattle.env_config.specs.declared.fault.LineFault.{LineFault}
 use Rattle.env_config.specs.declared.fault.LineFault.TheVariants as line
 use Rattle.env_config.specs.declared.profile_draft.OpenProfile.{OpenProfile}
 use Rattle.env_config.specs.declared.profile_draft.ProfileDraft.{ProfileDraft}
-use Rattle.env_config.specs.Draft.{MakesLast, TakesStep, last_of}
+use Rattle.env_config.specs.Draft.{last_of}
 use Rattle.env_config.specs.Fault.{numbered}
 use Rattle.env_config.specs.Latest.{Latest, group_of, is_beaten, no_latest, put_latest, put_placed, values_in, with_place}
 use Rattle.env_config.specs.Order.{IsRising}
@@ -15,7 +15,7 @@ use Rattle.env_config.specs.ProfileDraft.{Follows, FollowsStep, HasPlace, IsLate
 use Rattle.env_config.specs.Raw.{Keeps, Last, Open, State, after_line, continued, continued_or, last_step, opened, profile_line_step, properties_of, put_property, put_section, raw_from, start, within_section}
 use Rattle.env_config.specs.Raw as raw
 use Rattle.env_config.specs.Sections.{heading_of}
-use Rattle.env_config.specs.Texts.{Named, put, text_cmp, value_under}
+use Rattle.env_config.specs.Texts.{Named, put, value_under}
 use Rattle.env_config.proofs.LatestLemmas.{latest_last, latest_opened, opened_latest}
 use Rattle.env_config.proofs.RawLemmas.{key_kept}
 use Rattle.env_config.proofs.TextsLemmas.{put_twice, value_put}

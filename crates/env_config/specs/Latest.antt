@@ -1,13 +1,9 @@
 -- The values of a profile's keys in a file: of those that the sections with its heading have, the one whose section came first last.
-use Rattle.std.specs.Prelude.{◌≡◌, ℕ, Bool, true, false, not, ◌||◌, ◌&&◌, nat_lt, List, [], length, map, codes, bytes_eq, Option, Some, None, is_some, option_map, string_bytes, String, if◌then◌else◌, Result, Ok, Err}
-use Rattle.std.specs.Option.{option_or}
-use Rattle.std.specs.Borrow.{Bor}
-use Rattle.std.specs.declared.alloc.Global.{Global}
+use Rattle.std.specs.Prelude.{ℕ, Bool, true, false, ◌||◌, nat_lt, List, [], length, map, codes, Option, Some, None, is_some, option_map, if◌then◌else◌}
 use Rattle.env_config.specs.declared.source.EnvConfigFileKind.{EnvConfigFileKind}
-use Rattle.env_config.specs.Kept.{has_heading, keys_in}
-use Rattle.env_config.specs.Raw.{Keeps, Last}
+use Rattle.env_config.specs.Kept.{has_heading}
 use Rattle.env_config.specs.Sections.{Heading, heading_of, is_profile_default, is_taken_from}
-use Rattle.env_config.specs.Texts.{Named, put, value_under}
+use Rattle.env_config.specs.Texts.{put, value_under}
 
 -- the places of sections by the texts between their brackets, in the order of their first appearance; under each key its value in the
 -- sections without prefix, and in those with one, with the place of its section; and whether `[profile default]` is there

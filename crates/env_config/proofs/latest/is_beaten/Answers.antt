@@ -1,4 +1,4 @@
-use Rattle.std.proofs.Common.{◌∙◌, ap, ℕ, List, String, Global, string_bytes}
+use Rattle.std.proofs.Common.{◌∙◌, ap, ℕ, List}
 use Rattle.std.specs.Prelude.{Option, option_map}
 use Rattle.env_config.specs.Latest.{is_beaten}
 use Rattle.env_config.proofs.LatestViewLemmas.{placed_found, placed_value}

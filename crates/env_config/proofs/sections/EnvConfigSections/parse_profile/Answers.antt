@@ -1,4 +1,4 @@
-use Rattle.std.proofs.Common.{◌∙◌, ◌+◌, ◌∷◌, ap, sym, subst, List, ℕ, map, drop, string_bytes}
+use Rattle.std.proofs.Common.{◌∙◌, ◌+◌, subst, List, map, drop, string_bytes}
 use Rattle.std.proofs.lemmas.Result.{err_from_is_err_and}
 use Rattle.env_config.specs.EnvConfigSections.{sections_of}
 use Rattle.env_config.specs.Kept.{keeps_of}
