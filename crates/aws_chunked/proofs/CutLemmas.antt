@@ -2,6 +2,11 @@
 use Rattle.std.proofs.Common.{◌≡◌, ℕ, zero, suc, ◌<◌, ◌≤◌, List, [], ◌∷◌, length, length-drop, take, drop, refl, ap, arith}
 use Rattle.aws_chunked.specs.Text.{cut, cut_within}
 
+-- nothing has no pieces
+pub cut_none : (size : ℕ) → cut size [] ≡ []
+unfolding cut cut_within
+cut_none size = refl
+
 -- a greater bound changes nothing
 cut_enough : (k m size : ℕ) (bytes : List ℕ) → 0 < size → length bytes ≤ k → length bytes ≤ m → cut_within k size bytes ≡ cut_within m size bytes
 unfolding cut_within

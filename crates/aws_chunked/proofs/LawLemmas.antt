@@ -13,9 +13,7 @@ use Rattle.aws_chunked.specs.Text.{chunk, chunk_text, chunked_text, crlf, cut, h
 use Rattle.aws_chunked.specs.declared.decode.DecodeFault.{DecodeFault}
 use Rattle.aws_chunked.specs.declared.decode.DecodeFault.TheVariants.{BadChunk, NoMemory}
 use Rattle.aws_chunked.specs.declared.decode.Decoded.{Decoded}
-use Rattle.aws_chunked.proofs.CutLemmas.{cut_first}
-use Rattle.aws_chunked.proofs.LengthLemmas.{lines_long}
-use Rattle.aws_chunked.proofs.PieceLemmas.{cut_none}
+use Rattle.aws_chunked.proofs.LengthLemmas.{cut_long, lines_long, pieces_length}
 
 -- ## Decoding
 
@@ -45,43 +43,6 @@ whole_decoded bytes body signatures trailers (Err (BadChunk k)) is decodes only 
 whole_decoded bytes body signatures trailers (Err NoMemory) is decodes only = tt
 
 -- ## Lengths
-
--- how long the chunks of pieces are
-pieces_length : Bool → List (List ℕ) → ℕ
-pieces_length is_signed [] = 0
-pieces_length is_signed (piece ∷ pieces) = chunk_length is_signed (length piece) + pieces_length is_signed pieces
-
-last_long : (is_signed : Bool) (n : ℕ) → 0 < n → last_length is_signed n ≡ chunk_length is_signed n
-last_long is_signed zero some = absurd (omega (arith, some))
-last_long is_signed (suc n) some = refl
-
--- full chunks, and one of the rest
-cut_long : (is_signed : Bool) (q size r : ℕ) (bytes : List ℕ) → r < size → length bytes ≡ q * size + r
-    → pieces_length is_signed (cut size bytes) ≡ q * chunk_length is_signed size + last_length is_signed r
-unfolding pieces_length
-cut_long is_signed zero size zero [] small is = ap (pieces_length is_signed) (cut_none size) ∙ grind arith
-cut_long is_signed zero size (suc r) [] small is = absurd (grind (arith, is))
-cut_long is_signed (suc q) size r [] small is = absurd (grind (arith, is, small))
-cut_long is_signed zero size r (byte ∷ bytes) small is =
-    ap (pieces_length is_signed)
-    (cut_first size (byte ∷ bytes) (omega (arith, small)) (omega arith)
-    ∙ (λ i. take_all size (byte ∷ bytes) (omega (arith, long, small)) i ∷ (ap (cut size) (drop_all size (byte ∷ bytes) (omega (arith, long, small))) ∙ cut_none size) i))
-    ∙ grind (arith, ap (chunk_length is_signed) long, last_long is_signed r (omega (arith, long)))
-  where
-    long : length (byte ∷ bytes) ≡ r
-    long = grind (arith, is)
-cut_long is_signed (suc q) size r (byte ∷ bytes) small is =
-    ap (pieces_length is_signed) (cut_first size (byte ∷ bytes) (omega (arith, small)) (omega arith))
-    ∙ grind (arith, ap (chunk_length is_signed) taken, cut_long is_signed q size r (drop size (byte ∷ bytes)) small dropped)
-  where
-    enough : size ≤ length (byte ∷ bytes)
-    enough = grind (arith, is)
-
-    taken : length (take size (byte ∷ bytes)) ≡ size
-    taken = omega (arith, length-take size (byte ∷ bytes), enough)
-
-    dropped : length (drop size (byte ∷ bytes)) ≡ q * size + r
-    dropped = grind (arith, length-drop size (byte ∷ bytes), is)
 
 head_long : (n : ℕ) (signature : List ℕ) → length signature ≡ 64 → length (head_text n (Some signature)) ≡ head_length true n
 head_long n signature long =

@@ -1,8 +1,8 @@
 -- How long the text of data and trailers is.
-use Rattle.std.proofs.Common.{◌≡◌, ℕ, zero, suc, ◌+◌, ◌*◌, ◌/◌, ◌%◌, ◌<◌, ◌≤◌, ◌^◌, Bool, true, false, nat_lt, if◌then◌else◌, Option, Some, List, [], ◌∷◌, ◌++◌, length, length-drop, take, drop, map, None, refl, ap, sym, subst, ◌∙◌, arith}
+use Rattle.std.proofs.Common.{◌≡◌, ℕ, zero, suc, ◌+◌, ◌*◌, ◌/◌, ◌%◌, ◌<◌, ◌≤◌, ◌^◌, Bool, true, false, nat_lt, if◌then◌else◌, Option, Some, List, [], ◌∷◌, ◌++◌, length, length-drop, take, drop, take_all, map, None, refl, ap, sym, subst, ◌∙◌, arith}
 use Rattle.std.specs.Prelude.{IfSome}
 use Rattle.std.specs.List.{flat_map}
-use Rattle.std.proofs.lemmas.List.{length-append, length-take}
+use Rattle.std.proofs.lemmas.List.{drop_all, length-append, length-take}
 use Rattle.std.proofs.lemmas.List.Concat.{length-flat_map}
 use Rattle.std.proofs.lemmas.List.Sums.{sum-map}
 use Rattle.std.proofs.lemmas.Nat.{div-add-mod', mod_below}
@@ -10,8 +10,7 @@ use Rattle.aws_chunked.specs.Body.{Trailer, lines_length}
 use Rattle.aws_chunked.specs.Lengths.{IsLengthOf}
 use Rattle.aws_chunked.specs.Options.{IsChunkSize, Options, chunk_length, chunks_length, encoded_length, fitting, head_length, last_length}
 use Rattle.aws_chunked.specs.Text.{Part, chunk, chunk_text, chunked_text, crlf, cut, cut_within, head_text, length_text, part_text, parts_text, tail, tail_text, trailer_line}
-use Rattle.aws_chunked.proofs.CutLemmas.{cut_first}
-use Rattle.aws_chunked.proofs.BodyLemmas.{drop_whole, take_whole}
+use Rattle.aws_chunked.proofs.CutLemmas.{cut_first, cut_none}
 
 head_long : (n : ℕ) → length (head_text n None) ≡ head_length false n
 head_long n = omega (arith, length-append (length_text n ++ []) crlf, length-append (length_text n) [])
@@ -41,38 +40,33 @@ tail_long trailers =
       lines_long trailers,
     )
 
-last_long : (n : ℕ) → 0 < n → last_length false n ≡ chunk_length false n
-last_long zero some = absurd (omega (arith, some))
-last_long (suc n) some = refl
+-- how long the chunks of pieces are
+unfoldable pub pieces_length : Bool → List (List ℕ) → ℕ
+pieces_length is_signed [] = 0
+pieces_length is_signed (piece ∷ pieces) = chunk_length is_signed (length piece) + pieces_length is_signed pieces
+
+last_long : (is_signed : Bool) (n : ℕ) → 0 < n → last_length is_signed n ≡ chunk_length is_signed n
+last_long is_signed zero some = absurd (omega (arith, some))
+last_long is_signed (suc n) some = refl
 
 -- full chunks, and one of the rest
-cut_long : (q size r : ℕ) (bytes : List ℕ) → r < size → length bytes ≡ q * size + r
-    → length (parts_text (map chunk (cut size bytes))) ≡ q * chunk_length false size + last_length false r
-unfolding cut cut_within
-cut_long zero size zero [] small is = grind arith
-cut_long zero size (suc r) [] small is = absurd (grind (arith, is))
-cut_long (suc q) size r [] small is = absurd (grind (arith, is, small))
-cut_long zero size r (byte ∷ bytes) small is = by (byte ∷ bytes) refl
+pub cut_long : (is_signed : Bool) (q size r : ℕ) (bytes : List ℕ) → r < size → length bytes ≡ q * size + r
+    → pieces_length is_signed (cut size bytes) ≡ q * chunk_length is_signed size + last_length is_signed r
+unfolding pieces_length
+cut_long is_signed zero size zero [] small is = ap (pieces_length is_signed) (cut_none size) ∙ grind arith
+cut_long is_signed zero size (suc r) [] small is = absurd (grind (arith, is))
+cut_long is_signed (suc q) size r [] small is = absurd (grind (arith, is, small))
+cut_long is_signed zero size r (byte ∷ bytes) small is =
+    ap (pieces_length is_signed)
+    (cut_first size (byte ∷ bytes) (omega (arith, small)) (omega arith)
+    ∙ (λ i. take_all size (byte ∷ bytes) (omega (arith, long, small)) i ∷ (ap (cut size) (drop_all size (byte ∷ bytes) (omega (arith, long, small))) ∙ cut_none size) i))
+    ∙ grind (arith, ap (chunk_length is_signed) long, last_long is_signed r (omega (arith, long)))
   where
     long : length (byte ∷ bytes) ≡ r
     long = grind (arith, is)
-
-    by : (all : List ℕ) → all ≡ byte ∷ bytes → length (parts_text (map chunk (cut size (byte ∷ bytes)))) ≡ zero * chunk_length false size + last_length false r
-    by all same =
-        ap (λ (pieces : List (List ℕ)). length (parts_text (map chunk pieces)))
-        (cut_first size (byte ∷ bytes) (omega (arith, small)) (omega arith)
-        ∙ (λ i. take_whole (byte ∷ bytes) size (omega (arith, long, small)) i ∷ cut size (drop_whole (byte ∷ bytes) size (omega (arith, long, small)) i)))
-        ∙ length-append (chunk_text None (byte ∷ bytes)) []
-        ∙ grind (arith, chunk_long (byte ∷ bytes), ap (chunk_length false) long, last_long r (omega (arith, long)))
-cut_long (suc q) size r (byte ∷ bytes) small is =
-    ap (λ (pieces : List (List ℕ)). length (parts_text (map chunk pieces))) (cut_first size (byte ∷ bytes) (omega (arith, small)) (omega arith))
-    ∙ length-append (chunk_text None (take size (byte ∷ bytes))) (parts_text (map chunk (cut size (drop size (byte ∷ bytes)))))
-    ∙ grind (
-      arith,
-      chunk_long (take size (byte ∷ bytes)),
-      ap (chunk_length false) taken,
-      cut_long q size r (drop size (byte ∷ bytes)) small dropped,
-    )
+cut_long is_signed (suc q) size r (byte ∷ bytes) small is =
+    ap (pieces_length is_signed) (cut_first size (byte ∷ bytes) (omega (arith, small)) (omega arith))
+    ∙ grind (arith, ap (chunk_length is_signed) taken, cut_long is_signed q size r (drop size (byte ∷ bytes)) small dropped)
   where
     enough : size ≤ length (byte ∷ bytes)
     enough = grind (arith, is)
@@ -82,6 +76,12 @@ cut_long (suc q) size r (byte ∷ bytes) small is =
 
     dropped : length (drop size (byte ∷ bytes)) ≡ q * size + r
     dropped = grind (arith, length-drop size (byte ∷ bytes), is)
+
+chunks_long : (pieces : List (List ℕ)) → length (parts_text (map chunk pieces)) ≡ pieces_length false pieces
+unfolding pieces_length
+chunks_long [] = refl
+chunks_long (piece ∷ pieces) =
+    omega (arith, length-append (chunk_text None piece) (parts_text (map chunk pieces)), chunk_long piece, chunks_long pieces)
 
 append_parts : (parts more : List Part) → length (parts_text (parts ++ more)) ≡ length (parts_text parts) + length (parts_text more)
 append_parts [] more = omega arith
@@ -102,7 +102,8 @@ text_long options some unsigned bytes trailers long =
       append_parts (map chunk (cut size bytes)) (tail trailers ∷ []),
       length-append (tail_text None trailers None) [],
       tail_long trailers,
-      cut_long (length bytes / size) size (length bytes % size) bytes (mod_below (length bytes) size (omega (arith, some))) (sym (div-add-mod' (length bytes) size)),
+      chunks_long (cut size bytes),
+      cut_long false (length bytes / size) size (length bytes % size) bytes (mod_below (length bytes) size (omega (arith, some))) (sym (div-add-mod' (length bytes) size)),
       ap (λ n. (n / size) * chunk_length false size + last_length false (n % size)) long,
       signs,
     )

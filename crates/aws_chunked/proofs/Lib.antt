@@ -15,6 +15,8 @@ mod PlaceLemmas
 mod PullLemmas
 mod ReadLemmas
 mod RunLemmas
+mod SealedLawLemmas
+mod SealedLemmas
 mod SignLemmas
 mod SignatureLemmas
 mod SoundLemmas

@@ -8,7 +8,7 @@ use Rattle.aws_chunked.specs.Body.{Trailer}
 use Rattle.aws_chunked.specs.Decoded.{IsPiecesText, IsTextOf, IsTrailer, TakesSignature}
 use Rattle.aws_chunked.specs.Rests.{ChunkRest, ChunksThen, Follows, IsSignedBy, WholeSays, given, most_after}
 use Rattle.aws_chunked.specs.Text.{chunk_text, crlf, cut, cut_within, head_text, last_line, length_text, signature_text, tail_text, trailer_line}
-use Rattle.aws_chunked.proofs.CutLemmas.{cut_first}
+use Rattle.aws_chunked.proofs.CutLemmas.{cut_first, cut_none}
 use Rattle.aws_chunked.proofs.FollowLemmas.{follows_as, says_same}
 
 -- ## Pieces of one size
@@ -25,10 +25,6 @@ first_length (piece ∷ pieces) = length piece
 within_none : (k size : ℕ) → cut_within k size [] ≡ []
 unfolding cut_within
 within_none k size = refl
-
-pub cut_none : (size : ℕ) → cut size [] ≡ []
-unfolding cut cut_within
-cut_none size = refl
 
 short_front : (size : ℕ) (bytes : List ℕ) → length (take size bytes) + length (drop size bytes) ≡ length bytes
 short_front size bytes = sym (length-append (take size bytes) (drop size bytes)) ∙ ap length (take-append-drop size bytes)

@@ -8,6 +8,7 @@ pub mod Options
 pub mod Passing
 pub mod Reading
 pub mod Rests
+pub mod Sealed
 pub mod Signing
 pub mod TailRests
 pub mod Text

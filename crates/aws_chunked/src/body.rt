@@ -2,6 +2,7 @@ ghost use Rattle.std.specs.Prelude.{◌≡◌, ◌↔◌, IsTrue, None, Some, fa
 ghost use Rattle.aws_chunked.specs.Body.{IsClosed, IsNew, data_before, due, listed, parts_due, total_of, trailers_from};
 ghost use Rattle.aws_chunked.specs.Options.{counted, data_length, encoded_length, fitting};
 ghost use Rattle.aws_chunked.specs.Passing.{filled_before, pieces_due, pieces_of};
+ghost use Rattle.aws_chunked.specs.Sealed.{StartsSealed};
 ghost use Rattle.aws_chunked.specs.Text.{chunked_text, parts_of};
 ghost use Rattle.aws_chunked.specs.declared.sent.Sent.TheVariants as sent;
 
@@ -11,6 +12,7 @@ use crate::phase::Phase;
 use crate::sent::Sent;
 use bytes::Bytes;
 use seg_buf::SegBuf;
+use sigv4::SignChunk;
 use smithy_core::{FrameSource, Headers};
 use std::alloc::Global;
 
@@ -98,10 +100,11 @@ impl<F, G> AwsChunkedBody<F, G> {
     }
 }
 
-impl<F, G: Drop> AwsChunkedBody<F, G> {
+impl<F: FrameSource, G: SignChunk> AwsChunkedBody<F, G> {
     /// With this signer of chunks and trailers.
     pub fn with_signer(self, signer: G) -> AwsChunkedBody<F, G>
-        ensures { result ≡ record self { signer = Some signer } }
+        ensures signer { result ≡ record self { signer = Some signer } }
+        ensures sealed { StartsSealed F.FrameSource G.SignChunk self result }
     {
         AwsChunkedBody {
             signer: Some(signer),

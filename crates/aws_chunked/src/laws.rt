@@ -1,10 +1,13 @@
-ghost use Rattle.std.specs.Prelude.{◌≡◌, ℕ, List, [], Result, true};
+ghost use Rattle.std.specs.Prelude.{◌≡◌, ℕ, List, [], length, Result, true};
 ghost use Rattle.std.specs.List.{AllByRecursion};
-ghost use Rattle.aws_chunked.specs.Body.{Trailer};
+ghost use Rattle.smithy_core.specs.Moment.{Instant};
+ghost use Rattle.eventstream.specs.Key.{Signer};
+ghost use Rattle.aws_chunked.specs.Body.{Trailer, actual_length};
 ghost use Rattle.aws_chunked.specs.Decoded.{Decodes, DecodesOnly, IsTextOf, IsTrailer};
 ghost use Rattle.aws_chunked.specs.Laws.{Answers, IsSignedLengthOf};
-ghost use Rattle.aws_chunked.specs.Options.{IsChunkSize, Options, encoded_length};
-ghost use Rattle.aws_chunked.specs.Text.{chunked_text};
+ghost use Rattle.aws_chunked.specs.Options.{IsChunkSize, Options, declared_length, encoded_length};
+ghost use Rattle.aws_chunked.specs.Sealed.{sealed_chunked_text, sealed_signatures};
+ghost use Rattle.aws_chunked.specs.Text.{chunked_text, cut};
 ghost use Rattle.aws_chunked.specs.declared.decode.DecodeFault.{DecodeFault};
 ghost use Rattle.aws_chunked.specs.declared.decode.Decoded.{Decoded};
 
@@ -27,4 +30,21 @@ pub fn whole_texts_are_decoded()
 #[tactic(auto, using(crate::proofs::LawLemmas::signed_long))]
 pub fn signed_texts_are_as_long()
     ensures { (options : Options) → IsChunkSize options.chunk_size → options.is_signed ≡ true → IsSignedLengthOf options (encoded_length options) }
+{}
+
+/// The text of data and trailers in signed chunks of any size is a whole text, and says that data, its signatures in order and those
+/// trailers, where their names and values are headers' with the names in lower case.
+#[tactic(auto, using(crate::proofs::SealedLawLemmas::sealed_whole))]
+pub fn sealed_texts_are_whole()
+    ensures { (signer : Signer) (t : Instant) (before : List ℕ) (size : ℕ) (body : List ℕ) (trailers : List Trailer) → IsChunkSize size
+        → AllByRecursion IsTrailer trailers
+        → IsTextOf body (sealed_signatures signer t before (cut size body) trailers) trailers (sealed_chunked_text signer t before size body trailers) }
+{}
+
+/// Where the data and the lines of the trailers have the declared lengths, the signed text is as long as its options tell.
+#[tactic(auto, using(crate::proofs::SealedLawLemmas::sealed_long))]
+pub fn sealed_texts_are_as_long()
+    ensures { (options : Options) (signer : Signer) (t : Instant) (before bytes : List ℕ) (trailers : List Trailer) → IsChunkSize options.chunk_size
+        → options.is_signed ≡ true → length bytes ≡ options.stream_length → actual_length true trailers ≡ declared_length options.trailer_lengths
+        → length (sealed_chunked_text signer t before options.chunk_size bytes trailers) ≡ encoded_length options }
 {}

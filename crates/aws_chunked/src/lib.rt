@@ -27,7 +27,10 @@ mod trailers;
 pub use crate::body::{AwsChunkedBody, ChunkNext};
 pub use crate::decode::{DecodeFault, Decoded, decode_chunked};
 pub use crate::error::AwsChunkedBodyError;
-pub use crate::laws::{signed_texts_are_as_long, texts_are_whole, whole_texts_are_decoded};
+pub use crate::laws::{
+    sealed_texts_are_as_long, sealed_texts_are_whole, signed_texts_are_as_long, texts_are_whole,
+    whole_texts_are_decoded,
+};
 pub use crate::options::AwsChunkedBodyOptions;
 
 /// The header of the trailers' signature.

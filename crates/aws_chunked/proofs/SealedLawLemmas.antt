@@ -1,0 +1,102 @@
+-- Signed texts are whole texts, and as long as their options tell.
+use Rattle.std.proofs.Common.{◌≡◌, ℕ, ◌+◌, ◌*◌, ◌/◌, ◌%◌, ◌<◌, Bool, true, false, ◌&&◌, ◌||◌, List, [], ◌∷◌, ◌++◌, length, map, slice_index, Option, Some, None, refl, ap, sym, ◌∙◌, arith}
+use Rattle.std.specs.Prelude.{nat_lt}
+use Rattle.std.specs.List.{AllByRecursion, list_all}
+use Rattle.std.proofs.lemmas.Bool.{agree_below_at, and_parts, ltb-true}
+use Rattle.std.proofs.lemmas.List.Sums.{AllPass-from_list_all}
+use Rattle.hex.specs.Hex.{encode_lower, encode_with, lower_digits}
+use Rattle.hex.proofs.HexLemmas.{length-encode_with}
+use Rattle.mac_core.specs.Mac.{mac, mac_of_block}
+use Rattle.smithy_core.specs.Moment.{Instant}
+use Rattle.eventstream.specs.Key.{Signer, signing_key}
+use Rattle.eventstream.proofs.LinkLemmas.{length-mac}
+use Rattle.sigv4.specs.Chunk.{chunk_signature, text_signature, trailer_signature}
+use Rattle.sigv4.proofs.SignatureLemmas.{sha256-bytes}
+use Rattle.aws_chunked.specs.Body.{Trailer, actual_length}
+use Rattle.aws_chunked.specs.Decoded.{IsPiecesText, IsSignature, IsTextOf, IsTrailer, TakesSignature, is_signature_digit}
+use Rattle.aws_chunked.specs.Options.{IsChunkSize, Options, declared_length, encoded_length}
+use Rattle.aws_chunked.specs.Rests.{given}
+use Rattle.aws_chunked.specs.Sealed.{sealed_chunked_text, sealed_signatures, sealed_text, trailers_signature}
+use Rattle.aws_chunked.specs.Signing.{has_signature}
+use Rattle.aws_chunked.specs.Text.{chunk, cut, tail}
+use Rattle.aws_chunked.proofs.LawLemmas.{signed_long}
+
+-- ## Signatures
+
+digit_fine : (digit : ℕ) → digit < 16 → is_signature_digit (slice_index lower_digits digit) ≡ true
+digit_fine digit small = agree_below_at (λ d. is_signature_digit (slice_index lower_digits d)) (λ _. true) 16 digit refl small
+
+encoded_digits : (bytes : List ℕ) → list_all (λ b. nat_lt b 256) bytes ≡ true → list_all is_signature_digit (encode_lower bytes) ≡ true
+unfolding encode_with
+encoded_digits [] are = refl
+encoded_digits (b ∷ bytes) are =
+    let parts = and_parts (nat_lt b 256) (list_all (λ b. nat_lt b 256) bytes) are in
+    let small : b < 256 = ltb-true b 256 parts.0 in
+    λ i. digit_fine (b / 16) (omega (arith, small)) i && (digit_fine (b % 16) (omega arith) i && encoded_digits bytes parts.1 i)
+
+text_sealed : (signer : Signer) (t : Instant) (text : List ℕ) → IsSignature (text_signature signer t text)
+unfolding mac mac_of_block
+text_sealed signer t text =
+    let code = mac (signing_key signer t) text in (
+      length-encode_with lower_digits code ∙ ap (λ (n : ℕ). 2 * n) (length-mac (signing_key signer t) text),
+      AllPass-from_list_all is_signature_digit (encode_lower code) (encoded_digits code (sha256-bytes _)),
+    )
+
+chunk_sealed : (piece : List ℕ) (signer : Signer) (t : Instant) (before : List ℕ) → IsSignature (chunk_signature piece signer t before)
+unfolding chunk_signature
+chunk_sealed piece signer t before = text_sealed signer t _
+
+trailers_sealed : (trailers : List Trailer) (signer : Signer) (t : Instant) (before : List ℕ) → IsSignature (trailer_signature trailers signer t before)
+unfolding trailer_signature
+trailers_sealed trailers signer t before = text_sealed signer t _
+
+-- ## Whole texts
+
+last_taken : (signer : Signer) (t : Instant) (before : List ℕ) (trailers : List Trailer)
+    → TakesSignature (has_signature true trailers) (given (trailers_signature signer t before trailers)) (trailers_signature signer t before trailers) []
+last_taken signer t before [] = (refl, refl)
+last_taken signer t before (trailer ∷ trailers) = (trailers_sealed (trailer ∷ trailers) signer t before, refl)
+
+pieces_sealed : (signer : Signer) (t : Instant) (before : List ℕ) (pieces : List (List ℕ)) (trailers : List Trailer)
+    → IsPiecesText true pieces (sealed_signatures signer t before pieces trailers) trailers (sealed_text signer t before (map chunk pieces ++ tail trailers ∷ []))
+unfolding sealed_text
+pieces_sealed signer t before [] trailers =
+    let signature = chunk_signature [] signer t before in
+    let last = trailers_signature signer t signature trailers in
+    (Some signature, given last, last, (chunk_sealed [] signer t before, refl), last_taken signer t signature trailers, refl)
+pieces_sealed signer t before (piece ∷ pieces) trailers =
+    let signature = chunk_signature piece signer t before in (
+      Some signature,
+      sealed_signatures signer t signature pieces trailers,
+      sealed_text signer t signature (map chunk pieces ++ tail trailers ∷ []),
+      (chunk_sealed piece signer t before, refl),
+      refl,
+      pieces_sealed signer t signature pieces trailers,
+    )
+
+pub sealed_whole : (signer : Signer) (t : Instant) (before : List ℕ) (size : ℕ) (body : List ℕ) (trailers : List Trailer)
+    → IsChunkSize size → AllByRecursion IsTrailer trailers
+    → IsTextOf body (sealed_signatures signer t before (cut size body) trailers) trailers (sealed_chunked_text signer t before size body trailers)
+unfolding sealed_chunked_text
+sealed_whole signer t before size body trailers in_range are = record {
+  size = size;
+  size_in_range = in_range;
+  is_signed = true;
+  trailers_are = are;
+  is_text = pieces_sealed signer t before (cut size body) trailers;
+}
+
+-- ## Lengths
+
+pub sealed_long : (options : Options) (signer : Signer) (t : Instant) (before bytes : List ℕ) (trailers : List Trailer)
+    → IsChunkSize options.chunk_size → options.is_signed ≡ true → length bytes ≡ options.stream_length → actual_length true trailers ≡ declared_length options.trailer_lengths
+    → length (sealed_chunked_text signer t before options.chunk_size bytes trailers) ≡ encoded_length options
+unfolding sealed_chunked_text
+sealed_long options signer t before bytes trailers in_range signed long declared =
+    let size = options.chunk_size in
+    omega (
+      arith,
+      declared,
+      signed_long options in_range signed bytes (sealed_signatures signer t before (cut size bytes) trailers) trailers
+          (sealed_text signer t before (map chunk (cut size bytes) ++ tail trailers ∷ [])) long (pieces_sealed signer t before (cut size bytes) trailers),
+    )

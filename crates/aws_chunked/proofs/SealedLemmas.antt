@@ -1,0 +1,306 @@
+-- What is due of a signed body is the front of it, call by call.
+use Rattle.std.proofs.Common.{◌≡◌, ℕ, ◌⊎◌, inl, inr, ◌<◌, Bool, true, false, List, [], ◌∷◌, ◌++◌, length, map, Option, None, Some, refl, ap, sym, subst, ◌∙◌, append-nil, append_assoc}
+use Rattle.std.specs.Prelude.{Result, Ok, Err, String, string_bytes, option_map, if◌then◌else◌}
+use Rattle.std.specs.declared.alloc.Global.{Global}
+use Rattle.smithy_core.specs.Civil.{is_in_years}
+use Rattle.smithy_core.specs.Moment.{Instant}
+use Rattle.smithy_core.specs.declared.outside.frame_part.FramePart.{FramePart}
+use Rattle.smithy_core.specs.declared.outside.frame_source.FrameSource as FrameSource
+use Rattle.eventstream.specs.Key.{Signer}
+use Rattle.sigv4.specs.Chunk.{chunk_signature, trailer_signature}
+use Rattle.sigv4.specs.ChunkTold.{ChunkTold, SignsNext, sealed, untold, unsigned_at, unwired}
+use Rattle.sigv4.specs.declared.chunk_signer.SignChunk as SignChunk
+use Rattle.sigv4.specs.declared.error.SigningError.{SigningError}
+use Rattle.sigv4.specs.declared.error.SigningError.TheVariants.{MomentOutOfRange}
+use Rattle.aws_chunked.specs.Body.{Answers, HasCause, IsClosed, IsNew, IsNothing, MakesFirst, Rest, TakesDue, TakesText, Trailer, data_before, due, held_bytes, Keeps, listed, parts_due, parts_left, ready_bytes, rest_with, trailers_from}
+use Rattle.aws_chunked.specs.Options.{Options}
+use Rattle.aws_chunked.specs.Sealed.{StartsSealed, sealed_chunked_text, sealed_due, sealed_left, sealed_text, sealed_where, told_of, trailers_signature}
+use Rattle.aws_chunked.specs.Signing.{Answering, ChunkAnswers, MakesPart, SignsPart, TrailerAnswers, has_signature}
+use Rattle.aws_chunked.specs.Text.{Part, chunk, chunk_text, cut, parts_of, tail, tail_text}
+use Rattle.aws_chunked.specs.declared.body.AwsChunkedBody.{AwsChunkedBody}
+use Rattle.aws_chunked.specs.declared.body.ChunkNext.{ChunkNext}
+use Rattle.aws_chunked.specs.declared.body.ChunkNext.TheVariants as next
+use Rattle.aws_chunked.specs.declared.error.AwsChunkedBodyError.{AwsChunkedBodyError}
+use Rattle.aws_chunked.specs.declared.phase.Phase.{Phase}
+use Rattle.aws_chunked.specs.declared.phase.Phase.TheVariants as phase
+use Rattle.aws_chunked.proofs.NewLemmas.{new_parts}
+
+-- ---- a signature that was made
+
+-- what is told of a signer that made this signature, before and after
+Seals : (Signer → Instant → List ℕ → List ℕ) → ChunkTold → Option (List ℕ) → ChunkTold → Type 0
+Seals next (sealed before who t) signature now =
+    (is_in_years t ≡ true) × (signature ≡ Some (next who t before)) × (now ≡ sealed (next who t before) who t)
+Seals next unwired signature now = ⊥
+Seals next untold signature now = now ≡ untold
+
+in_years : (t : Instant) → unsigned_at t ≡ None → is_in_years t ≡ true
+in_years t none = by (is_in_years t) none
+  where
+    by : (b : Bool) → (if b then None else Some (MomentOutOfRange t)) ≡ None → b ≡ true
+    by true none = refl
+    by false none = (let no : ◌≡◌ {A = Option SigningError} (Some (MomentOutOfRange t)) None = none in cc)
+
+seals_next : (next : Signer → Instant → List ℕ → List ℕ) (told : ChunkTold) (answer : String Global) (now : ChunkTold)
+    → SignsNext next told (Ok answer) now → Seals next told (Some (string_bytes answer)) now
+unfolding Seals
+seals_next next (sealed before who t) answer now signs = (in_years t signs.0, ap Some signs.1, signs.2)
+seals_next next unwired answer now signs = absurd signs
+seals_next next untold answer now signs = signs
+
+seals_part : {G : Type 0} (signer : SignChunk.Ghosts G) (next : Signer → Instant → List ℕ → List ℕ) (answers : Answering G)
+    (old new : Option G) (signature : Option (String Global))
+    → ((before : G) (result : Result (String Global) SigningError) (after : G) → answers before result after
+    → SignsNext next (signer.told before) result (signer.told after))
+    → SignsPart answers true old (Ok signature) new → Seals next (told_of signer old) (option_map string_bytes signature) (told_of signer new)
+seals_part signer next answers None new signature tells signs = absurd signs
+seals_part signer next answers (Some old) new signature tells signs =
+    subst (λ (now : Option _). Seals next (signer.told old) (option_map string_bytes signature) (told_of signer now)) (sym signs.4)
+    (subst (λ (made : Option (String Global)). Seals next (signer.told old) (option_map string_bytes made) (signer.told signs.0)) (sym signs.3)
+    (seals_next next (signer.told old) signs.1 (signer.told signs.0) (tells old (Ok signs.1) signs.0 signs.2)))
+
+-- the same of the trailers, where there are some
+SealsTrailers : List Trailer → ChunkTold → Option (List ℕ) → ChunkTold → Type 0
+SealsTrailers [] told signature now = (signature ≡ None) × (now ≡ told)
+SealsTrailers (trailer ∷ trailers) told signature now = Seals (trailer_signature (trailer ∷ trailers)) told signature now
+
+seals_trailers : {G : Type 0} (signer : SignChunk.Ghosts G) (trailers : List Trailer) (old new : Option G) (signature : Option (String Global))
+    → SignsPart (TrailerAnswers signer trailers) (has_signature true trailers) old (Ok signature) new
+    → SealsTrailers trailers (told_of signer old) (option_map string_bytes signature) (told_of signer new)
+unfolding SealsTrailers
+seals_trailers signer [] old new signature signs = (ap (option_map string_bytes) signs.0, ap (told_of signer) signs.1)
+seals_trailers signer (trailer ∷ trailers) old new signature signs =
+    seals_part signer (trailer_signature (trailer ∷ trailers)) (TrailerAnswers signer (trailer ∷ trailers)) old new signature
+    (λ before result after is. is.1) signs
+
+-- it is over the signature of the empty chunk, and the signer goes on
+closes_over : (zero : List ℕ) (who : Signer) (t : Instant) (trailers : List Trailer) (signature : Option (List ℕ)) (now : ChunkTold)
+    → SealsTrailers trailers (sealed zero who t) signature now
+    → (signature ≡ trailers_signature who t zero trailers) × ((last : List ℕ) × (now ≡ sealed last who t))
+unfolding SealsTrailers Seals
+closes_over zero who t [] signature now seals = (seals.0, (zero, seals.1))
+closes_over zero who t (trailer ∷ trailers) signature now seals = (seals.1, (trailer_signature (trailer ∷ trailers) who t zero, seals.2))
+
+closes_untold : (trailers : List Trailer) (signature : Option (List ℕ)) (now : ChunkTold) → SealsTrailers trailers untold signature now → now ≡ untold
+unfolding SealsTrailers Seals
+closes_untold [] signature now seals = seals.1
+closes_untold (trailer ∷ trailers) signature now seals = seals
+
+-- ---- nothing stands behind the end
+
+EndsAt : Part → List Part → Type 0
+EndsAt (chunk piece) rest = Unit {0}
+EndsAt (tail trailers) rest = rest ≡ []
+
+ends_at : (pieces : List (List ℕ)) (trailers : List Trailer) (part : Part) (rest : List Part) → map chunk pieces ++ tail trailers ∷ [] ≡ part ∷ rest → EndsAt part rest
+unfolding EndsAt
+ends_at pieces trailers (chunk piece) rest is = tt
+ends_at [] trailers (tail last) rest is = (let all : ◌≡◌ {A = List Part} (tail trailers ∷ []) (tail last ∷ rest) = is in cc)
+ends_at (piece ∷ pieces) trailers (tail last) rest is =
+    (let no : ◌≡◌ {A = List Part} (chunk piece ∷ (map chunk pieces ++ tail trailers ∷ [])) (tail last ∷ rest) = is in cc)
+
+left_ends : (at : Phase) (size : ℕ) (held : List ℕ) (kept : Option (List Trailer)) (frames : List FramePart) (part : Part) (rest : List Part)
+    → parts_left at size held kept frames ≡ part ∷ rest → EndsAt part rest
+left_ends phase.Data size held kept frames part rest is = ends_at _ _ part rest is
+left_ends phase.Trailers size held kept frames part rest is = ends_at _ _ part rest is
+left_ends phase.Ended size held kept frames part rest is = ends_at _ _ part rest is
+left_ends phase.Closed size held kept frames part rest is = (let no : ◌≡◌ {A = List Part} [] (part ∷ rest) = is in cc)
+
+due_ends : (before : List FramePart → Rest) (part : Part) (left : Option (List FramePart)) (now : Option (List Part))
+    → ((frames : List FramePart) (rest : List Part) → (before frames).parts ≡ part ∷ rest → EndsAt part rest)
+    → option_map (λ (rest : Rest). rest.parts) (option_map before left) ≡ option_map (λ (rest : List Part). part ∷ rest) now
+    → (rest : List Part) → now ≡ Some rest → EndsAt part rest
+due_ends before part None now each is rest some = (let no : ◌≡◌ {A = Option (List Part)} None (Some (part ∷ rest)) = is ∙ ap (option_map (λ (others : List Part). part ∷ others)) some in cc)
+due_ends before part (Some frames) now each is rest some =
+    (let all : ◌≡◌ {A = Option (List Part)} (Some (before frames).parts) (Some (part ∷ rest)) = is ∙ ap (option_map (λ (others : List Part). part ∷ others)) some in
+    each frames rest cc)
+
+-- ---- the text of a part
+
+chunk_step : (piece : List ℕ) (told now : ChunkTold) (signature : Option (List ℕ)) (text bytes ready : List ℕ) (before after : Option (List Part))
+    → Seals (chunk_signature piece) told signature now → text ≡ chunk_text signature piece → text ≡ bytes ++ ready
+    → before ≡ option_map (λ (rest : List Part). chunk piece ∷ rest) after
+    → TakesText bytes (sealed_left told [] before) (sealed_left now ready after)
+unfolding Seals sealed_text
+chunk_step piece (sealed s who t) now signature text bytes ready before after seals is same parts = rw (seals.2, parts, seals.0) (by after)
+  where
+    seal : List ℕ
+    seal = chunk_signature piece who t s
+
+    by : (left : Option (List Part)) → TakesText bytes
+        (option_map (λ (rest : List Part). [] ++ sealed_text who t s rest) (option_map (λ (rest : List Part). chunk piece ∷ rest) left))
+        (option_map (λ (rest : List Part). ready ++ sealed_text who t (chunk_signature piece who t s) rest) left)
+    by None = refl
+    by (Some rest) =
+        ap (λ (front : List ℕ). front ++ sealed_text who t (chunk_signature piece who t s) rest)
+        (ap (λ (o : Option (List ℕ)). chunk_text o piece) (sym seals.1) ∙ sym is ∙ same)
+        ∙ append_assoc bytes ready (sealed_text who t (chunk_signature piece who t s) rest)
+chunk_step piece unwired now signature text bytes ready before after seals is same parts = absurd seals
+chunk_step piece untold now signature text bytes ready before after seals is same parts = rw seals refl
+
+tail_step : (trailers : List Trailer) (told mid now : ChunkTold) (signature last : Option (List ℕ)) (text bytes ready : List ℕ) (before after : Option (List Part))
+    → Seals (chunk_signature []) told signature mid → SealsTrailers trailers mid last now → text ≡ tail_text signature trailers last → text ≡ bytes ++ ready
+    → before ≡ option_map (λ (rest : List Part). tail trailers ∷ rest) after → ((rest : List Part) → after ≡ Some rest → rest ≡ [])
+    → TakesText bytes (sealed_left told [] before) (sealed_left now ready after)
+unfolding Seals sealed_text
+tail_step trailers (sealed s who t) mid now signature last text bytes ready before after seals closing is same parts ends =
+    rw (closes.1.1, parts, seals.0) (by after ends)
+  where
+    zero : List ℕ
+    zero = chunk_signature [] who t s
+
+    closes : (last ≡ trailers_signature who t (chunk_signature [] who t s) trailers) × ((s' : List ℕ) × (now ≡ sealed s' who t))
+    closes = closes_over (chunk_signature [] who t s) who t trailers last now (subst (λ (m : ChunkTold). SealsTrailers trailers m last now) seals.2 closing)
+
+    by : (left : Option (List Part)) → ((rest : List Part) → left ≡ Some rest → rest ≡ []) → TakesText bytes
+        (option_map (λ (rest : List Part). [] ++ sealed_text who t s rest) (option_map (λ (rest : List Part). tail trailers ∷ rest) left))
+        (option_map (λ (rest : List Part). ready ++ sealed_text who t closes.1.0 rest) left)
+    by None none = refl
+    by (Some rest) none =
+        (λ i. tail_text (sym seals.1 i) trailers (sym closes.0 i)) ∙ sym is ∙ same
+        ∙ ap (λ (more : List ℕ). bytes ++ more)
+        (sym (ap (λ (others : List Part). ready ++ sealed_text who t closes.1.0 others) (none rest refl) ∙ append-nil ready))
+tail_step trailers unwired mid now signature last text bytes ready before after seals closing is same parts ends = absurd seals
+tail_step trailers untold mid now signature last text bytes ready before after seals closing is same parts ends =
+    rw (closes_untold trailers last now (subst (λ (m : ChunkTold). SealsTrailers trailers m last now) seals closing)) refl
+
+part_step : {G : Type 0} (signer : SignChunk.Ghosts G) (is_signed : Bool) (part : Part) (old new : Option G) (text bytes ready : List ℕ) (before after : Option (List Part))
+    → MakesPart signer is_signed part old text new → text ≡ bytes ++ ready → before ≡ option_map (λ (rest : List Part). part ∷ rest) after
+    → ((rest : List Part) → after ≡ Some rest → EndsAt part rest)
+    → TakesText bytes (sealed_where is_signed (told_of signer old) [] before) (sealed_where is_signed (told_of signer new) ready after)
+unfolding EndsAt
+part_step signer false part old new text bytes ready before after made same parts ends = refl
+part_step signer true (chunk piece) old new text bytes ready before after made same parts ends =
+    chunk_step piece (told_of signer old) (told_of signer new) (option_map string_bytes made.0) text bytes ready before after
+    (seals_part signer (chunk_signature piece) (ChunkAnswers signer piece) old new made.0 (λ b result a is. is.1) made.1) made.2 same parts
+part_step signer true (tail trailers) old new text bytes ready before after made same parts ends =
+    tail_step trailers (told_of signer old) (told_of signer made.1) (told_of signer new) (option_map string_bytes made.0) (option_map string_bytes made.2)
+    text bytes ready before after
+    (seals_part signer (chunk_signature []) (ChunkAnswers signer []) old made.1 made.0 (λ b result a is. is.1) made.3)
+    (seals_trailers signer trailers made.1 new made.2 made.4) made.5 same parts ends
+
+-- ---- text that was made
+
+ready_step : (is_signed : Bool) (told : ChunkTold) (bytes ready now : List ℕ) (parts : Option (List Part)) → ready ≡ bytes ++ now
+    → TakesText bytes (sealed_where is_signed told ready parts) (sealed_where is_signed told now parts)
+ready_step false told bytes ready now parts is = refl
+ready_step true (sealed s who t) bytes ready now parts is = by (is_in_years t) parts
+  where
+    by : (b : Bool) (left : Option (List Part)) → TakesText bytes
+        (if b then option_map (λ (rest : List Part). ready ++ sealed_text who t s rest) left else None)
+        (if b then option_map (λ (rest : List Part). now ++ sealed_text who t s rest) left else None)
+    by false left = refl
+    by true None = refl
+    by true (Some rest) = ap (λ (front : List ℕ). front ++ sealed_text who t s rest) is ∙ append_assoc bytes now (sealed_text who t s rest)
+ready_step true unwired bytes ready now parts is = refl
+ready_step true untold bytes ready now parts is = refl
+
+none_left : (is_signed : Bool) (told : ChunkTold) (ready : List ℕ) (parts : Option (List Part)) → ready ≡ [] → ((rest : List Part) → parts ≡ Some rest → rest ≡ [])
+    → IsNothing (sealed_where is_signed told ready parts)
+unfolding sealed_text
+none_left false told ready parts none nothing = tt
+none_left true (sealed s who t) ready parts none nothing = by (is_in_years t) parts nothing
+  where
+    by : (b : Bool) (left : Option (List Part)) → ((rest : List Part) → left ≡ Some rest → rest ≡ [])
+        → IsNothing (if b then option_map (λ (rest : List Part). ready ++ sealed_text who t s rest) left else None)
+    by false left no_parts = tt
+    by true None no_parts = tt
+    by true (Some rest) no_parts = (λ i. none i ++ sealed_text who t s (no_parts rest refl i))
+none_left true unwired ready parts none nothing = tt
+none_left true untold ready parts none nothing = tt
+
+-- ---- what a call takes
+
+module _ {F G : Type 0} (source : FrameSource.Ghosts F) (signer : SignChunk.Ghosts G) where
+  parts_same : (body : AwsChunkedBody F G) (ready : List ℕ) → parts_due source (record body { ready = ready }) ≡ parts_due source body
+  parts_same body ready = by (source.left body.source)
+    where
+      by : (left : Option (List FramePart)) → option_map (λ (rest : Rest). rest.parts) (option_map (rest_with (record body { ready = ready })) left)
+          ≡ option_map (λ (rest : Rest). rest.parts) (option_map (rest_with body) left)
+      by None = refl
+      by (Some frames) = refl
+
+  first_sealed : (old new : AwsChunkedBody F G) (text bytes : List ℕ) → new.options ≡ old.options → text ≡ bytes ++ ready_bytes new → ready_bytes old ≡ []
+      → MakesFirst source signer old new text → TakesText bytes (sealed_due source signer old) (sealed_due source signer new)
+  unfolding sealed_due
+  first_sealed old new text bytes options is none first =
+      subst (λ (o : Options). TakesText bytes (sealed_due source signer old) (sealed_where o.is_signed (told_of signer new.signer) (ready_bytes new) (parts_due source new)))
+      (sym options)
+      (subst (λ (ready : List ℕ). TakesText bytes (sealed_where old.options.is_signed (told_of signer old.signer) ready (parts_due source old))
+      (sealed_where old.options.is_signed (told_of signer new.signer) (ready_bytes new) (parts_due source new))) (sym none)
+      (part_step signer old.options.is_signed first.part old.signer new.signer text bytes (ready_bytes new) (parts_due source old) (parts_due source new) first.made is first.parts
+      (due_ends (rest_with old) first.part (source.left old.source) (parts_due source new)
+      (λ frames rest same. left_ends old.phase old.options.chunk_size (held_bytes old) old.trailers frames first.part rest same) first.parts)))
+
+  front_sealed : (old new : AwsChunkedBody F G) (text bytes : List ℕ) → text ≡ bytes ++ ready_bytes new → text ≡ ready_bytes old
+      → new ≡ record old { ready = ready_bytes new } → TakesText bytes (sealed_due source signer old) (sealed_due source signer new)
+  unfolding sealed_due
+  front_sealed old new text bytes is same others =
+      subst (λ (body : AwsChunkedBody F G). TakesText bytes (sealed_due source signer old) (sealed_due source signer body)) (sym others)
+      (subst (λ (parts : Option (List Part)). TakesText bytes (sealed_due source signer old)
+      (sealed_where old.options.is_signed (told_of signer old.signer) (ready_bytes new) parts)) (sym (parts_same old (ready_bytes new)))
+      (ready_step old.options.is_signed (told_of signer old.signer) bytes (ready_bytes old) (ready_bytes new) (parts_due source old) (sym same ∙ is)))
+
+  sealed_kept : (old new : AwsChunkedBody F G) → Keeps source old new → sealed_due source signer new ≡ sealed_due source signer old
+  unfolding sealed_due
+  sealed_kept old new keeps =
+      (λ i. sealed_where (kept i).options.is_signed (told_of signer (kept i).signer) (ready_bytes (kept i)) (option_map (λ (rest : Rest). rest.parts) (keeps.rest i)))
+    where
+      kept : new ≡ record old { source = new.source; phase = new.phase; held = new.held; taken = new.taken; trailers = new.trailers }
+      kept = keeps.others
+
+  sealed_closed : (body : AwsChunkedBody F G) → IsClosed body → IsNothing (sealed_due source signer body)
+  unfolding sealed_due
+  sealed_closed body closed =
+      none_left body.options.is_signed (told_of signer body.signer) (ready_bytes body) (parts_due source body) closed.answered (by (source.left body.source))
+    where
+      by : (left : Option (List FramePart)) (rest : List Part) → option_map (λ (rest : Rest). rest.parts) (option_map (rest_with body) left) ≡ Some rest → rest ≡ []
+      by None rest is = (let no : ◌≡◌ {A = Option (List Part)} None (Some rest) = is in cc)
+      by (Some frames) rest is =
+          (let all : ◌≡◌ {A = Option (List Part)} (Some (parts_left body.phase body.options.chunk_size (held_bytes body) body.trailers frames)) (Some rest) = is in
+          let none : parts_left body.phase body.options.chunk_size (held_bytes body) body.trailers frames ≡ [] =
+          ap (λ (at : Phase). parts_left at body.options.chunk_size (held_bytes body) body.trailers frames) closed.over in cc)
+
+  -- so is what is due of a signed body taken by what is told of the answers
+  pub sealed_taken : (old new : AwsChunkedBody F G) (result : Result ChunkNext AwsChunkedBodyError) → Answers source signer old new result
+      → HasCause source signer old new result → TakesDue (due source old) (due source new) result → (result ≡ Ok next.End → IsClosed new)
+      → TakesDue (sealed_due source signer old) (sealed_due source signer new) result
+  sealed_taken old new (Ok (next.Frame bytes)) answers cause takes closed = (by answers.2, takes.1)
+    where
+      by : ((answers.0 ≡ ready_bytes old) × (new ≡ record old { ready = ready_bytes new })) ⊎ ((ready_bytes old ≡ []) × MakesFirst source signer old new answers.0)
+          → TakesText bytes (sealed_due source signer old) (sealed_due source signer new)
+      by (inl (same, others)) = front_sealed old new answers.0 bytes answers.1 same others
+      by (inr (none, first)) = first_sealed old new answers.0 bytes cause.0.options answers.1 none first
+  sealed_taken old new (Ok next.NotYet) answers cause takes closed = sealed_kept old new answers
+  sealed_taken old new (Ok next.OutOfTurns) answers cause takes closed = sealed_kept old new answers
+  sealed_taken old new (Ok next.End) answers cause takes closed =
+      (ap (λ (body : AwsChunkedBody F G). sealed_due source signer body) answers, sealed_closed new (closed refl))
+  sealed_taken old new (Err error) answers cause takes closed = tt
+
+  -- ---- a new body
+
+  pub starts_sealed : (old new : AwsChunkedBody F G) (given : G) → new ≡ record old { signer = Some given } → StartsSealed source signer old new
+  unfolding sealed_due sealed_chunked_text
+  starts_sealed old new given is from options before who t started signed told years =
+      subst (λ (body : AwsChunkedBody F G). sealed_where body.options.is_signed (told_of signer new.signer) (ready_bytes body) (parts_due source body)
+      ≡ option_map (λ (frames : List FramePart). sealed_chunked_text who t before options.chunk_size (data_before frames) (listed (trailers_from None frames))) (source.left from))
+      (sym is)
+      ((λ i. sealed_where (encoded i) (told i) (started.nothing_ready i) (parts i)) ∙ rw years (by (source.left from)))
+    where
+      encoded : old.options.is_signed ≡ true
+      encoded = ap (λ (o : Options). o.is_signed) started.encoded ∙ signed
+
+      signer_same : (left : Option (List FramePart)) → option_map (λ (rest : Rest). rest.parts) (option_map (rest_with (record old { signer = Some given })) left)
+          ≡ option_map (λ (rest : Rest). rest.parts) (option_map (rest_with old) left)
+      signer_same None = refl
+      signer_same (Some frames) = refl
+
+      parts : parts_due source (record old { signer = Some given })
+          ≡ option_map (λ (frames : List FramePart). parts_of options.chunk_size (data_before frames) (listed (trailers_from None frames))) (source.left from)
+      parts = signer_same (source.left old.source) ∙ new_parts source old from options started
+
+      by : (left : Option (List FramePart)) → option_map (λ (rest : List Part). [] ++ sealed_text who t before rest)
+          (option_map (λ (frames : List FramePart). parts_of options.chunk_size (data_before frames) (listed (trailers_from None frames))) left)
+          ≡ option_map (λ (frames : List FramePart). sealed_text who t before (parts_of options.chunk_size (data_before frames) (listed (trailers_from None frames)))) left
+      by None = refl
+      by (Some frames) = refl
