@@ -7,7 +7,8 @@ use Rattle.sigv4.specs.declared.chunk_signer.SignChunk as SignChunk
 use Rattle.sigv4.specs.declared.error.SigningError.{SigningError}
 use Rattle.smithy_core.specs.declared.outside.frame_source.FrameSource as FrameSource
 use Rattle.smithy_core.specs.declared.outside.frame_part.FramePart.{FramePart}
-use Rattle.aws_chunked.specs.Body.{Answers, AreTurns, CanMake, Causes, Counts, Gathers, HasCause, HasLengths, HasTrailerLengths, actual_length, IsAtHand, IsClosed, IsFirst, Keeps, MakesChunk, MakesFirst, MakesTail, Readies, Rest, TakesDue, TakesText, TakesTurns, Trailer, answer_of, data_left, due, first_piece, held_bytes, idle_count, listed, parts_due, parts_left, ready_bytes, rest_with, total_of}
+use Rattle.aws_chunked.specs.Body.{Answers, AreTurns, CanMake, Causes, Counts, Gathers, HasCause, HasLengths, HasTrailerLengths, actual_length, IsAtHand, IsClosed, IsFirst, Keeps, MakesChunk, MakesFirst, MakesTail, Readies, Rest, TakesDue, TakesTurns, Trailer, answer_of, data_left, first_piece, held_bytes, idle_count, listed, parts_due, parts_left, ready_bytes, rest_with, total_of}
+use Rattle.aws_chunked.specs.Due.{due}
 use Rattle.aws_chunked.specs.Options.{counted, declared_length}
 use Rattle.aws_chunked.specs.Signing.{ChunkAnswers, FailsPart, MakesPart, TrailerAnswers, has_signature}
 use Rattle.aws_chunked.specs.Text.{Part, chunk, chunk_text, crlf, cut, cut_within, head_text, last_line, tail, tail_text, trailer_line}
@@ -20,7 +21,8 @@ use Rattle.aws_chunked.specs.declared.stop.Stop.{Stop}
 use Rattle.aws_chunked.specs.declared.stop.Stop.TheVariants as stop
 use Rattle.aws_chunked.specs.declared.phase.Phase.{Phase}
 use Rattle.aws_chunked.specs.declared.phase.Phase.TheVariants as phase
-use Rattle.aws_chunked.proofs.BodyLemmas.{chunk_due, closed_due, due_kept, front_due, parts_chunk, piece_length, tail_due}
+use Rattle.aws_chunked.proofs.BodyLemmas.{parts_chunk, piece_length}
+use Rattle.aws_chunked.proofs.DueLemmas.{closed_due, due_kept, front_due}
 use Rattle.aws_chunked.proofs.PullLemmas.{counts_of}
 use Rattle.aws_chunked.proofs.SignLemmas.{signs_error}
 use Rattle.aws_chunked.proofs.TurnLemmas.{idle_none, left_none}
@@ -179,15 +181,11 @@ module _ {F G : Type 0} (source : FrameSource.Ghosts F) (signer : SignChunk.Ghos
       keeps : Keeps source old mid
       keeps = gathers.0
 
-      clear : ready_bytes mid ≡ []
-      clear = ap (λ (body : AwsChunkedBody F G). ready_bytes body) gathers.0.others ∙ none
-
       by : (held : List ℕ) → held_bytes mid ≡ held → Readies source signer old new (Ok tt)
       by [] is =
           let made = as_tail is in
           let source_is : new.source ≡ mid.source = ap (λ (body : AwsChunkedBody F G). body.source) made.2 in (
             counts_kept old mid new (counts_of source old mid gathers.0) source_is (ap (λ (body : AwsChunkedBody F G). body.options) made.2),
-            tail_due source signer mid new clear is gathers.1 gathers.2 made ∙ due_kept source old mid gathers.0,
             part_some signer mid.options.is_signed (tail (listed mid.trailers)) mid.signer (ready_bytes new) new.signer made.0,
             turns_kept (λ (count : ℕ). count < 65536) old mid new gathers.4 source_is,
             inr (none, first_later old mid new (ready_bytes new) gathers.0 (tail_first mid new is gathers.1 gathers.2 gathers.3 made)),
@@ -197,7 +195,6 @@ module _ {F G : Type 0} (source : FrameSource.Ghosts F) (signer : SignChunk.Ghos
           let made = as_chunk full in
           let source_is : new.source ≡ mid.source = ap (λ (body : AwsChunkedBody F G). body.source) made.2 in (
             counts_kept old mid new (counts_of source old mid gathers.0) source_is (ap (λ (body : AwsChunkedBody F G). body.options) made.2),
-            chunk_due source signer mid new clear gathers.1 gathers.2 full made ∙ due_kept source old mid gathers.0,
             part_some signer mid.options.is_signed (chunk (first_piece mid)) mid.signer (ready_bytes new) new.signer made.0,
             turns_kept (λ (count : ℕ). count < 65536) old mid new gathers.4 source_is,
             inr (none, first_later old mid new (ready_bytes new) gathers.0 (chunk_first mid new gathers.1 gathers.2 full made)),
@@ -219,7 +216,7 @@ module _ {F G : Type 0} (source : FrameSource.Ghosts F) (signer : SignChunk.Ghos
   -- text is ready
   pub stays_ready : (body : AwsChunkedBody F G) → 0 < length (ready_bytes body) → Readies source signer body body (Ok tt)
   stays_ready body some =
-      (counts_not body body refl, refl, some, turns_not (λ (count : ℕ). count < 65536) body body refl (omega arith), inl refl)
+      (counts_not body body refl, some, turns_not (λ (count : ℕ). count < 65536) body body refl (omega arith), inl refl)
 
   -- ---- why nothing is made
 
@@ -362,10 +359,10 @@ module _ {F G : Type 0} (source : FrameSource.Ghosts F) (signer : SignChunk.Ghos
 
   -- ---- what a call answers
 
-  pub stopped_due : (old new : AwsChunkedBody F G) (why : Stop) → Readies source signer old new (Err why) → TakesDue (due source old) (due source new) (answer_of why)
-  stopped_due old new stop.End told = (ap (λ (body : AwsChunkedBody F G). due source body) told.0, closed_due source new told.1)
-  stopped_due old new stop.NotYet told = due_kept source old new told.0
-  stopped_due old new stop.OutOfTurns told = due_kept source old new told.0
+  pub stopped_due : (old new : AwsChunkedBody F G) (why : Stop) → Readies source signer old new (Err why) → TakesDue (due source signer old) (due source signer new) (answer_of why)
+  stopped_due old new stop.End told = (ap (λ (body : AwsChunkedBody F G). due source signer body) told.0, closed_due source signer new told.1)
+  stopped_due old new stop.NotYet told = due_kept source signer old new told.0
+  stopped_due old new stop.OutOfTurns told = due_kept source signer old new told.0
   stopped_due old new (stop.Fault error) told = tt
 
   pub stopped_answers : (old new : AwsChunkedBody F G) (why : Stop) → Readies source signer old new (Err why) → Answers source signer old new (answer_of why)
@@ -392,14 +389,9 @@ module _ {F G : Type 0} (source : FrameSource.Ghosts F) (signer : SignChunk.Ghos
   stopped_end old new stop.OutOfTurns told is = absurd (not_end (Ok next.OutOfTurns) is tt)
   stopped_end old new (stop.Fault error) told is = absurd (not_fault error is)
 
-  pub front_taken_due : (old mid new : AwsChunkedBody F G) (piece : List ℕ) → Readies source signer old mid (Ok tt) → ready_bytes mid ≡ piece ++ ready_bytes new
-      → 0 < length piece → new ≡ record mid { ready = ready_bytes new } → TakesDue (due source old) (due source new) (Ok (next.Frame piece))
-  front_taken_due old mid new piece readies is some others =
-      (subst (λ (before : Option (List ℕ)). TakesText piece before (due source new)) readies.1 (front_due source mid new piece is others), some)
-
   pub front_answers : (old mid new : AwsChunkedBody F G) (piece : List ℕ) → Readies source signer old mid (Ok tt) → ready_bytes mid ≡ piece ++ ready_bytes new
       → new ≡ record mid { ready = ready_bytes new } → Answers source signer old new (Ok (next.Frame piece))
-  front_answers old mid new piece readies is others = (ready_bytes mid, is, by readies.4)
+  front_answers old mid new piece readies is others = (ready_bytes mid, is, by readies.3)
     where
       by : (mid ≡ old) ⊎ ((ready_bytes old ≡ []) × MakesFirst source signer old mid (ready_bytes mid))
           → ((ready_bytes mid ≡ ready_bytes old) × (new ≡ record old { ready = ready_bytes new }))
@@ -430,6 +422,14 @@ module _ {F G : Type 0} (source : FrameSource.Ghosts F) (signer : SignChunk.Ghos
           lengths_ready (chunk piece) has = has
           lengths_ready (tail trailers) has = has
 
+  pub front_taken_due : (old mid new : AwsChunkedBody F G) (piece : List ℕ) → Readies source signer old mid (Ok tt) → ready_bytes mid ≡ piece ++ ready_bytes new
+      → 0 < length piece → new ≡ record mid { ready = ready_bytes new } → TakesDue (due source signer old) (due source signer new) (Ok (next.Frame piece))
+  front_taken_due old mid new piece readies is some others = (
+    front_due source signer old new piece (front_answers old mid new piece readies is others)
+        (ap (λ (body : AwsChunkedBody F G). body.options) others ∙ readies.0.options),
+    some,
+  )
+
   pub front_cause : (old mid new : AwsChunkedBody F G) (piece : List ℕ) → Readies source signer old mid (Ok tt) → new ≡ record mid { ready = ready_bytes new }
       → HasCause source signer old new (Ok (next.Frame piece))
   front_cause old mid new piece readies others =
@@ -438,7 +438,7 @@ module _ {F G : Type 0} (source : FrameSource.Ghosts F) (signer : SignChunk.Ghos
   pub front_turns : (old mid new : AwsChunkedBody F G) (piece : List ℕ) → Readies source signer old mid (Ok tt) → new ≡ record mid { ready = ready_bytes new }
       → TakesTurns source (AreTurns (Ok (next.Frame piece))) old new
   front_turns old mid new piece readies others =
-      turns_kept (AreTurns (Ok (next.Frame piece))) old mid new readies.3 (ap (λ (body : AwsChunkedBody F G). body.source) others)
+      turns_kept (AreTurns (Ok (next.Frame piece))) old mid new readies.2 (ap (λ (body : AwsChunkedBody F G). body.source) others)
 
   -- ---- a body that was closed
 

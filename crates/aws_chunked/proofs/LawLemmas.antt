@@ -1,8 +1,7 @@
 -- Laws of texts in chunks.
-use Rattle.std.proofs.Common.{◌≡◌, ℕ, zero, suc, ◌+◌, ◌*◌, ◌/◌, ◌%◌, ◌<◌, ◌≤◌, Bool, true, false, List, [], ◌∷◌, ◌++◌, length, length-append, length-drop, length-take, take, drop, take_all, map, Option, Some, None, Result, Ok, Err, inl, inr, refl, ap, sym, subst, ◌∙◌, arith, append-nil, take-append-drop}
+use Rattle.std.proofs.Common.{◌≡◌, ℕ, ◌+◌, ◌*◌, ◌/◌, ◌%◌, Bool, true, false, List, [], ◌∷◌, ◌++◌, length, length-append, drop, map, Option, Some, None, Result, Ok, Err, inl, inr, refl, ap, sym, subst, arith, append-nil, take-append-drop}
 use Rattle.std.specs.Prelude.{codes}
 use Rattle.std.specs.List.{AllByRecursion, flat_map}
-use Rattle.std.proofs.lemmas.List.{drop_all}
 use Rattle.std.proofs.lemmas.Nat.{div-add-mod', mod_below}
 use Rattle.aws_chunked.specs.Body.{Trailer, actual_length, lines_length}
 use Rattle.aws_chunked.specs.Decoded.{Decodes, DecodesOnly, IsPiecesText, IsText, IsTextOf, IsTrailer, StopsAt, TakesSignature}

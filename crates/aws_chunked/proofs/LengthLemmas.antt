@@ -9,7 +9,7 @@ use Rattle.std.proofs.lemmas.Nat.{div-add-mod', mod_below}
 use Rattle.aws_chunked.specs.Body.{Trailer, lines_length}
 use Rattle.aws_chunked.specs.Lengths.{IsLengthOf}
 use Rattle.aws_chunked.specs.Options.{IsChunkSize, Options, chunk_length, chunks_length, encoded_length, fitting, head_length, last_length}
-use Rattle.aws_chunked.specs.Text.{Part, chunk, chunk_text, chunked_text, crlf, cut, cut_within, head_text, length_text, part_text, parts_text, tail, tail_text, trailer_line}
+use Rattle.aws_chunked.specs.Text.{Part, chunk, chunk_text, chunked_text, crlf, cut, head_text, length_text, part_text, parts_text, tail, tail_text, trailer_line}
 use Rattle.aws_chunked.proofs.CutLemmas.{cut_first, cut_none}
 
 head_long : (n : ℕ) → length (head_text n None) ≡ head_length false n

@@ -1,6 +1,7 @@
 mod BodyLemmas
 mod CutLemmas
 mod DigitLemmas
+pub mod DueLemmas
 mod FillLemmas
 mod FollowLemmas
 mod LawLemmas
@@ -16,7 +17,6 @@ mod PullLemmas
 mod ReadLemmas
 mod RunLemmas
 mod SealedLawLemmas
-mod SealedLemmas
 mod SignLemmas
 mod SignatureLemmas
 mod SoundLemmas

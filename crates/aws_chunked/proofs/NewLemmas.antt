@@ -1,13 +1,13 @@
--- What is due of a body that has taken nothing.
-use Rattle.std.proofs.Common.{◌≡◌, ◌+◌, false, List, ◌++◌, length, Option, None, Some, refl, ap, ◌∙◌, arith}
+-- What is left of a body that has taken nothing.
+use Rattle.std.proofs.Common.{◌≡◌, ◌+◌, List, length, Option, None, Some, refl, ap, ◌∙◌, arith}
 use Rattle.std.specs.Prelude.{option_map}
 use Rattle.smithy_core.specs.declared.outside.frame_source.FrameSource as FrameSource
 use Rattle.smithy_core.specs.declared.outside.frame_part.FramePart.{FramePart}
-use Rattle.aws_chunked.specs.Body.{IsNew, Rest, data_before, data_left, due, listed, parts_due, parts_left, rest_text, rest_with, text_due, total_of, trailers_from}
+use Rattle.aws_chunked.specs.Body.{IsNew, Rest, data_before, data_left, listed, parts_due, parts_left, rest_with, total_of, trailers_from}
 use Rattle.aws_chunked.specs.Options.{Options, counted}
 use Rattle.aws_chunked.specs.Passing.{filled_before, pieces_due, pieces_left, pieces_of, pieces_with}
 use Rattle.aws_chunked.specs.declared.sent.Sent.TheVariants as sent
-use Rattle.aws_chunked.specs.Text.{chunked_text, parts_of, parts_text}
+use Rattle.aws_chunked.specs.Text.{parts_of}
 use Rattle.aws_chunked.specs.declared.body.AwsChunkedBody.{AwsChunkedBody}
 
 module _ {F G : Type 0} (source : FrameSource.Ghosts F) where
@@ -15,20 +15,6 @@ module _ {F G : Type 0} (source : FrameSource.Ghosts F) where
       → (rest_with body frames).parts ≡ parts_of options.chunk_size (data_before frames) (listed (trailers_from None frames))
   parts_new body from options new frames =
       λ i. parts_left (new.starts i) (new.encoded i).chunk_size (new.nothing_held i) (new.no_trailers i) frames
-
-  pub new_due : (body : AwsChunkedBody F G) (from : F) (options : Options) → IsNew from options body → options.is_signed ≡ false
-      → due source body ≡ option_map (λ (frames : List FramePart). chunked_text options.chunk_size (data_before frames) (listed (trailers_from None frames))) (source.left from)
-  unfolding due rest_text chunked_text
-  new_due body from options new unsigned =
-      (λ i. text_due (signed i) (option_map (rest_with body) (source.left (new.reads_from i)))) ∙ by (source.left from)
-    where
-      signed : body.options.is_signed ≡ false
-      signed = ap (λ (o : Options). o.is_signed) new.encoded ∙ unsigned
-
-      by : (left : Option (List FramePart)) → option_map rest_text (option_map (rest_with body) left)
-          ≡ option_map (λ (frames : List FramePart). chunked_text options.chunk_size (data_before frames) (listed (trailers_from None frames))) left
-      by None = refl
-      by (Some frames) = ap Some (λ i. new.nothing_ready i ++ parts_text (parts_new body from options new frames i))
 
   pub new_parts : (body : AwsChunkedBody F G) (from : F) (options : Options) → IsNew from options body
       → parts_due source body ≡ option_map (λ (frames : List FramePart). parts_of options.chunk_size (data_before frames) (listed (trailers_from None frames))) (source.left from)

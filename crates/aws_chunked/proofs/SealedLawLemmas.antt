@@ -1,5 +1,5 @@
 -- Signed texts are whole texts, and as long as their options tell.
-use Rattle.std.proofs.Common.{◌≡◌, ℕ, ◌+◌, ◌*◌, ◌/◌, ◌%◌, ◌<◌, Bool, true, false, ◌&&◌, ◌||◌, List, [], ◌∷◌, ◌++◌, length, map, slice_index, Option, Some, None, refl, ap, sym, ◌∙◌, arith}
+use Rattle.std.proofs.Common.{◌≡◌, ℕ, ◌*◌, ◌/◌, ◌%◌, ◌<◌, true, ◌&&◌, List, [], ◌∷◌, ◌++◌, length, map, slice_index, Some, refl, ap, ◌∙◌, arith}
 use Rattle.std.specs.Prelude.{nat_lt}
 use Rattle.std.specs.List.{AllByRecursion, list_all}
 use Rattle.std.proofs.lemmas.Bool.{agree_below_at, and_parts, ltb-true}
@@ -16,7 +16,7 @@ use Rattle.aws_chunked.specs.Body.{Trailer, actual_length}
 use Rattle.aws_chunked.specs.Decoded.{IsPiecesText, IsSignature, IsTextOf, IsTrailer, TakesSignature, is_signature_digit}
 use Rattle.aws_chunked.specs.Options.{IsChunkSize, Options, declared_length, encoded_length}
 use Rattle.aws_chunked.specs.Rests.{given}
-use Rattle.aws_chunked.specs.Sealed.{sealed_chunked_text, sealed_signatures, sealed_text, trailers_signature}
+use Rattle.aws_chunked.specs.Due.{sealed_chunked_text, sealed_signatures, sealed_text, trailers_signature}
 use Rattle.aws_chunked.specs.Signing.{has_signature}
 use Rattle.aws_chunked.specs.Text.{chunk, cut, tail}
 use Rattle.aws_chunked.proofs.LawLemmas.{signed_long}

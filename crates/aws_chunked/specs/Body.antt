@@ -1,4 +1,4 @@
--- What contracts see of a body: the text that is due of it, and what each call takes of that text and of its source.
+-- What contracts see of a body: the parts of its text that are left, and what each call takes of what is due and of its source.
 use Rattle.std.specs.Prelude.{◌≡◌, ℕ, ◌+◌, ◌<◌, ◌≤◌, ◌⊎◌, Bool, true, false, List, [], ◌∷◌, ◌++◌, length, map, sum, bytes_eq, ◌==◌, min, take, Option, IfSome, Some, None, option_map, Result, Ok, Err, if◌then◌else◌}
 use Rattle.std.specs.List.{list_any}
 use Rattle.smithy_core.specs.Outside.{RoseOrStands}
@@ -9,7 +9,7 @@ use Rattle.smithy_core.specs.declared.outside.frame_source.FrameSource as FrameS
 use Rattle.aws_chunked.specs.Options.{Options, counted, declared_length}
 use Rattle.sigv4.specs.declared.chunk_signer.SignChunk as SignChunk
 use Rattle.aws_chunked.specs.Signing.{FailsPart, MakesPart, has_signature}
-use Rattle.aws_chunked.specs.Text.{Part, chunk, parts_of, parts_text, tail, trailer_line}
+use Rattle.aws_chunked.specs.Text.{Part, chunk, parts_of, tail, trailer_line}
 use Rattle.aws_chunked.specs.declared.body.AwsChunkedBody.{AwsChunkedBody}
 use Rattle.aws_chunked.specs.declared.body.ChunkNext.{ChunkNext}
 use Rattle.aws_chunked.specs.declared.body.ChunkNext.TheVariants.{Frame, NotYet, OutOfTurns, End}
@@ -89,15 +89,6 @@ pub record Rest : Type 0 where
   pub ready : List ℕ
   pub parts : List Part
   pub total : ℕ
-
--- the text of what is left, without signatures
-unfoldable pub rest_text : Rest → List ℕ
-rest_text rest = rest.ready ++ parts_text rest.parts
-
--- the text, where it is told and unsigned
-abbrev pub text_due : Bool → Option Rest → Option (List ℕ)
-text_due true rest = None
-text_due false rest = option_map rest_text rest
 
 -- these bytes are the front of the text that was due, and the rest is due now
 abbrev pub TakesText : List ℕ → Option (List ℕ) → Option (List ℕ) → Type 0
@@ -317,10 +308,6 @@ module _ {F G : Type 0} where
     abbrev pub total_of : AwsChunkedBody F G → Option ℕ
     total_of body = option_map (λ (rest : Rest). rest.total) (rest_of body)
 
-    -- the text that is due of an unsigned body, where its source tells its frames
-    unfoldable pub due : AwsChunkedBody F G → Option (List ℕ)
-    due body = text_due body.options.is_signed (rest_of body)
-
     -- what is taken of the source is still left
     pub record Keeps (old new : AwsChunkedBody F G) : Type 0 where
       pub rest : rest_of new ≡ rest_of old
@@ -420,11 +407,10 @@ module _ {F G : Type 0} where
     abbrev pub HasCause : AwsChunkedBody F G → AwsChunkedBody F G → Result ChunkNext AwsChunkedBodyError → Type 0
     HasCause old new result = Counts source old new × Causes old new result
 
-    -- some text is ready, or none can be made for a reason; what is due stays
+    -- some text is ready, or none can be made for a reason
     abbrev pub Readies : AwsChunkedBody F G → AwsChunkedBody F G → Result (Unit {0}) Stop → Type 0
     Readies old new (Ok _) =
-        Counts source old new × (due source new ≡ due source old) × (0 < length (ready_bytes new))
-        × TakesTurns source (λ count. count < 65536) old new
+        Counts source old new × (0 < length (ready_bytes new)) × TakesTurns source (λ count. count < 65536) old new
         × ((new ≡ old) ⊎ ((ready_bytes old ≡ []) × MakesFirst old new (ready_bytes new)))
     Readies old new (Err stop.End) = (new ≡ old) × IsClosed new
     Readies old new (Err (stop.Fault error)) = HasCause old new (Err error) × TakesTurns source (AreTurns (Err error)) old new

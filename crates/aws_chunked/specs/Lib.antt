@@ -1,5 +1,6 @@
 pub mod Body
 pub mod Decoded
+pub mod Due
 pub mod Error
 pub mod Laws
 pub mod Lengths
@@ -8,7 +9,6 @@ pub mod Options
 pub mod Passing
 pub mod Reading
 pub mod Rests
-pub mod Sealed
 pub mod Signing
 pub mod TailRests
 pub mod Text

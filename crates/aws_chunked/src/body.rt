@@ -1,8 +1,8 @@
 ghost use Rattle.std.specs.Prelude.{◌≡◌, ◌↔◌, IsTrue, None, Some, false, length, option_map};
-ghost use Rattle.aws_chunked.specs.Body.{IsClosed, IsNew, data_before, due, listed, parts_due, total_of, trailers_from};
+ghost use Rattle.aws_chunked.specs.Body.{IsClosed, IsNew, data_before, listed, parts_due, total_of, trailers_from};
+ghost use Rattle.aws_chunked.specs.Due.{StartsSealed, due};
 ghost use Rattle.aws_chunked.specs.Options.{counted, data_length, encoded_length, fitting};
 ghost use Rattle.aws_chunked.specs.Passing.{filled_before, pieces_due, pieces_of};
-ghost use Rattle.aws_chunked.specs.Sealed.{StartsSealed};
 ghost use Rattle.aws_chunked.specs.Text.{chunked_text, parts_of};
 ghost use Rattle.aws_chunked.specs.declared.sent.Sent.TheVariants as sent;
 
@@ -49,11 +49,11 @@ pub struct AwsChunkedBody<F, G> {
     pub(crate) sent: Sent,
 }
 
-impl<F: FrameSource, G> AwsChunkedBody<F, G> {
+impl<F: FrameSource, G: SignChunk> AwsChunkedBody<F, G> {
     /// The body of a source, of which nothing was taken.
     pub fn new(alloc: Global, body: F, options: AwsChunkedBodyOptions) -> AwsChunkedBody<F, G>
         ensures starts { IsNew body options result }
-        ensures due { options.is_signed ≡ false → due F.FrameSource result
+        ensures due { options.is_signed ≡ false → due F.FrameSource G.SignChunk result
             ≡ option_map (λ frames. chunked_text options.chunk_size (data_before frames) (listed (trailers_from None frames))) (F.FrameSource.left body) }
         ensures parts { parts_due F.FrameSource result
             ≡ option_map (λ frames. parts_of options.chunk_size (data_before frames) (listed (trailers_from None frames))) (F.FrameSource.left body) }
@@ -104,7 +104,7 @@ impl<F: FrameSource, G: SignChunk> AwsChunkedBody<F, G> {
     /// With this signer of chunks and trailers.
     pub fn with_signer(self, signer: G) -> AwsChunkedBody<F, G>
         ensures signer { result ≡ record self { signer = Some signer } }
-        ensures sealed { StartsSealed F.FrameSource G.SignChunk self result }
+        ensures due { StartsSealed F.FrameSource G.SignChunk self result }
     {
         AwsChunkedBody {
             signer: Some(signer),

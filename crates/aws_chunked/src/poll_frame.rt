@@ -1,6 +1,6 @@
 ghost use Rattle.std.specs.Prelude.{◌≡◌, ◌<◌, ◌≤◌, [], ◌++◌, length, option_map, string_bytes, OnErr, OnOk, Ok};
-ghost use Rattle.aws_chunked.specs.Body.{Answers, AreTurns, Gathers, GoesOn, HasCause, IsClosed, IsOpen, MakesChunk, MakesTail, Pulls, Readies, TakesDue, TakesTurns, Tests, due, held_bytes, listed, ready_bytes};
-ghost use Rattle.aws_chunked.specs.Sealed.{sealed_due};
+ghost use Rattle.aws_chunked.specs.Body.{Answers, AreTurns, Gathers, GoesOn, HasCause, IsClosed, IsOpen, MakesChunk, MakesTail, Pulls, Readies, TakesDue, TakesTurns, Tests, held_bytes, listed, ready_bytes};
+ghost use Rattle.aws_chunked.specs.Due.{due};
 ghost use Rattle.aws_chunked.specs.Text.{chunk_text, tail_text};
 ghost use Rattle.aws_chunked.specs.declared.body.ChunkNext.TheVariants as next;
 
@@ -34,8 +34,7 @@ impl<F: FrameSource, G: SignChunk> AwsChunkedBody<F, G> {
     /// - [`AwsChunkedBodyError::FailedToSign`] where the signer refuses, or a signed body has none;
     /// - [`AwsChunkedBodyError::SourceFault`] where the source failed.
     pub fn poll_frame(&mut self) -> Result<ChunkNext, AwsChunkedBodyError>
-        ensures due { TakesDue (due F.FrameSource self.old) (due F.FrameSource self.new) result }
-        ensures sealed { TakesDue (sealed_due F.FrameSource G.SignChunk self.old) (sealed_due F.FrameSource G.SignChunk self.new) result }
+        ensures due { TakesDue (due F.FrameSource G.SignChunk self.old) (due F.FrameSource G.SignChunk self.new) result }
         ensures answers { Answers F.FrameSource G.SignChunk self.old self.new result }
         ensures cause { HasCause F.FrameSource G.SignChunk self.old self.new result }
         ensures turns { TakesTurns F.FrameSource (AreTurns result) self.old self.new }
@@ -53,7 +52,7 @@ impl<F: FrameSource, G: SignChunk> AwsChunkedBody<F, G> {
 
     // As `poll_frame`, but after a fault the body isn't closed: the caller does that.
     fn next_frame(&mut self) -> Result<ChunkNext, AwsChunkedBodyError>
-        ensures due { TakesDue (due F.FrameSource self.old) (due F.FrameSource self.new) result }
+        ensures due { TakesDue (due F.FrameSource G.SignChunk self.old) (due F.FrameSource G.SignChunk self.new) result }
         ensures answers { Answers F.FrameSource G.SignChunk self.old self.new result }
         ensures cause { HasCause F.FrameSource G.SignChunk self.old self.new result }
         ensures turns { TakesTurns F.FrameSource (AreTurns result) self.old self.new }

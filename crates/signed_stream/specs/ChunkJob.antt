@@ -3,7 +3,9 @@ use Rattle.std.specs.Prelude.{◌≡◌, ℕ, ◌≤◌, List, [], length, false
 use Rattle.std.specs.List.{AllByRecursion}
 use Rattle.smithy_core.specs.declared.outside.frame_part.FramePart.{FramePart}
 use Rattle.smithy_core.specs.declared.outside.frame_source.FrameSource as FrameSource
-use Rattle.aws_chunked.specs.Body.{Trailer, due, lines_length, options_in, parts_due, source_of, total_of}
+use Rattle.sigv4.specs.declared.chunk_signer.SignChunk as SignChunk
+use Rattle.aws_chunked.specs.Body.{Trailer, lines_length, options_in, parts_due, source_of, total_of}
+use Rattle.aws_chunked.specs.Due.{due}
 use Rattle.aws_chunked.specs.Options.{declared_length}
 use Rattle.aws_chunked.specs.Text.{Part, chunk, chunked_text, tail}
 use Rattle.aws_chunked.specs.declared.body.AwsChunkedBody.{AwsChunkedBody}
@@ -32,9 +34,9 @@ IsPartWith trailers (chunk bytes) = Unit {0}
 IsPartWith trailers (tail last) = last ≡ trailers
 
 -- An unsigned body of a few frames, whose data and trailers have the declared lengths: it has no fault.
-pub record IsSound {F G : Type 0} (source : FrameSource.Ghosts F) (body : AwsChunkedBody F G) : Type 0 where
+pub record IsSound {F G : Type 0} (source : FrameSource.Ghosts F) (signer : SignChunk.Ghosts G) (body : AwsChunkedBody F G) : Type 0 where
   pub text : List ℕ
-  pub text_is : due source body ≡ Some text
+  pub text_is : due source signer body ≡ Some text
   pub trailers : List Trailer
   pub unsigned : (options_in body).is_signed ≡ false
   pub declared : declared_length (options_in body).trailer_lengths ≡ lines_length trailers
@@ -48,9 +50,9 @@ pub record IsSound {F G : Type 0} (source : FrameSource.Ghosts F) (body : AwsChu
   pub few : length frames ≤ 2
 
 -- the text of a sound body that is still to be answered
-abbrev pub text_left : {F G : Type 0} → FrameSource.Ghosts F → AwsChunkedBody F G → List ℕ
-text_left source body = told_text (due source body)
+abbrev pub text_left : {F G : Type 0} → FrameSource.Ghosts F → SignChunk.Ghosts G → AwsChunkedBody F G → List ℕ
+text_left source signer body = told_text (due source signer body)
 
 -- the body is sound, and its text is this
-abbrev pub IsBodyOf : {F G : Type 0} → FrameSource.Ghosts F → List ℕ → AwsChunkedBody F G → Type 0
-IsBodyOf source text body = IsSound source body × (text_left source body ≡ text)
+abbrev pub IsBodyOf : {F G : Type 0} → FrameSource.Ghosts F → SignChunk.Ghosts G → List ℕ → AwsChunkedBody F G → Type 0
+IsBodyOf source signer text body = IsSound source signer body × (text_left source signer body ≡ text)

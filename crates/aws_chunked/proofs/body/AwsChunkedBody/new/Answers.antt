@@ -1,11 +1,12 @@
 use Rattle.std.proofs.Common.{rules, None}
 use Rattle.aws_chunked.specs.declared.phase.Phase.TheVariants as phase
 use Rattle.aws_chunked.specs.declared.sent.Sent.TheVariants as sent
-use Rattle.aws_chunked.proofs.NewLemmas.{new_due, new_parts, new_pieces, new_total}
+use Rattle.aws_chunked.proofs.DueLemmas.{new_due}
+use Rattle.aws_chunked.proofs.NewLemmas.{new_parts, new_pieces, new_total}
 use Rattle.aws_chunked.proofs.body.AwsChunkedBody.new.Goals as goal
 
 pub returns-clause-due : goal.returns-clause-due
-returns-clause-due g c = λ unsigned. new_due g.F.FrameSource _ c.args.body c.args.options (search rules) unsigned
+returns-clause-due g c = λ unsigned. new_due g.F.FrameSource g.G.SignChunk _ c.args.body c.args.options (search rules) unsigned
 
 pub returns-clause-parts : goal.returns-clause-parts
 returns-clause-parts g c =

@@ -1,12 +1,5 @@
-use Rattle.std.specs.Prelude.{Ok}
 use Rattle.aws_chunked.proofs.FillLemmas.{closed_cause, closed_turns}
-use Rattle.aws_chunked.proofs.SealedLemmas.{sealed_taken}
 use Rattle.aws_chunked.proofs.body.AwsChunkedBody.poll_frame.Goals as goal
-
-pub returns-in-Ok-clause-sealed : goal.returns-in-Ok-clause-sealed
-returns-in-Ok-clause-sealed g c =
-    sealed_taken g.F.FrameSource g.G.SignChunk c.args.self.now c.next_frame.new.self (Ok c.in-Ok.next) c.in-Ok.ensures.answers c.in-Ok.ensures.cause
-    c.in-Ok.ensures.due c.in-Ok.ensures.end
 
 pub returns-in-Err-clause-cause : goal.returns-in-Err-clause-cause
 returns-in-Err-clause-cause g c =

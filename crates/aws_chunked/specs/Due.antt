@@ -1,4 +1,4 @@
--- The text of a signed body, each of whose signatures is made over the one before it, and what is due of such a body.
+-- The text that is due of a body. In that of a signed one each signature is made over the one before it.
 use Rattle.std.specs.Prelude.{◌≡◌, ℕ, Bool, true, false, List, [], ◌∷◌, ◌++◌, IsTrue, Option, Some, None, option_map, if◌then◌else◌}
 use Rattle.smithy_core.specs.Civil.{is_in_years}
 use Rattle.smithy_core.specs.Moment.{Instant}
@@ -10,7 +10,7 @@ use Rattle.sigv4.specs.declared.chunk_signer.SignChunk as SignChunk
 use Rattle.aws_chunked.specs.Body.{IsNew, Trailer, data_before, listed, parts_due, ready_bytes, trailers_from}
 use Rattle.aws_chunked.specs.Options.{Options}
 use Rattle.aws_chunked.specs.Rests.{given}
-use Rattle.aws_chunked.specs.Text.{Part, chunk, chunk_text, parts_of, tail, tail_text}
+use Rattle.aws_chunked.specs.Text.{Part, chunk, chunk_text, parts_of, parts_text, tail, tail_text}
 use Rattle.aws_chunked.specs.declared.body.AwsChunkedBody.{AwsChunkedBody}
 
 -- the signature of trailers, where there are some, over the one before it
@@ -44,33 +44,32 @@ sealed_signatures signer t before [] trailers =
 
 -- ## What is due
 
--- text that was made, and that of the parts that are left, by a signer of which this is told: one that signs over a signature, at a
--- moment in the years
-abbrev pub sealed_left : ChunkTold → List ℕ → Option (List Part) → Option (List ℕ)
-sealed_left (sealed before signer t) ready parts =
-    if is_in_years t then option_map (λ rest. ready ++ sealed_text signer t before rest) parts else None
-sealed_left _ ready parts = None
-
--- the same, where it is signed
-abbrev pub sealed_where : Bool → ChunkTold → List ℕ → Option (List Part) → Option (List ℕ)
-sealed_where true told ready parts = sealed_left told ready parts
-sealed_where false told ready parts = None
-
 -- what is told of the signer of a body: one that has none waits for it
 abbrev pub told_of : {G : Type 0} → SignChunk.Ghosts G → Option G → ChunkTold
 told_of signer None = unwired
 told_of signer (Some held) = signer.told held
 
-module _ {F G : Type 0} (source : FrameSource.Ghosts F) (signer : SignChunk.Ghosts G) where
-  -- the text that is due of a signed body, where its source tells its frames and its signer signs over a signature at a moment in the
-  -- years
-  unfoldable pub sealed_due : AwsChunkedBody F G → Option (List ℕ)
-  sealed_due body = sealed_where body.options.is_signed (told_of signer body.signer) (ready_bytes body) (parts_due source body)
+-- the text of parts without signatures, or by a signer of which this is told: one that signs over a signature, at a moment in the years
+abbrev pub writing : Bool → ChunkTold → Option (List Part → List ℕ)
+writing false told = Some parts_text
+writing true (sealed before signer t) = if is_in_years t then Some (sealed_text signer t before) else None
+writing true _ = None
 
-  -- of a body that had taken nothing, once it has such a signer, the signed text of the data before the first trailers and of the
-  -- trailers is due
+-- text that was made, and behind it that of the parts that are left
+abbrev pub text_due : Option (List Part → List ℕ) → List ℕ → Option (List Part) → Option (List ℕ)
+text_due None ready parts = None
+text_due (Some text_of) ready parts = option_map (λ rest. ready ++ text_of rest) parts
+
+module _ {F G : Type 0} (source : FrameSource.Ghosts F) (signer : SignChunk.Ghosts G) where
+  -- the text that is due of a body, where its source tells its frames and, of a signed one, its signer signs over a signature at a
+  -- moment in the years
+  unfoldable pub due : AwsChunkedBody F G → Option (List ℕ)
+  due body = text_due (writing body.options.is_signed (told_of signer body.signer)) (ready_bytes body) (parts_due source body)
+
+  -- of a signed body that had taken nothing, once it has such a signer, the signed text of the data before the first trailers and of
+  -- the trailers is due
   abbrev pub StartsSealed : AwsChunkedBody F G → AwsChunkedBody F G → Type 0
   StartsSealed old new = (from : F) (options : Options) (before : List ℕ) (who : Signer) (t : Instant)
       → IsNew from options old → options.is_signed ≡ true → told_of signer new.signer ≡ sealed before who t → IsTrue (is_in_years t)
-      → sealed_due new
+      → due new
       ≡ option_map (λ frames. sealed_chunked_text who t before options.chunk_size (data_before frames) (listed (trailers_from None frames))) (source.left from)

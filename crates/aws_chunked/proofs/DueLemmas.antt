@@ -1,6 +1,6 @@
--- What is due of a signed body is the front of it, call by call.
-use Rattle.std.proofs.Common.{◌≡◌, ℕ, ◌⊎◌, inl, inr, ◌<◌, Bool, true, false, List, [], ◌∷◌, ◌++◌, length, map, Option, None, Some, refl, ap, sym, subst, ◌∙◌, append-nil, append_assoc}
-use Rattle.std.specs.Prelude.{Result, Ok, Err, String, string_bytes, option_map, if◌then◌else◌}
+-- Each call takes the front of what is due.
+use Rattle.std.proofs.Common.{◌≡◌, ℕ, ◌⊎◌, inl, inr, Bool, true, false, List, [], ◌∷◌, ◌++◌, map, Option, None, Some, refl, ap, sym, subst, ◌∙◌, append-nil, append_assoc}
+use Rattle.std.specs.Prelude.{Result, Ok, String, string_bytes, option_map, if◌then◌else◌}
 use Rattle.std.specs.declared.alloc.Global.{Global}
 use Rattle.smithy_core.specs.Civil.{is_in_years}
 use Rattle.smithy_core.specs.Moment.{Instant}
@@ -12,15 +12,13 @@ use Rattle.sigv4.specs.ChunkTold.{ChunkTold, SignsNext, sealed, untold, unsigned
 use Rattle.sigv4.specs.declared.chunk_signer.SignChunk as SignChunk
 use Rattle.sigv4.specs.declared.error.SigningError.{SigningError}
 use Rattle.sigv4.specs.declared.error.SigningError.TheVariants.{MomentOutOfRange}
-use Rattle.aws_chunked.specs.Body.{Answers, HasCause, IsClosed, IsNew, IsNothing, MakesFirst, Rest, TakesDue, TakesText, Trailer, data_before, due, held_bytes, Keeps, listed, parts_due, parts_left, ready_bytes, rest_with, trailers_from}
+use Rattle.aws_chunked.specs.Body.{Answers, IsClosed, IsNew, IsNothing, Keeps, MakesFirst, Rest, TakesText, Trailer, data_before, held_bytes, listed, parts_due, parts_left, ready_bytes, rest_with, trailers_from}
 use Rattle.aws_chunked.specs.Options.{Options}
-use Rattle.aws_chunked.specs.Sealed.{StartsSealed, sealed_chunked_text, sealed_due, sealed_left, sealed_text, sealed_where, told_of, trailers_signature}
+use Rattle.aws_chunked.specs.Due.{StartsSealed, due, sealed_chunked_text, sealed_text, text_due, told_of, trailers_signature, writing}
 use Rattle.aws_chunked.specs.Signing.{Answering, ChunkAnswers, MakesPart, SignsPart, TrailerAnswers, has_signature}
-use Rattle.aws_chunked.specs.Text.{Part, chunk, chunk_text, cut, parts_of, tail, tail_text}
+use Rattle.aws_chunked.specs.Text.{Part, chunk, chunk_text, chunked_text, part_text, parts_of, parts_text, tail, tail_text}
 use Rattle.aws_chunked.specs.declared.body.AwsChunkedBody.{AwsChunkedBody}
-use Rattle.aws_chunked.specs.declared.body.ChunkNext.{ChunkNext}
 use Rattle.aws_chunked.specs.declared.body.ChunkNext.TheVariants as next
-use Rattle.aws_chunked.specs.declared.error.AwsChunkedBodyError.{AwsChunkedBodyError}
 use Rattle.aws_chunked.specs.declared.phase.Phase.{Phase}
 use Rattle.aws_chunked.specs.declared.phase.Phase.TheVariants as phase
 use Rattle.aws_chunked.proofs.NewLemmas.{new_parts}
@@ -117,49 +115,55 @@ due_ends before part (Some frames) now each is rest some =
 
 -- ---- the text of a part
 
+-- the text of the first part is the front of what is due
+step : (before_of now_of : List Part → List ℕ) (part : Part) (text bytes ready : List ℕ) (before after : Option (List Part)) → text ≡ bytes ++ ready
+    → before ≡ option_map (λ (rest : List Part). part ∷ rest) after → ((rest : List Part) → after ≡ Some rest → before_of (part ∷ rest) ≡ text ++ now_of rest)
+    → TakesText bytes (text_due (Some before_of) [] before) (text_due (Some now_of) ready after)
+step before_of now_of part text bytes ready before None same parts text_is = rw parts refl
+step before_of now_of part text bytes ready before (Some rest) same parts text_is =
+    rw parts (text_is rest refl ∙ ap (λ (front : List ℕ). front ++ now_of rest) same ∙ append_assoc bytes ready (now_of rest))
+
+-- an unsigned part has no signature
+unsigned_none : {G : Type 0} (answers : Answering G) (old new : Option G) (signature : Option (String Global))
+    → SignsPart answers false old (Ok signature) new → option_map string_bytes signature ≡ None
+unsigned_none answers old new signature signs = ap (option_map string_bytes) signs.0
+
+unsigned_text : {G : Type 0} (signer : SignChunk.Ghosts G) (part : Part) (old new : Option G) (text : List ℕ) → MakesPart signer false part old text new → text ≡ part_text part
+unsigned_text signer (chunk piece) old new text made =
+    made.2 ∙ ap (λ (o : Option (List ℕ)). chunk_text o piece) (unsigned_none (ChunkAnswers signer piece) old new made.0 made.1)
+unsigned_text signer (tail trailers) old new text made =
+    made.5 ∙ (λ i. tail_text (unsigned_none (ChunkAnswers signer []) old made.1 made.0 made.3 i) trailers (last trailers made.4 i))
+  where
+    last : (all : List Trailer) → SignsPart (TrailerAnswers signer all) (has_signature false all) made.1 (Ok made.2) new → option_map string_bytes made.2 ≡ None
+    last [] signs = unsigned_none (TrailerAnswers signer []) made.1 new made.2 signs
+    last (trailer ∷ all) signs = unsigned_none (TrailerAnswers signer (trailer ∷ all)) made.1 new made.2 signs
+
 chunk_step : (piece : List ℕ) (told now : ChunkTold) (signature : Option (List ℕ)) (text bytes ready : List ℕ) (before after : Option (List Part))
     → Seals (chunk_signature piece) told signature now → text ≡ chunk_text signature piece → text ≡ bytes ++ ready
     → before ≡ option_map (λ (rest : List Part). chunk piece ∷ rest) after
-    → TakesText bytes (sealed_left told [] before) (sealed_left now ready after)
+    → TakesText bytes (text_due (writing true told) [] before) (text_due (writing true now) ready after)
 unfolding Seals sealed_text
-chunk_step piece (sealed s who t) now signature text bytes ready before after seals is same parts = rw (seals.2, parts, seals.0) (by after)
-  where
-    seal : List ℕ
-    seal = chunk_signature piece who t s
-
-    by : (left : Option (List Part)) → TakesText bytes
-        (option_map (λ (rest : List Part). [] ++ sealed_text who t s rest) (option_map (λ (rest : List Part). chunk piece ∷ rest) left))
-        (option_map (λ (rest : List Part). ready ++ sealed_text who t (chunk_signature piece who t s) rest) left)
-    by None = refl
-    by (Some rest) =
-        ap (λ (front : List ℕ). front ++ sealed_text who t (chunk_signature piece who t s) rest)
-        (ap (λ (o : Option (List ℕ)). chunk_text o piece) (sym seals.1) ∙ sym is ∙ same)
-        ∙ append_assoc bytes ready (sealed_text who t (chunk_signature piece who t s) rest)
+chunk_step piece (sealed s who t) now signature text bytes ready before after seals is same parts =
+    rw (seals.2, seals.0)
+    (step (sealed_text who t s) (sealed_text who t (chunk_signature piece who t s)) (chunk piece) text bytes ready before after same parts
+    (λ rest some. ap (λ (front : List ℕ). front ++ sealed_text who t (chunk_signature piece who t s) rest)
+    (ap (λ (o : Option (List ℕ)). chunk_text o piece) (sym seals.1) ∙ sym is)))
 chunk_step piece unwired now signature text bytes ready before after seals is same parts = absurd seals
 chunk_step piece untold now signature text bytes ready before after seals is same parts = rw seals refl
 
 tail_step : (trailers : List Trailer) (told mid now : ChunkTold) (signature last : Option (List ℕ)) (text bytes ready : List ℕ) (before after : Option (List Part))
     → Seals (chunk_signature []) told signature mid → SealsTrailers trailers mid last now → text ≡ tail_text signature trailers last → text ≡ bytes ++ ready
     → before ≡ option_map (λ (rest : List Part). tail trailers ∷ rest) after → ((rest : List Part) → after ≡ Some rest → rest ≡ [])
-    → TakesText bytes (sealed_left told [] before) (sealed_left now ready after)
+    → TakesText bytes (text_due (writing true told) [] before) (text_due (writing true now) ready after)
 unfolding Seals sealed_text
 tail_step trailers (sealed s who t) mid now signature last text bytes ready before after seals closing is same parts ends =
-    rw (closes.1.1, parts, seals.0) (by after ends)
+    rw (closes.1.1, seals.0)
+    (step (sealed_text who t s) (sealed_text who t closes.1.0) (tail trailers) text bytes ready before after same parts
+    (λ rest some. (λ i. tail_text (sym seals.1 i) trailers (sym closes.0 i)) ∙ sym is
+    ∙ sym (ap (λ (others : List Part). text ++ sealed_text who t closes.1.0 others) (ends rest some) ∙ append-nil text)))
   where
-    zero : List ℕ
-    zero = chunk_signature [] who t s
-
     closes : (last ≡ trailers_signature who t (chunk_signature [] who t s) trailers) × ((s' : List ℕ) × (now ≡ sealed s' who t))
     closes = closes_over (chunk_signature [] who t s) who t trailers last now (subst (λ (m : ChunkTold). SealsTrailers trailers m last now) seals.2 closing)
-
-    by : (left : Option (List Part)) → ((rest : List Part) → left ≡ Some rest → rest ≡ []) → TakesText bytes
-        (option_map (λ (rest : List Part). [] ++ sealed_text who t s rest) (option_map (λ (rest : List Part). tail trailers ∷ rest) left))
-        (option_map (λ (rest : List Part). ready ++ sealed_text who t closes.1.0 rest) left)
-    by None none = refl
-    by (Some rest) none =
-        (λ i. tail_text (sym seals.1 i) trailers (sym closes.0 i)) ∙ sym is ∙ same
-        ∙ ap (λ (more : List ℕ). bytes ++ more)
-        (sym (ap (λ (others : List Part). ready ++ sealed_text who t closes.1.0 others) (none rest refl) ∙ append-nil ready))
 tail_step trailers unwired mid now signature last text bytes ready before after seals closing is same parts ends = absurd seals
 tail_step trailers untold mid now signature last text bytes ready before after seals closing is same parts ends =
     rw (closes_untold trailers last now (subst (λ (m : ChunkTold). SealsTrailers trailers m last now) seals closing)) refl
@@ -167,9 +171,11 @@ tail_step trailers untold mid now signature last text bytes ready before after s
 part_step : {G : Type 0} (signer : SignChunk.Ghosts G) (is_signed : Bool) (part : Part) (old new : Option G) (text bytes ready : List ℕ) (before after : Option (List Part))
     → MakesPart signer is_signed part old text new → text ≡ bytes ++ ready → before ≡ option_map (λ (rest : List Part). part ∷ rest) after
     → ((rest : List Part) → after ≡ Some rest → EndsAt part rest)
-    → TakesText bytes (sealed_where is_signed (told_of signer old) [] before) (sealed_where is_signed (told_of signer new) ready after)
+    → TakesText bytes (text_due (writing is_signed (told_of signer old)) [] before) (text_due (writing is_signed (told_of signer new)) ready after)
 unfolding EndsAt
-part_step signer false part old new text bytes ready before after made same parts ends = refl
+part_step signer false part old new text bytes ready before after made same parts ends =
+    step parts_text parts_text part text bytes ready before after same parts
+    (λ rest some. ap (λ (front : List ℕ). front ++ parts_text rest) (sym (unsigned_text signer part old new text made)))
 part_step signer true (chunk piece) old new text bytes ready before after made same parts ends =
     chunk_step piece (told_of signer old) (told_of signer new) (option_map string_bytes made.0) text bytes ready before after
     (seals_part signer (chunk_signature piece) (ChunkAnswers signer piece) old new made.0 (λ b result a is. is.1) made.1) made.2 same parts
@@ -181,38 +187,33 @@ part_step signer true (tail trailers) old new text bytes ready before after made
 
 -- ---- text that was made
 
-ready_step : (is_signed : Bool) (told : ChunkTold) (bytes ready now : List ℕ) (parts : Option (List Part)) → ready ≡ bytes ++ now
-    → TakesText bytes (sealed_where is_signed told ready parts) (sealed_where is_signed told now parts)
-ready_step false told bytes ready now parts is = refl
-ready_step true (sealed s who t) bytes ready now parts is = by (is_in_years t) parts
-  where
-    by : (b : Bool) (left : Option (List Part)) → TakesText bytes
-        (if b then option_map (λ (rest : List Part). ready ++ sealed_text who t s rest) left else None)
-        (if b then option_map (λ (rest : List Part). now ++ sealed_text who t s rest) left else None)
-    by false left = refl
-    by true None = refl
-    by true (Some rest) = ap (λ (front : List ℕ). front ++ sealed_text who t s rest) is ∙ append_assoc bytes now (sealed_text who t s rest)
-ready_step true unwired bytes ready now parts is = refl
-ready_step true untold bytes ready now parts is = refl
+ready_step : (text_of : Option (List Part → List ℕ)) (bytes ready now : List ℕ) (parts : Option (List Part)) → ready ≡ bytes ++ now
+    → TakesText bytes (text_due text_of ready parts) (text_due text_of now parts)
+ready_step None bytes ready now parts is = refl
+ready_step (Some text_of) bytes ready now None is = refl
+ready_step (Some text_of) bytes ready now (Some rest) is = ap (λ (front : List ℕ). front ++ text_of rest) is ∙ append_assoc bytes now (text_of rest)
 
-none_left : (is_signed : Bool) (told : ChunkTold) (ready : List ℕ) (parts : Option (List Part)) → ready ≡ [] → ((rest : List Part) → parts ≡ Some rest → rest ≡ [])
-    → IsNothing (sealed_where is_signed told ready parts)
+-- of no parts there is no text
+writes_none : (is_signed : Bool) (told : ChunkTold) (parts : Option (List Part)) → ((rest : List Part) → parts ≡ Some rest → rest ≡ [])
+    → IsNothing (text_due (writing is_signed told) [] parts)
 unfolding sealed_text
-none_left false told ready parts none nothing = tt
-none_left true (sealed s who t) ready parts none nothing = by (is_in_years t) parts nothing
+writes_none false told None none = tt
+writes_none false told (Some rest) none = ap parts_text (none rest refl)
+writes_none true (sealed s who t) parts none = by (is_in_years t) parts none
   where
     by : (b : Bool) (left : Option (List Part)) → ((rest : List Part) → left ≡ Some rest → rest ≡ [])
-        → IsNothing (if b then option_map (λ (rest : List Part). ready ++ sealed_text who t s rest) left else None)
+        → IsNothing (text_due (if b then Some (sealed_text who t s) else None) [] left)
     by false left no_parts = tt
     by true None no_parts = tt
-    by true (Some rest) no_parts = (λ i. none i ++ sealed_text who t s (no_parts rest refl i))
-none_left true unwired ready parts none nothing = tt
-none_left true untold ready parts none nothing = tt
+    by true (Some rest) no_parts = ap (sealed_text who t s) (no_parts rest refl)
+writes_none true unwired parts none = tt
+writes_none true untold parts none = tt
 
 -- ---- what a call takes
 
 module _ {F G : Type 0} (source : FrameSource.Ghosts F) (signer : SignChunk.Ghosts G) where
-  parts_same : (body : AwsChunkedBody F G) (ready : List ℕ) → parts_due source (record body { ready = ready }) ≡ parts_due source body
+  -- the text that was made is none of the parts
+  pub parts_same : (body : AwsChunkedBody F G) (ready : List ℕ) → parts_due source (record body { ready = ready }) ≡ parts_due source body
   parts_same body ready = by (source.left body.source)
     where
       by : (left : Option (List FramePart)) → option_map (λ (rest : Rest). rest.parts) (option_map (rest_with (record body { ready = ready })) left)
@@ -220,39 +221,54 @@ module _ {F G : Type 0} (source : FrameSource.Ghosts F) (signer : SignChunk.Ghos
       by None = refl
       by (Some frames) = refl
 
-  first_sealed : (old new : AwsChunkedBody F G) (text bytes : List ℕ) → new.options ≡ old.options → text ≡ bytes ++ ready_bytes new → ready_bytes old ≡ []
-      → MakesFirst source signer old new text → TakesText bytes (sealed_due source signer old) (sealed_due source signer new)
-  unfolding sealed_due
-  first_sealed old new text bytes options is none first =
-      subst (λ (o : Options). TakesText bytes (sealed_due source signer old) (sealed_where o.is_signed (told_of signer new.signer) (ready_bytes new) (parts_due source new)))
+  -- how the text of the parts that are left is written
+  abbrev writing_of : AwsChunkedBody F G → Option (List Part → List ℕ)
+  writing_of body = writing body.options.is_signed (told_of signer body.signer)
+
+  first_due : (old new : AwsChunkedBody F G) (text bytes : List ℕ) → new.options ≡ old.options → text ≡ bytes ++ ready_bytes new → ready_bytes old ≡ []
+      → MakesFirst source signer old new text → TakesText bytes (due source signer old) (due source signer new)
+  unfolding due
+  first_due old new text bytes options is none first =
+      subst (λ (o : Options). TakesText bytes (due source signer old) (text_due (writing o.is_signed (told_of signer new.signer)) (ready_bytes new) (parts_due source new)))
       (sym options)
-      (subst (λ (ready : List ℕ). TakesText bytes (sealed_where old.options.is_signed (told_of signer old.signer) ready (parts_due source old))
-      (sealed_where old.options.is_signed (told_of signer new.signer) (ready_bytes new) (parts_due source new))) (sym none)
+      (subst (λ (ready : List ℕ). TakesText bytes (text_due (writing_of old) ready (parts_due source old))
+      (text_due (writing old.options.is_signed (told_of signer new.signer)) (ready_bytes new) (parts_due source new))) (sym none)
       (part_step signer old.options.is_signed first.part old.signer new.signer text bytes (ready_bytes new) (parts_due source old) (parts_due source new) first.made is first.parts
       (due_ends (rest_with old) first.part (source.left old.source) (parts_due source new)
       (λ frames rest same. left_ends old.phase old.options.chunk_size (held_bytes old) old.trailers frames first.part rest same) first.parts)))
 
-  front_sealed : (old new : AwsChunkedBody F G) (text bytes : List ℕ) → text ≡ bytes ++ ready_bytes new → text ≡ ready_bytes old
-      → new ≡ record old { ready = ready_bytes new } → TakesText bytes (sealed_due source signer old) (sealed_due source signer new)
-  unfolding sealed_due
-  front_sealed old new text bytes is same others =
-      subst (λ (body : AwsChunkedBody F G). TakesText bytes (sealed_due source signer old) (sealed_due source signer body)) (sym others)
-      (subst (λ (parts : Option (List Part)). TakesText bytes (sealed_due source signer old)
-      (sealed_where old.options.is_signed (told_of signer old.signer) (ready_bytes new) parts)) (sym (parts_same old (ready_bytes new)))
-      (ready_step old.options.is_signed (told_of signer old.signer) bytes (ready_bytes old) (ready_bytes new) (parts_due source old) (sym same ∙ is)))
+  ready_due : (old new : AwsChunkedBody F G) (text bytes : List ℕ) → text ≡ bytes ++ ready_bytes new → text ≡ ready_bytes old
+      → new ≡ record old { ready = ready_bytes new } → TakesText bytes (due source signer old) (due source signer new)
+  unfolding due
+  ready_due old new text bytes is same others =
+      subst (λ (body : AwsChunkedBody F G). TakesText bytes (due source signer old) (due source signer body)) (sym others)
+      (subst (λ (parts : Option (List Part)). TakesText bytes (due source signer old) (text_due (writing_of old) (ready_bytes new) parts))
+      (sym (parts_same old (ready_bytes new)))
+      (ready_step (writing_of old) bytes (ready_bytes old) (ready_bytes new) (parts_due source old) (sym same ∙ is)))
 
-  sealed_kept : (old new : AwsChunkedBody F G) → Keeps source old new → sealed_due source signer new ≡ sealed_due source signer old
-  unfolding sealed_due
-  sealed_kept old new keeps =
-      (λ i. sealed_where (kept i).options.is_signed (told_of signer (kept i).signer) (ready_bytes (kept i)) (option_map (λ (rest : Rest). rest.parts) (keeps.rest i)))
+  -- bytes that are answered are the front of what was due
+  pub front_due : (old new : AwsChunkedBody F G) (bytes : List ℕ) → Answers source signer old new (Ok (next.Frame bytes)) → new.options ≡ old.options
+      → TakesText bytes (due source signer old) (due source signer new)
+  front_due old new bytes answers options = by answers.2
+    where
+      by : ((answers.0 ≡ ready_bytes old) × (new ≡ record old { ready = ready_bytes new })) ⊎ ((ready_bytes old ≡ []) × MakesFirst source signer old new answers.0)
+          → TakesText bytes (due source signer old) (due source signer new)
+      by (inl (same, others)) = ready_due old new answers.0 bytes answers.1 same others
+      by (inr (none, first)) = first_due old new answers.0 bytes options answers.1 none first
+
+  pub due_kept : (old new : AwsChunkedBody F G) → Keeps source old new → due source signer new ≡ due source signer old
+  unfolding due
+  due_kept old new keeps =
+      (λ i. text_due (writing_of (kept i)) (ready_bytes (kept i)) (option_map (λ (rest : Rest). rest.parts) (keeps.rest i)))
     where
       kept : new ≡ record old { source = new.source; phase = new.phase; held = new.held; taken = new.taken; trailers = new.trailers }
       kept = keeps.others
 
-  sealed_closed : (body : AwsChunkedBody F G) → IsClosed body → IsNothing (sealed_due source signer body)
-  unfolding sealed_due
-  sealed_closed body closed =
-      none_left body.options.is_signed (told_of signer body.signer) (ready_bytes body) (parts_due source body) closed.answered (by (source.left body.source))
+  pub closed_due : (body : AwsChunkedBody F G) → IsClosed body → IsNothing (due source signer body)
+  unfolding due
+  closed_due body closed =
+      subst (λ (ready : List ℕ). IsNothing (text_due (writing_of body) ready (parts_due source body))) (sym closed.answered)
+      (writes_none body.options.is_signed (told_of signer body.signer) (parts_due source body) (by (source.left body.source)))
     where
       by : (left : Option (List FramePart)) (rest : List Part) → option_map (λ (rest : Rest). rest.parts) (option_map (rest_with body) left) ≡ Some rest → rest ≡ []
       by None rest is = (let no : ◌≡◌ {A = Option (List Part)} None (Some rest) = is in cc)
@@ -261,31 +277,30 @@ module _ {F G : Type 0} (source : FrameSource.Ghosts F) (signer : SignChunk.Ghos
           let none : parts_left body.phase body.options.chunk_size (held_bytes body) body.trailers frames ≡ [] =
           ap (λ (at : Phase). parts_left at body.options.chunk_size (held_bytes body) body.trailers frames) closed.over in cc)
 
-  -- so is what is due of a signed body taken by what is told of the answers
-  pub sealed_taken : (old new : AwsChunkedBody F G) (result : Result ChunkNext AwsChunkedBodyError) → Answers source signer old new result
-      → HasCause source signer old new result → TakesDue (due source old) (due source new) result → (result ≡ Ok next.End → IsClosed new)
-      → TakesDue (sealed_due source signer old) (sealed_due source signer new) result
-  sealed_taken old new (Ok (next.Frame bytes)) answers cause takes closed = (by answers.2, takes.1)
-    where
-      by : ((answers.0 ≡ ready_bytes old) × (new ≡ record old { ready = ready_bytes new })) ⊎ ((ready_bytes old ≡ []) × MakesFirst source signer old new answers.0)
-          → TakesText bytes (sealed_due source signer old) (sealed_due source signer new)
-      by (inl (same, others)) = front_sealed old new answers.0 bytes answers.1 same others
-      by (inr (none, first)) = first_sealed old new answers.0 bytes cause.0.options answers.1 none first
-  sealed_taken old new (Ok next.NotYet) answers cause takes closed = sealed_kept old new answers
-  sealed_taken old new (Ok next.OutOfTurns) answers cause takes closed = sealed_kept old new answers
-  sealed_taken old new (Ok next.End) answers cause takes closed =
-      (ap (λ (body : AwsChunkedBody F G). sealed_due source signer body) answers, sealed_closed new (closed refl))
-  sealed_taken old new (Err error) answers cause takes closed = tt
-
   -- ---- a new body
 
+  pub new_due : (body : AwsChunkedBody F G) (from : F) (options : Options) → IsNew from options body → options.is_signed ≡ false
+      → due source signer body ≡ option_map (λ (frames : List FramePart). chunked_text options.chunk_size (data_before frames) (listed (trailers_from None frames))) (source.left from)
+  unfolding due chunked_text
+  new_due body from options new unsigned =
+      (λ i. text_due (writing (encoded i) (told_of signer body.signer)) (new.nothing_ready i) (new_parts source body from options new i)) ∙ by (source.left from)
+    where
+      encoded : body.options.is_signed ≡ false
+      encoded = ap (λ (o : Options). o.is_signed) new.encoded ∙ unsigned
+
+      by : (left : Option (List FramePart)) → option_map (λ (rest : List Part). [] ++ parts_text rest)
+          (option_map (λ (frames : List FramePart). parts_of options.chunk_size (data_before frames) (listed (trailers_from None frames))) left)
+          ≡ option_map (λ (frames : List FramePart). parts_text (parts_of options.chunk_size (data_before frames) (listed (trailers_from None frames)))) left
+      by None = refl
+      by (Some frames) = refl
+
   pub starts_sealed : (old new : AwsChunkedBody F G) (given : G) → new ≡ record old { signer = Some given } → StartsSealed source signer old new
-  unfolding sealed_due sealed_chunked_text
+  unfolding due sealed_chunked_text
   starts_sealed old new given is from options before who t started signed told years =
-      subst (λ (body : AwsChunkedBody F G). sealed_where body.options.is_signed (told_of signer new.signer) (ready_bytes body) (parts_due source body)
+      subst (λ (body : AwsChunkedBody F G). text_due (writing body.options.is_signed (told_of signer new.signer)) (ready_bytes body) (parts_due source body)
       ≡ option_map (λ (frames : List FramePart). sealed_chunked_text who t before options.chunk_size (data_before frames) (listed (trailers_from None frames))) (source.left from))
       (sym is)
-      ((λ i. sealed_where (encoded i) (told i) (started.nothing_ready i) (parts i)) ∙ rw years (by (source.left from)))
+      ((λ i. text_due (writing (encoded i) (told i)) (started.nothing_ready i) (parts i)) ∙ rw years (by (source.left from)))
     where
       encoded : old.options.is_signed ≡ true
       encoded = ap (λ (o : Options). o.is_signed) started.encoded ∙ signed
