@@ -101,7 +101,7 @@ impl<F, G> AwsChunkedBody<F, G> {
 }
 
 impl<F: FrameSource, G: SignChunk> AwsChunkedBody<F, G> {
-    /// With this signer of chunks and trailers.
+    /// With this signer of chunks and trailers. A signed body that has taken nothing has the signed text due then.
     pub fn with_signer(self, signer: G) -> AwsChunkedBody<F, G>
         ensures signer { result ≡ record self { signer = Some signer } }
         ensures due { StartsSealed F.FrameSource G.SignChunk self result }

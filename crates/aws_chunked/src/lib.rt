@@ -2,10 +2,10 @@
 //!
 //! The layer above is promised that the frames of [`AwsChunkedBody::poll_frame`] make up the text of the data and the trailers
 //! (`specs/Text.antt`), whatever the pieces in which the data comes: each call answers the front of the text that is due and leaves
-//! the rest (`specs/Body.antt`), or tells why there is none. Those of [`AwsChunkedBody::poll_data`] are the pieces of the form for
-//! HTTP 0.x, one by one (`specs/Passing.antt`). [`AwsChunkedBodyOptions::encoded_length`] is how long the text is
-//! (`specs/Options.antt`). [`decode_chunked`] reads a whole text back, or tells the least place where the bytes stop being one
-//! (`specs/Decoded.antt`).
+//! the rest, or tells why there is none (`specs/Body.antt`); in the text of a signed body each signature is made over the one before
+//! it (`specs/Due.antt`). Those of [`AwsChunkedBody::poll_data`] are the pieces of the form for HTTP 0.x, one by one
+//! (`specs/Passing.antt`). [`AwsChunkedBodyOptions::encoded_length`] is how long the text is (`specs/Options.antt`).
+//! [`decode_chunked`] reads a whole text back, or tells the least place where the bytes stop being one (`specs/Decoded.antt`).
 #![tactic(auto)]
 
 mod body;
