@@ -1,7 +1,8 @@
--- Trailers that std's stable sort puts in order are the trailers by name.
+-- Pairs that std's stable sort puts in order are the pairs by name.
 use Rattle.std.proofs.Common.{◌≡◌, ℕ, suc, ◌<◌, ◌≤◌, ◌+◌, Bool, true, false, not, ◌&&◌, cond, List, [], ◌∷◌, length, get_or, map, refl, ap, sym, ◌∙◌, arith}
 use Rattle.std.specs.Borrow.{Bor}
-use Rattle.std.specs.Cmp.{IsStrictWeakOrder}
+use Rattle.std.specs.Prelude.{bytes_eq}
+use Rattle.std.specs.Cmp.{IsStrictWeakOrder, tied_itself}
 use Rattle.std.specs.Cmp.Lexicographic.{slice_cmp}
 use Rattle.std.specs.List.{filter}
 use Rattle.std.specs.List.Sorted.{IsSortedBy, IsSortedByKey, IsStableBy, IsStableByKey, ties}
@@ -11,7 +12,11 @@ use Rattle.std.specs.declared.cmp.Ordering.TheVariants.{Less, Equal, Greater}
 use Rattle.std.proofs.lemmas.Bool.{true≢false}
 use Rattle.std.proofs.lemmas.Cmp.{nat_list_cmp_total}
 use Rattle.std.proofs.lemmas.List.Sorted.{ranks_by, sorted_far}
-use Rattle.sigv4.specs.Chunk.{borrowed_pair, by_name, placed_by_name}
+use Rattle.smithy_core.specs.TextPairs.{named_values}
+use Rattle.sigv4.specs.Chunk.{by_name, placed_by_name}
+use Rattle.sigv4.specs.Query.{Pair}
+use Rattle.sigv4.proofs.GatheredLemmas.{InOrder, NoneLess}
+use Rattle.sigv4.proofs.InsertedLemmas.{same_name, values_if}
 
 conflict : {P : Type 0} (b : Bool) → b ≡ true → b ≡ false → P
 conflict b is lacks = absurd (true≢false (sym is ∙ lacks))
@@ -180,44 +185,90 @@ module _ {X : Type 0} (lt : X → X → Bool) (o : IsStrictWeakOrder lt) where
     sorted_stably xs ys up stable =
         same ys (sorted xs) (up_of ys (sorted_far lt o ys up)) (up_sorted xs) (λ w. stable w ∙ sym (ties_sorted w xs))
 
--- ---- trailers by name
+-- ---- pairs by name
 
-abbrev Borrowed : Type 0
-Borrowed = Bor (List ℕ) × Bor (List ℕ)
+module _ {V : Type 0} (text : V → List ℕ) where
+  abbrev Named : Type 0
+  Named = Bor (List ℕ) × V
 
-abbrev name_cmp : Borrowed → Borrowed → Ordering
-name_cmp x y = slice_cmp nat_cmp x.0.now y.0.now
+  abbrev pair_of : Named → Pair
+  pair_of x = (x.0.now, text x.1)
 
-abbrev below : Borrowed → Borrowed → Bool
-below x y = is_lt (name_cmp x y)
+  abbrev name_cmp : Named → Named → Ordering
+  name_cmp x y = slice_cmp nat_cmp x.0.now y.0.now
 
-abbrev after : Borrowed → Borrowed → Bool
-after x y = is_gt (name_cmp x y)
+  abbrev below : Named → Named → Bool
+  below x y = is_lt (name_cmp x y)
 
-after_flips : (x y : Borrowed) → after x y ≡ below y x
-after_flips x y = by (name_cmp y x) (name_cmp x y) (nat_list_cmp_total.antisymm y.0.now x.0.now)
+  abbrev after : Named → Named → Bool
+  after x y = is_gt (name_cmp x y)
+
+  after_flips : (x y : Named) → after x y ≡ below y x
+  after_flips x y = by (name_cmp y x) (name_cmp x y) (nat_list_cmp_total.antisymm y.0.now x.0.now)
+    where
+      by : (r s : Ordering) → r ≡ ordering_reverse s → is_gt s ≡ is_lt r
+      by r Less e = sym (ap is_lt e)
+      by r Equal e = sym (ap is_lt e)
+      by r Greater e = sym (ap is_lt e)
+
+  below_orders : IsStrictWeakOrder below
+  below_orders = ranks_by nat_list_cmp_total (λ (x : Named). x.0.now)
+
+  placed : (x : Named) (ys : List Named) → map pair_of (insert below below_orders after after_flips x ys) ≡ placed_by_name (pair_of x) (map pair_of ys)
+  placed x [] = refl
+  placed x (y ∷ ys) = by (after x y) (placed x ys)
+    where
+      by : (b : Bool) → map pair_of (insert below below_orders after after_flips x ys) ≡ placed_by_name (pair_of x) (map pair_of ys)
+          → map pair_of (cond b (y ∷ insert below below_orders after after_flips x ys) (x ∷ y ∷ ys))
+          ≡ cond b (pair_of y ∷ placed_by_name (pair_of x) (map pair_of ys)) (pair_of x ∷ pair_of y ∷ map pair_of ys)
+      by true rest = ap (λ l. pair_of y ∷ l) rest
+      by false rest = refl
+
+  all_placed : (xs : List Named) → map pair_of (sorted below below_orders after after_flips xs) ≡ by_name (map pair_of xs)
+  all_placed [] = refl
+  all_placed (x ∷ xs) = placed x (sorted below below_orders after after_flips xs) ∙ ap (placed_by_name (pair_of x)) (all_placed xs)
+
+  pub sorted_by_name : (xs ys : List Named) → IsSortedBy below ys → IsStableBy below xs ys → map pair_of ys ≡ by_name (map pair_of xs)
+  sorted_by_name xs ys up stable = ap (map pair_of) (sorted_stably below below_orders after after_flips xs ys up stable) ∙ all_placed xs
+
+  none_less : (x : Named) (ys : List Named) → Above below below_orders x ys → NoneLess x.0.now (map pair_of ys)
+  none_less x [] above = tt
+  none_less x (y ∷ ys) above = (above.0, none_less x ys above.1)
+
+  in_order : (ys : List Named) → Up below below_orders ys → InOrder (map pair_of ys)
+  in_order [] up = tt
+  in_order (y ∷ ys) up = (none_less y ys up.0, in_order ys up.1)
+
+  -- sorted pairs are in order
+  pub sorted_in_order : (ys : List Named) → IsSortedBy below ys → InOrder (map pair_of ys)
+  sorted_in_order ys up = in_order ys (up_of below below_orders ys (sorted_far below below_orders ys up))
+
+-- ---- the values of a name
+
+placed_named : (pair : Pair) (pairs : List Pair) (q : List ℕ) → named_values (placed_by_name pair pairs) q ≡ named_values (pair ∷ pairs) q
+placed_named pair [] q = refl
+placed_named pair (other ∷ pairs) q = by (is_gt (slice_cmp nat_cmp pair.0 other.0)) refl (placed_named pair pairs q)
   where
-    by : (r s : Ordering) → r ≡ ordering_reverse s → is_gt s ≡ is_lt r
-    by r Less e = sym (ap is_lt e)
-    by r Equal e = sym (ap is_lt e)
-    by r Greater e = sym (ap is_lt e)
+    rest : List (List ℕ)
+    rest = named_values pairs q
 
-below_orders : IsStrictWeakOrder below
-below_orders = ranks_by nat_list_cmp_total (λ (x : Borrowed). x.0.now)
+    apart : is_gt (slice_cmp nat_cmp pair.0 other.0) ≡ true → bytes_eq pair.0 q ≡ true → bytes_eq other.0 q ≡ true → ⊥
+    apart e f g =
+        let same : pair.0 ≡ other.0 = same_name pair.0 q f ∙ sym (same_name other.0 q g) in
+        true≢false (sym e ∙ ap (λ n. is_gt (slice_cmp nat_cmp n other.0)) same ∙ ap is_gt (tied_itself nat_list_cmp_total other.0))
 
-placed : (x : Borrowed) (ys : List Borrowed) → map borrowed_pair (insert below below_orders after after_flips x ys) ≡ placed_by_name (borrowed_pair x) (map borrowed_pair ys)
-placed x [] = refl
-placed x (y ∷ ys) = by (after x y) (placed x ys)
-  where
-    by : (b : Bool) → map borrowed_pair (insert below below_orders after after_flips x ys) ≡ placed_by_name (borrowed_pair x) (map borrowed_pair ys)
-        → map borrowed_pair (cond b (y ∷ insert below below_orders after after_flips x ys) (x ∷ y ∷ ys))
-        ≡ cond b (borrowed_pair y ∷ placed_by_name (borrowed_pair x) (map borrowed_pair ys)) (borrowed_pair x ∷ borrowed_pair y ∷ map borrowed_pair ys)
-    by true rest = ap (λ l. borrowed_pair y ∷ l) rest
-    by false rest = refl
+    swapped : (a b : Bool) → (a ≡ true → b ≡ true → ⊥)
+        → values_if b other.1 (values_if a pair.1 rest) ≡ values_if a pair.1 (values_if b other.1 rest)
+    swapped true true not_both = absurd (not_both refl refl)
+    swapped true false not_both = refl
+    swapped false b not_both = refl
 
-all_placed : (xs : List Borrowed) → map borrowed_pair (sorted below below_orders after after_flips xs) ≡ by_name (map borrowed_pair xs)
-all_placed [] = refl
-all_placed (x ∷ xs) = placed x (sorted below below_orders after after_flips xs) ∙ ap (placed_by_name (borrowed_pair x)) (all_placed xs)
+    by : (b : Bool) → is_gt (slice_cmp nat_cmp pair.0 other.0) ≡ b → named_values (placed_by_name pair pairs) q ≡ named_values (pair ∷ pairs) q
+        → named_values (cond b (other ∷ placed_by_name pair pairs) (pair ∷ other ∷ pairs)) q ≡ named_values (pair ∷ other ∷ pairs) q
+    by true e again = ap (values_if (bytes_eq other.0 q) other.1) again ∙ swapped (bytes_eq pair.0 q) (bytes_eq other.0 q) (apart e)
+    by false e again = refl
 
-pub sorted_by_name : (xs ys : List Borrowed) → IsSortedBy below ys → IsStableBy below xs ys → map borrowed_pair ys ≡ by_name (map borrowed_pair xs)
-sorted_by_name xs ys up stable = ap (map borrowed_pair) (sorted_stably below below_orders after after_flips xs ys up stable) ∙ all_placed xs
+-- a name has its values in order among the pairs by name
+pub by_name_named : (pairs : List Pair) (q : List ℕ) → named_values (by_name pairs) q ≡ named_values pairs q
+by_name_named [] q = refl
+by_name_named (pair ∷ pairs) q = placed_named pair (by_name pairs) q ∙ ap (values_if (bytes_eq pair.0 q) pair.1) (by_name_named pairs q)

@@ -4,6 +4,7 @@ pub mod CanonicalLemmas
 pub mod CopyLemmas
 pub mod DigestLemmas
 pub mod FitLemmas
+pub mod GatheredLemmas
 pub mod HeaderLemmas
 pub mod InsertedLemmas
 pub mod JoinLemmas

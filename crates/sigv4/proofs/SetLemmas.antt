@@ -89,7 +89,7 @@ abbrev pub is_here : List (List ℕ) → Bool
 is_here [] = false
 is_here (value ∷ values) = true
 
-bytes_eq-flipped : (a b : List ℕ) → bytes_eq a b ≡ bytes_eq b a
+pub bytes_eq-flipped : (a b : List ℕ) → bytes_eq a b ≡ bytes_eq b a
 bytes_eq-flipped a b = sym (is_eq-slice_cmp a b) ∙ (eq_by_cmp_equiv nat_list_cmp_total).symm a b ∙ is_eq-slice_cmp b a
 
 -- a name is among those of the pairs where it has values

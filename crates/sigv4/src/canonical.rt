@@ -5,13 +5,12 @@ ghost use Rattle.sigv4.specs.Canonical.{canonical_lines};
 ghost use Rattle.sigv4.specs.CanonicalHeaders.{header_texts, pair_line};
 ghost use Rattle.sigv4.specs.Path.{canonical_path};
 
-use crate::canonical_headers::push_header_lines;
+use crate::canonical_headers::{SignedValue, push_header_lines};
 use crate::path::canonical_path;
 use crate::request::SignableRequest;
 use crate::settings::SigningSettings;
 use smithy_core::{Mem, push_text_line};
 use std::alloc::Global;
-use std::collections::BTreeMap;
 
 /// The canonical text of a request, its canonical query, its signed headers and their names, and its payload's text.
 pub(crate) fn joined_text(
@@ -19,7 +18,7 @@ pub(crate) fn joined_text(
     request: &SignableRequest<'_>,
     settings: &SigningSettings,
     query: &str,
-    headers: &BTreeMap<String, String>,
+    headers: &[(&str, SignedValue<'_>)],
     names: &str,
     payload: &str,
 ) -> Mem<String>

@@ -1,20 +1,17 @@
-ghost use Rattle.std.specs.Prelude.{◌≡◌, ℕ, List, [], ◌∷◌, ◌++◌, map, codes, Some, bytes_eq, if◌then◌else◌, option_copied, string_bytes, IfOk, OnOk};
-ghost use Rattle.std.specs.BTreeMap.{IsOrdered};
+ghost use Rattle.std.specs.Prelude.{◌≡◌, ℕ, List, [], ◌∷◌, ◌++◌, map, codes, bytes_eq, if◌then◌else◌, option_copied, string_bytes, IfOk, OnOk};
 ghost use Rattle.std.specs.List.{flat_map, list_any};
-ghost use Rattle.std.specs.String.{string_cmp};
-ghost use Rattle.smithy_core.specs.TextPairs.{AreLower, inserted, lower};
+ghost use Rattle.smithy_core.specs.TextPairs.{AreLower, inserted, lower, named_values, without};
 ghost use Rattle.sigv4.specs.Canonical.{excluded_token, given_headers, is_signed, joined_names, told_payload, token_header, unsigned_in_query_form, unsigned_token, with_optional, with_signing_headers};
-ghost use Rattle.sigv4.specs.CanonicalHeaders.{HoldsHeaders, appended, header_texts, joined_value_at, pair_line, separator_before, signed_values};
+ghost use Rattle.sigv4.specs.CanonicalHeaders.{HoldsHeaders, after_values, before_value, header_pairs, header_texts, next_name, pair_line, signed_headers, signed_values, value_text};
 ghost use Rattle.sigv4.specs.Query.{Pair};
-ghost use Rattle.sigv4.specs.Settings.{settings_of};
+ghost use Rattle.sigv4.specs.Settings.{Settings, settings_of};
 ghost use Rattle.sigv4.specs.Trim.{trim_all};
 
 use crate::settings::{PayloadChecksumKind, SessionTokenMode, SignatureLocation, SigningSettings};
 use crate::token_name::{is_lower_case_of, token_header, token_parameter};
 use crate::trim::push_trimmed;
-use smithy_core::{Headers, Mem, push_text_line};
+use smithy_core::{Headers, Mem};
 use std::alloc::Global;
-use std::collections::BTreeMap;
 
 /// Whether a header of this name is signed.
 #[tactic(auto, using(crate::proofs::HeaderLemmas::finds), unfolding(crate::specs::Canonical::is_signed))]
@@ -76,108 +73,87 @@ pub(crate) struct AddedHeaders<'a> {
     pub(crate) payload: &'a str,
 }
 
-/// The headers that are signed, by name: the given ones and those that the signature adds.
-pub(crate) fn signed_headers(
+/// The value of a header that is signed.
+#[derive(Clone, Copy)]
+pub(crate) enum SignedValue<'a> {
+    /// A given value: it is signed trimmed.
+    Given(&'a str),
+    /// A value that the signature adds: it is signed as it is.
+    Added(&'a str),
+}
+
+/// The headers that are signed, by name: the given ones and those that the signature adds. Those of one name stand in order.
+pub(crate) fn signed_headers<'a>(
     alloc: Global,
-    settings: &SigningSettings,
-    headers: &Headers,
-    added: &AddedHeaders<'_>,
-) -> Mem<BTreeMap<String, String>>
+    settings: &'a SigningSettings,
+    headers: &'a Headers,
+    added: &AddedHeaders<'a>,
+) -> Mem<Vec<(&'a str, SignedValue<'a>)>>
     requires { AreLower headers.now }
-    ensures { IfOk result (HoldsHeaders (settings_of settings.now)
+    ensures { IfOk result (λ signed. header_texts signed.items ≡ signed_headers (settings_of settings.now)
         (with_signing_headers (settings_of settings.now) added.now.date.now (option_copied added.now.token)
         (told_payload settings.now.payload_checksum_kind added.now.payload.now)
         (with_optional (codes "host") (option_copied added.now.host) (given_headers headers.now)))) }
 {
-    let mut signed = BTreeMap::new(alloc);
-    put_given(alloc, settings, &mut signed, headers)?;
-    put_optional(alloc, settings, &mut signed, "host", added.host)?;
-    put_signing_headers(alloc, settings, &mut signed, added)?;
+    let mut signed = Vec::with_capacity(alloc, 16)?;
+    put_given(settings, &mut signed, headers)?;
+    put_optional(settings, &mut signed, "host", added.host)?;
+    put_signing_headers(settings, &mut signed, added)?;
+    sort_by_name(&mut signed)?;
     Ok(signed)
 }
 
-// Puts the given headers into an empty map.
-fn put_given(
-    alloc: Global,
+// Puts the given headers, where there are none yet.
+fn put_given<'a>(
     settings: &SigningSettings,
-    signed: &mut BTreeMap<String, String>,
-    headers: &Headers,
+    signed: &mut Vec<(&'a str, SignedValue<'a>)>,
+    headers: &'a Headers,
 ) -> Mem<()>
     requires lower { AreLower headers.now }
-    requires empty { HoldsHeaders (settings_of settings.now) [] signed.old }
-    ensures { OnOk result (HoldsHeaders (settings_of settings.now) (given_headers headers.now) signed.new) }
+    requires empty { signed.old.items ≡ [] }
+    ensures { OnOk result (HoldsHeaders (settings_of settings.now) (given_headers headers.now) signed.new.items) }
 {
     for (name, value) in headers.iter() {
-        append(alloc, settings, signed, name, value)?;
+        append(settings, signed, name, value)?;
     }
     Ok(())
 }
 
-// Appends a header's value to those of its name, where that is signed.
-fn append(
-    alloc: Global,
+// Appends a given header, where it is signed.
+fn append<'a>(
     settings: &SigningSettings,
-    signed: &mut BTreeMap<String, String>,
-    name: &str,
-    value: &str,
+    signed: &mut Vec<(&'a str, SignedValue<'a>)>,
+    name: &'a str,
+    value: &'a str,
 ) -> Mem<()>
-    ensures { OnOk result ((q : List ℕ) → joined_value_at signed.new q
-        ≡ appended (joined_value_at signed.old q) (signed_values (settings_of settings.now) ((name.now, trim_all value.now) ∷ []) q)) }
+    ensures { OnOk result ((q : List ℕ) → named_values (header_pairs signed.new.items) q
+        ≡ named_values (header_pairs signed.old.items) q ++ signed_values (settings_of settings.now) ((name.now, trim_all value.now) ∷ []) q) }
 {
     if is_signed(settings, name) {
-        append_signed(alloc, signed, name, value)?;
+        signed.push((name, SignedValue::Given(value)))?;
     }
     Ok(())
-}
-
-#[tactic(auto, using(std::proofs::lemmas::Map::Text::text_keys))]
-fn append_signed(
-    alloc: Global,
-    signed: &mut BTreeMap<String, String>,
-    name: &str,
-    value: &str,
-) -> Mem<()>
-    ensures { OnOk result ((q : List ℕ) → joined_value_at signed.new q
-        ≡ (if bytes_eq name.now q then appended (joined_value_at signed.old q) (trim_all value.now ∷ []) else joined_value_at signed.old q)) }
-{
-    match signed.get_mut(name) {
-        Some(values) => push_value(values, value),
-        None => {
-            let mut values = String::new(alloc);
-            push_trimmed(&mut values, value)?;
-            signed.insert(String::from_str(alloc, name)?, values)?;
-            Ok(())
-        }
-    }
-}
-
-fn push_value(values: &mut String, value: &str) -> Mem<()>
-    ensures { OnOk result (string_bytes values.new ≡ string_bytes values.old ++ 44 ∷ trim_all value.now) }
-{
-    values.push_str(",")?;
-    push_trimmed(values, value)
 }
 
 // Puts the headers that the signature adds in header form: the date, the session token where one is held, and the payload's
 // text where it has a header.
-fn put_signing_headers(
-    alloc: Global,
-    settings: &SigningSettings,
-    signed: &mut BTreeMap<String, String>,
-    added: &AddedHeaders<'_>,
+fn put_signing_headers<'a>(
+    settings: &'a SigningSettings,
+    signed: &mut Vec<(&'a str, SignedValue<'a>)>,
+    added: &AddedHeaders<'a>,
 ) -> Mem<()>
-    ensures { OnOk result ((pairs : List Pair) → HoldsHeaders (settings_of settings.now) pairs signed.old
+    ensures { OnOk result ((pairs : List Pair) → HoldsHeaders (settings_of settings.now) pairs signed.old.items
         → HoldsHeaders (settings_of settings.now)
         (with_signing_headers (settings_of settings.now) added.now.date.now (option_copied added.now.token)
-        (told_payload settings.now.payload_checksum_kind added.now.payload.now) pairs) signed.new) }
+        (told_payload settings.now.payload_checksum_kind added.now.payload.now) pairs) signed.new.items) }
 {
     match settings.signature_location {
         SignatureLocation::QueryParams => Ok(()),
         SignatureLocation::Headers => {
-            put(alloc, settings, signed, "x-amz-date", added.date)?;
-            put_optional(alloc, settings, signed, token_header(settings), added.token)?;
+            put(settings, signed, "x-amz-date", added.date)?;
+            put_optional(settings, signed, token_header(settings), added.token)?;
             let payload = told_payload(settings, added.payload);
-            put_optional(alloc, settings, signed, "x-amz-content-sha256", payload)?;
+            put_optional(settings, signed, "x-amz-content-sha256", payload)?;
             Ok(())
         }
     }
@@ -194,92 +170,139 @@ pub(crate) fn told_payload<'a>(settings: &SigningSettings, payload: &'a str) -> 
 }
 
 // Puts a header in place of all headers of its name, where there is a value.
-fn put_optional(
-    alloc: Global,
+fn put_optional<'a>(
     settings: &SigningSettings,
-    signed: &mut BTreeMap<String, String>,
-    name: &str,
-    value: Option<&str>,
+    signed: &mut Vec<(&'a str, SignedValue<'a>)>,
+    name: &'a str,
+    value: Option<&'a str>,
 ) -> Mem<()>
-    ensures { OnOk result ((pairs : List Pair) → HoldsHeaders (settings_of settings.now) pairs signed.old
-        → HoldsHeaders (settings_of settings.now) (with_optional name.now (option_copied value.entry) pairs) signed.new) }
+    ensures { OnOk result ((pairs : List Pair) → HoldsHeaders (settings_of settings.now) pairs signed.old.items
+        → HoldsHeaders (settings_of settings.now) (with_optional name.now (option_copied value.entry) pairs) signed.new.items) }
 {
     match value {
-        Some(value) => put(alloc, settings, signed, name, value),
+        Some(value) => put(settings, signed, name, value),
         None => Ok(()),
     }
 }
 
 // Puts a header in place of all headers of its name, where that is signed.
-fn put(
-    alloc: Global,
+fn put<'a>(
     settings: &SigningSettings,
-    signed: &mut BTreeMap<String, String>,
-    name: &str,
-    value: &str,
+    signed: &mut Vec<(&'a str, SignedValue<'a>)>,
+    name: &'a str,
+    value: &'a str,
 ) -> Mem<()>
-    ensures { OnOk result ((pairs : List Pair) → HoldsHeaders (settings_of settings.now) pairs signed.old
-        → HoldsHeaders (settings_of settings.now) (inserted pairs name.now value.now) signed.new) }
+    ensures { OnOk result ((pairs : List Pair) → HoldsHeaders (settings_of settings.now) pairs signed.old.items
+        → HoldsHeaders (settings_of settings.now) (inserted pairs name.now value.now) signed.new.items) }
 {
     if is_signed(settings, name) {
-        put_signed(alloc, signed, name, value)?;
+        put_signed(signed, name, value)?;
     }
     Ok(())
 }
 
-#[tactic(auto, using(std::proofs::lemmas::Map::Text::text_keys))]
-fn put_signed(
-    alloc: Global,
-    signed: &mut BTreeMap<String, String>,
-    name: &str,
-    value: &str,
+fn put_signed<'a>(
+    signed: &mut Vec<(&'a str, SignedValue<'a>)>,
+    name: &'a str,
+    value: &'a str,
 ) -> Mem<()>
-    ensures { OnOk result ((q : List ℕ) → joined_value_at signed.new q ≡ (if bytes_eq name.now q then Some value.now else joined_value_at signed.old q)) }
+    ensures { OnOk result ((q : List ℕ) → named_values (header_pairs signed.new.items) q
+        ≡ (if bytes_eq name.now q then value.now ∷ [] else named_values (header_pairs signed.old.items) q)) }
 {
-    let name = String::from_str(alloc, name)?;
-    signed.insert(name, String::from_str(alloc, value)?)?;
+    drop_named(signed, name);
+    signed.push((name, SignedValue::Added(value)))?;
     Ok(())
 }
 
-/// The names of the headers, with `;` between.
-#[tactic(auto, using(crate::proofs::HeaderLemmas::joins))]
-pub(crate) fn joined_names(alloc: Global, headers: &BTreeMap<String, String>) -> Mem<String>
-    ensures names { IfOk result (λ names. string_bytes names ≡ joined_names (map (λ entry. entry.0) (header_texts headers.now))) }
-    ensures ordered { IfOk result (λ _. IsOrdered string_cmp headers.now) }
+// Drops the headers of the name.
+fn drop_named(signed: &mut Vec<(&str, SignedValue<'_>)>, name: &str)
+    ensures { header_pairs signed.new.items ≡ without (header_pairs signed.old.items) name.now }
+{
+    signed.retain(|header| header.0 != name);
+}
+
+// Sorts the headers by the bytes of their names, and leaves those of one name in order.
+fn sort_by_name(signed: &mut Vec<(&str, SignedValue<'_>)>) -> Mem<()>
+    ensures { OnOk result ((settings : Settings) (pairs : List Pair) → HoldsHeaders settings pairs signed.old.items
+        → header_texts signed.new.items ≡ signed_headers settings pairs) }
+{
+    signed.sort_by_key(|header| header.0)?;
+    Ok(())
+}
+
+/// The names of headers that are in order, each once, with `;` between.
+#[tactic(auto, using(crate::proofs::GatheredLemmas::starts))]
+pub(crate) fn joined_names(alloc: Global, headers: &[(&str, SignedValue<'_>)]) -> Mem<String>
+    ensures { IfOk result (λ names. string_bytes names ≡ joined_names (map (λ header. header.0) (header_texts headers.now))) }
 {
     let mut names = String::with_capacity(alloc, 64)?;
-    let mut is_first = true;
-    for (name, _) in headers.iter() {
-        push_name(&mut names, is_first, name.as_str())?;
-        is_first = false;
+    let mut last = None;
+    for (name, _) in headers {
+        push_name(&mut names, last, *name)?;
+        last = Some(*name);
     }
     Ok(names)
 }
 
-// The name, behind `;` where it isn't the first.
-fn push_name(names: &mut String, is_first: bool, name: &str) -> Mem<()>
-    ensures { OnOk result (string_bytes names.new ≡ string_bytes names.old ++ separator_before is_first ++ name.now) }
+// The name, behind `;` where it isn't the first, unless it is the last one again.
+fn push_name(names: &mut String, last: Option<&str>, name: &str) -> Mem<()>
+    ensures { OnOk result (string_bytes names.new ≡ string_bytes names.old ++ next_name (option_copied last.entry) name.now) }
 {
-    if !is_first {
-        names.push_str(";")?;
+    match last {
+        None => names.push_str(name),
+        Some(last) if last == name => Ok(()),
+        Some(_) => {
+            names.push_str(";")?;
+            names.push_str(name)
+        }
     }
-    names.push_str(name)
 }
 
-/// Appends `name:value` for each header, as lines.
-pub(crate) fn push_header_lines(text: &mut String, headers: &BTreeMap<String, String>) -> Mem<()>
+/// Appends `name:value` for each name of headers that are in order, as lines. The values of one name have `,` between.
+#[tactic(auto, using(crate::proofs::GatheredLemmas::starts))]
+pub(crate) fn push_header_lines(
+    text: &mut String,
+    headers: &[(&str, SignedValue<'_>)],
+) -> Mem<()>
     ensures { OnOk result (string_bytes text.new ≡ string_bytes text.old ++ flat_map pair_line (header_texts headers.now)) }
 {
-    for (name, value) in headers.iter() {
-        push_header_line(text, name.as_str(), value.as_str())?;
+    let mut last = None;
+    for (name, value) in headers {
+        push_front(text, last, *name)?;
+        push_value(text, value)?;
+        last = Some(*name);
     }
-    Ok(())
+    push_end(text, last)
 }
 
-fn push_header_line(text: &mut String, name: &str, value: &str) -> Mem<()>
-    ensures { OnOk result (string_bytes text.new ≡ string_bytes text.old ++ pair_line (name.now, value.now)) }
+// What stands before the value of a name.
+fn push_front(text: &mut String, last: Option<&str>, name: &str) -> Mem<()>
+    ensures { OnOk result (string_bytes text.new ≡ string_bytes text.old ++ before_value (option_copied last.entry) name.now) }
 {
+    match last {
+        Some(last) if last == name => return text.push_str(","),
+        Some(_) => text.push_str("\n")?,
+        None => (),
+    }
     text.push_str(name)?;
-    text.push_str(":")?;
-    push_text_line(text, value)
+    text.push_str(":")
+}
+
+fn push_value(text: &mut String, value: &SignedValue<'_>) -> Mem<()>
+    ensures { OnOk result (string_bytes text.new ≡ string_bytes text.old ++ value_text value.now) }
+{
+    match value {
+        SignedValue::Given(value) => push_trimmed(text, *value),
+        SignedValue::Added(value) => text.push_str(*value),
+    }
+}
+
+// What stands behind the last value.
+fn push_end(text: &mut String, last: Option<&str>) -> Mem<()>
+    ensures { OnOk result (string_bytes text.new ≡ string_bytes text.old ++ after_values (option_copied last.entry)) }
+{
+    match last {
+        Some(_) => text.push_str("\n"),
+        None => Ok(()),
+    }
 }

@@ -95,7 +95,7 @@ impl SigningTexts {
             payload: payload.as_str(),
         };
         let headers = signed_headers(alloc, settings, request.headers, &added)?;
-        let names = joined_names(alloc, &headers)?;
+        let names = joined_names(alloc, headers.as_slice())?;
         let (stamp, signed) = (scope.stamp.as_str(), names.as_str());
         let parameters = signing_parameters(alloc, settings, credential.as_str(), stamp, signed)?;
         let (name, token) = (token_parameter(settings), signed_token(settings, token));
@@ -106,10 +106,12 @@ impl SigningTexts {
             request,
             settings,
             query,
-            &headers,
+            headers.as_slice(),
             signed,
             payload_text,
         )?;
+        // The headers hold the scope's and the payload's texts.
+        drop(headers);
         Ok(SigningTexts {
             scope,
             credential,
