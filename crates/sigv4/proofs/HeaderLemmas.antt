@@ -15,7 +15,7 @@ use Rattle.std.proofs.lemmas.List.Folds.{list_any-append}
 use Rattle.std.proofs.lemmas.Map.Lookups.{exact_bytes}
 use Rattle.smithy_core.specs.TextPairs.{inserted, named_values, without}
 use Rattle.sigv4.specs.Canonical.{header_line, is_signed, joined_values, signed_names, token_header, with_optional, with_signing_headers}
-use Rattle.sigv4.specs.CanonicalHeaders.{HoldsHeaders, gathered, header_pair, header_pairs, header_texts, pair_line, signed_headers, signed_values, value_text}
+use Rattle.sigv4.specs.CanonicalHeaders.{HoldsHeaders, gathered, header_pair, header_pairs, header_texts, pair_line, ordered_headers, signed_values, value_text}
 use Rattle.sigv4.specs.Query.{Pair}
 use Rattle.sigv4.specs.Settings.{Settings, is_query}
 use Rattle.sigv4.specs.declared.canonical_headers.SignedValue.{SignedValue}
@@ -72,7 +72,7 @@ value-signed settings pairs name =
 
 -- pairs in order that have the values of each name that is signed are these names in order, each with its values joined
 texts-held : (settings : Settings) (pairs held : List Pair) → InOrder held → ((name : List ℕ) → named_values held name ≡ signed_values settings pairs name)
-    → gathered held ≡ signed_headers settings pairs
+    → gathered held ≡ ordered_headers settings pairs
 texts-held settings pairs held up holds =
     let names = filter (is_signed settings) (map (λ head. head.0) pairs) in
     let set = from_entries {R = order} (map (λ n. (n, tt {0})) names) in
@@ -88,7 +88,7 @@ texts-held settings pairs held up holds =
 -- headers that are sorted by name
 pub sorted-held : (settings : Settings) (pairs : List Pair) (before after : List (Bor (List ℕ) × SignedValue))
     → IsSortedBy (λ x y. is_lt (order x.0.now y.0.now)) after → IsStableBy (λ x y. is_lt (order x.0.now y.0.now)) before after
-    → HoldsHeaders settings pairs before → header_texts after ≡ signed_headers settings pairs
+    → HoldsHeaders settings pairs before → header_texts after ≡ ordered_headers settings pairs
 sorted-held settings pairs before after up stable holds =
     texts-held settings pairs (header_pairs after) (sorted_in_order value_text after up)
     (λ name. ap (λ held. named_values held name) (sorted_by_name value_text before after up stable) ∙ by_name_named (header_pairs before) name ∙ holds name)
@@ -212,11 +212,11 @@ flat_map-lines : (pairs : List Pair) (names : List (List ℕ)) → flat_map pair
 flat_map-lines pairs [] = refl
 flat_map-lines pairs (name ∷ names) = ap (λ rest. header_line pairs name ++ rest) (flat_map-lines pairs names)
 
-pub names-held : (settings : Settings) (pairs texts : List Pair) → texts ≡ signed_headers settings pairs
+pub names-held : (settings : Settings) (pairs texts : List Pair) → texts ≡ ordered_headers settings pairs
     → map (λ (head : Pair). head.0) texts ≡ signed_names settings pairs
 names-held settings pairs texts held = ap (map (λ (head : Pair). head.0)) held ∙ map-first (joined_values pairs) (signed_names settings pairs)
 
-pub lines-held : (settings : Settings) (pairs texts : List Pair) → texts ≡ signed_headers settings pairs
+pub lines-held : (settings : Settings) (pairs texts : List Pair) → texts ≡ ordered_headers settings pairs
     → flat_map pair_line texts ≡ flat_map (header_line pairs) (signed_names settings pairs)
 lines-held settings pairs texts held = ap (flat_map pair_line) held ∙ flat_map-lines pairs (signed_names settings pairs)
 

@@ -50,8 +50,8 @@ abbrev pub HoldsHeaders : Settings → List Pair → List (Bor (List ℕ) × Sig
 HoldsHeaders settings pairs headers = (name : List ℕ) → named_values (header_pairs headers) name ≡ signed_values settings pairs name
 
 -- each signed name of these headers in order, with its values joined
-abbrev pub signed_headers : Settings → List Pair → List Pair
-signed_headers settings pairs = map (λ name. (name, joined_values pairs name)) (signed_names settings pairs)
+abbrev pub ordered_headers : Settings → List Pair → List Pair
+ordered_headers settings pairs = map (λ name. (name, joined_values pairs name)) (signed_names settings pairs)
 
 -- `name:value`, as a line
 abbrev pub pair_line : Pair → List ℕ

@@ -2,7 +2,7 @@ ghost use Rattle.std.specs.Prelude.{◌≡◌, ℕ, List, [], ◌∷◌, ◌++�
 ghost use Rattle.std.specs.List.{flat_map, list_any};
 ghost use Rattle.smithy_core.specs.TextPairs.{AreLower, inserted, lower, named_values, without};
 ghost use Rattle.sigv4.specs.Canonical.{excluded_token, given_headers, is_signed, joined_names, told_payload, token_header, unsigned_in_query_form, unsigned_token, with_optional, with_signing_headers};
-ghost use Rattle.sigv4.specs.CanonicalHeaders.{HoldsHeaders, after_values, before_value, header_pairs, header_texts, next_name, pair_line, signed_headers, signed_values, value_text};
+ghost use Rattle.sigv4.specs.CanonicalHeaders.{HoldsHeaders, after_values, before_value, header_pairs, header_texts, next_name, ordered_headers, pair_line, signed_values, value_text};
 ghost use Rattle.sigv4.specs.Query.{Pair};
 ghost use Rattle.sigv4.specs.Settings.{Settings, settings_of};
 ghost use Rattle.sigv4.specs.Trim.{trim_all};
@@ -90,7 +90,7 @@ pub(crate) fn signed_headers<'a>(
     added: &AddedHeaders<'a>,
 ) -> Mem<Vec<(&'a str, SignedValue<'a>)>>
     requires { AreLower headers.now }
-    ensures { IfOk result (λ signed. header_texts signed.items ≡ signed_headers (settings_of settings.now)
+    ensures { IfOk result (λ signed. header_texts signed.items ≡ ordered_headers (settings_of settings.now)
         (with_signing_headers (settings_of settings.now) added.now.date.now (option_copied added.now.token)
         (told_payload settings.now.payload_checksum_kind added.now.payload.now)
         (with_optional (codes "host") (option_copied added.now.host) (given_headers headers.now)))) }
@@ -224,7 +224,7 @@ fn drop_named(signed: &mut Vec<(&str, SignedValue<'_>)>, name: &str)
 // Sorts the headers by the bytes of their names, and leaves those of one name in order.
 fn sort_by_name(signed: &mut Vec<(&str, SignedValue<'_>)>) -> Mem<()>
     ensures { OnOk result ((settings : Settings) (pairs : List Pair) → HoldsHeaders settings pairs signed.old.items
-        → header_texts signed.new.items ≡ signed_headers settings pairs) }
+        → header_texts signed.new.items ≡ ordered_headers settings pairs) }
 {
     signed.sort_by_key(|header| header.0)?;
     Ok(())
@@ -260,10 +260,7 @@ fn push_name(names: &mut String, last: Option<&str>, name: &str) -> Mem<()>
 
 /// Appends `name:value` for each name of headers that are in order, as lines. The values of one name have `,` between.
 #[tactic(auto, using(crate::proofs::GatheredLemmas::starts))]
-pub(crate) fn push_header_lines(
-    text: &mut String,
-    headers: &[(&str, SignedValue<'_>)],
-) -> Mem<()>
+pub(crate) fn push_header_lines(text: &mut String, headers: &[(&str, SignedValue<'_>)]) -> Mem<()>
     ensures { OnOk result (string_bytes text.new ≡ string_bytes text.old ++ flat_map pair_line (header_texts headers.now)) }
 {
     let mut last = None;

@@ -1,10 +1,12 @@
 ghost use Rattle.std.specs.Prelude.{◌≡◌, map, IfOk};
+ghost use Rattle.std.specs.Cow.{cow_str_bytes};
 ghost use Rattle.std.specs.Iterator.{YieldsFirstBy, item_count};
 ghost use Rattle.std.specs.String.{string_bytes};
 ghost use Rattle.sigv4.specs.Instructions.{told_pair};
 
 use smithy_core::Mem;
 use std::alloc::Global;
+use std::borrow::CowStr;
 use std::marker::Model;
 
 /// A header that a signed request gets.
@@ -12,30 +14,31 @@ use std::marker::Model;
 /// Contracts see its name, its value, and whether that is to be kept out of logs.
 #[derive(Drop)]
 pub struct Header {
-    name: String,
+    name: CowStr<'static, Global>,
     value: String,
     sensitive: bool,
 }
 
 impl Model for Header {
     ghost use Rattle.std.specs.Prelude.{string_bytes};
+    ghost use Rattle.std.specs.Cow.{cow_str_bytes};
     ghost use Rattle.sigv4.specs.Instructions.{Instruction};
 
     ghost Value = { Instruction };
 
-    ghost view = { λ header. record { name = string_bytes header.name; value = string_bytes header.value; sensitive = header.sensitive } };
+    ghost view = { λ header. record { name = cow_str_bytes header.name; value = string_bytes header.value; sensitive = header.sensitive } };
 }
 
 impl Header {
     // A header of these parts.
-    pub(crate) fn new(alloc: Global, name: &str, value: String, sensitive: bool) -> Mem<Header>
-        ensures { IfOk result (λ header. header ≡ record { name = name.now; value = string_bytes value; sensitive = sensitive }) }
+    pub(crate) fn new(name: CowStr<'static, Global>, value: String, sensitive: bool) -> Header
+        ensures { result ≡ record { name = cow_str_bytes name.entry; value = string_bytes value; sensitive = sensitive } }
     {
-        Ok(Header {
-            name: String::from_str(alloc, name)?,
+        Header {
+            name,
             value,
             sensitive,
-        })
+        }
     }
 
     /// The name.

@@ -15,7 +15,7 @@ use std::alloc::Global;
 pub fn normalize_uri_path(alloc: Global, path: &str) -> Mem<String>
     ensures { IfOk result (λ text. string_bytes text ≡ norm path.now) }
 {
-    let mut kept = Vec::new(alloc);
+    let mut kept = Vec::with_capacity(alloc, 16)?;
     let mut ends_open = true;
     for segment in path.split('/') {
         ends_open = !keep(&mut kept, segment)?;

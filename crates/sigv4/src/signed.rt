@@ -12,6 +12,7 @@ use crate::signing_texts::SigningTexts;
 use crate::token_name::{token_header, token_parameter};
 use smithy_core::Mem;
 use std::alloc::Global;
+use std::borrow::CowStr;
 
 /// What goes out: headers in header form, and parameters in query form.
 pub(crate) fn instructions(
@@ -60,9 +61,9 @@ fn headers_of(
     let authorization = authorization_of(alloc, &texts, signature)?;
     let SigningTexts { scope, payload, .. } = texts;
     let mut headers = Vec::with_capacity(alloc, 4)?;
-    headers.push(Header::new(alloc, "x-amz-date", scope.stamp, false)?)?;
-    headers.push(Header::new(alloc, "authorization", authorization, false)?)?;
-    push_payload(alloc, &mut headers, settings, payload)?;
+    headers.push(Header::new(CowStr::Borrowed("x-amz-date"), scope.stamp, false))?;
+    headers.push(Header::new(CowStr::Borrowed("authorization"), authorization, false))?;
+    push_payload(&mut headers, settings, payload)?;
     push_token(alloc, &mut headers, settings, token)?;
     Ok(headers)
 }
@@ -82,18 +83,14 @@ fn authorization_of(alloc: Global, texts: &SigningTexts, signature: &str) -> Mem
 }
 
 // Appends the header of the payload's text, where that has one.
-fn push_payload(
-    alloc: Global,
-    headers: &mut Vec<Header>,
-    settings: &SigningSettings,
-    payload: String,
-) -> Mem<()>
+fn push_payload(headers: &mut Vec<Header>, settings: &SigningSettings, payload: String) -> Mem<()>
     ensures { OnOk result (headers.new.items ≡ headers.old.items
         ++ optional_header (codes "x-amz-content-sha256") false (told_payload settings.now.payload_checksum_kind (string_bytes payload))) }
 {
     match settings.payload_checksum_kind {
         PayloadChecksumKind::XAmzSha256 => {
-            headers.push(Header::new(alloc, "x-amz-content-sha256", payload, false)?)?;
+            let name = CowStr::Borrowed("x-amz-content-sha256");
+            headers.push(Header::new(name, payload, false))?;
             Ok(())
         }
         PayloadChecksumKind::NoHeader => Ok(()),
@@ -111,8 +108,9 @@ fn push_token(
         ++ optional_header (token_header (settings_of settings.now)) true (option_copied token.entry)) }
 {
     if let Some(token) = token {
+        let name = CowStr::Owned(String::from_str(alloc, token_header(settings))?);
         let value = String::from_str(alloc, token)?;
-        headers.push(Header::new(alloc, token_header(settings), value, true)?)?;
+        headers.push(Header::new(name, value, true))?;
     }
     Ok(())
 }

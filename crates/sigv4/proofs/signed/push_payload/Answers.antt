@@ -5,4 +5,4 @@ use Rattle.sigv4.proofs.signed.push_payload.Goals as goal
 pub returns-in_ok-push-in-XAmzSha256 : goal.returns-in_ok-push-in-XAmzSha256
 returns-in_ok-push-in-XAmzSha256 c =
     rw c.in-XAmzSha256.is
-    (c.in_ok-push-in-XAmzSha256.ensures.items ∙ ap (λ (header : Instruction). c.args.headers.now.items ++ header ∷ []) c.in_ok-new-in-XAmzSha256.ensures)
+    (c.in_ok-push-in-XAmzSha256.ensures.items ∙ ap (λ (header : Instruction). c.args.headers.now.items ++ header ∷ []) c.new.ensures)
