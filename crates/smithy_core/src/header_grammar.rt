@@ -1,4 +1,5 @@
-ghost use Rattle.std.specs.Prelude.{◌↔◌, IsTrue};
+ghost use Rattle.std.specs.Prelude.{◌≡◌, ◌↔◌, IsTrue};
+ghost use Rattle.http_header.specs.Token.{is_value_byte};
 ghost use Rattle.smithy_core.specs.HeaderGrammar.{IsHeaderName, IsHeaderValue};
 
 use http_header::is_token;
@@ -18,7 +19,17 @@ pub fn is_header_name(text: &str) -> bool
 pub fn is_header_value(text: &str) -> bool
     ensures { IsTrue result ↔ IsHeaderValue text.now }
 {
-    text.as_bytes()
-        .iter()
-        .all(|byte| *byte == b'\t' || (*byte >= b' ' && *byte != 127))
+    let bytes = text.as_bytes();
+    let mut is_value = true;
+    // With no early exit, so that it can be compiled to vector code.
+    for byte in bytes {
+        is_value &= is_value_byte(*byte);
+    }
+    is_value
+}
+
+fn is_value_byte(byte: u8) -> bool
+    ensures { result ≡ is_value_byte byte }
+{
+    byte == b'\t' || (byte >= b' ' && byte != 127)
 }
