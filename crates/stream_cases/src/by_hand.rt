@@ -22,38 +22,37 @@ pub fn answer(alloc: Global, words: &[&str]) -> Mem<String> {
         return unknown(alloc);
     };
     match read_job(alloc, input_of(alloc, lines)?.as_slice()) {
-        Ok(job) => of_job(alloc, name, job, lines),
+        Ok(mut job) => of_job(alloc, name, &mut job, lines),
         Err(_) => unknown(alloc),
     }
 }
 
-fn of_job(alloc: Global, name: &str, job: Job, lines: &[&str]) -> Mem<String> {
+fn of_job(alloc: Global, name: &str, job: &mut Job, lines: &[&str]) -> Mem<String> {
+    let env = env_of(alloc, lines)?;
+    let source = source_of(alloc, job)?;
+    match read_settings(alloc, &source, &env, None) {
+        Ok(settings) => under(alloc, name, settings, job, lines),
+        Err(_) => unknown(alloc),
+    }
+}
+
+fn under(
+    alloc: Global,
+    name: &str,
+    settings: Settings,
+    job: &mut Job,
+    lines: &[&str],
+) -> Mem<String> {
+    let identity = Identity::Credentials(settings.credentials);
+    let config = config_of(alloc, name, settings.region)?;
     let mut clock = clock_of(alloc, lines)?;
-    let mut request = job.request;
-    let source = source_of(alloc, job.config, job.credentials)?;
-    let signed = match read_settings(alloc, &source, &env_of(alloc, lines)?, None) {
-        Ok(settings) => sign(alloc, &mut request, name, settings, &mut clock)?,
-        Err(_) => return unknown(alloc),
-    };
-    match signed {
-        Ok(signed) => frames_of(alloc, signed.message_signer, job.events, &mut clock),
+    match sign(&mut job.request, &identity, &config, &mut clock) {
+        Ok(signed) => frames_of(alloc, signed.message_signer, job, &mut clock),
         Err(_) => unknown(alloc),
     }
 }
 
 fn sign(
-    alloc: Global,
-    request: &mut HttpRequest,
-    name: &str,
-    settings: Settings,
-    clock: &mut ListClock,
-) -> Mem<Result<Signed, SigV4SigningError>> {
-    let identity = Identity::Credentials(settings.credentials);
-    let config = config_of(alloc, name, settings.region)?;
-    Ok(sign_by(request, &identity, &config, clock))
-}
-
-fn sign_by(
     request: &mut HttpRequest,
     identity: &Identity,
     config: &SigV4OperationSigningConfig,
@@ -89,22 +88,45 @@ fn config_of(alloc: Global, name: &str, region: Region) -> Mem<SigV4OperationSig
 fn frames_of(
     alloc: Global,
     signer: SigV4MessageSigner<()>,
-    events: Vec<Message>,
+    job: &Job,
     clock: &mut ListClock,
 ) -> Mem<String> {
-    let most = events.len().saturating_add(1);
-    let mut deferred = DeferredSigner::new();
-    deferred.wire(Box::new(alloc, signer)?);
+    let source = items_of(alloc, job.events.as_slice())?;
+    let mut signs = DeferredSigner::new();
+    signs.wire(Box::new(alloc, signer)?);
     let mut adapter = MessageStreamAdapter::new(
         alloc,
         IdentityMarshaller,
         IdentityMarshaller,
-        deferred,
-        items_of(alloc, events)?,
+        signs,
+        source,
     );
+    polls(alloc, &mut adapter, clock, job.events.len())
+}
+
+fn items_of(alloc: Global, events: &[Message]) -> Mem<ListEvents<Message, Message>> {
+    let mut items = VecDeque::new(alloc);
+    for event in events {
+        items.push_back(Ok(event.try_clone()?))?;
+    }
+    Ok(ListEvents::new(items))
+}
+
+// The frames of so many events and the one that ends the stream, or those before the first refusal.
+fn polls(
+    alloc: Global,
+    adapter: &mut MessageStreamAdapter<
+        ListEvents<Message, Message>,
+        IdentityMarshaller,
+        IdentityMarshaller,
+        DeferredSigner,
+    >,
+    clock: &mut ListClock,
+    events: usize,
+) -> Mem<String> {
     let mut moments = Vec::new(alloc);
     let mut text = String::new(alloc);
-    for _ in 0..most {
+    for _ in 0..events.saturating_add(1) {
         match adapter.poll_next(clock, &mut moments) {
             Ok(Next::Frame(frame)) => push_frame(alloc, &mut text, &frame)?,
             _ => break,
@@ -114,14 +136,6 @@ fn frames_of(
 }
 
 fn push_frame(alloc: Global, text: &mut String, frame: &Bytes) -> Mem<()> {
-    text.push_str(hex::encode(alloc, frame.as_slice())?.as_str())?;
-    text.push_str("\\n")
-}
-
-fn items_of(alloc: Global, events: Vec<Message>) -> Mem<ListEvents<Message, Message>> {
-    let mut items = VecDeque::new(alloc);
-    for event in events {
-        items.push_back(Ok(event))?;
-    }
-    Ok(ListEvents::new(items))
+    let digits = hex::encode(alloc, frame.as_slice())?;
+    write!(text, "{digits}\\n")
 }

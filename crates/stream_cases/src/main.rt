@@ -3,6 +3,7 @@
 
 mod by_hand;
 mod calm;
+mod given;
 mod job_texts;
 mod jobs;
 mod runs;

@@ -1,73 +1,101 @@
-use crate::jobs::{clock_of, disk_of, env_of, fails_of, input_of};
-use crate::texts::bytes_on_one_line;
+//! Runs over I/O objects whose calls fail where the lines say so, under a clock that gives the listed moments.
+use crate::given::{Given, ended};
+use crate::jobs::fails_of;
+use crate::texts::{with_held, with_said};
 use bytes::Bytes;
 use case_lines::{bytes_of_hex, unknown};
 use eventstream::read_message_from;
 use mac_core::sha256_hex;
-use signed_stream::{Status, StreamFault, run};
-use smithy_core::{FaultySink, FaultySource, Mem};
+use signed_stream::Status;
+use smithy_core::{FaultyDisk, FaultySink, FaultySource, ListClock, Mem};
 use std::alloc::Global;
+
+type GivenFaulty = Given<FaultySource, FaultyDisk, ListClock>;
 
 /// The answer of a run.
 pub fn answer(alloc: Global, call: &str, words: &[&str]) -> Mem<String> {
-    match words {
-        [command, lines @ ..] => answer_to(alloc, call, command, lines),
-        [] => unknown(alloc),
+    let [command, lines @ ..] = words else {
+        return unknown(alloc);
+    };
+    let mut given = Given::faulty(alloc, command, lines)?;
+    answer_of(alloc, call, &mut given, lines)
+}
+
+fn answer_of(alloc: Global, call: &str, given: &mut GivenFaulty, lines: &[&str]) -> Mem<String> {
+    match call {
+        "run_refusal" => refusal(alloc, unheard(alloc, given)),
+        "run_status" => status(alloc, &unheard(alloc, given)),
+        _ => outcome(alloc, call, given, lines),
     }
 }
 
-fn answer_to(alloc: Global, call: &str, command: &str, lines: &[&str]) -> Mem<String> {
+// How a run ends whose sinks nobody reads.
+fn unheard(alloc: Global, given: &mut GivenFaulty) -> Status {
+    let mut out = FaultySink::new(alloc, Vec::new(alloc));
+    let mut err = FaultySink::new(alloc, Vec::new(alloc));
+    ended(alloc, given, &mut out, &mut err)
+}
+
+// Why a run refused, with the place.
+fn refusal(alloc: Global, status: Status) -> Mem<String> {
+    match status {
+        Status::Refused(fault) => format!(in alloc; "{fault:?}"),
+        _ => String::from_str(alloc, "not refused"),
+    }
+}
+
+// How a run ended, and whether a copy of that is equal.
+fn status(alloc: Global, status: &Status) -> Mem<String> {
+    let copy = status.try_clone()?;
+    let is_equal = copy == *status;
+    format!(in alloc; "{copy:?}, equal: {is_equal}")
+}
+
+// How a run ended, and what the call tells of its output.
+fn outcome(alloc: Global, call: &str, given: &mut GivenFaulty, lines: &[&str]) -> Mem<String> {
+    let mut out = FaultySink::new(alloc, fails_of(alloc, lines, "@out")?);
+    let ending = ending(alloc, given, &mut out, lines);
     match call {
-        "run" => whole(alloc, command, lines),
-        "run_digest" => digest(alloc, command, lines),
-        "run_events" => events(alloc, command, lines),
-        "run_refusal" => refusal(alloc, command, lines),
-        "run_status" => status(alloc, command, lines),
+        "run" => with_held(alloc, ending, out.held()),
+        "run_digest" => with_digest(alloc, ending, out.held()),
+        "run_events" => with_events(alloc, ending, out.held()),
         _ => unknown(alloc),
     }
 }
 
-// The number of the status, what `err` holds, and what the output holds.
-fn whole(alloc: Global, command: &str, lines: &[&str]) -> Mem<String> {
-    let mut out = FaultySink::new(alloc, fails_of(alloc, lines, "@out")?);
-    let ending = ending(alloc, command, lines, &mut out)?;
-    with_held(alloc, ending.as_str(), out.held())
+// The number that a run ends with, and what `err` holds.
+fn ending(
+    alloc: Global,
+    given: &mut GivenFaulty,
+    out: &mut FaultySink,
+    lines: &[&str],
+) -> Mem<String> {
+    let mut err = FaultySink::new(alloc, fails_of(alloc, lines, "@err")?);
+    let code = ended(alloc, given, out, &mut err).code();
+    with_said(alloc, code, err.held())
 }
 
-/// What `err` says and the output holds.
-pub fn with_held(alloc: Global, ending: &str, held: &[u8]) -> Mem<String> {
-    let held = bytes_on_one_line(alloc, held)?;
-    format!(in alloc; "{ending}|{held}")
-}
-
-// The number of the status, what `err` holds, and length and digest of what the output holds.
-fn digest(alloc: Global, command: &str, lines: &[&str]) -> Mem<String> {
-    let mut out = FaultySink::new(alloc, fails_of(alloc, lines, "@out")?);
-    let ending = ending(alloc, command, lines, &mut out)?;
-    with_digest(alloc, ending.as_str(), out.held())
-}
-
-fn with_digest(alloc: Global, ending: &str, held: &[u8]) -> Mem<String> {
+// How a run ended, and length and digest of what the output holds.
+fn with_digest(alloc: Global, ending: Mem<String>, held: &[u8]) -> Mem<String> {
+    let ending = ending?;
     let digest = sha256_hex(alloc, held)?;
     format!(in alloc; "{ending}|{} {digest}", held.len())
 }
 
-// The number of the status, what `err` holds, and the frames of the events, each from the payload of its signed one.
-fn events(alloc: Global, command: &str, lines: &[&str]) -> Mem<String> {
-    let mut out = FaultySink::new(alloc, fails_of(alloc, lines, "@out")?);
-    let mut text = ending(alloc, command, lines, &mut out)?;
-    push_events(alloc, &mut text, out.held())?;
-    Ok(text)
-}
-
-fn push_events(alloc: Global, text: &mut String, held: &[u8]) -> Mem<()> {
+// How a run ended, and the frames of the events, each from the payload of its signed one.
+fn with_events(alloc: Global, ending: Mem<String>, held: &[u8]) -> Mem<String> {
+    let mut text = ending?;
     let held = std::str::from_utf8(held).unwrap_or("");
     let (_, frames) = held.split_once("\n\n").unwrap_or(("", ""));
     for frame in frames.split('\n') {
-        text.push('|')?;
-        text.push_str(payload_of(alloc, frame)?.as_str())?;
+        push_event(alloc, &mut text, frame)?;
     }
-    Ok(())
+    Ok(text)
+}
+
+fn push_event(alloc: Global, text: &mut String, frame: &str) -> Mem<()> {
+    let payload = payload_of(alloc, frame)?;
+    write!(text, "|{payload}")
 }
 
 // The payload of a frame in hexadecimal.
@@ -77,87 +105,4 @@ fn payload_of(alloc: Global, frame: &str) -> Mem<String> {
         Ok(message) => hex::encode(alloc, message.payload().as_slice()),
         Err(_) => Ok(String::new(alloc)),
     }
-}
-
-// Why a run refused, with the place.
-fn refusal(alloc: Global, command: &str, lines: &[&str]) -> Mem<String> {
-    let mut out = FaultySink::new(alloc, Vec::new(alloc));
-    let mut err = FaultySink::new(alloc, Vec::new(alloc));
-    match ended(alloc, command, lines, &mut out, &mut err)? {
-        Status::Refused(fault) => fault_text(alloc, fault),
-        _ => String::from_str(alloc, "not refused"),
-    }
-}
-
-fn fault_text(alloc: Global, fault: StreamFault) -> Mem<String> {
-    format!(in alloc; "{fault:?}")
-}
-
-// How a run ended, and whether a copy of that is equal.
-fn status(alloc: Global, command: &str, lines: &[&str]) -> Mem<String> {
-    let mut out = FaultySink::new(alloc, Vec::new(alloc));
-    let mut err = FaultySink::new(alloc, Vec::new(alloc));
-    let status = ended(alloc, command, lines, &mut out, &mut err)?;
-    let copy = status.try_clone()?;
-    let is_equal = copy == status;
-    format!(in alloc; "{copy:?}, equal: {is_equal}")
-}
-
-// The number that a run ends with, and what `err` holds.
-fn ending(alloc: Global, command: &str, lines: &[&str], out: &mut FaultySink) -> Mem<String> {
-    let mut err = FaultySink::new(alloc, fails_of(alloc, lines, "@err")?);
-    let number = number_of(alloc, command, lines, out, &mut err)?;
-    let said = bytes_on_one_line(alloc, err.held())?;
-    format!(in alloc; "{number} {said}")
-}
-
-fn number_of(
-    alloc: Global,
-    command: &str,
-    lines: &[&str],
-    out: &mut FaultySink,
-    err: &mut FaultySink,
-) -> Mem<u8> {
-    match ended(alloc, command, lines, out, err)? {
-        // By this arm the prover is told of the fault's type.
-        Status::Refused(fault) => Ok(Status::Refused(fault).code()),
-        status => Ok(status.code()),
-    }
-}
-
-fn ended(
-    alloc: Global,
-    command: &str,
-    lines: &[&str],
-    out: &mut FaultySink,
-    err: &mut FaultySink,
-) -> Mem<Status> {
-    let words = words_of(alloc, command)?;
-    let mut input = input_source(alloc, lines)?;
-    let env = env_of(alloc, lines)?;
-    let mut disk = disk_of(alloc, lines)?;
-    Ok(run(
-        alloc,
-        words.as_slice(),
-        &env,
-        &mut input,
-        &mut disk,
-        &mut clock_of(alloc, lines)?,
-        out,
-        err,
-    ))
-}
-
-fn input_source(alloc: Global, lines: &[&str]) -> Mem<FaultySource> {
-    let fails = fails_of(alloc, lines, "@read")?;
-    Ok(FaultySource::new(input_of(alloc, lines)?, fails))
-}
-
-/// The words between spaces, each with its own spaces in place of `%20`.
-pub fn words_of(alloc: Global, command: &str) -> Mem<Vec<String>> {
-    let mut words = Vec::new(alloc);
-    for word in command.split_whitespace() {
-        words.push(word.replace(alloc, "%20", " ")?)?;
-    }
-    Ok(words)
 }

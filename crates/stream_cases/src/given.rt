@@ -1,0 +1,73 @@
+//! What a run is given, and how it ends.
+use crate::jobs::{clock_of, disk_of, env_of, fails_of, files_of, input_of};
+use signed_stream::{Status, run};
+use smithy_core::{
+    ByteSink, ByteSource, CalmDisk, CalmSource, Clock, Disk, Env, FaultyDisk, FaultySource,
+    FixedClock, ListClock, Mem,
+};
+use std::alloc::Global;
+
+/// The words, the variables and what else a run reads.
+#[derive(Drop)]
+pub struct Given<S, D, C> {
+    words: Vec<String>,
+    env: Env,
+    input: S,
+    disk: D,
+    clock: C,
+}
+
+impl Given<FaultySource, FaultyDisk, ListClock> {
+    /// An input and a disk whose calls `@read PLACE` and `@disk PLACE` fail, and a clock of the listed moments.
+    pub fn faulty(alloc: Global, command: &str, lines: &[&str]) -> Mem<Self> {
+        let fails = fails_of(alloc, lines, "@read")?;
+        Ok(Given {
+            input: FaultySource::new(input_of(alloc, lines)?, fails),
+            clock: clock_of(alloc, lines)?,
+            words: words_of(alloc, command)?,
+            env: env_of(alloc, lines)?,
+            disk: disk_of(alloc, lines)?,
+        })
+    }
+}
+
+impl Given<CalmSource, CalmDisk, FixedClock> {
+    /// An input and a disk that never fail, and a clock that stands at the first of the listed moments.
+    pub fn calm(alloc: Global, command: &str, lines: &[&str]) -> Mem<Self> {
+        Ok(Given {
+            clock: FixedClock::new(clock_of(alloc, lines)?.now()),
+            input: CalmSource::new(input_of(alloc, lines)?),
+            words: words_of(alloc, command)?,
+            env: env_of(alloc, lines)?,
+            disk: CalmDisk::new(files_of(alloc, lines)?),
+        })
+    }
+}
+
+// The words between spaces, each with its own spaces in place of `%20`.
+fn words_of(alloc: Global, command: &str) -> Mem<Vec<String>> {
+    let mut words = Vec::new(alloc);
+    for word in command.split_whitespace() {
+        words.push(word.replace(alloc, "%20", " ")?)?;
+    }
+    Ok(words)
+}
+
+/// How a run ends that writes to these sinks.
+pub fn ended<S: ByteSource, D: Disk, C: Clock, K: ByteSink>(
+    alloc: Global,
+    given: &mut Given<S, D, C>,
+    out: &mut K,
+    err: &mut K,
+) -> Status {
+    run(
+        alloc,
+        given.words.as_slice(),
+        &given.env,
+        &mut given.input,
+        &mut given.disk,
+        &mut given.clock,
+        out,
+        err,
+    )
+}
