@@ -1,8 +1,8 @@
--- Signed texts are whole texts, and as long as their options tell.
-use Rattle.std.proofs.Common.{◌≡◌, ℕ, ◌*◌, ◌/◌, ◌%◌, ◌<◌, true, ◌&&◌, List, [], ◌∷◌, ◌++◌, length, map, slice_index, Some, refl, ap, ◌∙◌, arith}
-use Rattle.std.specs.Prelude.{nat_lt}
+-- Frames make up the text, and signed texts are whole texts, and as long as their options tell.
+use Rattle.std.proofs.Common.{◌≡◌, ℕ, ◌*◌, ◌/◌, ◌%◌, ◌<◌, true, ◌&&◌, List, [], ◌∷◌, ◌++◌, length, map, slice_index, Some, refl, ap, ◌∙◌, arith, sym, subst, Option, None}
+use Rattle.std.specs.Prelude.{nat_lt, IsOk, Ok, Err, Result}
 use Rattle.std.specs.List.{AllByRecursion, list_all}
-use Rattle.std.proofs.lemmas.Bool.{agree_below_at, and_parts, ltb-true}
+use Rattle.std.proofs.lemmas.Bool.{agree_below_at, and_parts, ltb-true, false≢true}
 use Rattle.std.proofs.lemmas.List.Sums.{AllPass-from_list_all}
 use Rattle.hex.specs.Hex.{encode_lower, encode_with, lower_digits}
 use Rattle.hex.proofs.HexLemmas.{length-encode_with}
@@ -12,13 +12,17 @@ use Rattle.eventstream.specs.Key.{Signer, signing_key}
 use Rattle.eventstream.proofs.LinkLemmas.{length-mac}
 use Rattle.sigv4.specs.Chunk.{chunk_signature, text_signature, trailer_signature}
 use Rattle.sigv4.proofs.SignatureLemmas.{sha256-bytes}
-use Rattle.aws_chunked.specs.Body.{Trailer, actual_length}
+use Rattle.aws_chunked.specs.Body.{Trailer, actual_length, IsNothing}
 use Rattle.aws_chunked.specs.Decoded.{IsPiecesText, IsSignature, IsTextOf, IsTrailer, TakesSignature, is_signature_digit}
+use Rattle.aws_chunked.specs.Laws.{TakeDue, answered_bytes}
 use Rattle.aws_chunked.specs.Options.{IsChunkSize, Options, declared_length, encoded_length}
 use Rattle.aws_chunked.specs.Rests.{given}
 use Rattle.aws_chunked.specs.Due.{sealed_chunked_text, sealed_signatures, sealed_text, trailers_signature}
 use Rattle.aws_chunked.specs.Signing.{has_signature}
 use Rattle.aws_chunked.specs.Text.{chunk, cut, tail}
+use Rattle.aws_chunked.specs.declared.body.ChunkNext.{ChunkNext}
+use Rattle.aws_chunked.specs.declared.body.ChunkNext.TheVariants as next
+use Rattle.aws_chunked.specs.declared.error.AwsChunkedBodyError.{AwsChunkedBodyError}
 use Rattle.aws_chunked.proofs.LawLemmas.{signed_long}
 
 -- ## Signatures
@@ -85,6 +89,22 @@ sealed_whole signer t before size body trailers in_range are = record {
   trailers_are = are;
   is_text = pieces_sealed signer t before (cut size body) trailers;
 }
+
+-- ## Joined frames
+
+pub all_answered : (text : List ℕ) (results : List (Result ChunkNext AwsChunkedBodyError)) (last : Option (List ℕ)) → AllByRecursion IsOk results
+    → TakeDue (Some text) (results ++ Ok next.End ∷ []) last → answered_bytes results ≡ text
+all_answered text [] last fine (mid, takes, ends) = sym (subst IsNothing takes.0 takes.1)
+all_answered text (Ok (next.Frame bytes) ∷ results) last fine (None, takes, others) = absurd takes.0
+all_answered text (Ok (next.Frame bytes) ∷ results) last fine (Some rest, takes, others) =
+    ap (λ (more : List ℕ). bytes ++ more) (all_answered rest results last fine.1 others) ∙ sym takes.0
+all_answered text (Ok next.NotYet ∷ results) last fine (mid, takes, others) =
+    all_answered text results last fine.1 (subst (λ (due : Option (List ℕ)). TakeDue due (results ++ Ok next.End ∷ []) last) takes others)
+all_answered text (Ok next.OutOfTurns ∷ results) last fine (mid, takes, others) =
+    all_answered text results last fine.1 (subst (λ (due : Option (List ℕ)). TakeDue due (results ++ Ok next.End ∷ []) last) takes others)
+all_answered text (Ok next.End ∷ results) last fine (mid, takes, others) =
+    all_answered text results last fine.1 (subst (λ (due : Option (List ℕ)). TakeDue due (results ++ Ok next.End ∷ []) last) takes.0 others)
+all_answered text (Err error ∷ results) last fine takes = absurd (false≢true fine.0)
 
 -- ## Lengths
 

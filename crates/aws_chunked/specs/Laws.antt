@@ -1,12 +1,26 @@
 -- Laws of texts in chunks.
-use Rattle.std.specs.Prelude.{◌≡◌, ℕ, ◌+◌, true, List, length, map, Result, Ok, Err, string_bytes}
-use Rattle.aws_chunked.specs.Body.{Trailer, actual_length}
+use Rattle.std.specs.Prelude.{◌≡◌, ℕ, ◌+◌, true, List, [], ◌∷◌, ◌++◌, length, map, Option, Result, Ok, Err, string_bytes}
+use Rattle.aws_chunked.specs.Body.{TakesDue, Trailer, actual_length}
 use Rattle.aws_chunked.specs.Decoded.{IsPiecesText}
 use Rattle.aws_chunked.specs.Options.{Options, declared_length}
 use Rattle.aws_chunked.specs.Text.{cut}
+use Rattle.aws_chunked.specs.declared.body.ChunkNext.{ChunkNext}
+use Rattle.aws_chunked.specs.declared.body.ChunkNext.TheVariants.{Frame}
 use Rattle.aws_chunked.specs.declared.decode.DecodeFault.{DecodeFault}
 use Rattle.aws_chunked.specs.declared.decode.DecodeFault.TheVariants.{BadChunk, NoMemory}
 use Rattle.aws_chunked.specs.declared.decode.Decoded.{Decoded}
+use Rattle.aws_chunked.specs.declared.error.AwsChunkedBodyError.{AwsChunkedBodyError}
+
+-- calls in order, each of what was due after the one before
+abbrev pub TakeDue : Option (List ℕ) → List (Result ChunkNext AwsChunkedBodyError) → Option (List ℕ) → Type 0
+TakeDue before [] now = now ≡ before
+TakeDue before (result ∷ results) now = (mid : Option (List ℕ)) × TakesDue before mid result × TakeDue mid results now
+
+-- the bytes that they answered
+abbrev pub answered_bytes : List (Result ChunkNext AwsChunkedBodyError) → List ℕ
+answered_bytes [] = []
+answered_bytes (Ok (Frame bytes) ∷ results) = bytes ++ answered_bytes results
+answered_bytes (_ ∷ results) = answered_bytes results
 
 -- this data, these signatures and these trailers are answered, but where memory ran out
 abbrev pub Answers : List ℕ → List (List ℕ) → List Trailer → Result Decoded DecodeFault → Type 0

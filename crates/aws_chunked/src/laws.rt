@@ -1,15 +1,26 @@
-ghost use Rattle.std.specs.Prelude.{◌≡◌, ℕ, List, [], length, Result, true};
+ghost use Rattle.std.specs.Prelude.{◌≡◌, ℕ, List, [], ◌∷◌, ◌++◌, length, IsOk, Ok, Option, Result, Some, true};
 ghost use Rattle.std.specs.List.{AllByRecursion};
 ghost use Rattle.smithy_core.specs.Moment.{Instant};
 ghost use Rattle.eventstream.specs.Key.{Signer};
 ghost use Rattle.aws_chunked.specs.Body.{Trailer, actual_length};
 ghost use Rattle.aws_chunked.specs.Decoded.{Decodes, DecodesOnly, IsTextOf, IsTrailer};
 ghost use Rattle.aws_chunked.specs.Due.{sealed_chunked_text, sealed_signatures};
-ghost use Rattle.aws_chunked.specs.Laws.{Answers, IsSignedLengthOf};
+ghost use Rattle.aws_chunked.specs.Laws.{Answers, IsSignedLengthOf, TakeDue, answered_bytes};
 ghost use Rattle.aws_chunked.specs.Options.{IsChunkSize, Options, declared_length, encoded_length};
 ghost use Rattle.aws_chunked.specs.Text.{chunked_text, cut};
+ghost use Rattle.aws_chunked.specs.declared.body.ChunkNext.{ChunkNext};
+ghost use Rattle.aws_chunked.specs.declared.body.ChunkNext.TheVariants.{End};
 ghost use Rattle.aws_chunked.specs.declared.decode.DecodeFault.{DecodeFault};
 ghost use Rattle.aws_chunked.specs.declared.decode.Decoded.{Decoded};
+ghost use Rattle.aws_chunked.specs.declared.error.AwsChunkedBodyError.{AwsChunkedBodyError};
+
+/// Over calls of [`crate::AwsChunkedBody::poll_frame`] up to the end of the text, of which none failed, the frames make up the text that
+/// was due.
+#[tactic(auto, using(crate::proofs::SealedLawLemmas::all_answered))]
+pub fn frames_make_up_the_text()
+    ensures { (text : List ℕ) (results : List (Result ChunkNext AwsChunkedBodyError)) (last : Option (List ℕ)) → AllByRecursion IsOk results
+        → TakeDue (Some text) (results ++ Ok End ∷ []) last → answered_bytes results ≡ text }
+{}
 
 /// The text of data and trailers without signatures, in chunks of any size, is a whole text, and says that data, no signatures and
 /// those trailers, where their names and values are headers' with the names in lower case.

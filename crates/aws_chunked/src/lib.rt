@@ -28,8 +28,8 @@ pub use crate::body::{AwsChunkedBody, ChunkNext};
 pub use crate::decode::{DecodeFault, Decoded, decode_chunked};
 pub use crate::error::AwsChunkedBodyError;
 pub use crate::laws::{
-    sealed_texts_are_as_long, sealed_texts_are_whole, signed_texts_are_as_long, texts_are_whole,
-    whole_texts_are_decoded,
+    frames_make_up_the_text, sealed_texts_are_as_long, sealed_texts_are_whole,
+    signed_texts_are_as_long, texts_are_whole, whole_texts_are_decoded,
 };
 pub use crate::options::AwsChunkedBodyOptions;
 
