@@ -1,10 +1,9 @@
 -- Pairs in the order of their names, with the values of each name joined.
 use Rattle.std.proofs.Common.{◌≡◌, ℕ, Bool, true, false, cond, ◌&&◌, List, [], ◌∷◌, ◌++◌, map, Option, Some, None, refl, sym, ap, ◌∙◌, append_assoc, append-nil, subst, T}
 use Rattle.std.specs.Prelude.{bytes_eq, codes}
-use Rattle.std.specs.Cmp.Lexicographic.{slice_cmp}
 use Rattle.std.specs.FinMap.Entries.{below_all, find, is_sorted}
 use Rattle.std.specs.List.{flat_map, join_with_byte}
-use Rattle.std.specs.Ordering.{is_eq, is_lt, nat_cmp, ordering_reverse}
+use Rattle.std.specs.Ordering.{is_eq, is_lt, ordering_reverse}
 use Rattle.std.specs.declared.cmp.Ordering.{Ordering}
 use Rattle.std.specs.declared.cmp.Ordering.TheVariants.{Less, Equal, Greater}
 use Rattle.std.proofs.lemmas.Cmp.{nat_list_cmp_total}
@@ -13,7 +12,7 @@ use Rattle.smithy_core.specs.TextPairs.{named_values}
 use Rattle.sigv4.specs.Canonical.{joined_names}
 use Rattle.sigv4.specs.CanonicalHeaders.{after_values, before_value, gathered, next_name, pair_line, pairs_behind, value_behind}
 use Rattle.sigv4.specs.Query.{Pair}
-use Rattle.sigv4.proofs.InsertedLemmas.{itself, same_name}
+use Rattle.sigv4.proofs.InsertedLemmas.{same_name}
 use Rattle.sigv4.proofs.SetLemmas.{bytes_eq-flipped, order}
 
 -- ---- what the loops write
