@@ -105,9 +105,13 @@ fn shown_request_params(alloc: Global, params: &RequestParams<'_>) -> Mem<String
 // `again N`.
 fn whole(alloc: Global, parts: &[&str]) -> Mem<String> {
     let identity = identity_of(alloc, parts)?;
+    whole_of(alloc, &identity, parts)
+}
+
+fn whole_of(alloc: Global, identity: &Identity, parts: &[&str]) -> Mem<String> {
     let (region, name, time) = (region_of(parts), name_of(parts), time_of(parts));
     let settings = number(part_or_none(parts, "settings"));
-    let params = SigningParams::new(&identity, region, name, time, settings);
+    let params = SigningParams::new(identity, region, name, time, settings);
     let who = key_id(params.identity());
     let first = shown_params(alloc, &params)?;
     let params = params.with_settings(number(part_or_none(parts, "again")));

@@ -12,6 +12,7 @@ use sigv4::{
 use smithy_core::{ErrorMetadata, HttpRequest, Identity, Mem};
 use smithy_http::{EndpointPrefix, InvalidEndpointError, QueryWriter, ResolveEndpointError};
 use std::alloc::Global;
+use std::fmt::Debug;
 
 /// What both a value of this kind and its copy show.
 pub fn answer(alloc: Global, words: &[&str]) -> Mem<String> {
@@ -64,9 +65,7 @@ fn copied_prefix(alloc: Global, prefix: &EndpointPrefix) -> Mem<String> {
 
 fn endpoint_error(alloc: Global, text: &str) -> Mem<String> {
     let error = endpoint_error_of(alloc, text)?;
-    let copy = error.try_clone()?;
-    let text = format!(in alloc; "{error:?}");
-    compared(alloc, text, format!(in alloc; "{copy:?}"))
+    both_shown(alloc, &error, error.try_clone())
 }
 
 // A message, and the source's message.
@@ -79,12 +78,13 @@ fn resolve_error(alloc: Global, words: &[&str]) -> Mem<String> {
         message: Some(String::from_str(alloc, why)?),
     };
     let error = ResolveEndpointError::message(String::from_str(alloc, message)?);
-    copied_resolve_error(alloc, &error.with_source(Some(source)))
+    let error = error.with_source(Some(source));
+    both_shown(alloc, &error, error.try_clone())
 }
 
-fn copied_resolve_error(alloc: Global, error: &ResolveEndpointError) -> Mem<String> {
-    let copy = error.try_clone()?;
-    let text = format!(in alloc; "{error:?}");
+fn both_shown<T: Debug + Drop>(alloc: Global, value: &T, copy: Mem<T>) -> Mem<String> {
+    let copy = copy?;
+    let text = format!(in alloc; "{value:?}");
     compared(alloc, text, format!(in alloc; "{copy:?}"))
 }
 

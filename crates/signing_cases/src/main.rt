@@ -2,6 +2,8 @@
 #![tactic(auto)]
 
 mod builders;
+mod chains;
+mod checks;
 mod copies;
 mod endpoints;
 mod escapes;
@@ -62,6 +64,8 @@ fn signing_answer(alloc: Global, call: &str, words: &[&str]) -> Mem<String> {
         "canonical" | "signature" | "s3" | "bytes" => signatures::answer(alloc, call, words),
         "instructions" | "apply" | "apply_length" => instructions::answer(alloc, call, words),
         "build" | "change" | "whole" => builders::answer(alloc, call, words),
+        "check" => checks::answer(alloc, words),
+        "chain" => chains::answer(alloc, words),
         "link" | "link_headers" | "closing" => messages::answer(alloc, call, words),
         "copy" => copies::answer(alloc, words),
         "fault" => faults::answer(alloc, words),

@@ -42,8 +42,12 @@ fn link_headers(alloc: Global, words: &[&str]) -> Mem<String> {
 
 fn signed(alloc: Global, words: &[&str]) -> Mem<Signed> {
     let message = message_of(alloc, words)?;
+    signed_message(alloc, &message, words)
+}
+
+fn signed_message(alloc: Global, message: &Message, words: &[&str]) -> Mem<Signed> {
     let identity = identity_of(alloc, words)?;
-    Ok(signed_by(alloc, &message, &identity, words))
+    Ok(signed_by(alloc, message, &identity, words))
 }
 
 fn signed_by(alloc: Global, message: &Message, identity: &Identity, words: &[&str]) -> Signed {
@@ -112,8 +116,8 @@ fn params_of<'a>(identity: &'a Identity, parts: &[&'a str]) -> SigningParams<'a>
 
 // The message of `header NAME: TEXT` and `payload TEXT`.
 fn message_of(alloc: Global, parts: &[&str]) -> Mem<Message> {
-    let header = header_of(alloc, part_or_none(parts, "header"))?;
     let payload = Bytes::copy_from_slice(alloc, part_or_none(parts, "payload").as_bytes())?;
+    let header = header_of(alloc, part_or_none(parts, "header"))?;
     Message::new(alloc, payload).add_header(header)
 }
 

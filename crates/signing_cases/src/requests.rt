@@ -142,10 +142,7 @@ pub fn signable_of<'a>(
     if has_part(parts, "as-it-stands") {
         return SignableRequest::from_http_request(alloc, request);
     }
-    let body = match part(parts, "payload") {
-        Some(text) => payload_of(alloc, text)?,
-        None => SignableBody::Bytes(request.body.as_slice()),
-    };
+    let body = body_of(alloc, request, parts)?;
     SignableRequest::new(
         alloc,
         request.method.as_str(),
@@ -153,6 +150,18 @@ pub fn signable_of<'a>(
         &request.headers,
         body,
     )
+}
+
+/// The body with `payload TEXT` in place of its bytes.
+pub fn body_of<'a>(
+    alloc: Global,
+    request: &'a HttpRequest,
+    parts: &[&str],
+) -> Mem<SignableBody<'a>> {
+    match part(parts, "payload") {
+        Some(text) => payload_of(alloc, text),
+        None => Ok(SignableBody::Bytes(request.body.as_slice())),
+    }
 }
 
 /// The body of which this is the payload's text, and no bytes for none.

@@ -1,32 +1,15 @@
-//! Answers cases on the checking of chains of signed frames: `stdin` says what each line means.
-#![tactic(auto)]
-
-use case_lines::{Answers, bytes_of_hex, run_cases, unknown};
+//! Chains of signed frames that are checked.
+use case_lines::{bytes_of_hex, unknown};
 use chain_check::{ChainFault, check_chain};
 use eventstream::write_message_to;
 use smithy_core::{Mem, Message};
 use std::alloc::Global;
-use std::io;
-use std::process::ExitCode;
 
-fn main(rt: HostRuntime) -> io::Result<ExitCode> {
-    run_cases(rt, &Calls)
-}
-
-// The calls of the cases, each by the first word of its line.
-struct Calls;
-
-impl Answers for Calls {
-    fn answer(&self, alloc: Global, words: &[&str]) -> Mem<String> {
-        match words {
-            ["chain", seed, secret, name, frames] => checked(alloc, seed, secret, name, frames),
-            _ => unknown(alloc),
-        }
-    }
-}
-
-// How many events the chain has, with their frames, or the first frame that doesn't pass and why.
-fn checked(alloc: Global, seed: &str, secret: &str, name: &str, frames: &str) -> Mem<String> {
+/// How many events a chain has, with their frames, or the first frame that doesn't pass and why.
+pub fn answer(alloc: Global, words: &[&str]) -> Mem<String> {
+    let [seed, secret, name, frames] = words else {
+        return unknown(alloc);
+    };
     let bytes = bytes_of_hex(alloc, frames)?;
     match check_chain(alloc, bytes.as_slice(), seed, secret, "us-east-1", name) {
         Ok(events) => frames_of(alloc, events.as_slice()),
@@ -37,13 +20,17 @@ fn checked(alloc: Global, seed: &str, secret: &str, name: &str, frames: &str) ->
 fn frames_of(alloc: Global, events: &[Message]) -> Mem<String> {
     let mut text = format!(in alloc; "ok {}", events.len())?;
     for event in events {
-        text.push(' ')?;
-        text.push_str(frame_of(alloc, event)?.as_str())?;
+        push_frame(alloc, &mut text, event)?;
     }
     Ok(text)
 }
 
-// The frame of an event in hexadecimal, and nothing where it has none.
+// Appends the frame of an event in hexadecimal, and nothing where it has none.
+fn push_frame(alloc: Global, text: &mut String, event: &Message) -> Mem<()> {
+    let frame = frame_of(alloc, event)?;
+    write!(text, " {frame}")
+}
+
 fn frame_of(alloc: Global, event: &Message) -> Mem<String> {
     let mut frame = Vec::new(alloc);
     match write_message_to(alloc, event, &mut frame) {

@@ -1,6 +1,0 @@
-use case_lines::part;
-
-/// What stands after the key, and no text where there is no such part.
-pub fn part_or_none<'a>(parts: &[&'a str], key: &str) -> &'a str {
-    part(parts, key).unwrap_or("")
-}
