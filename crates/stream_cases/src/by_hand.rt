@@ -92,13 +92,13 @@ fn frames_of(
     clock: &mut ListClock,
 ) -> Mem<String> {
     let source = items_of(alloc, job.events.as_slice())?;
-    let mut signs = DeferredSigner::new();
-    signs.wire(Box::new(alloc, signer)?);
+    let mut deferred = DeferredSigner::new();
+    deferred.wire(Box::new(alloc, signer)?);
     let mut adapter = MessageStreamAdapter::new(
         alloc,
         IdentityMarshaller,
         IdentityMarshaller,
-        signs,
+        deferred,
         source,
     );
     polls(alloc, &mut adapter, clock, job.events.len())
