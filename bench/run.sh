@@ -33,4 +33,5 @@ rate MB 358.4 decode 2000
 rate MB 358.4 receive 2000
 rate MB 1310.72 chunk 20000 65536
 rate MB 65.536 signed-chunk 1000 65536
+rate MB 1048.576 read-chunks 1000 65536
 rate MB 20 profiles 200

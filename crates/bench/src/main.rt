@@ -13,6 +13,7 @@
 //! bench receive COUNT         receives such a stream by a receiver
 //! bench chunk COUNT SIZE      encodes a body of so many pieces in chunks
 //! bench signed-chunk COUNT SIZE encodes such a body in chunks that are signed
+//! bench read-chunks COUNT SIZE reads the text of such a body of 16 pieces
 //! bench profiles COUNT        parses a profile file of 100 KB
 //! bench each COUNT            each of these so many times, with small sizes, a line for each
 //! ```

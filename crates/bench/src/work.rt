@@ -18,6 +18,7 @@ pub enum Work {
     Receive { count: u32 },
     Chunk { count: u32, size: usize },
     SignedChunk { count: u32, size: usize },
+    ReadChunks { count: u32, size: usize },
     Profiles { count: u32 },
 }
 
@@ -51,6 +52,7 @@ impl Work {
             Work::Receive { count },
             Work::Chunk { count, size: 100 },
             Work::SignedChunk { count, size: 100 },
+            Work::ReadChunks { count, size: 100 },
             Work::Profiles { count },
         ]?;
         Ok(works)
@@ -89,6 +91,7 @@ impl Work {
             "write" => Some(Work::Write { count, size }),
             "chunk" => Some(Work::Chunk { count, size }),
             "signed-chunk" => Some(Work::SignedChunk { count, size }),
+            "read-chunks" => Some(Work::ReadChunks { count, size }),
             _ => None,
         }
     }
@@ -108,6 +111,7 @@ impl Work {
             Work::Receive { count } => receiving::received(alloc, count),
             Work::Chunk { count, size } => chunked::unsigned(alloc, count, size),
             Work::SignedChunk { count, size } => chunked::signed(alloc, count, size),
+            Work::ReadChunks { count, size } => chunked::read(alloc, count, size),
             Work::Profiles { count } => profiles::parsed(alloc, count),
         }
     }
@@ -128,6 +132,7 @@ impl fmt::Display for Work {
             Work::Receive { count } => write!(f, "receive {count}"),
             Work::Chunk { count, size } => write!(f, "chunk {count} {size}"),
             Work::SignedChunk { count, size } => write!(f, "signed-chunk {count} {size}"),
+            Work::ReadChunks { count, size } => write!(f, "read-chunks {count} {size}"),
             Work::Profiles { count } => write!(f, "profiles {count}"),
         }
     }
