@@ -61,9 +61,9 @@ fn text_of(alloc: Global, size: usize) -> anyhow::Result<Vec<u8>> {
     joined(alloc, &mut body)
 }
 
-fn joined(
+fn joined<G: SignChunk>(
     alloc: Global,
-    body: &mut AwsChunkedBody<CalmFrames, ChunkDeferredSigner>,
+    body: &mut AwsChunkedBody<CalmFrames, G>,
 ) -> anyhow::Result<Vec<u8>> {
     let mut text = Vec::new(alloc);
     for _ in 0..u32::MAX {

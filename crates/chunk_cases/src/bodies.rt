@@ -3,12 +3,12 @@ use crate::frames::GivenFrames;
 use crate::lengths::options_of;
 use crate::parts::push;
 use crate::signers::published_signer;
-use aws_auth::ChunkDeferredSigner;
+use aws_auth::{ChunkDeferredSigner, SigV4MessageSigner};
 use aws_chunked::{AwsChunkedBody, AwsChunkedBodyError, AwsChunkedBodyOptions, ChunkNext};
 use bytes::Bytes;
 use case_lines::part;
 use mac_core::sha256_hex;
-use sigv4::SignChunk;
+use sigv4::{SignChunk, SigningSettings};
 use smithy_core::Mem;
 use std::alloc::Global;
 
@@ -70,7 +70,7 @@ pub fn unsigned(
     alloc: Global,
     source: GivenFrames,
     options: AwsChunkedBodyOptions,
-) -> AwsChunkedBody<GivenFrames, ChunkDeferredSigner> {
+) -> AwsChunkedBody<GivenFrames, SigV4MessageSigner<SigningSettings>> {
     AwsChunkedBody::new(alloc, source, options)
 }
 

@@ -2,7 +2,7 @@
 use crate::events::{WaitingEvents, first_item, given, initial_items_of, items_of};
 use crate::marshalling::Telling;
 use crate::parts::{count, push};
-use crate::signers::{LastSignature, MarkSigner, PlainSigner, bearer, sigv4, wire};
+use crate::signers::{LastSignature, MarkSigner, PlainSigner, bearer, sigv4};
 use case_lines::{number, part, unknown};
 use event_io::{
     AdapterFault, EventOrInitialMarshaller, EventSource, EventStreamSender, MessageStreamAdapter,
@@ -37,8 +37,10 @@ fn of_name(alloc: Global, kind: &str, name: &str, parts: &[&str]) -> Mem<String>
 // With `wire NAME` the deferred signer is handed that one.
 fn deferred(alloc: Global, kind: &str, parts: &[&str]) -> Mem<String> {
     let mut signer = DeferredSigner::new();
-    if let Some(name) = part(parts, "wire") {
-        wire(alloc, &mut signer, name)?;
+    match part(parts, "wire") {
+        Some("mark") => signer.wire(Box::new(alloc, MarkSigner::new(alloc))?),
+        Some(_) => signer.wire(Box::new(alloc, sigv4(alloc)?)?),
+        None => {}
     }
     of_kind(alloc, kind, signer, parts)
 }

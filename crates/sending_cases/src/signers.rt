@@ -107,16 +107,6 @@ impl LastSignature for SigV4MessageSigner<()> {
     }
 }
 
-/// Hands the signer of a name to a deferred one.
-pub fn wire(alloc: Global, deferred: &mut DeferredSigner, name: &str) -> Mem<()> {
-    match name {
-        "no-op" => deferred.wire(Box::new(alloc, NoOpSigner)?),
-        "mark" => deferred.wire(Box::new(alloc, MarkSigner::new(alloc))?),
-        _ => deferred.wire(Box::new(alloc, sigv4(alloc)?)?),
-    }
-    Ok(())
-}
-
 /// The signer by the credentials of AWS's examples.
 pub fn sigv4(alloc: Global) -> Mem<SigV4MessageSigner<()>> {
     let key_id = String::from_str(alloc, "AKIDEXAMPLE")?;

@@ -1,7 +1,7 @@
 //! The calls of signers.
 use crate::marshalling::{framed, message_of};
 use crate::parts::push;
-use crate::signers::{LastSignature, MarkSigner, bearer, sigv4, wire};
+use crate::signers::{LastSignature, MarkSigner, bearer, sigv4};
 use case_lines::{halves, number, unknown};
 use eventstream::{DeferredSigner, NoOpSigner, SignMessage, SignMessageError};
 use smithy_core::{Mem, Message, Moment};
@@ -37,7 +37,9 @@ fn deferred_steps(alloc: Global, steps: &[&str]) -> Mem<String> {
     let mut answers = String::new(alloc);
     for step in steps {
         match halves(step) {
-            ("wire", name) => wire(alloc, &mut signer, name)?,
+            ("wire", "no-op") => signer.wire(Box::new(alloc, NoOpSigner)?),
+            ("wire", "mark") => signer.wire(Box::new(alloc, MarkSigner::new(alloc))?),
+            ("wire", _) => signer.wire(Box::new(alloc, sigv4(alloc)?)?),
             _ => push(&mut answers, step_of(alloc, &mut signer, step))?,
         }
     }

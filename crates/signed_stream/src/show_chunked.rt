@@ -15,15 +15,15 @@ ghost use Rattle.signed_stream.specs.Status.{ending_of, output_fault};
 use crate::chain::write_text;
 use crate::command::ChunkWords;
 use crate::status::{Status, StreamFault, status_of};
-use aws_auth::ChunkDeferredSigner;
+use aws_auth::SigV4MessageSigner;
 use aws_chunked::{AwsChunkedBody, AwsChunkedBodyError, AwsChunkedBodyOptions, ChunkNext};
 use bytes::Bytes;
-use sigv4::SignChunk;
+use sigv4::{SignChunk, SigningSettings};
 use smithy_core::{ByteSink, CalmFrames, FramePart, FrameSource, Headers, Mem};
 use std::alloc::{AllocError, Global};
 
 // A body in memory, which isn't signed: its signer's type is any one.
-type Chunks = AwsChunkedBody<CalmFrames, ChunkDeferredSigner>;
+type Chunks = AwsChunkedBody<CalmFrames, SigV4MessageSigner<SigningSettings>>;
 
 /// Writes the bytes in chunks of the size that the words ask for, and the trailers behind it.
 pub fn show_chunked<K: ByteSink>(
@@ -62,9 +62,9 @@ fn write_chunked<K: ByteSink>(
 
 // Writes the text of a body.
 fn send_body<K: ByteSink>(mut body: Chunks, out: &mut K) -> Result<(), StreamFault>
-    requires { IsSound ⟦<CalmFrames as FrameSource>⟧ ⟦<ChunkDeferredSigner as SignChunk>⟧ body }
+    requires { IsSound ⟦<CalmFrames as FrameSource>⟧ ⟦<SigV4MessageSigner<SigningSettings> as SignChunk>⟧ body }
     ensures count { K.faults out.old ≤ K.faults out.new }
-    ensures sends { Sends None (text_left ⟦<CalmFrames as FrameSource>⟧ ⟦<ChunkDeferredSigner as SignChunk>⟧ body) (K.held out.old) (K.held out.new) result }
+    ensures sends { Sends None (text_left ⟦<CalmFrames as FrameSource>⟧ ⟦<SigV4MessageSigner<SigningSettings> as SignChunk>⟧ body) (K.held out.old) (K.held out.new) result }
     ensures failed { IsErrOf result StreamFault.SinkFault → RoseOrStands (K.faults out.old) (K.faults out.new) }
     ensures steady { (IsErrOf result StreamFault.SinkFault → ⊥) → K.faults out.new ≡ K.faults out.old }
 {
@@ -77,10 +77,10 @@ fn send_body<K: ByteSink>(mut body: Chunks, out: &mut K) -> Result<(), StreamFau
 
 // The next bytes of the text of a body that isn't closed: one in memory neither waits nor has a fault.
 fn next_bytes(body: &mut Chunks) -> Mem<Bytes>
-    requires sound { IsSound ⟦<CalmFrames as FrameSource>⟧ ⟦<ChunkDeferredSigner as SignChunk>⟧ body.old }
+    requires sound { IsSound ⟦<CalmFrames as FrameSource>⟧ ⟦<SigV4MessageSigner<SigningSettings> as SignChunk>⟧ body.old }
     requires going { IsClosed body.old → ⊥ }
-    ensures { IfOk result (λ bytes. IsSound ⟦<CalmFrames as FrameSource>⟧ ⟦<ChunkDeferredSigner as SignChunk>⟧ body.new
-        × (text_left ⟦<CalmFrames as FrameSource>⟧ ⟦<ChunkDeferredSigner as SignChunk>⟧ body.old ≡ bytes ++ text_left ⟦<CalmFrames as FrameSource>⟧ ⟦<ChunkDeferredSigner as SignChunk>⟧ body.new) × (0 < length bytes)) }
+    ensures { IfOk result (λ bytes. IsSound ⟦<CalmFrames as FrameSource>⟧ ⟦<SigV4MessageSigner<SigningSettings> as SignChunk>⟧ body.new
+        × (text_left ⟦<CalmFrames as FrameSource>⟧ ⟦<SigV4MessageSigner<SigningSettings> as SignChunk>⟧ body.old ≡ bytes ++ text_left ⟦<CalmFrames as FrameSource>⟧ ⟦<SigV4MessageSigner<SigningSettings> as SignChunk>⟧ body.new) × (0 < length bytes)) }
 {
     match body.poll_frame() {
         Ok(ChunkNext::Frame(bytes)) => Ok(bytes),
@@ -92,7 +92,7 @@ fn next_bytes(body: &mut Chunks) -> Mem<Bytes>
 // The body of the bytes and the trailers, in chunks of the size that the words ask for.
 fn body_of(alloc: Global, words: ChunkWords, bytes: Vec<u8>) -> Mem<Chunks>
     requires { length bytes.items ≤ most_input }
-    ensures { IfOk result (IsBodyOf ⟦<CalmFrames as FrameSource>⟧ ⟦<ChunkDeferredSigner as SignChunk>⟧ (shown_chunks (chunk_wanted words) bytes.items)) }
+    ensures { IfOk result (IsBodyOf ⟦<CalmFrames as FrameSource>⟧ ⟦<SigV4MessageSigner<SigningSettings> as SignChunk>⟧ (shown_chunks (chunk_wanted words) bytes.items)) }
 {
     let lengths = lengths_of(alloc, &words.trailers)?;
     let options = AwsChunkedBodyOptions::new(bytes.len() as u64, lengths);

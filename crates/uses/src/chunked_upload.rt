@@ -3,6 +3,7 @@ use anyhow::bail;
 use aws_auth::ChunkDeferredSigner;
 use aws_chunked::{AwsChunkedBody, AwsChunkedBodyOptions, ChunkNext};
 use bytes::Bytes;
+use sigv4::SignChunk;
 use smithy_core::{CalmFrames, FramePart, Headers};
 use std::alloc::Global;
 
@@ -21,7 +22,10 @@ pub fn body(alloc: Global) -> anyhow::Result<Vec<u8>> {
     text_of(alloc, &mut body)
 }
 
-fn text_of(alloc: Global, body: &mut Body) -> anyhow::Result<Vec<u8>> {
+fn text_of<G: SignChunk>(
+    alloc: Global,
+    body: &mut AwsChunkedBody<CalmFrames, G>,
+) -> anyhow::Result<Vec<u8>> {
     let mut text = Vec::new(alloc);
     for _ in 0..u32::MAX {
         match body.poll_frame() {

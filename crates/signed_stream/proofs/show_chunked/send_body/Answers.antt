@@ -2,7 +2,7 @@ use Rattle.std.proofs.Common.{refl, ◌∙◌}
 use Rattle.std.proofs.lemmas.Result.{err_from_is_err_and}
 use Rattle.smithy_core.proofs.GainLemmas.{gains_whole}
 use Rattle.smithy_core.specs.contracts.outside.frame_source.CalmFramesFrameSource.TheImpl as calm
-use Rattle.aws_auth.specs.contracts.chunk_deferred_signer.ChunkDeferredSignerSignChunk.TheImpl as deferred
+use Rattle.aws_auth.specs.contracts.chunk_signer.SigV4MessageSignerSigningSettingsSignChunk.TheImpl as sealing
 use Rattle.signed_stream.proofs.ChunkLemmas.{bytes_gained, bytes_halted, closed_left}
 use Rattle.signed_stream.proofs.show_chunked.send_body.Goals as goal
 
@@ -33,4 +33,4 @@ polls-preserved g c =
 
 pub returns-clause-sends : goal.returns-clause-sends
 returns-clause-sends g c =
-    (refl, gains_whole _ _ _ _ c.polls.invariant.left (closed_left calm.ghosts (deferred.ghosts g.dyn-1) c.polls.body (c.is_end_stream.ensures.0 c.polls-test.false)))
+    (refl, gains_whole _ _ _ _ c.polls.invariant.left (closed_left calm.ghosts sealing.ghosts c.polls.body (c.is_end_stream.ensures.0 c.polls-test.false)))

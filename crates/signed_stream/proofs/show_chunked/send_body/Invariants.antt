@@ -1,7 +1,7 @@
 use Rattle.std.proofs.Common.{◌≡◌, length}
 use Rattle.smithy_core.specs.Outside.{GainsRest}
 use Rattle.smithy_core.specs.contracts.outside.frame_source.CalmFramesFrameSource.TheImpl as calm
-use Rattle.aws_auth.specs.contracts.chunk_deferred_signer.ChunkDeferredSignerSignChunk.TheImpl as deferred
+use Rattle.aws_auth.specs.contracts.chunk_signer.SigV4MessageSignerSigningSettingsSignChunk.TheImpl as sealing
 use Rattle.signed_stream.specs.ChunkJob.{IsSound, text_left}
 use Rattle.signed_stream.proofs.show_chunked.send_body.Given as goal
 
@@ -10,10 +10,10 @@ abbrev pub invariant-polls : goal.invariant-polls
 invariant-polls g l =
     let sink = g.K.ByteSink in
     record {
-      sound : IsSound calm.ghosts (deferred.ghosts g.dyn-1) l.body;
+      sound : IsSound calm.ghosts sealing.ghosts l.body;
       count : sink.faults l.out ≡ sink.faults l.fn.out;
-      left : GainsRest (sink.held l.fn.out) (sink.held l.out) (text_left calm.ghosts (deferred.ghosts g.dyn-1) l.body) (text_left calm.ghosts (deferred.ghosts g.dyn-1) l.fn.body);
+      left : GainsRest (sink.held l.fn.out) (sink.held l.out) (text_left calm.ghosts sealing.ghosts l.body) (text_left calm.ghosts sealing.ghosts l.fn.body);
     }
 
 abbrev pub decreases-polls : goal.decreases-polls
-decreases-polls g l = length (text_left calm.ghosts (deferred.ghosts g.dyn-1) l.body)
+decreases-polls g l = length (text_left calm.ghosts sealing.ghosts l.body)
