@@ -2,9 +2,12 @@ use crate::metadata::{api_of, build_of};
 use crate::metrics::metric_named;
 use crate::parts::{additional_of, app_of, config_of, feature_of, framework_of};
 use crate::texts::env_of;
-use aws_intercept::AwsUserAgent;
+use aws_intercept::{
+    AdditionalMetadata, AwsUserAgent, BusinessMetric, ConfigMetadata, FeatureMetadata,
+    FrameworkMetadata,
+};
 use case_lines::{halves, unknown};
-use smithy_core::{Env, Mem};
+use smithy_core::{AppName, Env, Mem};
 use std::alloc::Global;
 
 pub fn answer(alloc: Global, call: &str, words: &[&str]) -> Mem<String> {
@@ -37,7 +40,9 @@ fn add(alloc: Global, base: &str, parts: &[&str]) -> Mem<String> {
 
 fn told_with(alloc: Global, agent: &mut AwsUserAgent, parts: &[&str]) -> Mem<String> {
     for part in parts {
-        add_part(alloc, agent, part)?;
+        if let Some(part) = part_of(alloc, part) {
+            add_part(agent, part)?;
+        }
     }
     told(alloc, agent)
 }
@@ -85,136 +90,58 @@ fn built(alloc: Global, more: &str) -> Mem<AwsUserAgent> {
 }
 
 fn agent_with(alloc: Global, base: &str, parts: &[&str]) -> Mem<AwsUserAgent> {
-    with_parts(alloc, agent_of(alloc, base)?, parts)
-}
-
-fn with_parts(alloc: Global, agent: AwsUserAgent, parts: &[&str]) -> Mem<AwsUserAgent> {
-    let mut agent = agent;
+    let mut agent = agent_of(alloc, base)?;
     for part in parts {
-        agent = with_part(alloc, agent, part)?;
+        if let Some(part) = part_of(alloc, part) {
+            agent = with_part(agent, part)?;
+        }
     }
     Ok(agent)
 }
 
-// The agent with the part `KIND VALUE`, where that is one.
-fn with_part(alloc: Global, agent: AwsUserAgent, part: &str) -> Mem<AwsUserAgent> {
-    match halves(part) {
-        ("metric", value) => with_metric(alloc, agent, value),
-        ("framework", value) => with_framework(alloc, agent, value),
-        ("value", value) => with_value(alloc, agent, value),
-        (kind, value) => Ok(with_unkept(alloc, agent, kind, value)),
+// What an agent is given.
+#[derive(Drop)]
+enum Part {
+    Metric(BusinessMetric),
+    Framework(FrameworkMetadata),
+    Value(AdditionalMetadata),
+    Feature(FeatureMetadata),
+    Config(ConfigMetadata),
+    App(AppName),
+}
+
+// The part `KIND VALUE`, where that is one.
+fn part_of(alloc: Global, word: &str) -> Option<Part> {
+    match halves(word) {
+        ("metric", name) => Some(Part::Metric(metric_named(alloc, name).ok()??)),
+        ("framework", word) => Some(Part::Framework(framework_of(alloc, word).ok()?)),
+        ("value", value) => Some(Part::Value(additional_of(alloc, value).ok()?)),
+        ("feature", word) => Some(Part::Feature(feature_of(alloc, word).ok()?)),
+        ("config", word) => Some(Part::Config(config_of(alloc, word).ok()?)),
+        ("app", name) => Some(Part::App(app_of(alloc, name).ok()?)),
+        _ => None,
     }
 }
 
-fn with_metric(alloc: Global, agent: AwsUserAgent, name: &str) -> Mem<AwsUserAgent> {
-    match metric_named(alloc, name) {
-        Ok(Some(metric)) => agent.with_business_metric(metric),
-        _ => Ok(agent),
+fn with_part(agent: AwsUserAgent, part: Part) -> Mem<AwsUserAgent> {
+    match part {
+        Part::Metric(metric) => agent.with_business_metric(metric),
+        Part::Framework(framework) => agent.with_framework_metadata(framework),
+        Part::Value(value) => agent.with_additional_metadata(value),
+        Part::Feature(feature) => Ok(agent.with_feature_metadata(feature)),
+        Part::Config(config) => Ok(agent.with_config_metadata(config)),
+        Part::App(name) => Ok(agent.with_app_name(name)),
     }
 }
 
-fn with_framework(alloc: Global, agent: AwsUserAgent, word: &str) -> Mem<AwsUserAgent> {
-    match framework_of(alloc, word) {
-        Ok(framework) => agent.with_framework_metadata(framework),
-        Err(_) => Ok(agent),
-    }
-}
-
-fn with_value(alloc: Global, agent: AwsUserAgent, word: &str) -> Mem<AwsUserAgent> {
-    match additional_of(alloc, word) {
-        Ok(value) => agent.with_additional_metadata(value),
-        Err(_) => Ok(agent),
-    }
-}
-
-// The parts that want no memory: the name, and what isn't kept.
-fn with_unkept(alloc: Global, agent: AwsUserAgent, kind: &str, word: &str) -> AwsUserAgent {
-    match kind {
-        "feature" => with_feature(alloc, agent, word),
-        "config" => with_config(alloc, agent, word),
-        "app" => with_app(alloc, agent, word),
-        _ => agent,
-    }
-}
-
-fn with_feature(alloc: Global, agent: AwsUserAgent, word: &str) -> AwsUserAgent {
-    match feature_of(alloc, word) {
-        Ok(feature) => agent.with_feature_metadata(feature),
-        Err(_) => agent,
-    }
-}
-
-fn with_config(alloc: Global, agent: AwsUserAgent, word: &str) -> AwsUserAgent {
-    match config_of(alloc, word) {
-        Ok(config) => agent.with_config_metadata(config),
-        Err(_) => agent,
-    }
-}
-
-fn with_app(alloc: Global, agent: AwsUserAgent, word: &str) -> AwsUserAgent {
-    match app_of(alloc, word) {
-        Ok(name) => agent.with_app_name(name),
-        Err(_) => agent,
-    }
-}
-
-// Adds the part `KIND VALUE`, where that is one.
-fn add_part(alloc: Global, agent: &mut AwsUserAgent, part: &str) -> Mem<()> {
-    match halves(part) {
-        ("metric", value) => add_metric(alloc, agent, value),
-        ("framework", value) => add_framework(alloc, agent, value),
-        ("value", value) => add_value(alloc, agent, value),
-        (kind, value) => {
-            add_unkept(alloc, agent, kind, value);
-            Ok(())
-        }
-    }
-}
-
-fn add_metric(alloc: Global, agent: &mut AwsUserAgent, name: &str) -> Mem<()> {
-    if let Some(metric) = metric_named(alloc, name)? {
-        agent.add_business_metric(metric)?;
-    }
+fn add_part(agent: &mut AwsUserAgent, part: Part) -> Mem<()> {
+    match part {
+        Part::Metric(metric) => agent.add_business_metric(metric)?,
+        Part::Framework(framework) => agent.add_framework_metadata(framework)?,
+        Part::Value(value) => agent.add_additional_metadata(value)?,
+        Part::Feature(feature) => agent.add_feature_metadata(feature),
+        Part::Config(config) => agent.add_config_metadata(config),
+        Part::App(name) => agent.set_app_name(name),
+    };
     Ok(())
-}
-
-fn add_framework(alloc: Global, agent: &mut AwsUserAgent, word: &str) -> Mem<()> {
-    if let Ok(framework) = framework_of(alloc, word) {
-        agent.add_framework_metadata(framework)?;
-    }
-    Ok(())
-}
-
-fn add_value(alloc: Global, agent: &mut AwsUserAgent, word: &str) -> Mem<()> {
-    if let Ok(value) = additional_of(alloc, word) {
-        agent.add_additional_metadata(value)?;
-    }
-    Ok(())
-}
-
-fn add_unkept(alloc: Global, agent: &mut AwsUserAgent, kind: &str, word: &str) {
-    match kind {
-        "feature" => add_feature(alloc, agent, word),
-        "config" => add_config(alloc, agent, word),
-        "app" => add_app(alloc, agent, word),
-        _ => {}
-    }
-}
-
-fn add_feature(alloc: Global, agent: &mut AwsUserAgent, word: &str) {
-    if let Ok(feature) = feature_of(alloc, word) {
-        agent.add_feature_metadata(feature);
-    }
-}
-
-fn add_config(alloc: Global, agent: &mut AwsUserAgent, word: &str) {
-    if let Ok(config) = config_of(alloc, word) {
-        agent.add_config_metadata(config);
-    }
-}
-
-fn add_app(alloc: Global, agent: &mut AwsUserAgent, word: &str) {
-    if let Ok(name) = app_of(alloc, word) {
-        agent.set_app_name(name);
-    }
 }

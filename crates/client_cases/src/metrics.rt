@@ -16,36 +16,27 @@ pub fn answer(alloc: Global, call: &str, words: &[&str]) -> Mem<String> {
 
 fn answer_of(alloc: Global, call: &str, name: &str) -> Mem<String> {
     match call {
-        "smithy" => metric_of_smithy(alloc, name),
-        "aws" => metric_of_aws(alloc, name),
-        "credentials" => metric_of_credentials(alloc, name),
+        "smithy" => told(
+            alloc,
+            smithy_named(alloc, name)?.map(SmithySdkFeature::business_metric),
+        ),
+        "aws" => told(
+            alloc,
+            aws_named(alloc, name)?.map(AwsSdkFeature::business_metric),
+        ),
+        "credentials" => told(
+            alloc,
+            credentials_named(alloc, name)?.map(AwsCredentialFeature::business_metric),
+        ),
         _ => ids(alloc, call, &[name]),
     }
 }
 
-fn metric_of_smithy(alloc: Global, name: &str) -> Mem<String> {
-    match smithy_named(alloc, name)? {
-        Some(feature) => metric_told(alloc, feature.business_metric()),
+fn told(alloc: Global, metric: Option<BusinessMetric>) -> Mem<String> {
+    match metric {
+        Some(metric) => format!(in alloc; "{metric:?}"),
         None => unknown(alloc),
     }
-}
-
-fn metric_of_aws(alloc: Global, name: &str) -> Mem<String> {
-    match aws_named(alloc, name)? {
-        Some(feature) => metric_told(alloc, feature.business_metric()),
-        None => unknown(alloc),
-    }
-}
-
-fn metric_of_credentials(alloc: Global, name: &str) -> Mem<String> {
-    match credentials_named(alloc, name)? {
-        Some(feature) => metric_told(alloc, feature.business_metric()),
-        None => unknown(alloc),
-    }
-}
-
-fn metric_told(alloc: Global, metric: BusinessMetric) -> Mem<String> {
-    format!(in alloc; "{metric:?}")
 }
 
 // The ids that an agent tells of the metrics `COUNT NAME`.
@@ -61,32 +52,27 @@ fn ids(alloc: Global, call: &str, counts: &[&str]) -> Mem<String> {
 }
 
 fn header_with(alloc: Global, counts: &[&str]) -> Mem<String> {
-    with_counts(alloc, AwsUserAgent::for_tests(alloc)?, counts)?.ua_header()
+    let mut agent = AwsUserAgent::for_tests(alloc)?;
+    told_with(alloc, &mut agent, counts)
 }
 
-fn with_counts(alloc: Global, agent: AwsUserAgent, counts: &[&str]) -> Mem<AwsUserAgent> {
-    let mut agent = agent;
+fn told_with(alloc: Global, agent: &mut AwsUserAgent, counts: &[&str]) -> Mem<String> {
     for count in counts {
-        agent = with_count(alloc, agent, count)?;
+        add_count(alloc, agent, count)?;
     }
-    Ok(agent)
+    agent.ua_header()
 }
 
-// The agent with so many of the metric.
-fn with_count(alloc: Global, agent: AwsUserAgent, count: &str) -> Mem<AwsUserAgent> {
+// Adds so many of the metric.
+fn add_count(alloc: Global, agent: &mut AwsUserAgent, count: &str) -> Mem<()> {
     let (count, name) = halves(count);
-    match metric_named(alloc, name) {
-        Ok(Some(metric)) => repeated(agent, metric, count.parse().unwrap_or(0)),
-        _ => Ok(agent),
+    let count: u32 = count.parse().unwrap_or(0);
+    if let Some(metric) = metric_named(alloc, name)? {
+        for _ in 0..count {
+            agent.add_business_metric(metric)?;
+        }
     }
-}
-
-fn repeated(agent: AwsUserAgent, metric: BusinessMetric, count: u32) -> Mem<AwsUserAgent> {
-    let mut agent = agent;
-    for _ in 0..count {
-        agent = agent.with_business_metric(metric)?;
-    }
-    Ok(agent)
+    Ok(())
 }
 
 pub fn metric_named(alloc: Global, name: &str) -> Mem<Option<BusinessMetric>> {

@@ -116,12 +116,13 @@ fn choose(alloc: Global, words: &[&str]) -> Mem<String> {
     let [name, keys, service, files @ ..] = words else {
         return unknown(alloc);
     };
-    let mut asked = Vec::new(alloc);
-    for key in keys.split(' ') {
-        asked.push(key)?;
-    }
-    let (source, service) = (source_of(alloc, name, files)?, given(service));
-    match &EnvConfigSections::parse_selected(alloc, &source, asked.as_slice(), service) {
+    let source = source_of(alloc, name, files)?;
+    chosen_of(alloc, &source, keys, given(service))
+}
+
+fn chosen_of(alloc: Global, source: &Source, keys: &str, service: Option<&str>) -> Mem<String> {
+    let asked: Vec<&str> = keys.split(' ').collect(alloc)?;
+    match &EnvConfigSections::parse_selected(alloc, source, asked.as_slice(), service) {
         Ok(sections) => chosen(alloc, sections, keys, service),
         Err(fault) => fault_told(alloc, fault),
     }
@@ -135,17 +136,30 @@ fn chosen(
     service: Option<&str>,
 ) -> Mem<String> {
     let mut told = text(alloc, sections.selected_profile())?;
-    for key in keys.split(' ') {
-        push_value(&mut told, key, sections.get(key).unwrap_or("-"))?;
-    }
+    push_values(&mut told, sections, keys)?;
     if let Some(id) = service {
-        let env = Env::new(alloc);
-        match region_of(alloc, sections, &env, id)? {
-            Some(region) => push_value(&mut told, "region", region.as_str())?,
-            None => push_value(&mut told, "region", "-")?,
-        }
+        push_region(alloc, &mut told, sections, id)?;
     }
     Ok(told)
+}
+
+fn push_values(told: &mut String, sections: &EnvConfigSections, keys: &str) -> Mem<()> {
+    for key in keys.split(' ') {
+        push_value(told, key, sections.get(key).unwrap_or("-"))?;
+    }
+    Ok(())
+}
+
+fn push_region(
+    alloc: Global,
+    told: &mut String,
+    sections: &EnvConfigSections,
+    id: &str,
+) -> Mem<()> {
+    match region_of(alloc, sections, &Env::new(alloc), id)? {
+        Some(region) => push_value(told, "region", region.as_str()),
+        None => push_value(told, "region", "-"),
+    }
 }
 
 fn region_of(
@@ -256,8 +270,8 @@ fn equal_to(alloc: Global, sections: &EnvConfigSections, name: &str, file: &str)
 // A copy of a profile with one property, and the value of the key that is asked for.
 fn profile(alloc: Global, words: [&str; 4]) -> Mem<String> {
     let [name, key, value, asked] = words;
-    let properties = one_property(alloc, key, value)?;
-    let profile = Profile::new(text(alloc, name)?, properties);
+    let name = text(alloc, name)?;
+    let profile = Profile::new(name, one_property(alloc, key, value)?);
     copied_profile(alloc, &profile, asked)
 }
 

@@ -7,7 +7,7 @@ use aws_intercept::{
     UserAgentInterceptor,
 };
 use case_lines::{shown, unknown};
-use smithy_core::{Env, Mem};
+use smithy_core::{Env, HttpRequest, Mem};
 use std::alloc::Global;
 
 // The headers of a request that had none, once an interceptor saw it with a bag of these entries.
@@ -34,9 +34,13 @@ fn agent_sent(
     entries: &[&str],
 ) -> Result<String, UserAgentFault> {
     fill(alloc, bag, entries)?;
-    let build = build_of(alloc)?;
-    UserAgentInterceptor::new().read_after_serialization(&Env::new(alloc), &build, bag)?;
+    make_agent(alloc, bag)?;
     signed(alloc, bag)
+}
+
+fn make_agent(alloc: Global, bag: &mut ConfigBag) -> Result<(), UserAgentFault> {
+    let build = build_of(alloc)?;
+    UserAgentInterceptor::new().read_after_serialization(&Env::new(alloc), &build, bag)
 }
 
 // Sends the bag's agent.
@@ -51,7 +55,15 @@ fn agent_signed(
 
 fn signed(alloc: Global, bag: &mut ConfigBag) -> Result<String, UserAgentFault> {
     let mut request = request_of(alloc, &[])?;
-    UserAgentInterceptor::new().modify_before_signing(&mut request, bag)?;
+    signed_told(alloc, bag, &mut request)
+}
+
+fn signed_told(
+    alloc: Global,
+    bag: &mut ConfigBag,
+    request: &mut HttpRequest,
+) -> Result<String, UserAgentFault> {
+    UserAgentInterceptor::new().modify_before_signing(request, bag)?;
     Ok(headers_told(alloc, &request.headers)?)
 }
 
@@ -61,9 +73,9 @@ fn attempt(alloc: Global, bag: &mut ConfigBag, words: &[&str]) -> Mem<String> {
         return unknown(alloc);
     };
     fill(alloc, bag, entries)?;
-    let mut request = request_of(alloc, &[])?;
-    RequestInfoInterceptor::new().modify_before_transmit(&mut request, moment_of(moment), bag)?;
-    headers_told(alloc, &request.headers)
+    let (mut request, moment) = (request_of(alloc, &[])?, moment_of(moment));
+    let sent = RequestInfoInterceptor::new().modify_before_transmit(&mut request, moment, bag);
+    sent_told(alloc, sent, &request)
 }
 
 // Sends the bag's id.
@@ -74,7 +86,13 @@ fn id_sent(alloc: Global, bag: &mut ConfigBag, entries: &[&str]) -> Mem<String> 
 
 pub fn id_told(alloc: Global, bag: &mut ConfigBag) -> Mem<String> {
     let mut request = request_of(alloc, &[])?;
-    InvocationIdInterceptor::new().modify_before_transmit(&mut request, bag)?;
+    let sent = InvocationIdInterceptor::new().modify_before_transmit(&mut request, bag);
+    sent_told(alloc, sent, &request)
+}
+
+// The headers of a request that an interceptor saw.
+pub fn sent_told(alloc: Global, sent: Mem<()>, request: &HttpRequest) -> Mem<String> {
+    sent?;
     headers_told(alloc, &request.headers)
 }
 

@@ -1,4 +1,5 @@
-use crate::headers::{headers_told, request_of};
+use crate::headers::request_of;
+use crate::sending::sent_told;
 use crate::texts::given;
 use aws_intercept::{ConfigBag, RecursionDetectionInterceptor};
 use case_lines::unknown;
@@ -55,8 +56,8 @@ fn sent(
     headers: &[&str],
 ) -> Mem<String> {
     let mut request = request_of(alloc, headers)?;
-    modify(alloc, interceptor, &mut request)?;
-    headers_told(alloc, &request.headers)
+    let sent = modify(alloc, interceptor, &mut request);
+    sent_told(alloc, sent, &request)
 }
 
 fn modify(
