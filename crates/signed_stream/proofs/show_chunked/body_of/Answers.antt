@@ -8,7 +8,7 @@ use Rattle.signed_stream.proofs.show_chunked.body_of.Goals as goal
 
 pub returns : goal.returns
 unfolding shown_chunks
-returns g c =
+returns c =
     let body =
     new_body calm.ghosts sealing.ghosts c.with_chunk_size.result c.args.bytes.items c.args.words.trailers c.new.result c.new-2.result
     (c.new.ensures.left ∙ ap Some c.in_ok-frames.ensures.frames) c.new-2.ensures.starts c.new-2.ensures.due c.new-2.ensures.parts c.new-2.ensures.total
