@@ -9,7 +9,7 @@ use aws_auth::{
 use bytes::Bytes;
 use case_lines::unknown;
 use event_io::{ListEvents, MessageStreamAdapter, Next};
-use eventstream::{DeferredSigner, IdentityMarshaller};
+use eventstream::{DeferredSigner, IdentityMarshaller, SignMessage};
 use signed_stream::{Job, Settings, read_job, read_settings};
 use sigv4::SigningSettings;
 use smithy_core::{Clock, HttpRequest, Identity, ListClock, Mem, Message, Region, SigningName};
@@ -113,13 +113,13 @@ fn items_of(alloc: Global, events: &[Message]) -> Mem<ListEvents<Message, Messag
 }
 
 // The frames of so many events and the one that ends the stream, or those before the first refusal.
-fn polls(
+fn polls<G: SignMessage>(
     alloc: Global,
     adapter: &mut MessageStreamAdapter<
         ListEvents<Message, Message>,
         IdentityMarshaller,
         IdentityMarshaller,
-        DeferredSigner,
+        G,
     >,
     clock: &mut ListClock,
     events: usize,
