@@ -1,6 +1,7 @@
 -- What contracts see of an error of a stream: what it was made of, and what it tells.
-use Rattle.std.specs.Prelude.{◌≡◌, Some, None, option_map, string_bytes, unwrap_or}
+use Rattle.std.specs.Prelude.{Some, None, unwrap_or}
 use Rattle.smithy_core.specs.declared.error_metadata.ErrorMetadata.{ErrorMetadata}
+use Rattle.smithy_core.specs.ErrorMetadata.{IsSameMetadata}
 use Rattle.event_io.specs.declared.stream_error.MessageStreamError.{MessageStreamError}
 
 -- metadata without code and message
@@ -22,11 +23,6 @@ given_metadata error = error.source
 -- the metadata that an error tells
 abbrev pub told_metadata : MessageStreamError → ErrorMetadata
 told_metadata error = unwrap_or error.told error.source
-
--- the codes and the messages are the same
-pub record IsSameMetadata (meta copy : ErrorMetadata) : Type 0 where
-  pub code : option_map string_bytes copy.code ≡ option_map string_bytes meta.code
-  pub message : option_map string_bytes copy.message ≡ option_map string_bytes meta.message
 
 -- the errors are of the same metadata, and tell the same
 pub record IsSameStreamError (error copy : MessageStreamError) : Type 0 where

@@ -17,14 +17,14 @@ abbrev pub date_header : Instant → Header
 date_header t = record { name = codes ":date"; value = Timestamp t }
 
 -- the string to sign of bytes at a whole second, over the signature before
-unfoldable pub string_to_sign : Signer → List ℕ → List ℕ → Instant → List ℕ
-string_to_sign signer signature bytes t =
+unfoldable pub message_string_to_sign : Signer → List ℕ → List ℕ → Instant → List ℕ
+message_string_to_sign signer signature bytes t =
     line (codes "AWS4-HMAC-SHA256-PAYLOAD") ++ line (stamp t) ++ line (scope t signer.region signer.name) ++ line signature
     ++ line (encode_lower (sha256 (spelling (date_header t)))) ++ encode_lower (sha256 bytes)
 
 -- the HMAC of a link
 unfoldable pub link_code : Signer → List ℕ → List ℕ → Instant → List ℕ
-link_code signer signature bytes t = mac (signing_key signer (floor_secs t)) (string_to_sign signer signature bytes (floor_secs t))
+link_code signer signature bytes t = mac (signing_key signer (floor_secs t)) (message_string_to_sign signer signature bytes (floor_secs t))
 
 -- the new signature
 unfoldable pub link_signature : Signer → List ℕ → List ℕ → Instant → List ℕ

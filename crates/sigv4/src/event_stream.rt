@@ -6,7 +6,7 @@ ghost use Rattle.hex.specs.Hex.{encode_lower};
 ghost use Rattle.smithy_core.specs.Civil.{IsInYears};
 ghost use Rattle.smithy_core.specs.Moment.{floor_secs};
 ghost use Rattle.eventstream.specs.Frame.{frame, spelling, unframed};
-ghost use Rattle.eventstream.specs.Link.{date_header, string_to_sign};
+ghost use Rattle.eventstream.specs.Link.{date_header, message_string_to_sign};
 ghost use Rattle.sigv4.specs.Output.{output_signature, signed_output};
 ghost use Rattle.sigv4.specs.Params.{signer_of, v4_identity, v4_time};
 ghost use Rattle.sigv4.specs.EventStream.{IsKeyOf, Links, failed_encoding, message_refusal, unsignable};
@@ -196,7 +196,7 @@ fn link(alloc: Global, bytes: Vec<u8>, time: Moment, code: &[u8]) -> Mem<Signing
 }
 
 // The string to sign of bytes over the signature before them, where the time is that of the parameters.
-#[tactic(auto, unfolding(eventstream::specs::Link::string_to_sign))]
+#[tactic(auto, unfolding(eventstream::specs::Link::message_string_to_sign))]
 fn string_to_sign(
     alloc: Global,
     bytes: &[u8],
@@ -206,7 +206,7 @@ fn string_to_sign(
 ) -> Mem<Vec<u8>>
     requires in_years { IsInYears (v4_time params.now) }
     requires time { time.now ≡ floor_secs (v4_time params.now) }
-    ensures { IfOk result (λ text. text.items ≡ string_to_sign (signer_of params.now) last_signature.now bytes.now time.now) }
+    ensures { IfOk result (λ text. text.items ≡ message_string_to_sign (signer_of params.now) last_signature.now bytes.now time.now) }
 {
     let stamp = time.stamp();
     let scope = time.scope_bytes(alloc, params.region(), params.name())?;

@@ -5,6 +5,7 @@ pub mod CivilText
 pub mod Clock
 pub mod Disk
 pub mod Document
+pub mod ErrorMetadata
 pub mod Format
 pub mod FramePart
 pub mod FrameSource

@@ -1,5 +1,5 @@
-ghost use Rattle.std.specs.Prelude.{◌≡◌, IfOk, option_map};
-ghost use Rattle.std.specs.String.{string_bytes};
+ghost use Rattle.std.specs.Prelude.{IfOk};
+ghost use Rattle.smithy_core.specs.ErrorMetadata.{IsSameMetadata};
 
 use crate::memory::Mem;
 
@@ -15,8 +15,7 @@ pub struct ErrorMetadata {
 impl ErrorMetadata {
     /// Metadata with an equal code and an equal message.
     pub fn try_clone(&self) -> Mem<ErrorMetadata>
-        ensures code { IfOk result (λ copy. option_map string_bytes copy.code ≡ option_map string_bytes self.now.code) }
-        ensures message { IfOk result (λ copy. option_map string_bytes copy.message ≡ option_map string_bytes self.now.message) }
+        ensures { IfOk result (IsSameMetadata self.now) }
     {
         let code = match &self.code {
             Some(code) => Some(code.clone()?),

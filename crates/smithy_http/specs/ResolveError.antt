@@ -1,7 +1,8 @@
 -- Errors of resolving an endpoint.
-use Rattle.std.specs.Prelude.{◌≡◌, Option, Some, None, option_map, String, string_bytes}
+use Rattle.std.specs.Prelude.{◌≡◌, Option, Some, None, String, string_bytes}
 use Rattle.std.specs.declared.alloc.Global.{Global}
 use Rattle.smithy_core.specs.declared.error_metadata.ErrorMetadata.{ErrorMetadata}
+use Rattle.smithy_core.specs.ErrorMetadata.{IsSameMetadata}
 use Rattle.smithy_http.specs.declared.resolve_error.ResolveEndpointError.{ResolveEndpointError}
 
 -- the error of this message and this source
@@ -15,11 +16,6 @@ resolve_message error = error.message
 -- what an error came from, where that is known
 abbrev pub resolve_source : ResolveEndpointError → Option ErrorMetadata
 resolve_source error = error.source
-
--- the code and the message are the same
-pub record IsSameMetadata (metadata copy : ErrorMetadata) : Type 0 where
-  pub code : option_map string_bytes copy.code ≡ option_map string_bytes metadata.code
-  pub message : option_map string_bytes copy.message ≡ option_map string_bytes metadata.message
 
 -- both are there and the same, or neither is
 abbrev pub IsSameSource : Option ErrorMetadata → Option ErrorMetadata → Type 0
