@@ -15,8 +15,8 @@ use Rattle.sigv4.specs.declared.settings.SigningSettings.{SigningSettings}
 use Rattle.sigv4.specs.declared.signing_params.SigningParams.{SigningParams}
 use Rattle.sigv4.specs.declared.signing_params.SigningParams.TheVariants.{V4}
 use Rattle.aws_auth.specs.Error.{auth_error, override_error}
-use Rattle.aws_auth.specs.Inputs.{Chosen, chosen, chosen_case, given_config, with_token_name}
-use Rattle.aws_auth.specs.NameOverride.{Answers, NameAnswer}
+use Rattle.aws_auth.specs.Inputs.{ChosenInputs, chosen, chosen_case, given_config, with_token_name}
+use Rattle.aws_auth.specs.NameOverride.{AnswersName, NameAnswer}
 use Rattle.aws_auth.specs.Signer.{IsAnswer, IsSignedCase, RefusesRequest, SignsRequest, SpellsAs, refusal_before_override, unfit_params, unsigned_target}
 use Rattle.aws_auth.specs.Steps.{IsParamsOf, RefusesTarget, SignsTarget, params_case}
 use Rattle.aws_auth.specs.declared.error.SigV4SigningError.{SigV4SigningError}
@@ -27,7 +27,7 @@ use Rattle.aws_auth.specs.declared.options.SigV4OperationSigningConfig.{SigV4Ope
 use Rattle.aws_auth.specs.declared.signer.Signed.{Signed}
 
 -- what is chosen leaves the token its usual name
-pub usual_name : (inputs : SigningInputs) (now : Instant) (choice : Chosen) → chosen inputs now ≡ choice → choice.settings.session_token_name_override ≡ None
+pub usual_name : (inputs : SigningInputs) (now : Instant) (choice : ChosenInputs) → chosen inputs now ≡ choice → choice.settings.session_token_name_override ≡ None
 unfolding chosen
 usual_name inputs now choice is = sym (ap (λ choice. choice.settings.session_token_name_override) is)
 
@@ -37,7 +37,7 @@ params_identity : (identity : Identity) (region name : Option (List ℕ)) (at : 
 params_identity identity region name at settings (V4 params) is = is.0
 
 -- the case of the parameters is that of what is chosen
-same_case : (old : HttpRequest) (identity : Identity) (choice : Chosen) (token : Option (List ℕ)) (settings : SigningSettings) (params : SigningParams)
+same_case : (old : HttpRequest) (identity : Identity) (choice : ChosenInputs) (token : Option (List ℕ)) (settings : SigningSettings) (params : SigningParams)
     → IsParamsOf identity choice.region choice.name choice.at settings params → settings_of settings ≡ with_token_name choice.settings token
     → (target : Target) → params_case old choice.payload params target ≡ chosen_case old identity choice token target
 same_case old identity choice token settings (V4 params) is named target = rw (is.0, ← is.1, ← is.2, is.3, is.4, named) refl
@@ -78,16 +78,16 @@ module _ {F : Type 0} (calls : Shared F (Bor SigningSettings × (Bor SigV4Operat
   kept_early error (inl is) = inl (refused_early error is)
   kept_early error (inr memory) = inr memory
 
-  module _ (config : SigV4OperationSigningConfig) (choice : Chosen) (passed : refusal_before_override identity inputs ≡ None) (config_is : given_config inputs ≡ config)
+  module _ (config : SigV4OperationSigningConfig) (choice : ChosenInputs) (passed : refusal_before_override identity inputs ≡ None) (config_is : given_config inputs ≡ config)
       (choice_is : chosen inputs now ≡ choice) where
     -- what an override answers for these settings and this config is the answer that counts
-    counts : (answer : NameAnswer) → Answers calls closure choice.settings config answer → IsAnswer calls closure identity inputs now old answer
+    counts : (answer : NameAnswer) → AnswersName calls closure choice.settings config answer → IsAnswer calls closure identity inputs now old answer
     counts answer answers =
-        subst (λ c. Answers calls closure c.settings (given_config inputs) answer) (sym choice_is)
-        (subst (λ k. Answers calls closure choice.settings k answer) (sym config_is) answers)
+        subst (λ c. AnswersName calls closure c.settings (given_config inputs) answer) (sym choice_is)
+        (subst (λ k. AnswersName calls closure choice.settings k answer) (sym config_is) answers)
 
     -- the override gives no name
-    pub refused_name_by : (refused : OverrideError) → Answers calls closure choice.settings config (Err refused)
+    pub refused_name_by : (refused : OverrideError) → AnswersName calls closure choice.settings config (Err refused)
         → RefusesRequest calls closure identity inputs now old (override_error refused)
     refused_name_by refused answers = record {
       answer = Err refused;
@@ -98,7 +98,7 @@ module _ {F : Type 0} (calls : Shared F (Bor SigningSettings × (Bor SigV4Operat
     }
 
     -- the region, the name or the moment fails
-    pub refused_params : (name : Option (String Global)) (error : SigV4SigningError) → Answers calls closure choice.settings config (Ok name)
+    pub refused_params : (name : Option (String Global)) (error : SigV4SigningError) → AnswersName calls closure choice.settings config (Ok name)
         → unfit_params choice.region choice.name choice.at ≡ Some error → RefusesRequest calls closure identity inputs now old error
     refused_params name error answers is = record {
       answer = Ok name;
@@ -109,7 +109,7 @@ module _ {F : Type 0} (calls : Shared F (Bor SigningSettings × (Bor SigV4Operat
       refused = rw (passed, choice_is, is) refl;
     }
 
-    refused_for : (name : Option (String Global)) (error : SigningError) (target : Option Target) → Answers calls closure choice.settings config (Ok name)
+    refused_for : (name : Option (String Global)) (error : SigningError) (target : Option Target) → AnswersName calls closure choice.settings config (Ok name)
         → unfit_params choice.region choice.name choice.at ≡ None → SpellsAs (string_bytes old.target) target
         → unsigned_target (chosen_case old identity choice (option_map string_bytes name)) target ≡ Some error
         → RefusesRequest calls closure identity inputs now old (Signing error)
@@ -127,14 +127,14 @@ module _ {F : Type 0} (calls : Shared F (Bor SigningSettings × (Bor SigV4Operat
     kept_memory error refuses = inl refuses
 
     -- a test of the target fails, or memory ran out
-    refused_chosen : (name : Option (String Global)) (error : SigningError) → Answers calls closure choice.settings config (Ok name)
+    refused_chosen : (name : Option (String Global)) (error : SigningError) → AnswersName calls closure choice.settings config (Ok name)
         → unfit_params choice.region choice.name choice.at ≡ None
         → RefusesTarget (string_bytes old.target) (chosen_case old identity choice (option_map string_bytes name)) error
         → RefusesRequest calls closure identity inputs now old (auth_error error) ⊎ (auth_error error ≡ NoMemory)
     refused_chosen name error answers fit (inl found) = kept_memory error (refused_for name error found.0 answers fit found.1 found.2)
     refused_chosen name error answers fit (inr memory) = rw memory (inr refl)
 
-    module _ (name : Option (String Global)) (answers : Answers calls closure choice.settings config (Ok name)) (settings : SigningSettings) (params : SigningParams)
+    module _ (name : Option (String Global)) (answers : AnswersName calls closure choice.settings config (Ok name)) (settings : SigningSettings) (params : SigningParams)
         (named : settings_of settings ≡ with_token_name choice.settings (option_map string_bytes name)) (fit : unfit_params choice.region choice.name choice.at ≡ None)
         (is : IsParamsOf identity choice.region choice.name choice.at settings params) where
       -- the request of the parameters is refused

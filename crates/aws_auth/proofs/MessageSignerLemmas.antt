@@ -14,7 +14,7 @@ use Rattle.sigv4.specs.EventStream.{IsKeyOf}
 use Rattle.sigv4.specs.Params.{signer_of, v4_time}
 use Rattle.sigv4.specs.declared.params.SigningParams.{SigningParams}
 use Rattle.aws_auth.specs.KeptKey.{Kept}
-use Rattle.aws_auth.specs.MessageSigner.{IsOwnKey, SignerParts, SignerState, SignsBytes, SignsEnd, SignsMessage, running_signature, signer_for, signer_in, told_by, told_of, unsigned_by, unsigned_message_by}
+use Rattle.aws_auth.specs.MessageSigner.{IsOwnKey, SignerParts, SignerState, SignsBytes, SignsClosing, SignsMessage, running_signature, signer_for, signer_in, told_by, told_of, unsigned_by, unsigned_message_by}
 
 -- the key of who signs at a moment is that of parameters for both
 pub key_handed : (params : SigningParams (Unit {0})) (signer : Signer) (t : Instant) (key : List ℕ)
@@ -65,7 +65,7 @@ message_told old message t result new signs = by old.parts.identity signs (told_
 
 -- what is told of a signer goes on with the end
 pub end_told : (old : SignerState (Unit {0})) (t : Instant) (result : Result Parts SignMessageError) (new : SignerState (Unit {0}))
-    → SignsEnd old t (Some result) new → SignsEmpty (told_of old) t (Some result) (told_of new)
+    → SignsClosing old t (Some result) new → SignsEmpty (told_of old) t (Some result) (told_of new)
 end_told old t result new signs = by old.parts.identity signs (told_after _ old [] t result new signs) where
   by : (identity : Identity) → SignsBytes (unsigned_by identity t) old [] t result new
       → told_of new ≡ told_by identity (running_signature new) (signer_in old)

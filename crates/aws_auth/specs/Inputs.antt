@@ -82,7 +82,7 @@ abbrev pub with_token_name : Settings → Option (List ℕ) → Settings
 with_token_name settings name = record settings { session_token_name_override = name }
 
 -- all that a request is signed with, but for the token's name
-pub record Chosen : Type 0 where
+pub record ChosenInputs : Type 0 where
   pub region : Option (List ℕ)
   pub name : Option (List ℕ)
   pub payload : Option PayloadSigningOverride
@@ -90,7 +90,7 @@ pub record Chosen : Type 0 where
   pub at : Instant
 
 -- what is chosen by the fields of an endpoint, the inputs and a config, for a request that is signed now
-abbrev pub chosen_by : Fields → SigningInputs → SigV4OperationSigningConfig → Instant → Chosen
+abbrev pub chosen_by : Fields → SigningInputs → SigV4OperationSigningConfig → Instant → ChosenInputs
 chosen_by fields inputs config now = record {
   region = chosen_region fields inputs config;
   name = chosen_name fields inputs config;
@@ -100,12 +100,12 @@ chosen_by fields inputs config now = record {
 }
 
 -- the same by the endpoint and the config of the inputs
-unfoldable pub chosen : SigningInputs → Instant → Chosen
+unfoldable pub chosen : SigningInputs → Instant → ChosenInputs
 chosen inputs now = chosen_by (fields_of (given_endpoint inputs)) inputs (given_config inputs) now
 
 -- the case of a request that an identity signs, for the name that an override gives the token and what the target spells; a region and a name that
 -- are missing are refused
-abbrev pub chosen_case : HttpRequest → Identity → Chosen → Option (List ℕ) → Target → Case
+abbrev pub chosen_case : HttpRequest → Identity → ChosenInputs → Option (List ℕ) → Target → Case
 chosen_case request identity choice token_name target = record {
   method = string_bytes request.method;
   target = target;

@@ -97,9 +97,9 @@ abbrev pub SignsMessage : {S : Type 0} → SignerState S → Parts → Instant �
 SignsMessage old message t result new = SignsBytes (unsigned_message_by old.parts.identity message t) old (frame message) t result new
 
 -- the signing of the empty message, which there always is
-abbrev pub SignsEnd : {S : Type 0} → SignerState S → Instant → Option (Result Parts SignMessageError) → SignerState S → Type 0
-SignsEnd old t None new = ⊥
-SignsEnd old t (Some result) new = SignsBytes (unsigned_by old.parts.identity t) old [] t result new
+abbrev pub SignsClosing : {S : Type 0} → SignerState S → Instant → Option (Result Parts SignMessageError) → SignerState S → Type 0
+SignsClosing old t None new = ⊥
+SignsClosing old t (Some result) new = SignsBytes (unsigned_by old.parts.identity t) old [] t result new
 
 -- with no reason against it the answer is the signing key of a moment, which is kept; else it is the reason, or memory ran out.
 -- All else stays

@@ -23,9 +23,9 @@ module _ {F : Type 0} (calls : Shared F (Bor SigningSettings × (Bor SigV4Operat
     pub says : FnReturns calls closure (shown_settings, (shown_config, tt)) answer
 
   -- the name that an override gives, and none where there is no override
-  abbrev pub Answers : Option F → Settings → SigV4OperationSigningConfig → NameAnswer → Type 0
-  Answers None settings config answer = answer ≡ Ok None
-  Answers (Some closure) settings config answer = MayAnswer closure settings config answer
+  abbrev pub AnswersName : Option F → Settings → SigV4OperationSigningConfig → NameAnswer → Type 0
+  AnswersName None settings config answer = answer ≡ Ok None
+  AnswersName (Some closure) settings config answer = MayAnswer closure settings config answer
 
 -- what is printed of an override that gives no name
 abbrev pub override_error_text : OverrideError → List ℕ

@@ -21,9 +21,9 @@ use Rattle.sigv4.specs.declared.error.SigningError.TheVariants.{InvalidUri, Mome
 use Rattle.sigv4.specs.declared.settings.SigningSettings.{SigningSettings}
 use Rattle.aws_auth.specs.Endpoint.{bad_field}
 use Rattle.aws_auth.specs.Error.{override_error}
-use Rattle.aws_auth.specs.Inputs.{Chosen, chosen, chosen_case, given_config, given_endpoint}
+use Rattle.aws_auth.specs.Inputs.{ChosenInputs, chosen, chosen_case, given_config, given_endpoint}
 use Rattle.aws_auth.specs.MessageSigner.{GoesOn, IsSameSigner}
-use Rattle.aws_auth.specs.NameOverride.{Answers, NameAnswer}
+use Rattle.aws_auth.specs.NameOverride.{AnswersName, NameAnswer}
 use Rattle.aws_auth.specs.declared.error.SigV4SigningError.{SigV4SigningError}
 use Rattle.aws_auth.specs.declared.error.SigV4SigningError.TheVariants.{MissingOperationSigningConfig, MissingSigningRegion, MissingSigningName, WrongIdentityType, Signing, NoMemory}
 use Rattle.aws_auth.specs.declared.inputs.SigningInputs.{SigningInputs}
@@ -64,7 +64,7 @@ refusal_before_override identity inputs =
     option_or (wrong_identity identity) (option_or (unless_there inputs.config MissingOperationSigningConfig) (bad_field (given_endpoint inputs)))
 
 -- the first test that fails from there on, before the target is read: the override's answer, the region, the name and the moment
-abbrev pub refusal_before_target : Chosen → NameAnswer → Option SigV4SigningError
+abbrev pub refusal_before_target : ChosenInputs → NameAnswer → Option SigV4SigningError
 refusal_before_target choice answer =
     option_or (refused_name answer) (unfit_params choice.region choice.name choice.at)
 
@@ -104,7 +104,7 @@ module _ {F : Type 0} (calls : Shared F (Bor SigningSettings × (Bor SigV4Operat
     (identity : Identity) (inputs : SigningInputs) (now : Instant) (old : HttpRequest) where
   -- the override answers so for the settings that are made so far, and the config
   abbrev pub IsAnswer : NameAnswer → Type 0
-  IsAnswer answer = Answers calls closure (chosen inputs now).settings (given_config inputs) answer
+  IsAnswer answer = AnswersName calls closure (chosen inputs now).settings (given_config inputs) answer
 
   -- a test fails with this error, and no test before it: an override is asked where those before it pass, and the target is read likewise
   pub record RefusesRequest (error : SigV4SigningError) : Type 0 where

@@ -24,9 +24,9 @@ use Rattle.sigv4.specs.declared.signing_params.SigningParams.{SigningParams}
 use Rattle.sigv4.specs.declared.signing_params.SigningParams.TheVariants.{V4}
 use Rattle.aws_auth.specs.Endpoint.{Fields, bad_field, bad_text, bad_truth, field_of, fields_of, text_in, truth_in}
 use Rattle.aws_auth.specs.Error.{override_error}
-use Rattle.aws_auth.specs.Inputs.{Chosen, chosen, chosen_text, given_config, with_token_name}
+use Rattle.aws_auth.specs.Inputs.{ChosenInputs, chosen, chosen_text, given_config, with_token_name}
 use Rattle.aws_auth.specs.MessageSigner.{GoesOn}
-use Rattle.aws_auth.specs.NameOverride.{Answers, NameAnswer}
+use Rattle.aws_auth.specs.NameOverride.{AnswersName, NameAnswer}
 use Rattle.aws_auth.specs.Signer.{IsSignedCase, SpellsAs, refusal_before_override, unfit_params, unsigned_target}
 use Rattle.aws_auth.specs.declared.endpoint.EndpointField.{EndpointField}
 use Rattle.aws_auth.specs.declared.endpoint.EndpointFields.{EndpointFields}
@@ -64,7 +64,7 @@ FindsFields endpoint (Ok fields) = (bad_field endpoint ≡ None) × (found field
 FindsFields endpoint (Err error) = bad_field endpoint ≡ Some error
 
 -- what was chosen
-abbrev pub choice_of : Choice → Chosen
+abbrev pub choice_of : Choice → ChosenInputs
 choice_of choice = record {
   region = option_copied choice.region;
   name = option_copied choice.name;
@@ -91,9 +91,9 @@ module _ {F : Type 0} (calls : Shared F (Bor SigningSettings × (Bor SigV4Operat
   -- the settings with the name that the override gives the token, or the error of an override that gives none
   abbrev pub NamesToken : Option F → Settings → SigV4OperationSigningConfig → Result SigningSettings SigV4SigningError → Type 0
   NamesToken closure settings config (Ok named) =
-      (name : Option (String Global)) × Answers calls closure settings config (Ok name) × (settings_of named ≡ with_token_name settings (option_map string_bytes name))
+      (name : Option (String Global)) × AnswersName calls closure settings config (Ok name) × (settings_of named ≡ with_token_name settings (option_map string_bytes name))
   NamesToken closure settings config (Err error) =
-      (refused : OverrideError) × Answers calls closure settings config (Err refused) × (error ≡ override_error refused)
+      (refused : OverrideError) × AnswersName calls closure settings config (Err refused) × (error ≡ override_error refused)
 
 -- the config and what is chosen, or the first test that fails before an override is asked, or memory ran out
 abbrev pub Chooses : Identity → SigningInputs → Instant → Result (Bor SigV4OperationSigningConfig × Choice) SigV4SigningError → Type 0

@@ -192,13 +192,13 @@ impl SigV4MessageSigner<()> {
 /// Signs each message at the moment that it is handed, over the last signature, in whose place the new one comes. The signing
 /// key is derived once for messages of one day: when there is something to sign for the first time on that day.
 impl SignMessage for SigV4MessageSigner<()> {
-    ghost use Rattle.aws_auth.specs.MessageSigner.{SignsEnd, SignsMessage, told_of};
+    ghost use Rattle.aws_auth.specs.MessageSigner.{SignsClosing, SignsMessage, told_of};
 
     ghost told = { told_of };
 
     ghost signs = { SignsMessage };
 
-    ghost closes = { SignsEnd };
+    ghost closes = { SignsClosing };
 
     #[tactic(auto, using(crate::proofs::MessageSignerLemmas::message_told))]
     fn sign(&mut self, message: Message, now: Moment) -> Result<Message, SignMessageError> {

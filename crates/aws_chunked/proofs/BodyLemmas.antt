@@ -5,9 +5,9 @@ use Rattle.std.proofs.lemmas.List.{drop_all, length-append, length-take}
 use Rattle.smithy_core.specs.FrameSource.{IsDrained, TakesFrame}
 use Rattle.smithy_core.specs.declared.outside.frame_part.FramePart.{FramePart}
 use Rattle.smithy_core.specs.declared.outside.frame_part.FramePart.TheVariants as frame
-use Rattle.aws_chunked.specs.Body.{CanMake, Rest, Trailer, data_before, data_left, held_after, listed, parts_left, taken_after, trailers_left, with_frame}
+use Rattle.aws_chunked.specs.Body.{CanMake, TextLeft, Trailer, data_before, data_left, held_after, listed, parts_left, taken_after, trailers_left, with_frame}
 use Rattle.aws_chunked.specs.Options.{counted}
-use Rattle.aws_chunked.specs.Text.{chunk, cut, parts_of, tail}
+use Rattle.aws_chunked.specs.Text.{chunk, pieces_of_size, parts_of, tail}
 use Rattle.aws_chunked.specs.declared.phase.Phase.{Phase}
 use Rattle.aws_chunked.specs.declared.phase.Phase.TheVariants as phase
 use Rattle.aws_chunked.proofs.CutLemmas.{cut_first}
@@ -61,7 +61,7 @@ total_end phase.Trailers taken = refl
 total_end phase.Ended taken = refl
 total_end phase.Closed taken = refl
 
-pub frame_taken : (before_rest now_rest : List FramePart → Rest) (part : FramePart) (before now : Option (List FramePart))
+pub frame_taken : (before_rest now_rest : List FramePart → TextLeft) (part : FramePart) (before now : Option (List FramePart))
     → TakesFrame part before now → ((frames : List FramePart) → now_rest frames ≡ before_rest (part ∷ frames))
     → option_map now_rest now ≡ option_map before_rest before
 frame_taken before_rest now_rest part None now taken same = ap (option_map now_rest) taken
@@ -69,7 +69,7 @@ frame_taken before_rest now_rest part (Some before) None taken same = absurd tak
 frame_taken before_rest now_rest part (Some before) (Some now) taken same =
     ap Some (same now) ∙ ap (λ frames. Some (before_rest frames)) (sym taken)
 
-pub frames_drained : (before_rest now_rest : List FramePart → Rest) (before now : Option (List FramePart))
+pub frames_drained : (before_rest now_rest : List FramePart → TextLeft) (before now : Option (List FramePart))
     → now ≡ before → IsDrained now → now_rest [] ≡ before_rest [] → option_map now_rest now ≡ option_map before_rest before
 frames_drained before_rest now_rest before None kept drained same = ap (option_map before_rest) kept
 frames_drained before_rest now_rest before (Some frames) kept drained same =
@@ -89,14 +89,14 @@ drop_front (x ∷ xs) ys (suc n) e = drop_front xs ys n (omega (arith, e))
 
 -- the first piece of bytes of which it is a whole chunk, or all
 cut_piece : (size : ℕ) (piece rest : List ℕ) → 0 < size → 0 < length piece → (length piece ≡ size) ⊎ ((length piece ≤ size) × (rest ≡ []))
-    → cut size (piece ++ rest) ≡ piece ∷ cut size rest
+    → pieces_of_size size (piece ++ rest) ≡ piece ∷ pieces_of_size size rest
 cut_piece size piece rest some full (inl whole) =
     cut_first size (piece ++ rest) some (omega (arith, full, length-append piece rest))
-    ∙ (λ i. take_front piece rest size (sym whole) i ∷ cut size (drop_front piece rest size (sym whole) i))
+    ∙ (λ i. take_front piece rest size (sym whole) i ∷ pieces_of_size size (drop_front piece rest size (sym whole) i))
 cut_piece size piece rest some full (inr last) =
     let all : piece ++ rest ≡ piece = ap (λ bytes. piece ++ bytes) last.1 ∙ append_nil piece in
-    ap (cut size) all ∙ cut_first size piece some full
-    ∙ (λ i. take_all size piece last.0 i ∷ cut size ((drop_all size piece last.0 ∙ sym last.1) i))
+    ap (pieces_of_size size) all ∙ cut_first size piece some full
+    ∙ (λ i. take_all size piece last.0 i ∷ pieces_of_size size ((drop_all size piece last.0 ∙ sym last.1) i))
 
 pub piece_length : (size : ℕ) (held : List ℕ) → length (take (min (length held) size) held) ≡ min (length held) size
 piece_length size held = omega (arith, length-take (min (length held) size) held)
@@ -118,9 +118,9 @@ whole_or_last phase.Ended size held piece rest frames can long is = last_piece s
 whole_or_last phase.Closed size held piece rest frames can long is = absurd can
 
 cut_held : (size : ℕ) (held piece rest more : List ℕ) → 0 < size → 0 < length piece → held ≡ piece ++ rest
-    → (length piece ≡ size) ⊎ ((length piece ≤ size) × (rest ++ more ≡ [])) → cut size (held ++ more) ≡ piece ∷ cut size (rest ++ more)
+    → (length piece ≡ size) ⊎ ((length piece ≤ size) × (rest ++ more ≡ [])) → pieces_of_size size (held ++ more) ≡ piece ∷ pieces_of_size size (rest ++ more)
 cut_held size held piece rest more some full is either =
-    ap (λ bytes. cut size (bytes ++ more)) is ∙ ap (cut size) (append_assoc piece rest more) ∙ cut_piece size piece (rest ++ more) some full either
+    ap (λ bytes. pieces_of_size size (bytes ++ more)) is ∙ ap (pieces_of_size size) (append_assoc piece rest more) ∙ cut_piece size piece (rest ++ more) some full either
 
 pub parts_chunk : (at : Phase) (size : ℕ) (held piece rest : List ℕ) (kept : Option (List Trailer)) (frames : List FramePart)
     → 0 < size → 0 < length piece → CanMake at size held → length piece ≡ min (length held) size → held ≡ piece ++ rest
@@ -128,7 +128,7 @@ pub parts_chunk : (at : Phase) (size : ℕ) (held piece rest : List ℕ) (kept :
 parts_chunk at size held piece rest kept frames some full can long is =
     by at can (cut_held size held piece rest (data_left at frames) some full is (whole_or_last at size held piece rest frames can long is))
   where
-    by : (at : Phase) → CanMake at size held → cut size (held ++ data_left at frames) ≡ piece ∷ cut size (rest ++ data_left at frames)
+    by : (at : Phase) → CanMake at size held → pieces_of_size size (held ++ data_left at frames) ≡ piece ∷ pieces_of_size size (rest ++ data_left at frames)
         → parts_left at size held kept frames ≡ chunk piece ∷ parts_left at size rest kept frames
     by phase.Data can cuts = ap (λ pieces. map chunk pieces ++ tail (listed (trailers_left phase.Data kept frames)) ∷ []) cuts
     by phase.Trailers can cuts = ap (λ pieces. map chunk pieces ++ tail (listed (trailers_left phase.Trailers kept frames)) ∷ []) cuts

@@ -1,10 +1,10 @@
 -- Data that is cut every so many bytes.
 use Rattle.std.proofs.Common.{◌≡◌, ℕ, zero, suc, ◌<◌, ◌≤◌, List, [], ◌∷◌, length, length-drop, take, drop, refl, ap, arith}
-use Rattle.aws_chunked.specs.Text.{cut, cut_within}
+use Rattle.aws_chunked.specs.Text.{pieces_of_size, cut_within}
 
 -- nothing has no pieces
-pub cut_none : (size : ℕ) → cut size [] ≡ []
-unfolding cut cut_within
+pub cut_none : (size : ℕ) → pieces_of_size size [] ≡ []
+unfolding pieces_of_size cut_within
 cut_none size = refl
 
 -- a greater bound changes nothing
@@ -19,8 +19,8 @@ cut_enough (suc k) (suc m) size (byte ∷ bytes) some low high =
     ap (λ pieces. take size (byte ∷ bytes) ∷ pieces) (cut_enough k m size rest some (omega (arith, low, shorter)) (omega (arith, high, shorter)))
 
 -- the first piece, and the others
-pub cut_first : (size : ℕ) (bytes : List ℕ) → 0 < size → 0 < length bytes → cut size bytes ≡ take size bytes ∷ cut size (drop size bytes)
-unfolding cut cut_within
+pub cut_first : (size : ℕ) (bytes : List ℕ) → 0 < size → 0 < length bytes → pieces_of_size size bytes ≡ take size bytes ∷ pieces_of_size size (drop size bytes)
+unfolding pieces_of_size cut_within
 cut_first size [] some full = absurd (omega (arith, full))
 cut_first size (byte ∷ bytes) some full =
     let rest = drop size (byte ∷ bytes) in

@@ -8,14 +8,14 @@ use Rattle.smithy_core.specs.declared.outside.frame_part.FramePart.{FramePart}
 use Rattle.smithy_core.specs.declared.outside.frame_source.FrameSource as FrameSource
 use Rattle.eventstream.specs.Key.{Signer}
 use Rattle.sigv4.specs.Chunk.{chunk_signature, trailer_signature}
-use Rattle.sigv4.specs.ChunkTold.{ChunkTold, SignsNext, sealed, untold, unsigned_at, unwired}
+use Rattle.sigv4.specs.ChunkTold.{ChunkTold, SignsNext, sealed, untold, unsigned_chunk_at, unwired}
 use Rattle.sigv4.specs.declared.chunk_signer.SignChunk as SignChunk
 use Rattle.sigv4.specs.declared.error.SigningError.{SigningError}
 use Rattle.sigv4.specs.declared.error.SigningError.TheVariants.{MomentOutOfRange}
-use Rattle.aws_chunked.specs.Body.{Answers, IsClosed, IsNew, IsNothing, Keeps, MakesFirst, Rest, TakesText, Trailer, data_before, held_bytes, listed, parts_due, parts_left, ready_bytes, rest_with, trailers_from}
+use Rattle.aws_chunked.specs.Body.{AnswersFrame, IsBodyClosed, IsNewBody, IsNothing, KeepsText, MakesFirst, TextLeft, TakesText, Trailer, data_before, held_bytes, listed, parts_due, parts_left, ready_bytes, text_to_come_with, trailers_from}
 use Rattle.aws_chunked.specs.Options.{Options}
-use Rattle.aws_chunked.specs.Due.{StartsSealed, due, sealed_chunked_text, sealed_text, text_due, told_of, trailers_signature, writing}
-use Rattle.aws_chunked.specs.Signing.{Answering, ChunkAnswers, MakesPart, SignsPart, TrailerAnswers, has_signature}
+use Rattle.aws_chunked.specs.Due.{StartsSealed, due, sealed_chunked_text, sealed_text, text_due, told_of_chunks, trailers_signature, writing}
+use Rattle.aws_chunked.specs.Signing.{Answering, ChunkAnswers, MakesPart, SignsWhereSigned, TrailerAnswers, has_signature}
 use Rattle.aws_chunked.specs.Text.{Part, chunk, chunk_text, chunked_text, part_text, parts_of, parts_text, tail, tail_text}
 use Rattle.aws_chunked.specs.declared.body.AwsChunkedBody.{AwsChunkedBody}
 use Rattle.aws_chunked.specs.declared.body.ChunkNext.TheVariants as next
@@ -32,7 +32,7 @@ Seals next (sealed before who t) signature now =
 Seals next unwired signature now = ⊥
 Seals next untold signature now = now ≡ untold
 
-in_years : (t : Instant) → unsigned_at t ≡ None → is_in_years t ≡ true
+in_years : (t : Instant) → unsigned_chunk_at t ≡ None → is_in_years t ≡ true
 in_years t none = by (is_in_years t) none
   where
     by : (b : Bool) → (if b then None else Some (MomentOutOfRange t)) ≡ None → b ≡ true
@@ -50,10 +50,10 @@ seals_part : {G : Type 0} (signer : SignChunk.Ghosts G) (next : Signer → Insta
     (old new : Option G) (signature : Option (String Global))
     → ((before : G) (result : Result (String Global) SigningError) (after : G) → answers before result after
     → SignsNext next (signer.told before) result (signer.told after))
-    → SignsPart answers true old (Ok signature) new → Seals next (told_of signer old) (option_map string_bytes signature) (told_of signer new)
+    → SignsWhereSigned answers true old (Ok signature) new → Seals next (told_of_chunks signer old) (option_map string_bytes signature) (told_of_chunks signer new)
 seals_part signer next answers None new signature tells signs = absurd signs
 seals_part signer next answers (Some old) new signature tells signs =
-    subst (λ (now : Option _). Seals next (signer.told old) (option_map string_bytes signature) (told_of signer now)) (sym signs.4)
+    subst (λ (now : Option _). Seals next (signer.told old) (option_map string_bytes signature) (told_of_chunks signer now)) (sym signs.4)
     (subst (λ (made : Option (String Global)). Seals next (signer.told old) (option_map string_bytes made) (signer.told signs.0)) (sym signs.3)
     (seals_next next (signer.told old) signs.1 (signer.told signs.0) (tells old (Ok signs.1) signs.0 signs.2)))
 
@@ -63,10 +63,10 @@ SealsTrailers [] told signature now = (signature ≡ None) × (now ≡ told)
 SealsTrailers (trailer ∷ trailers) told signature now = Seals (trailer_signature (trailer ∷ trailers)) told signature now
 
 seals_trailers : {G : Type 0} (signer : SignChunk.Ghosts G) (trailers : List Trailer) (old new : Option G) (signature : Option (String Global))
-    → SignsPart (TrailerAnswers signer trailers) (has_signature true trailers) old (Ok signature) new
-    → SealsTrailers trailers (told_of signer old) (option_map string_bytes signature) (told_of signer new)
+    → SignsWhereSigned (TrailerAnswers signer trailers) (has_signature true trailers) old (Ok signature) new
+    → SealsTrailers trailers (told_of_chunks signer old) (option_map string_bytes signature) (told_of_chunks signer new)
 unfolding SealsTrailers
-seals_trailers signer [] old new signature signs = (ap (option_map string_bytes) signs.0, ap (told_of signer) signs.1)
+seals_trailers signer [] old new signature signs = (ap (option_map string_bytes) signs.0, ap (told_of_chunks signer) signs.1)
 seals_trailers signer (trailer ∷ trailers) old new signature signs =
     seals_part signer (trailer_signature (trailer ∷ trailers)) (TrailerAnswers signer (trailer ∷ trailers)) old new signature
     (λ before result after is. is.1) signs
@@ -104,9 +104,9 @@ left_ends phase.Trailers size held kept frames part rest is = ends_at _ _ part r
 left_ends phase.Ended size held kept frames part rest is = ends_at _ _ part rest is
 left_ends phase.Closed size held kept frames part rest is = (let no : ◌≡◌ {A = List Part} [] (part ∷ rest) = is in cc)
 
-due_ends : (before : List FramePart → Rest) (part : Part) (left : Option (List FramePart)) (now : Option (List Part))
+due_ends : (before : List FramePart → TextLeft) (part : Part) (left : Option (List FramePart)) (now : Option (List Part))
     → ((frames : List FramePart) (rest : List Part) → (before frames).parts ≡ part ∷ rest → EndsAt part rest)
-    → option_map (λ (rest : Rest). rest.parts) (option_map before left) ≡ option_map (λ (rest : List Part). part ∷ rest) now
+    → option_map (λ (rest : TextLeft). rest.parts) (option_map before left) ≡ option_map (λ (rest : List Part). part ∷ rest) now
     → (rest : List Part) → now ≡ Some rest → EndsAt part rest
 due_ends before part None now each is rest some = (let no : ◌≡◌ {A = Option (List Part)} None (Some (part ∷ rest)) = is ∙ ap (option_map (λ (others : List Part). part ∷ others)) some in cc)
 due_ends before part (Some frames) now each is rest some =
@@ -125,7 +125,7 @@ step before_of now_of part text bytes ready before (Some rest) same parts text_i
 
 -- an unsigned part has no signature
 unsigned_none : {G : Type 0} (answers : Answering G) (old new : Option G) (signature : Option (String Global))
-    → SignsPart answers false old (Ok signature) new → option_map string_bytes signature ≡ None
+    → SignsWhereSigned answers false old (Ok signature) new → option_map string_bytes signature ≡ None
 unsigned_none answers old new signature signs = ap (option_map string_bytes) signs.0
 
 unsigned_text : {G : Type 0} (signer : SignChunk.Ghosts G) (part : Part) (old new : Option G) (text : List ℕ) → MakesPart signer false part old text new → text ≡ part_text part
@@ -134,7 +134,7 @@ unsigned_text signer (chunk piece) old new text made =
 unsigned_text signer (tail trailers) old new text made =
     made.5 ∙ (λ i. tail_text (unsigned_none (ChunkAnswers signer []) old made.1 made.0 made.3 i) trailers (last trailers made.4 i))
   where
-    last : (all : List Trailer) → SignsPart (TrailerAnswers signer all) (has_signature false all) made.1 (Ok made.2) new → option_map string_bytes made.2 ≡ None
+    last : (all : List Trailer) → SignsWhereSigned (TrailerAnswers signer all) (has_signature false all) made.1 (Ok made.2) new → option_map string_bytes made.2 ≡ None
     last [] signs = unsigned_none (TrailerAnswers signer []) made.1 new made.2 signs
     last (trailer ∷ all) signs = unsigned_none (TrailerAnswers signer (trailer ∷ all)) made.1 new made.2 signs
 
@@ -171,16 +171,16 @@ tail_step trailers untold mid now signature last text bytes ready before after s
 part_step : {G : Type 0} (signer : SignChunk.Ghosts G) (is_signed : Bool) (part : Part) (old new : Option G) (text bytes ready : List ℕ) (before after : Option (List Part))
     → MakesPart signer is_signed part old text new → text ≡ bytes ++ ready → before ≡ option_map (λ (rest : List Part). part ∷ rest) after
     → ((rest : List Part) → after ≡ Some rest → EndsAt part rest)
-    → TakesText bytes (text_due (writing is_signed (told_of signer old)) [] before) (text_due (writing is_signed (told_of signer new)) ready after)
+    → TakesText bytes (text_due (writing is_signed (told_of_chunks signer old)) [] before) (text_due (writing is_signed (told_of_chunks signer new)) ready after)
 unfolding EndsAt
 part_step signer false part old new text bytes ready before after made same parts ends =
     step parts_text parts_text part text bytes ready before after same parts
     (λ rest some. ap (λ (front : List ℕ). front ++ parts_text rest) (sym (unsigned_text signer part old new text made)))
 part_step signer true (chunk piece) old new text bytes ready before after made same parts ends =
-    chunk_step piece (told_of signer old) (told_of signer new) (option_map string_bytes made.0) text bytes ready before after
+    chunk_step piece (told_of_chunks signer old) (told_of_chunks signer new) (option_map string_bytes made.0) text bytes ready before after
     (seals_part signer (chunk_signature piece) (ChunkAnswers signer piece) old new made.0 (λ b result a is. is.1) made.1) made.2 same parts
 part_step signer true (tail trailers) old new text bytes ready before after made same parts ends =
-    tail_step trailers (told_of signer old) (told_of signer made.1) (told_of signer new) (option_map string_bytes made.0) (option_map string_bytes made.2)
+    tail_step trailers (told_of_chunks signer old) (told_of_chunks signer made.1) (told_of_chunks signer new) (option_map string_bytes made.0) (option_map string_bytes made.2)
     text bytes ready before after
     (seals_part signer (chunk_signature []) (ChunkAnswers signer []) old made.1 made.0 (λ b result a is. is.1) made.3)
     (seals_trailers signer trailers made.1 new made.2 made.4) made.5 same parts ends
@@ -216,25 +216,25 @@ module _ {F G : Type 0} (source : FrameSource.Ghosts F) (signer : SignChunk.Ghos
   pub parts_same : (body : AwsChunkedBody F G) (ready : List ℕ) → parts_due source (record body { ready = ready }) ≡ parts_due source body
   parts_same body ready = by (source.left body.source)
     where
-      by : (left : Option (List FramePart)) → option_map (λ (rest : Rest). rest.parts) (option_map (rest_with (record body { ready = ready })) left)
-          ≡ option_map (λ (rest : Rest). rest.parts) (option_map (rest_with body) left)
+      by : (left : Option (List FramePart)) → option_map (λ (rest : TextLeft). rest.parts) (option_map (text_to_come_with (record body { ready = ready })) left)
+          ≡ option_map (λ (rest : TextLeft). rest.parts) (option_map (text_to_come_with body) left)
       by None = refl
       by (Some frames) = refl
 
   -- how the text of the parts that are left is written
   abbrev writing_of : AwsChunkedBody F G → Option (List Part → List ℕ)
-  writing_of body = writing body.options.is_signed (told_of signer body.signer)
+  writing_of body = writing body.options.is_signed (told_of_chunks signer body.signer)
 
   first_due : (old new : AwsChunkedBody F G) (text bytes : List ℕ) → new.options ≡ old.options → text ≡ bytes ++ ready_bytes new → ready_bytes old ≡ []
       → MakesFirst source signer old new text → TakesText bytes (due source signer old) (due source signer new)
   unfolding due
   first_due old new text bytes options is none first =
-      subst (λ (o : Options). TakesText bytes (due source signer old) (text_due (writing o.is_signed (told_of signer new.signer)) (ready_bytes new) (parts_due source new)))
+      subst (λ (o : Options). TakesText bytes (due source signer old) (text_due (writing o.is_signed (told_of_chunks signer new.signer)) (ready_bytes new) (parts_due source new)))
       (sym options)
       (subst (λ (ready : List ℕ). TakesText bytes (text_due (writing_of old) ready (parts_due source old))
-      (text_due (writing old.options.is_signed (told_of signer new.signer)) (ready_bytes new) (parts_due source new))) (sym none)
+      (text_due (writing old.options.is_signed (told_of_chunks signer new.signer)) (ready_bytes new) (parts_due source new))) (sym none)
       (part_step signer old.options.is_signed first.part old.signer new.signer text bytes (ready_bytes new) (parts_due source old) (parts_due source new) first.made is first.parts
-      (due_ends (rest_with old) first.part (source.left old.source) (parts_due source new)
+      (due_ends (text_to_come_with old) first.part (source.left old.source) (parts_due source new)
       (λ frames rest same. left_ends old.phase old.options.chunk_size (held_bytes old) old.trailers frames first.part rest same) first.parts)))
 
   ready_due : (old new : AwsChunkedBody F G) (text bytes : List ℕ) → text ≡ bytes ++ ready_bytes new → text ≡ ready_bytes old
@@ -247,7 +247,7 @@ module _ {F G : Type 0} (source : FrameSource.Ghosts F) (signer : SignChunk.Ghos
       (ready_step (writing_of old) bytes (ready_bytes old) (ready_bytes new) (parts_due source old) (sym same ∙ is)))
 
   -- bytes that are answered are the front of what was due
-  pub front_due : (old new : AwsChunkedBody F G) (bytes : List ℕ) → Answers source signer old new (Ok (next.Frame bytes)) → new.options ≡ old.options
+  pub front_due : (old new : AwsChunkedBody F G) (bytes : List ℕ) → AnswersFrame source signer old new (Ok (next.Frame bytes)) → new.options ≡ old.options
       → TakesText bytes (due source signer old) (due source signer new)
   front_due old new bytes answers options = by answers.2
     where
@@ -256,21 +256,21 @@ module _ {F G : Type 0} (source : FrameSource.Ghosts F) (signer : SignChunk.Ghos
       by (inl (same, others)) = ready_due old new answers.0 bytes answers.1 same others
       by (inr (none, first)) = first_due old new answers.0 bytes options answers.1 none first
 
-  pub due_kept : (old new : AwsChunkedBody F G) → Keeps source old new → due source signer new ≡ due source signer old
+  pub due_kept : (old new : AwsChunkedBody F G) → KeepsText source old new → due source signer new ≡ due source signer old
   unfolding due
   due_kept old new keeps =
-      (λ i. text_due (writing_of (kept i)) (ready_bytes (kept i)) (option_map (λ (rest : Rest). rest.parts) (keeps.rest i)))
+      (λ i. text_due (writing_of (kept i)) (ready_bytes (kept i)) (option_map (λ (rest : TextLeft). rest.parts) (keeps.rest i)))
     where
       kept : new ≡ record old { source = new.source; phase = new.phase; held = new.held; taken = new.taken; trailers = new.trailers }
       kept = keeps.others
 
-  pub closed_due : (body : AwsChunkedBody F G) → IsClosed body → IsNothing (due source signer body)
+  pub closed_due : (body : AwsChunkedBody F G) → IsBodyClosed body → IsNothing (due source signer body)
   unfolding due
   closed_due body closed =
       subst (λ (ready : List ℕ). IsNothing (text_due (writing_of body) ready (parts_due source body))) (sym closed.answered)
-      (writes_none body.options.is_signed (told_of signer body.signer) (parts_due source body) (by (source.left body.source)))
+      (writes_none body.options.is_signed (told_of_chunks signer body.signer) (parts_due source body) (by (source.left body.source)))
     where
-      by : (left : Option (List FramePart)) (rest : List Part) → option_map (λ (rest : Rest). rest.parts) (option_map (rest_with body) left) ≡ Some rest → rest ≡ []
+      by : (left : Option (List FramePart)) (rest : List Part) → option_map (λ (rest : TextLeft). rest.parts) (option_map (text_to_come_with body) left) ≡ Some rest → rest ≡ []
       by None rest is = (let no : ◌≡◌ {A = Option (List Part)} None (Some rest) = is in cc)
       by (Some frames) rest is =
           (let all : ◌≡◌ {A = Option (List Part)} (Some (parts_left body.phase body.options.chunk_size (held_bytes body) body.trailers frames)) (Some rest) = is in
@@ -279,11 +279,11 @@ module _ {F G : Type 0} (source : FrameSource.Ghosts F) (signer : SignChunk.Ghos
 
   -- ---- a new body
 
-  pub new_due : (body : AwsChunkedBody F G) (from : F) (options : Options) → IsNew from options body → options.is_signed ≡ false
+  pub new_due : (body : AwsChunkedBody F G) (from : F) (options : Options) → IsNewBody from options body → options.is_signed ≡ false
       → due source signer body ≡ option_map (λ (frames : List FramePart). chunked_text options.chunk_size (data_before frames) (listed (trailers_from None frames))) (source.left from)
   unfolding due chunked_text
   new_due body from options new unsigned =
-      (λ i. text_due (writing (encoded i) (told_of signer body.signer)) (new.nothing_ready i) (new_parts source body from options new i)) ∙ by (source.left from)
+      (λ i. text_due (writing (encoded i) (told_of_chunks signer body.signer)) (new.nothing_ready i) (new_parts source body from options new i)) ∙ by (source.left from)
     where
       encoded : body.options.is_signed ≡ false
       encoded = ap (λ (o : Options). o.is_signed) new.encoded ∙ unsigned
@@ -297,7 +297,7 @@ module _ {F G : Type 0} (source : FrameSource.Ghosts F) (signer : SignChunk.Ghos
   pub starts_sealed : (old new : AwsChunkedBody F G) (given : G) → new ≡ record old { signer = Some given } → StartsSealed source signer old new
   unfolding due sealed_chunked_text
   starts_sealed old new given is from options before who t started signed told years =
-      subst (λ (body : AwsChunkedBody F G). text_due (writing body.options.is_signed (told_of signer new.signer)) (ready_bytes body) (parts_due source body)
+      subst (λ (body : AwsChunkedBody F G). text_due (writing body.options.is_signed (told_of_chunks signer new.signer)) (ready_bytes body) (parts_due source body)
       ≡ option_map (λ (frames : List FramePart). sealed_chunked_text who t before options.chunk_size (data_before frames) (listed (trailers_from None frames))) (source.left from))
       (sym is)
       ((λ i. text_due (writing (encoded i) (told i)) (started.nothing_ready i) (parts i)) ∙ rw years (by (source.left from)))
@@ -305,8 +305,8 @@ module _ {F G : Type 0} (source : FrameSource.Ghosts F) (signer : SignChunk.Ghos
       encoded : old.options.is_signed ≡ true
       encoded = ap (λ (o : Options). o.is_signed) started.encoded ∙ signed
 
-      signer_same : (left : Option (List FramePart)) → option_map (λ (rest : Rest). rest.parts) (option_map (rest_with (record old { signer = Some given })) left)
-          ≡ option_map (λ (rest : Rest). rest.parts) (option_map (rest_with old) left)
+      signer_same : (left : Option (List FramePart)) → option_map (λ (rest : TextLeft). rest.parts) (option_map (text_to_come_with (record old { signer = Some given })) left)
+          ≡ option_map (λ (rest : TextLeft). rest.parts) (option_map (text_to_come_with old) left)
       signer_same None = refl
       signer_same (Some frames) = refl
 

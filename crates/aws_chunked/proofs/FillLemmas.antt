@@ -7,11 +7,11 @@ use Rattle.sigv4.specs.declared.chunk_signer.SignChunk as SignChunk
 use Rattle.sigv4.specs.declared.error.SigningError.{SigningError}
 use Rattle.smithy_core.specs.declared.outside.frame_source.FrameSource as FrameSource
 use Rattle.smithy_core.specs.declared.outside.frame_part.FramePart.{FramePart}
-use Rattle.aws_chunked.specs.Body.{Answers, AreTurns, CanMake, Causes, Counts, Gathers, HasCause, HasLengths, HasTrailerLengths, actual_length, IsAtHand, IsClosed, IsFirst, Keeps, MakesChunk, MakesFirst, MakesTail, Readies, Rest, TakesDue, TakesTurns, Trailer, answer_of, data_left, first_piece, held_bytes, idle_count, listed, parts_due, parts_left, ready_bytes, rest_with, total_of}
+use Rattle.aws_chunked.specs.Body.{AnswersFrame, AreTurns, CanMake, Causes, KeepsCounts, Gathers, HasCause, HasLengths, HasTrailerLengths, actual_length, IsAtHand, IsBodyClosed, IsFirstPart, KeepsText, MakesChunk, MakesFirst, MakesTail, Readies, TextLeft, TakesDue, TakesIdleFrames, Trailer, stop_answer, data_left, first_piece, held_bytes, idle_frames, listed, parts_due, parts_left, ready_bytes, text_to_come_with, total_of}
 use Rattle.aws_chunked.specs.Due.{due}
 use Rattle.aws_chunked.specs.Options.{counted, declared_length}
 use Rattle.aws_chunked.specs.Signing.{ChunkAnswers, FailsPart, MakesPart, TrailerAnswers, has_signature}
-use Rattle.aws_chunked.specs.Text.{Part, chunk, chunk_text, crlf, cut, cut_within, head_text, last_line, tail, tail_text, trailer_line}
+use Rattle.aws_chunked.specs.Text.{Part, chunk, chunk_text, crlf, pieces_of_size, cut_within, head_text, last_line, tail, tail_text, trailer_line}
 use Rattle.aws_chunked.specs.declared.body.AwsChunkedBody.{AwsChunkedBody}
 use Rattle.aws_chunked.specs.declared.body.ChunkNext.{ChunkNext}
 use Rattle.aws_chunked.specs.declared.body.ChunkNext.TheVariants as next
@@ -41,25 +41,25 @@ part_some signer is_signed (tail trailers) old text new made =
 
 -- ---- over frames that may not be told
 
-parts_step : (before now : List FramePart → Rest) (part : Part) (left : Option (List FramePart))
+parts_step : (before now : List FramePart → TextLeft) (part : Part) (left : Option (List FramePart))
     → ((frames : List FramePart) → (before frames).parts ≡ part ∷ (now frames).parts)
-    → option_map (λ (rest : Rest). rest.parts) (option_map before left)
-    ≡ option_map (λ (parts : List Part). part ∷ parts) (option_map (λ (rest : Rest). rest.parts) (option_map now left))
+    → option_map (λ (rest : TextLeft). rest.parts) (option_map before left)
+    ≡ option_map (λ (parts : List Part). part ∷ parts) (option_map (λ (rest : TextLeft). rest.parts) (option_map now left))
 parts_step before now part None same = refl
 parts_step before now part (Some frames) same = ap Some (same frames)
 
-totals_same : (before now : List FramePart → Rest) (left : Option (List FramePart)) → ((frames : List FramePart) → (now frames).total ≡ (before frames).total)
-    → option_map (λ (rest : Rest). rest.total) (option_map now left) ≡ option_map (λ (rest : Rest). rest.total) (option_map before left)
+totals_same : (before now : List FramePart → TextLeft) (left : Option (List FramePart)) → ((frames : List FramePart) → (now frames).total ≡ (before frames).total)
+    → option_map (λ (rest : TextLeft). rest.total) (option_map now left) ≡ option_map (λ (rest : TextLeft). rest.total) (option_map before left)
 totals_same before now None same = refl
 totals_same before now (Some frames) same = ap Some (same frames)
 
-if_parts : (now : List FramePart → Rest) (left : Option (List FramePart)) (P : List Part → Type 0) → ((frames : List FramePart) → P (now frames).parts)
-    → IfSome (option_map (λ (rest : Rest). rest.parts) (option_map now left)) P
+if_parts : (now : List FramePart → TextLeft) (left : Option (List FramePart)) (P : List Part → Type 0) → ((frames : List FramePart) → P (now frames).parts)
+    → IfSome (option_map (λ (rest : TextLeft). rest.parts) (option_map now left)) P
 if_parts now None P holds = tt
 if_parts now (Some frames) P holds = holds frames
 
-if_total : (now : List FramePart → Rest) (left : Option (List FramePart)) (P : ℕ → Type 0) → ((frames : List FramePart) → P (now frames).total)
-    → IfSome (option_map (λ (rest : Rest). rest.total) (option_map now left)) P
+if_total : (now : List FramePart → TextLeft) (left : Option (List FramePart)) (P : ℕ → Type 0) → ((frames : List FramePart) → P (now frames).total)
+    → IfSome (option_map (λ (rest : TextLeft). rest.total) (option_map now left)) P
 if_total now None P holds = tt
 if_total now (Some frames) P holds = holds frames
 
@@ -71,7 +71,7 @@ ended phase.Closed size held some can none = absurd can
 
 tail_left : (size : ℕ) (held : List ℕ) (kept : Option (List Trailer)) (frames : List FramePart) → held ≡ []
     → parts_left phase.Ended size held kept frames ≡ tail (listed kept) ∷ []
-unfolding cut cut_within
+unfolding pieces_of_size cut_within
 tail_left size held kept frames none = ap (λ (bytes : List ℕ). parts_left phase.Ended size bytes kept frames) none
 
 ended_total : (at : Phase) (taken : ℕ) (frames : List FramePart) → (at ≡ phase.Trailers) ⊎ (at ≡ phase.Ended)
@@ -99,17 +99,17 @@ module _ {F G : Type 0} (source : FrameSource.Ghosts F) (signer : SignChunk.Ghos
   -- ---- what is made
 
   parts_made : (old new : AwsChunkedBody F G) (part : Part) → new.source ≡ old.source
-      → ((frames : List FramePart) → (rest_with old frames).parts ≡ part ∷ (rest_with new frames).parts)
+      → ((frames : List FramePart) → (text_to_come_with old frames).parts ≡ part ∷ (text_to_come_with new frames).parts)
       → parts_due source old ≡ option_map (λ (parts : List Part). part ∷ parts) (parts_due source new)
   parts_made old new part source_is same =
-      parts_step (rest_with old) (rest_with new) part (source.left old.source) same
-      ∙ ap (λ (f : F). option_map (λ (parts : List Part). part ∷ parts) (option_map (λ (rest : Rest). rest.parts) (option_map (rest_with new) (source.left f)))) (sym source_is)
+      parts_step (text_to_come_with old) (text_to_come_with new) part (source.left old.source) same
+      ∙ ap (λ (f : F). option_map (λ (parts : List Part). part ∷ parts) (option_map (λ (rest : TextLeft). rest.parts) (option_map (text_to_come_with new) (source.left f)))) (sym source_is)
 
-  total_made : (old new : AwsChunkedBody F G) → new.source ≡ old.source → ((frames : List FramePart) → (rest_with new frames).total ≡ (rest_with old frames).total)
+  total_made : (old new : AwsChunkedBody F G) → new.source ≡ old.source → ((frames : List FramePart) → (text_to_come_with new frames).total ≡ (text_to_come_with old frames).total)
       → total_of source new ≡ total_of source old
   total_made old new source_is same =
-      ap (λ (f : F). option_map (λ (rest : Rest). rest.total) (option_map (rest_with new) (source.left f))) source_is
-      ∙ totals_same (rest_with old) (rest_with new) (source.left old.source) same
+      ap (λ (f : F). option_map (λ (rest : TextLeft). rest.total) (option_map (text_to_come_with new) (source.left f))) source_is
+      ∙ totals_same (text_to_come_with old) (text_to_come_with new) (source.left old.source) same
 
   chunk_first : (old new : AwsChunkedBody F G) → IsAtHand old → 0 < old.options.chunk_size → 0 < length (held_bytes old)
       → MakesChunk signer old new (Ok tt) → MakesFirst source signer old new (ready_bytes new)
@@ -143,30 +143,30 @@ module _ {F G : Type 0} (source : FrameSource.Ghosts F) (signer : SignChunk.Ghos
         parts = parts_made old new last source_is (λ (frames : List FramePart).
             ap (λ (at : Phase). parts_left at size (held_bytes old) old.trailers frames) ends
             ∙ tail_left size (held_bytes old) old.trailers frames none
-            ∙ ap (λ (parts : List Part). last ∷ parts) (sym (ap (λ (body : AwsChunkedBody F G). (rest_with body frames).parts) made.2)));
+            ∙ ap (λ (parts : List Part). last ∷ parts) (sym (ap (λ (body : AwsChunkedBody F G). (text_to_come_with body frames).parts) made.2)));
         total = total_made old new source_is (λ (frames : List FramePart).
             ap (λ (body : AwsChunkedBody F G). counted (body.taken + length (data_left body.phase frames))) made.2
             ∙ sym (ap (λ (at : Phase). counted (old.taken + length (data_left at frames))) ends));
         lengths = subst (λ (body : AwsChunkedBody F G). HasLengths last body) (sym made.2) (taken none, made.1);
       }
 
-  first_later : (old mid new : AwsChunkedBody F G) (text : List ℕ) → Keeps source old mid → MakesFirst source signer mid new text → MakesFirst source signer old new text
+  first_later : (old mid new : AwsChunkedBody F G) (text : List ℕ) → KeepsText source old mid → MakesFirst source signer mid new text → MakesFirst source signer old new text
   first_later old mid new text keeps first = record {
     part = first.part;
     made = subst (λ (body : AwsChunkedBody F G). MakesPart signer body.options.is_signed first.part body.signer text new.signer) keeps.others first.made;
-    parts = sym (ap (option_map (λ (rest : Rest). rest.parts)) keeps.rest) ∙ first.parts;
-    total = first.total ∙ ap (option_map (λ (rest : Rest). rest.total)) keeps.rest;
+    parts = sym (ap (option_map (λ (rest : TextLeft). rest.parts)) keeps.rest) ∙ first.parts;
+    total = first.total ∙ ap (option_map (λ (rest : TextLeft). rest.total)) keeps.rest;
     lengths = first.lengths;
   }
 
-  turns_kept : (P : ℕ → Type 0) (old mid new : AwsChunkedBody F G) → TakesTurns source P old mid → new.source ≡ mid.source → TakesTurns source P old new
+  turns_kept : (P : ℕ → Type 0) (old mid new : AwsChunkedBody F G) → TakesIdleFrames source P old mid → new.source ≡ mid.source → TakesIdleFrames source P old new
   turns_kept P old mid new turns source_is = record {
     frames = turns.frames;
     taken = turns.taken ∙ ap (λ (f : F). option_map (λ (rest : List FramePart). turns.frames ++ rest) (source.left f)) (sym source_is);
     turns = turns.turns;
   }
 
-  counts_kept : (old mid new : AwsChunkedBody F G) → Counts source old mid → new.source ≡ mid.source → new.options ≡ mid.options → Counts source old new
+  counts_kept : (old mid new : AwsChunkedBody F G) → KeepsCounts source old mid → new.source ≡ mid.source → new.options ≡ mid.options → KeepsCounts source old new
   counts_kept old mid new counts source_is options = record {
     waits = subst (λ (f : F). source.waits old.source ≤ source.waits f) (sym source_is) counts.waits;
     faults = subst (λ (f : F). source.faults old.source ≤ source.faults f) (sym source_is) counts.faults;
@@ -178,7 +178,7 @@ module _ {F G : Type 0} (source : FrameSource.Ghosts F) (signer : SignChunk.Ghos
       → Readies source signer old new (Ok tt)
   made_ready old mid new none gathers as_chunk as_tail = by (held_bytes mid) refl
     where
-      keeps : Keeps source old mid
+      keeps : KeepsText source old mid
       keeps = gathers.0
 
       by : (held : List ℕ) → held_bytes mid ≡ held → Readies source signer old new (Ok tt)
@@ -203,15 +203,15 @@ module _ {F G : Type 0} (source : FrameSource.Ghosts F) (signer : SignChunk.Ghos
   pub clear_after : (old mid : AwsChunkedBody F G) → Gathers source old mid (Ok tt) → ready_bytes old ≡ [] → ready_bytes mid ≡ []
   clear_after old mid gathers none = ap (λ (body : AwsChunkedBody F G). ready_bytes body) gathers.0.others ∙ none
 
-  turns_not : (P : ℕ → Type 0) (old new : AwsChunkedBody F G) → new ≡ old → P 0 → TakesTurns source P old new
+  turns_not : (P : ℕ → Type 0) (old new : AwsChunkedBody F G) → new ≡ old → P 0 → TakesIdleFrames source P old new
   turns_not P old new is zero_is = record {
     frames = [];
     taken = left_none (source.left old.source) ∙ ap (λ (body : AwsChunkedBody F G). option_map (λ (rest : List FramePart). [] ++ rest) (source.left body.source)) (sym is);
     turns = subst P (sym (idle_none old.phase)) zero_is;
   }
 
-  counts_not : (old new : AwsChunkedBody F G) → new ≡ old → Counts source old new
-  counts_not old new is = subst (λ (body : AwsChunkedBody F G). Counts source old body) (sym is) (record { waits = omega arith; faults = omega arith; options = refl })
+  counts_not : (old new : AwsChunkedBody F G) → new ≡ old → KeepsCounts source old new
+  counts_not old new is = subst (λ (body : AwsChunkedBody F G). KeepsCounts source old body) (sym is) (record { waits = omega arith; faults = omega arith; options = refl })
 
   -- text is ready
   pub stays_ready : (body : AwsChunkedBody F G) → 0 < length (ready_bytes body) → Readies source signer body body (Ok tt)
@@ -220,11 +220,11 @@ module _ {F G : Type 0} (source : FrameSource.Ghosts F) (signer : SignChunk.Ghos
 
   -- ---- why nothing is made
 
-  first_kept : (old mid : AwsChunkedBody F G) (part : Part) → Keeps source old mid → IsFirst source signer mid part → IsFirst source signer old part
+  first_kept : (old mid : AwsChunkedBody F G) (part : Part) → KeepsText source old mid → IsFirstPart source signer mid part → IsFirstPart source signer old part
   first_kept old mid part keeps first =
-      subst (λ (rest : Option Rest). IfSome (option_map (λ (r : Rest). r.parts) rest) (λ (parts : List Part). (more : List Part) × (parts ≡ part ∷ more))) keeps.rest first
+      subst (λ (rest : Option TextLeft). IfSome (option_map (λ (r : TextLeft). r.parts) rest) (λ (parts : List Part). (more : List Part) × (parts ≡ part ∷ more))) keeps.rest first
 
-  chunk_is_first : (old : AwsChunkedBody F G) → IsAtHand old → 0 < old.options.chunk_size → 0 < length (held_bytes old) → IsFirst source signer old (chunk (first_piece old))
+  chunk_is_first : (old : AwsChunkedBody F G) → IsAtHand old → 0 < old.options.chunk_size → 0 < length (held_bytes old) → IsFirstPart source signer old (chunk (first_piece old))
   chunk_is_first old at_hand some full =
       let size = old.options.chunk_size in
       let piece = first_piece old in
@@ -232,17 +232,17 @@ module _ {F G : Type 0} (source : FrameSource.Ghosts F) (signer : SignChunk.Ghos
       let whole : 0 < length piece = omega (arith, long, some, full) in
       let left = drop (min (length (held_bytes old)) size) (held_bytes old) in
       let is : held_bytes old ≡ piece ++ left = sym (take-append-drop (min (length (held_bytes old)) size) (held_bytes old)) in
-      if_parts (rest_with old) (source.left old.source) (λ (parts : List Part). (more : List Part) × (parts ≡ chunk piece ∷ more))
+      if_parts (text_to_come_with old) (source.left old.source) (λ (parts : List Part). (more : List Part) × (parts ≡ chunk piece ∷ more))
       (λ (frames : List FramePart). (
         parts_left old.phase size left old.trailers frames,
         parts_chunk old.phase size (held_bytes old) piece left old.trailers frames some whole at_hand long is,
       ))
 
-  tail_is_first : (old : AwsChunkedBody F G) → held_bytes old ≡ [] → IsAtHand old → 0 < old.options.chunk_size → IsFirst source signer old (tail (listed old.trailers))
+  tail_is_first : (old : AwsChunkedBody F G) → held_bytes old ≡ [] → IsAtHand old → 0 < old.options.chunk_size → IsFirstPart source signer old (tail (listed old.trailers))
   tail_is_first old none at_hand some =
       let size = old.options.chunk_size in
       let ends : old.phase ≡ phase.Ended = ended old.phase size (held_bytes old) some at_hand none in
-      if_parts (rest_with old) (source.left old.source) (λ (parts : List Part). (more : List Part) × (parts ≡ tail (listed old.trailers) ∷ more))
+      if_parts (text_to_come_with old) (source.left old.source) (λ (parts : List Part). (more : List Part) × (parts ≡ tail (listed old.trailers) ∷ more))
       (λ (frames : List FramePart). (
         [],
         ap (λ (at : Phase). parts_left at size (held_bytes old) old.trailers frames) ends ∙ tail_left size (held_bytes old) old.trailers frames none,
@@ -259,7 +259,7 @@ module _ {F G : Type 0} (source : FrameSource.Ghosts F) (signer : SignChunk.Ghos
   causes_of old new error (inr (inl told)) = subst (λ (e : AwsChunkedBodyError). Causes source signer old new (Err e)) (sym told.2) told.3
   causes_of old new error (inr (inr told)) = subst (λ (e : AwsChunkedBodyError). Causes source signer old new (Err e)) (sym told.1) told.2
 
-  fails_for : (old mid new : AwsChunkedBody F G) (part : Part) (error : AwsChunkedBodyError) → Keeps source old mid → IsFirst source signer mid part
+  fails_for : (old mid new : AwsChunkedBody F G) (part : Part) (error : AwsChunkedBodyError) → KeepsText source old mid → IsFirstPart source signer mid part
       → FailsPart signer mid.options.is_signed part mid.signer error new.signer
       → (error ≡ fault.NoMemory) ⊎ ((why : SigningError) × (error ≡ fault.FailedToSign why)) → MayCause old new error
   fails_for old mid new part error keeps first fails (inl is) = inl is
@@ -297,7 +297,7 @@ module _ {F G : Type 0} (source : FrameSource.Ghosts F) (signer : SignChunk.Ghos
               (lacks.0, lacks.1, refl, lacks.3),
           ap (λ (body : AwsChunkedBody F G). body.taken) others ∙ gathers.3 none ∙ sym (ap (λ (body : AwsChunkedBody F G). body.options.stream_length) others),
           first_kept old mid (tail (listed new.trailers)) gathers.0
-              (subst (λ (kept : Option (List Trailer)). IsFirst source signer mid (tail (listed kept))) (sym (ap (λ (body : AwsChunkedBody F G). body.trailers) others))
+              (subst (λ (kept : Option (List Trailer)). IsFirstPart source signer mid (tail (listed kept))) (sym (ap (λ (body : AwsChunkedBody F G). body.trailers) others))
               (tail_is_first mid none gathers.1 gathers.2)),
           signs ∙ ap (λ (body : AwsChunkedBody F G). body.signer) gathers.0.others,
         ),
@@ -327,7 +327,7 @@ module _ {F G : Type 0} (source : FrameSource.Ghosts F) (signer : SignChunk.Ghos
       ends source_is options cause =
           let turns = turns_kept (λ (count : ℕ). count < 65536) old mid new gathers.4 source_is in (
             (counts_kept old mid new (counts_of source old mid gathers.0) source_is options, causes_of old new error cause),
-            record { frames = turns.frames; taken = turns.taken; turns = few error (idle_count old.phase turns.frames) turns.turns },
+            record { frames = turns.frames; taken = turns.taken; turns = few error (idle_frames old.phase turns.frames) turns.turns },
           )
 
       by : (held : List ℕ) → held_bytes mid ≡ held → Readies source signer old new (Err (stop.Fault error))
@@ -342,8 +342,8 @@ module _ {F G : Type 0} (source : FrameSource.Ghosts F) (signer : SignChunk.Ghos
   cause_gathered : (old mid : AwsChunkedBody F G) (error : AwsChunkedBodyError) → Gathers source old mid (Err (stop.Fault error)) → Causes source signer old mid (Err error)
   cause_gathered old mid (fault.StreamLengthMismatch actual expected) gathers = (
     gathers.1.1,
-    subst (λ (rest : Option Rest). IfSome (option_map (λ (r : Rest). r.total) rest) (λ (total : ℕ). total ≡ counted actual)) gathers.1.0.rest
-        (if_total (rest_with mid) (source.left mid.source) (λ (total : ℕ). total ≡ counted actual)
+    subst (λ (rest : Option TextLeft). IfSome (option_map (λ (r : TextLeft). r.total) rest) (λ (total : ℕ). total ≡ counted actual)) gathers.1.0.rest
+        (if_total (text_to_come_with mid) (source.left mid.source) (λ (total : ℕ). total ≡ counted actual)
         (λ (frames : List FramePart). ended_total mid.phase mid.taken frames gathers.1.2 ∙ ap counted (sym gathers.1.1.0))),
   )
   cause_gathered old mid (fault.ReportedTrailerLengthMismatch actual expected) gathers = absurd gathers.1
@@ -359,38 +359,38 @@ module _ {F G : Type 0} (source : FrameSource.Ghosts F) (signer : SignChunk.Ghos
 
   -- ---- what a call answers
 
-  pub stopped_due : (old new : AwsChunkedBody F G) (why : Stop) → Readies source signer old new (Err why) → TakesDue (due source signer old) (due source signer new) (answer_of why)
+  pub stopped_due : (old new : AwsChunkedBody F G) (why : Stop) → Readies source signer old new (Err why) → TakesDue (due source signer old) (due source signer new) (stop_answer why)
   stopped_due old new stop.End told = (ap (λ (body : AwsChunkedBody F G). due source signer body) told.0, closed_due source signer new told.1)
   stopped_due old new stop.NotYet told = due_kept source signer old new told.0
   stopped_due old new stop.OutOfTurns told = due_kept source signer old new told.0
   stopped_due old new (stop.Fault error) told = tt
 
-  pub stopped_answers : (old new : AwsChunkedBody F G) (why : Stop) → Readies source signer old new (Err why) → Answers source signer old new (answer_of why)
+  pub stopped_answers : (old new : AwsChunkedBody F G) (why : Stop) → Readies source signer old new (Err why) → AnswersFrame source signer old new (stop_answer why)
   stopped_answers old new stop.End told = told.0
   stopped_answers old new stop.NotYet told = told.0
   stopped_answers old new stop.OutOfTurns told = told.0
   stopped_answers old new (stop.Fault error) told = tt
 
-  pub stopped_cause : (old new : AwsChunkedBody F G) (why : Stop) → Readies source signer old new (Err why) → HasCause source signer old new (answer_of why)
+  pub stopped_cause : (old new : AwsChunkedBody F G) (why : Stop) → Readies source signer old new (Err why) → HasCause source signer old new (stop_answer why)
   stopped_cause old new stop.End told = (counts_not old new told.0, tt)
   stopped_cause old new stop.NotYet told = told.1
   stopped_cause old new stop.OutOfTurns told = told.1
   stopped_cause old new (stop.Fault error) told = told.0
 
-  pub stopped_turns : (old new : AwsChunkedBody F G) (why : Stop) → Readies source signer old new (Err why) → TakesTurns source (AreTurns (answer_of why)) old new
-  stopped_turns old new stop.End told = turns_not (AreTurns (answer_of stop.End)) old new told.0 (omega arith)
+  pub stopped_turns : (old new : AwsChunkedBody F G) (why : Stop) → Readies source signer old new (Err why) → TakesIdleFrames source (AreTurns (stop_answer why)) old new
+  stopped_turns old new stop.End told = turns_not (AreTurns (stop_answer stop.End)) old new told.0 (omega arith)
   stopped_turns old new stop.NotYet told = told.2
   stopped_turns old new stop.OutOfTurns told = told.2
   stopped_turns old new (stop.Fault error) told = told.1
 
-  pub stopped_end : (old new : AwsChunkedBody F G) (why : Stop) → Readies source signer old new (Err why) → answer_of why ≡ Ok next.End → IsClosed new
+  pub stopped_end : (old new : AwsChunkedBody F G) (why : Stop) → Readies source signer old new (Err why) → stop_answer why ≡ Ok next.End → IsBodyClosed new
   stopped_end old new stop.End told is = told.1
   stopped_end old new stop.NotYet told is = absurd (not_end (Ok next.NotYet) is tt)
   stopped_end old new stop.OutOfTurns told is = absurd (not_end (Ok next.OutOfTurns) is tt)
   stopped_end old new (stop.Fault error) told is = absurd (not_fault error is)
 
   pub front_answers : (old mid new : AwsChunkedBody F G) (piece : List ℕ) → Readies source signer old mid (Ok tt) → ready_bytes mid ≡ piece ++ ready_bytes new
-      → new ≡ record mid { ready = ready_bytes new } → Answers source signer old new (Ok (next.Frame piece))
+      → new ≡ record mid { ready = ready_bytes new } → AnswersFrame source signer old new (Ok (next.Frame piece))
   front_answers old mid new piece readies is others = (ready_bytes mid, is, by readies.3)
     where
       by : (mid ≡ old) ⊎ ((ready_bytes old ≡ []) × MakesFirst source signer old mid (ready_bytes mid))
@@ -408,13 +408,13 @@ module _ {F G : Type 0} (source : FrameSource.Ghosts F) (signer : SignChunk.Ghos
         }),
       )
         where
-          parts_ready : (left : Option (List FramePart)) → option_map (λ (rest : Rest). rest.parts) (option_map (rest_with mid) left)
-              ≡ option_map (λ (rest : Rest). rest.parts) (option_map (rest_with (record mid { ready = ready_bytes new })) left)
+          parts_ready : (left : Option (List FramePart)) → option_map (λ (rest : TextLeft). rest.parts) (option_map (text_to_come_with mid) left)
+              ≡ option_map (λ (rest : TextLeft). rest.parts) (option_map (text_to_come_with (record mid { ready = ready_bytes new })) left)
           parts_ready None = refl
           parts_ready (Some frames) = refl
 
-          totals_ready : (left : Option (List FramePart)) → option_map (λ (rest : Rest). rest.total) (option_map (rest_with (record mid { ready = ready_bytes new })) left)
-              ≡ option_map (λ (rest : Rest). rest.total) (option_map (rest_with mid) left)
+          totals_ready : (left : Option (List FramePart)) → option_map (λ (rest : TextLeft). rest.total) (option_map (text_to_come_with (record mid { ready = ready_bytes new })) left)
+              ≡ option_map (λ (rest : TextLeft). rest.total) (option_map (text_to_come_with mid) left)
           totals_ready None = refl
           totals_ready (Some frames) = refl
 
@@ -436,7 +436,7 @@ module _ {F G : Type 0} (source : FrameSource.Ghosts F) (signer : SignChunk.Ghos
       (counts_kept old mid new readies.0 (ap (λ (body : AwsChunkedBody F G). body.source) others) (ap (λ (body : AwsChunkedBody F G). body.options) others), tt)
 
   pub front_turns : (old mid new : AwsChunkedBody F G) (piece : List ℕ) → Readies source signer old mid (Ok tt) → new ≡ record mid { ready = ready_bytes new }
-      → TakesTurns source (AreTurns (Ok (next.Frame piece))) old new
+      → TakesIdleFrames source (AreTurns (Ok (next.Frame piece))) old new
   front_turns old mid new piece readies others =
       turns_kept (AreTurns (Ok (next.Frame piece))) old mid new readies.2 (ap (λ (body : AwsChunkedBody F G). body.source) others)
 
@@ -446,7 +446,7 @@ module _ {F G : Type 0} (source : FrameSource.Ghosts F) (signer : SignChunk.Ghos
       → new ≡ record mid { phase = phase.Closed; ready = [] } → HasCause source signer old new (Err error)
   closed_cause old mid new error told is = subst (λ (body : AwsChunkedBody F G). HasCause source signer old body (Err error)) (sym is) (counts, by error told.1)
     where
-      counts : Counts source old (record mid { phase = phase.Closed; ready = [] })
+      counts : KeepsCounts source old (record mid { phase = phase.Closed; ready = [] })
       counts = record { waits = told.0.waits; faults = told.0.faults; options = told.0.options }
 
       by : (at : AwsChunkedBodyError) → Causes source signer old mid (Err at) → Causes source signer old (record mid { phase = phase.Closed; ready = [] }) (Err at)
@@ -456,6 +456,6 @@ module _ {F G : Type 0} (source : FrameSource.Ghosts F) (signer : SignChunk.Ghos
       by fault.SourceFault cause = cause
       by fault.NoMemory cause = cause
 
-  pub closed_turns : (old mid new : AwsChunkedBody F G) (error : AwsChunkedBodyError) → TakesTurns source (AreTurns (Err error)) old mid
-      → new ≡ record mid { phase = phase.Closed; ready = [] } → TakesTurns source (AreTurns (Err error)) old new
+  pub closed_turns : (old mid new : AwsChunkedBody F G) (error : AwsChunkedBodyError) → TakesIdleFrames source (AreTurns (Err error)) old mid
+      → new ≡ record mid { phase = phase.Closed; ready = [] } → TakesIdleFrames source (AreTurns (Err error)) old new
   closed_turns old mid new error turns is = turns_kept (AreTurns (Err error)) old mid new turns (ap (λ (body : AwsChunkedBody F G). body.source) is)

@@ -1,14 +1,14 @@
 -- What follows the first parts of a text, one part behind another.
 use Rattle.std.proofs.Common.{◌≡◌, ℕ, List, [], ◌∷◌, ◌++◌, refl, ap, sym, subst, ◌∙◌, append_assoc, append-nil}
 use Rattle.aws_chunked.specs.Body.{Trailer}
-use Rattle.aws_chunked.specs.Decoded.{Begins}
-use Rattle.aws_chunked.specs.Reading.{Refuses, Tells}
-use Rattle.aws_chunked.specs.Rests.{Follows, Said, Says, first_byte}
+use Rattle.aws_chunked.specs.Decoded.{CanGoOn}
+use Rattle.aws_chunked.specs.Reading.{RefusesNext, TellsWhere}
+use Rattle.aws_chunked.specs.Rests.{FollowsFront, Said, TextSays, first_byte}
 use Rattle.aws_chunked.specs.declared.decode.fault.ReadFault.{ReadFault}
 use Rattle.aws_chunked.specs.declared.decode.fault.ReadFault.TheVariants.{Bad, NoMemory}
 
 -- the same is said in other words
-pub says_same : (Is : Says) (b c : List ℕ) (s z : List (List ℕ)) (t : List Trailer) (text other : List ℕ) → c ≡ b → z ≡ s → other ≡ text → Is b s t text → Is c z t other
+pub says_same : (Is : TextSays) (b c : List ℕ) (s z : List (List ℕ)) (t : List Trailer) (text other : List ℕ) → c ≡ b → z ≡ s → other ≡ text → Is b s t text → Is c z t other
 says_same Is b c s z t text other body signatures same is =
     subst (λ (x : List ℕ). Is x z t other) (sym body)
     (subst (λ (x : List (List ℕ)). Is b x t other) (sym signatures)
@@ -19,9 +19,9 @@ shares_first [] text rest same = same
 shares_first (byte ∷ front) text rest same = refl
 
 -- one part, and another behind it
-pub follows_both : (Whole Mid Rest : Says) (body more all_body : List ℕ) (signatures others all_signatures : List (List ℕ)) (front next all_front before rest : List ℕ)
+pub follows_both : (Whole Mid Rest : TextSays) (body more all_body : List ℕ) (signatures others all_signatures : List (List ℕ)) (front next all_front before rest : List ℕ)
     → all_body ≡ body ++ more → all_signatures ≡ signatures ++ others → all_front ≡ front ++ next → before ≡ next ++ rest
-    → Follows Whole Mid body signatures front before → Follows Mid Rest more others next rest → Follows Whole Rest all_body all_signatures all_front rest
+    → FollowsFront Whole Mid body signatures front before → FollowsFront Mid Rest more others next rest → FollowsFront Whole Rest all_body all_signatures all_front rest
 follows_both Whole Mid Rest body more all_body signatures others all_signatures front next all_front before rest bodies texts fronts parted one two = record {
   goes_on = λ b all_b s all_s t text all is_b is_s is part.
       one.goes_on (more ++ b) all_b (others ++ s) all_s t (next ++ text) all
@@ -42,9 +42,9 @@ follows_both Whole Mid Rest body more all_body signatures others all_signatures 
 }
 
 -- another name of the same rest
-pub follows_as : (Whole Rest : Says) (rest : List ℕ) → ((b : List ℕ) (s : List (List ℕ)) (t : List Trailer) (text : List ℕ) → Rest b s t text → Whole b s t text)
+pub follows_as : (Whole Rest : TextSays) (rest : List ℕ) → ((b : List ℕ) (s : List (List ℕ)) (t : List Trailer) (text : List ℕ) → Rest b s t text → Whole b s t text)
     → ((b : List ℕ) (s : List (List ℕ)) (t : List Trailer) (text : List ℕ) → first_byte text ≡ first_byte rest → Whole b s t text → Rest b s t text)
-    → Follows Whole Rest [] [] [] rest
+    → FollowsFront Whole Rest [] [] [] rest
 follows_as Whole Rest rest goes_on comes_so = record {
   goes_on = λ b all_b s all_s t text all is_b is_s is part. says_same Whole b all_b s all_s t text all is_b is_s is (goes_on b s t text part);
   comes_so = λ all_b all_s t text all is same whole.
@@ -54,7 +54,7 @@ follows_as Whole Rest rest goes_on comes_so = record {
 -- ## Where bytes stop
 
 refuses_so : (Less More : List ℕ → Type 0) (front back : List ℕ)
-    → ((all : List ℕ) → first_byte all ≡ first_byte (front ++ back) → Less all → More all) → Refuses More front back → Refuses Less front back
+    → ((all : List ℕ) → first_byte all ≡ first_byte (front ++ back) → Less all → More all) → RefusesNext More front back → RefusesNext Less front back
 refuses_so Less More [] [] within refuses = λ is. refuses (within [] refl is)
 refuses_so Less More (first ∷ front) [] within refuses = λ is. refuses (within (first ∷ front) refl is)
 refuses_so Less More [] (byte ∷ back) within refuses = λ begins. refuses (begins.0, within (byte ∷ begins.0) refl begins.1)
@@ -62,8 +62,8 @@ refuses_so Less More (first ∷ front) (byte ∷ back) within refuses = λ begin
 
 -- a part stops what begins with it: each word of the part goes on to one, and each one whose first byte is that of the bytes at hand leads
 -- with the part
-pub stops_part : (IsPart LedPart IsWhole : List ℕ → Type 0) (bytes : List ℕ) (fault : ReadFault) → ((word : List ℕ) → IsPart word → Begins IsWhole word)
-    → ((all : List ℕ) → first_byte all ≡ first_byte bytes → IsWhole all → LedPart all) → Tells IsPart LedPart bytes fault → Tells IsWhole IsWhole bytes fault
+pub stops_part : (IsPart LedPart IsWhole : List ℕ → Type 0) (bytes : List ℕ) (fault : ReadFault) → ((word : List ℕ) → IsPart word → CanGoOn IsWhole word)
+    → ((all : List ℕ) → first_byte all ≡ first_byte bytes → IsWhole all → LedPart all) → TellsWhere IsPart LedPart bytes fault → TellsWhere IsWhole IsWhole bytes fault
 stops_part IsPart LedPart IsWhole bytes NoMemory goes_on within told = tt
 stops_part IsPart LedPart IsWhole bytes (Bad left) goes_on within told =
     let front = told.0 in
@@ -78,8 +78,8 @@ stops_part IsPart LedPart IsWhole bytes (Bad left) goes_on within told =
       refuses_so IsWhole LedPart front back (λ all same is. within all (same ∙ ap first_byte (sym told.2)) is) told.5,
     )
 
-refuses_rest : (Whole Rest : Says) (body : List ℕ) (signatures : List (List ℕ)) (lead front back : List ℕ) → Follows Whole Rest body signatures lead (front ++ back)
-    → Refuses (Said Rest) front back → Refuses (Said Whole) (lead ++ front) back
+refuses_rest : (Whole Rest : TextSays) (body : List ℕ) (signatures : List (List ℕ)) (lead front back : List ℕ) → FollowsFront Whole Rest body signatures lead (front ++ back)
+    → RefusesNext (Said Rest) front back → RefusesNext (Said Whole) (lead ++ front) back
 refuses_rest Whole Rest body signatures lead front [] follows refuses = λ is.
     let down = follows.comes_so is.0 is.1 is.2 front (lead ++ front) refl (ap first_byte (sym (append-nil front))) is.3 in
     refuses (down.0, down.1, is.2, down.4)
@@ -95,8 +95,8 @@ refuses_rest Whole Rest body signatures lead front (byte ∷ back) follows refus
     same (x ∷ xs) more = refl
 
 -- the rest stops the whole
-pub stops_rest : (Whole Rest : Says) (body : List ℕ) (signatures : List (List ℕ)) (lead bytes rest : List ℕ) (fault : ReadFault) → bytes ≡ lead ++ rest
-    → Follows Whole Rest body signatures lead rest → Tells (Said Rest) (Said Rest) rest fault → Tells (Said Whole) (Said Whole) bytes fault
+pub stops_rest : (Whole Rest : TextSays) (body : List ℕ) (signatures : List (List ℕ)) (lead bytes rest : List ℕ) (fault : ReadFault) → bytes ≡ lead ++ rest
+    → FollowsFront Whole Rest body signatures lead rest → TellsWhere (Said Rest) (Said Rest) rest fault → TellsWhere (Said Whole) (Said Whole) bytes fault
 stops_rest Whole Rest body signatures lead bytes rest NoMemory parted follows told = tt
 stops_rest Whole Rest body signatures lead bytes rest (Bad left) parted follows told =
     let front = told.0 in
@@ -117,11 +117,11 @@ stops_rest Whole Rest body signatures lead bytes rest (Bad left) parted follows 
               (append_assoc lead front begins.0) is.3,
         ),
       ),
-      refuses_rest Whole Rest body signatures lead front back (subst (λ (t : List ℕ). Follows Whole Rest body signatures lead t) told.2 follows) told.5,
+      refuses_rest Whole Rest body signatures lead front back (subst (λ (t : List ℕ). FollowsFront Whole Rest body signatures lead t) told.2 follows) told.5,
     )
 
 refuses_word : (Less More : List ℕ → Type 0) (word front back : List ℕ)
-    → ((text : List ℕ) → first_byte text ≡ first_byte (front ++ back) → Less (word ++ text) → More text) → Refuses More front back → Refuses Less (word ++ front) back
+    → ((text : List ℕ) → first_byte text ≡ first_byte (front ++ back) → Less (word ++ text) → More text) → RefusesNext More front back → RefusesNext Less (word ++ front) back
 refuses_word Less More word front [] within refuses = λ is. refuses (within front (ap first_byte (sym (append-nil front))) is)
 refuses_word Less More word front (byte ∷ back) within refuses = λ begins.
     let text = (front ++ byte ∷ []) ++ begins.0 in
@@ -138,7 +138,7 @@ refuses_word Less More word front (byte ∷ back) within refuses = λ begins.
 -- what stands behind a word stops the whole, where the byte behind the word is that at hand
 pub stops_behind_word : (IsRest LedRest IsWhole LedWhole : List ℕ → Type 0) (word bytes rest : List ℕ) (fault : ReadFault) → bytes ≡ word ++ rest
     → ((text : List ℕ) → IsRest text → IsWhole (word ++ text)) → ((text : List ℕ) → first_byte text ≡ first_byte rest → LedWhole (word ++ text) → LedRest text)
-    → Tells IsRest LedRest rest fault → Tells IsWhole LedWhole bytes fault
+    → TellsWhere IsRest LedRest rest fault → TellsWhere IsWhole LedWhole bytes fault
 stops_behind_word IsRest LedRest IsWhole LedWhole word bytes rest NoMemory parted goes_on within told = tt
 stops_behind_word IsRest LedRest IsWhole LedWhole word bytes rest (Bad left) parted goes_on within told =
     let front = told.0 in

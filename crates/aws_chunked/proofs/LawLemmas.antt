@@ -4,11 +4,11 @@ use Rattle.std.specs.Prelude.{codes}
 use Rattle.std.specs.List.{AllByRecursion, flat_map}
 use Rattle.std.proofs.lemmas.Nat.{div-add-mod', mod_below}
 use Rattle.aws_chunked.specs.Body.{Trailer, actual_length, lines_length}
-use Rattle.aws_chunked.specs.Decoded.{Decodes, DecodesOnly, IsPiecesText, IsText, IsTextOf, IsTrailer, StopsAt, TakesSignature}
-use Rattle.aws_chunked.specs.Laws.{Answers, IsSignedLengthOf}
+use Rattle.aws_chunked.specs.Decoded.{Decodes, DecodesOnly, IsPiecesText, IsText, IsTextOf, IsTrailer, StopsAtByte, TakesSignature}
+use Rattle.aws_chunked.specs.Laws.{AnswersDecoded, IsSignedLengthOf}
 use Rattle.aws_chunked.specs.Options.{IsChunkSize, Options, chunk_length, chunks_length, encoded_length, head_length, last_length}
 use Rattle.aws_chunked.specs.Signing.{has_signature}
-use Rattle.aws_chunked.specs.Text.{chunk, chunk_text, chunked_text, crlf, cut, head_text, last_line, length_text, parts_text, signature_text, tail, tail_text, trailer_line}
+use Rattle.aws_chunked.specs.Text.{chunk, chunk_text, chunked_text, crlf, pieces_of_size, head_text, last_line, length_text, parts_text, signature_text, tail, tail_text, trailer_line}
 use Rattle.aws_chunked.specs.declared.decode.DecodeFault.{DecodeFault}
 use Rattle.aws_chunked.specs.declared.decode.DecodeFault.TheVariants.{BadChunk, NoMemory}
 use Rattle.aws_chunked.specs.declared.decode.Decoded.{Decoded}
@@ -29,14 +29,14 @@ pub unsigned_whole : (size : ℕ) (body : List ℕ) (trailers : List Trailer) �
     → IsTextOf body [] trailers (chunked_text size body trailers)
 unfolding chunked_text
 unsigned_whole size body trailers in_range are =
-    record { size = size; size_in_range = in_range; is_signed = false; trailers_are = are; is_text = pieces_text (cut size body) trailers }
+    record { size = size; size_in_range = in_range; is_signed = false; trailers_are = are; is_text = pieces_text (pieces_of_size size body) trailers }
 
-no_stop : (bytes : List ℕ) (k : ℕ) → IsText bytes → StopsAt IsText bytes k → ⊥
+no_stop : (bytes : List ℕ) (k : ℕ) → IsText bytes → StopsAtByte IsText bytes k → ⊥
 no_stop bytes k is (inl stops) = stops.1 (drop (k + 1) bytes, subst IsText (sym (take-append-drop (k + 1) bytes)) is)
 no_stop bytes k is (inr ends) = ends.1 is
 
 pub whole_decoded : (bytes body : List ℕ) (signatures : List (List ℕ)) (trailers : List Trailer) (result : Result Decoded DecodeFault)
-    → IsTextOf body signatures trailers bytes → Decodes bytes result → DecodesOnly bytes result → Answers body signatures trailers result
+    → IsTextOf body signatures trailers bytes → Decodes bytes result → DecodesOnly bytes result → AnswersDecoded body signatures trailers result
 whole_decoded bytes body signatures trailers (Ok decoded) is decodes only = only body signatures trailers is
 whole_decoded bytes body signatures trailers (Err (BadChunk k)) is decodes only = no_stop bytes k (body, signatures, trailers, is) decodes.0
 whole_decoded bytes body signatures trailers (Err NoMemory) is decodes only = tt
@@ -114,7 +114,7 @@ unfolding encoded_length
 signed_long options size_in_range signed bytes signatures trailers text long is =
     omega (
       arith,
-      pieces_long (cut size bytes) signatures trailers text is,
+      pieces_long (pieces_of_size size bytes) signatures trailers text is,
       cut_long true (length bytes / size) size (length bytes % size) bytes (mod_below (length bytes) size (omega (arith, size_in_range.0)))
           (sym (div-add-mod' (length bytes) size)),
       ap (λ n. (n / size) * chunk_length true size + last_length true (n % size)) long,

@@ -9,7 +9,7 @@ use Rattle.std.proofs.lemmas.Nat.{div-add-mod', mod_below}
 use Rattle.aws_chunked.specs.Body.{Trailer, lines_length}
 use Rattle.aws_chunked.specs.Lengths.{IsLengthOf}
 use Rattle.aws_chunked.specs.Options.{IsChunkSize, Options, chunk_length, chunks_length, encoded_length, fitting, head_length, last_length}
-use Rattle.aws_chunked.specs.Text.{Part, chunk, chunk_text, chunked_text, crlf, cut, head_text, length_text, part_text, parts_text, tail, tail_text, trailer_line}
+use Rattle.aws_chunked.specs.Text.{Part, chunk, chunk_text, chunked_text, crlf, pieces_of_size, head_text, length_text, part_text, parts_text, tail, tail_text, trailer_line}
 use Rattle.aws_chunked.proofs.CutLemmas.{cut_first, cut_none}
 
 head_long : (n : ℕ) → length (head_text n None) ≡ head_length false n
@@ -51,7 +51,7 @@ last_long is_signed (suc n) some = refl
 
 -- full chunks, and one of the rest
 pub cut_long : (is_signed : Bool) (q size r : ℕ) (bytes : List ℕ) → r < size → length bytes ≡ q * size + r
-    → pieces_length is_signed (cut size bytes) ≡ q * chunk_length is_signed size + last_length is_signed r
+    → pieces_length is_signed (pieces_of_size size bytes) ≡ q * chunk_length is_signed size + last_length is_signed r
 unfolding pieces_length
 cut_long is_signed zero size zero [] small is = ap (pieces_length is_signed) (cut_none size) ∙ grind arith
 cut_long is_signed zero size (suc r) [] small is = absurd (grind (arith, is))
@@ -59,7 +59,7 @@ cut_long is_signed (suc q) size r [] small is = absurd (grind (arith, is, small)
 cut_long is_signed zero size r (byte ∷ bytes) small is =
     ap (pieces_length is_signed)
     (cut_first size (byte ∷ bytes) (omega (arith, small)) (omega arith)
-    ∙ (λ i. take_all size (byte ∷ bytes) (omega (arith, long, small)) i ∷ (ap (cut size) (drop_all size (byte ∷ bytes) (omega (arith, long, small))) ∙ cut_none size) i))
+    ∙ (λ i. take_all size (byte ∷ bytes) (omega (arith, long, small)) i ∷ (ap (pieces_of_size size) (drop_all size (byte ∷ bytes) (omega (arith, long, small))) ∙ cut_none size) i))
     ∙ grind (arith, ap (chunk_length is_signed) long, last_long is_signed r (omega (arith, long)))
   where
     long : length (byte ∷ bytes) ≡ r
@@ -99,10 +99,10 @@ unfolding encoded_length chunked_text
 text_long options some unsigned bytes trailers long =
     omega (
       arith,
-      append_parts (map chunk (cut size bytes)) (tail trailers ∷ []),
+      append_parts (map chunk (pieces_of_size size bytes)) (tail trailers ∷ []),
       length-append (tail_text None trailers None) [],
       tail_long trailers,
-      chunks_long (cut size bytes),
+      chunks_long (pieces_of_size size bytes),
       cut_long false (length bytes / size) size (length bytes % size) bytes (mod_below (length bytes) size (omega (arith, some))) (sym (div-add-mod' (length bytes) size)),
       ap (λ n. (n / size) * chunk_length false size + last_length false (n % size)) long,
       signs,

@@ -8,8 +8,8 @@ use Rattle.std.proofs.lemmas.Bool.{agree_below_at, eqb-false, eqb-true, false≢
 use Rattle.std.proofs.lemmas.Fmt.{digits_is_IsNumeral, hex_one_digit}
 use Rattle.std.proofs.lemmas.List.{append-nil, length-append}
 use Rattle.std.proofs.lemmas.Nat.{div-mul-add, mod-mul-add}
-use Rattle.aws_chunked.specs.Decoded.{Begins}
-use Rattle.aws_chunked.specs.Reading.{IsEndedLength, IsLength, Led, Refuses, Tells, is_length_digit}
+use Rattle.aws_chunked.specs.Decoded.{CanGoOn}
+use Rattle.aws_chunked.specs.Reading.{IsEndedLength, IsLength, Led, RefusesNext, TellsWhere, is_length_digit}
 use Rattle.aws_chunked.specs.Text.{length_text}
 use Rattle.aws_chunked.specs.declared.decode.fault.ReadFault.{ReadFault}
 use Rattle.aws_chunked.specs.declared.decode.fault.ReadFault.TheVariants.{Bad}
@@ -205,14 +205,14 @@ not_longer most n m digit zs bound low small few (inr over) is =
 
 -- behind a length: no digit that makes it too long, or that stands behind a zero
 pub refuses_digit : (most n digit : ℕ) (back : List ℕ) → most < 2 ^ 36 → n ≤ most → digit < 16 → (n ≡ 0) ⊎ (most < n * 16 + digit)
-    → Refuses (Led (IsEndedLength most)) (length_text n) (digit_glyph true digit ∷ back)
+    → RefusesNext (Led (IsEndedLength most)) (length_text n) (digit_glyph true digit ∷ back)
 refuses_digit most n digit back bound low few why = λ begins.
     let found = led_within most (length_text n ++ digit_glyph true digit ∷ []) begins.0
     (digits_more (length_text n) (digit_glyph true digit) (text_digits n) (glyph_digit digit few)) begins.1 in
     not_longer most n found.0 digit found.1 bound low found.2 few why found.3
 
 -- and not its end
-pub refuses_end : (most n : ℕ) → Refuses (Led (IsEndedLength most)) (length_text n) []
+pub refuses_end : (most n : ℕ) → RefusesNext (Led (IsEndedLength most)) (length_text n) []
 refuses_end most n = λ led.
     let word = led.2 in
     let found = within (length_text n) (length_text word.0) word.1 [] led.1 (text_digits n) word.3
@@ -226,26 +226,26 @@ refuses_end most n = λ led.
       length-append (length_text word.0) (word.1 ∷ []),
     ))
 
-begins_length : (most n : ℕ) → n ≤ most → Begins (IsLength most) (length_text n)
+begins_length : (most n : ℕ) → n ≤ most → CanGoOn (IsLength most) (length_text n)
 begins_length most n low = ([], (n, low, append-nil (length_text n)))
 
 -- what reading tells of a length that goes on with such a digit, or ends
 pub stops_at_digit : (most n digit byte : ℕ) (bytes rest others : List ℕ) (fault : ReadFault) → most ≤ 4294967295 → n ≤ most → digit < 16 → byte ≡ digit_glyph true digit
     → (n ≡ 0) ⊎ (most < n * 16 + digit) → bytes ≡ length_text n ++ rest → rest ≡ byte ∷ others → fault ≡ Bad (length rest)
-    → Tells (IsLength most) (Led (IsEndedLength most)) bytes fault
+    → TellsWhere (IsLength most) (Led (IsEndedLength most)) bytes fault
 stops_at_digit most n digit byte bytes rest others fault bound low few is why read first told =
     stops_behind (IsLength most) (Led (IsEndedLength most)) bytes (length_text n) rest fault told read (begins_length most n low)
-    (subst (Refuses (Led (IsEndedLength most)) (length_text n)) (sym (first ∙ (λ i. is i ∷ others))) (refuses_digit most n digit others (omega (arith, bound)) low few why))
+    (subst (RefusesNext (Led (IsEndedLength most)) (length_text n)) (sym (first ∙ (λ i. is i ∷ others))) (refuses_digit most n digit others (omega (arith, bound)) low few why))
 
 pub stops_at_end : (most n : ℕ) (bytes rest : List ℕ) (fault : ReadFault) → n ≤ most → bytes ≡ length_text n ++ rest → length rest ≡ 0 → fault ≡ Bad (length rest)
-    → Tells (IsLength most) (Led (IsEndedLength most)) bytes fault
+    → TellsWhere (IsLength most) (Led (IsEndedLength most)) bytes fault
 stops_at_end most n bytes rest fault low read none told =
     stops_behind (IsLength most) (Led (IsEndedLength most)) bytes (length_text n) rest fault told read (begins_length most n low)
-    (subst (Refuses (Led (IsEndedLength most)) (length_text n)) (sym (empty_list rest none)) (refuses_end most n))
+    (subst (RefusesNext (Led (IsEndedLength most)) (length_text n)) (sym (empty_list rest none)) (refuses_end most n))
 
 -- ## What no length begins with
 
-begins_any : (most : ℕ) → Begins (IsLength most) []
+begins_any : (most : ℕ) → CanGoOn (IsLength most) []
 begins_any most = (length_text 0, (0, omega arith, refl))
 
 text_some : (n : ℕ) → n < 2 ^ 36 → 0 < length (length_text n)
@@ -268,28 +268,28 @@ led_text most bytes led =
     )
 
 pub first_stops_end : (most : ℕ) (bytes : List ℕ) (fault : ReadFault) → length bytes ≡ 0 → fault ≡ Bad (length bytes)
-    → Tells (IsLength most) (Led (IsEndedLength most)) bytes fault
+    → TellsWhere (IsLength most) (Led (IsEndedLength most)) bytes fault
 first_stops_end most bytes fault none told =
     stops_behind (IsLength most) (Led (IsEndedLength most)) bytes [] bytes fault told refl (begins_any most)
-    (subst (Refuses (Led (IsEndedLength most)) []) (sym (empty_list bytes none)) (λ led.
+    (subst (RefusesNext (Led (IsEndedLength most)) []) (sym (empty_list bytes none)) (λ led.
     let found = led_text most [] led in
     omega (arith, ap length found.3, length-append (length_text found.0) found.1, found.4)))
 
 pub first_stops_other : (most byte : ℕ) (bytes rest : List ℕ) (fault : ReadFault) → most ≤ 4294967295 → is_length_digit byte ≡ false → bytes ≡ byte ∷ rest
-    → fault ≡ Bad (length bytes) → Tells (IsLength most) (Led (IsEndedLength most)) bytes fault
+    → fault ≡ Bad (length bytes) → TellsWhere (IsLength most) (Led (IsEndedLength most)) bytes fault
 first_stops_other most byte bytes rest fault bound other first told =
     stops_behind (IsLength most) (Led (IsEndedLength most)) bytes [] bytes fault told refl (begins_any most)
-    (subst (Refuses (Led (IsEndedLength most)) []) (sym first) (λ begins.
+    (subst (RefusesNext (Led (IsEndedLength most)) []) (sym first) (λ begins.
     let found = led_text most (byte ∷ begins.0) begins.1 in
     false≢true (sym other
     ∙ first_is_digit (length_text found.0) byte begins.0 found.1 (text_digits found.0) (text_some found.0 (omega (arith, found.2, bound))) found.3)))
 
 pub first_stops_great : (most digit byte : ℕ) (bytes rest : List ℕ) (fault : ReadFault) → most ≤ 4294967295 → digit < 16 → byte ≡ digit_glyph true digit → most < digit
-    → bytes ≡ byte ∷ rest → fault ≡ Bad (length bytes) → Tells (IsLength most) (Led (IsEndedLength most)) bytes fault
+    → bytes ≡ byte ∷ rest → fault ≡ Bad (length bytes) → TellsWhere (IsLength most) (Led (IsEndedLength most)) bytes fault
 unfolding AreDigits
 first_stops_great most digit byte bytes rest fault bound few is great first told =
     stops_behind (IsLength most) (Led (IsEndedLength most)) bytes [] bytes fault told refl (begins_any most)
-    (subst (Refuses (Led (IsEndedLength most)) []) (sym (first ∙ (λ i. is i ∷ rest))) (λ begins.
+    (subst (RefusesNext (Led (IsEndedLength most)) []) (sym (first ∙ (λ i. is i ∷ rest))) (λ begins.
     let found = led_within most (digit_glyph true digit ∷ []) begins.0 (glyph_digit digit few, tt) begins.1 in
     omega (
       arith,

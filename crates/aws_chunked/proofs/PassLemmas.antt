@@ -9,10 +9,10 @@ use Rattle.smithy_core.specs.FrameSource.{IsDrained, TakesFrame}
 use Rattle.smithy_core.specs.Outside.{RoseOrStands}
 use Rattle.smithy_core.specs.declared.outside.frame_part.FramePart.{FramePart}
 use Rattle.smithy_core.specs.declared.outside.frame_part.FramePart.TheVariants as frame
-use Rattle.aws_chunked.specs.Body.{AreTurns, GoesOn, HasLength, Trailer, data_before, data_left, idle_count, listed, phase_after, trailers_left, with_frame}
+use Rattle.aws_chunked.specs.Body.{AreTurns, MayReadOn, HasLength, Trailer, data_before, data_left, idle_frames, listed, phase_after, trailers_left, with_frame}
 use Rattle.aws_chunked.specs.Options.{counted}
 use Rattle.aws_chunked.specs.Text.{crlf, head_text, length_text, signature_text, trailer_line}
-use Rattle.aws_chunked.specs.Passing.{AreFew, AreNone, FitsPiece, HasLineLengths, Idles, IsNext, MakesEmptyChunk, MakesLastLines, MayLack, OthersPass, PassCauses, PassKeeps, PassesData, PassesFrames, PassesOn, Piece, Steps, TakesPiece, empty_chunk, filled_before, last_lines, length_line, onto_filled, passed, piece_text, pieces_due, pieces_left, pieces_of, pieces_with, sent_after}
+use Rattle.aws_chunked.specs.Passing.{AreFew, AreNone, FitsPiece, HasLineLengths, Idles, IsNextPiece, MakesEmptyChunk, MakesLastLines, MayLack, OthersPass, PassCauses, PassKeeps, PassesData, PassesFrames, PassesOn, Piece, Steps, TakesPiece, empty_chunk, filled_before, last_lines, length_line, onto_filled, passed, piece_text, pieces_due, pieces_to_come, pieces_of, pieces_with, sent_after}
 use Rattle.aws_chunked.specs.declared.body.AwsChunkedBody.{AwsChunkedBody}
 use Rattle.aws_chunked.specs.declared.body.ChunkNext.{ChunkNext}
 use Rattle.aws_chunked.specs.declared.body.ChunkNext.TheVariants as next
@@ -49,7 +49,7 @@ some_text bytes piece is some = omega (arith, ap length is, some)
 -- ---- the pieces that are left
 
 line_left : (at : Phase) (n : ℕ) (kept : Option (List Trailer)) (frames : List FramePart) → (at ≡ phase.Closed → ⊥)
-    → pieces_left sent.Nothing at n kept frames ≡ length_line n ∷ pieces_left (sent_after n) at n kept frames
+    → pieces_to_come sent.Nothing at n kept frames ≡ length_line n ∷ pieces_to_come (sent_after n) at n kept frames
 line_left phase.Data zero kept frames on = refl
 line_left phase.Data (suc n) kept frames on = refl
 line_left phase.Trailers zero kept frames on = refl
@@ -59,7 +59,7 @@ line_left phase.Ended (suc n) kept frames on = refl
 line_left phase.Closed n kept frames on = absurd (on refl)
 
 chunk_left : (at : Phase) (n : ℕ) (kept : Option (List Trailer)) (frames : List FramePart) → (at ≡ phase.Closed → ⊥) → (at ≡ phase.Data → ⊥)
-    → pieces_left sent.LengthLine at n kept frames ≡ empty_chunk ∷ pieces_left sent.EmptyChunk at n kept frames
+    → pieces_to_come sent.LengthLine at n kept frames ≡ empty_chunk ∷ pieces_to_come sent.EmptyChunk at n kept frames
 chunk_left phase.Data n kept frames on over = absurd (over refl)
 chunk_left phase.Trailers n kept frames on over = refl
 chunk_left phase.Ended n kept frames on over = refl
@@ -79,7 +79,7 @@ data_behind sent.EmptyChunk n piece pieces trailers begun some =
 
 -- data that is ignored leaves what is due
 ignored_left : (was : Sent) (at : Phase) (n : ℕ) (kept : Option (List Trailer)) (piece : List ℕ) (frames : List FramePart) → (at ≡ phase.Data → piece ≡ [])
-    → pieces_left was at n kept frames ≡ pieces_left was at n kept (frame.Data piece ∷ frames)
+    → pieces_to_come was at n kept frames ≡ pieces_to_come was at n kept (frame.Data piece ∷ frames)
 ignored_left was phase.Data n kept piece frames none =
     ap (λ (bytes : List ℕ). pieces_of was n (onto_filled bytes (filled_before frames)) (listed (trailers_left phase.Data kept frames))) (sym (none refl))
 ignored_left was phase.Trailers n kept piece frames none = refl
@@ -88,7 +88,7 @@ ignored_left was phase.Closed n kept piece frames none = refl
 
 trailers_same : (was : Sent) (at : Phase) (n : ℕ) (kept : Option (List Trailer)) (trailers : List Trailer) (frames : List FramePart)
     → (at ≡ phase.Data) ⊎ (at ≡ phase.Trailers)
-    → pieces_left was phase.Trailers n (Some (with_frame kept trailers)) frames ≡ pieces_left was at n kept (frame.Trailers trailers ∷ frames)
+    → pieces_to_come was phase.Trailers n (Some (with_frame kept trailers)) frames ≡ pieces_to_come was at n kept (frame.Trailers trailers ∷ frames)
 trailers_same was phase.Data n kept trailers frames on = refl
 trailers_same was phase.Trailers n kept trailers frames on = refl
 trailers_same was phase.Ended n kept trailers frames (inl is) = cc
@@ -97,7 +97,7 @@ trailers_same was phase.Closed n kept trailers frames (inl is) = cc
 trailers_same was phase.Closed n kept trailers frames (inr is) = cc
 
 end_same : (was : Sent) (at : Phase) (n : ℕ) (kept : Option (List Trailer)) → (at ≡ phase.Data) ⊎ (at ≡ phase.Trailers)
-    → pieces_left was phase.Ended n kept [] ≡ pieces_left was at n kept []
+    → pieces_to_come was phase.Ended n kept [] ≡ pieces_to_come was at n kept []
 end_same was phase.Data n kept on = refl
 end_same was phase.Trailers n kept on = refl
 end_same was phase.Ended n kept on = refl
@@ -128,17 +128,17 @@ data_ignored phase.Trailers piece none = refl
 data_ignored phase.Ended piece none = refl
 data_ignored phase.Closed piece none = refl
 
-idle_ignored : (at : Phase) (piece : List ℕ) → (at ≡ phase.Data → piece ≡ []) → idle_count at (frame.Data piece ∷ []) ≡ 1
-idle_ignored phase.Data piece none = ap (λ (bytes : List ℕ). idle_count phase.Data (frame.Data bytes ∷ [])) (none refl)
+idle_ignored : (at : Phase) (piece : List ℕ) → (at ≡ phase.Data → piece ≡ []) → idle_frames at (frame.Data piece ∷ []) ≡ 1
+idle_ignored phase.Data piece none = ap (λ (bytes : List ℕ). idle_frames phase.Data (frame.Data bytes ∷ [])) (none refl)
 idle_ignored phase.Trailers piece none = refl
 idle_ignored phase.Ended piece none = refl
 idle_ignored phase.Closed piece none = refl
 
-idle_filled : (piece : List ℕ) → 0 < length piece → idle_count phase.Data (frame.Data piece ∷ []) ≡ 0
+idle_filled : (piece : List ℕ) → 0 < length piece → idle_frames phase.Data (frame.Data piece ∷ []) ≡ 0
 idle_filled [] some = absurd (omega (arith, some))
 idle_filled (byte ∷ bytes) some = omega (arith, none_idle (suc (length bytes) == 0) (length bytes) refl)
 
-idle_trailers : (at : Phase) (trailers : List Trailer) → idle_count at (frame.Trailers trailers ∷ []) ≡ 1
+idle_trailers : (at : Phase) (trailers : List Trailer) → idle_frames at (frame.Trailers trailers ∷ []) ≡ 1
 idle_trailers phase.Data trailers = refl
 idle_trailers phase.Trailers trailers = refl
 idle_trailers phase.Ended trailers = refl
@@ -150,7 +150,7 @@ data_trailers phase.Trailers trailers = refl
 data_trailers phase.Ended trailers = refl
 data_trailers phase.Closed trailers = refl
 
-ended_none : (frames : List FramePart) → idle_count phase.Ended frames ≡ 0 → frames ≡ []
+ended_none : (frames : List FramePart) → idle_frames phase.Ended frames ≡ 0 → frames ≡ []
 ended_none [] none = refl
 ended_none (frame ∷ frames) none = absurd (omega (arith, none))
 
@@ -271,7 +271,7 @@ module _ {F G : Type 0} (source : FrameSource.Ghosts F) where
       piece_made old new (length_line n) bytes (ap (λ (body : AwsChunkedBody F G). body.source) others) (ap (λ (body : AwsChunkedBody F G). body.taken) others)
       (others ∙ ap (λ (body : AwsChunkedBody F G). record old { source = body.source; phase = body.phase; sent = body.sent; taken = body.taken; trailers = body.trailers; ready = body.ready }) (sym others))
       (λ (frames : List FramePart).
-      ap (λ (w : Sent). pieces_left w old.phase n old.trailers frames) was
+      ap (λ (w : Sent). pieces_to_come w old.phase n old.trailers frames) was
       ∙ line_left old.phase n old.trailers frames on
       ∙ sym (ap (λ (body : AwsChunkedBody F G). length_line n ∷ pieces_with body frames) others))
       is (line_some n) tt
@@ -285,14 +285,14 @@ module _ {F G : Type 0} (source : FrameSource.Ghosts F) where
       piece_made old new empty_chunk bytes (ap (λ (body : AwsChunkedBody F G). body.source) made.2) (ap (λ (body : AwsChunkedBody F G). body.taken) made.2)
       (made.2 ∙ ap (λ (body : AwsChunkedBody F G). record old { source = body.source; phase = body.phase; sent = body.sent; taken = body.taken; trailers = body.trailers; ready = body.ready }) (sym made.2))
       (λ (frames : List FramePart).
-      ap (λ (w : Sent). pieces_left w old.phase old.options.stream_length old.trailers frames) was
+      ap (λ (w : Sent). pieces_to_come w old.phase old.options.stream_length old.trailers frames) was
       ∙ chunk_left old.phase old.options.stream_length old.trailers frames on over
       ∙ sym (ap (λ (body : AwsChunkedBody F G). empty_chunk ∷ pieces_with body frames) made.2))
       made.0 chunk_some (subst (λ (body : AwsChunkedBody F G). FitsPiece empty_chunk body) (sym made.2) made.1)
 
   lines_left : (old : AwsChunkedBody F G) (frames : List FramePart) → old.phase ≡ phase.Ended → old.sent ≡ sent.EmptyChunk
       → pieces_with old frames ≡ last_lines (listed old.trailers) ∷ []
-  lines_left old frames ended was = (λ i. pieces_left (was i) (ended i) old.options.stream_length old.trailers frames)
+  lines_left old frames ended was = (λ i. pieces_to_come (was i) (ended i) old.options.stream_length old.trailers frames)
 
   pub lines_made : (old new : AwsChunkedBody F G) (bytes : List ℕ) → old.phase ≡ phase.Ended → old.sent ≡ sent.EmptyChunk → MakesLastLines old new (Ok bytes)
       → PassesOn source (λ count. count ≡ 0) old new (Ok (next.Frame bytes))
@@ -321,7 +321,7 @@ module _ {F G : Type 0} (source : FrameSource.Ghosts F) where
   pub no_room : (old new : AwsChunkedBody F G) → new ≡ old → PassesOn source (λ count. count ≡ 0) old new (Err fault.NoMemory)
   no_room old new same = stays old new (Err fault.NoMemory) same tt tt
 
-  lack_told : (old : AwsChunkedBody F G) (error : AwsChunkedBodyError) (piece : Piece) → HasLength old (Err error) → MayLack piece old.options.stream_length → IsNext source old piece
+  lack_told : (old : AwsChunkedBody F G) (error : AwsChunkedBodyError) (piece : Piece) → HasLength old (Err error) → MayLack piece old.options.stream_length → IsNextPiece source old piece
       → PassCauses source old old (Err error)
   lack_told old error piece lacks may first =
       subst (λ (e : AwsChunkedBodyError). PassCauses source old old (Err e)) (sym lacks.0) (refl, refl, lacks.1, piece, may, first)
@@ -333,15 +333,15 @@ module _ {F G : Type 0} (source : FrameSource.Ghosts F) where
       (lack_told old error empty_chunk made.0 tt
       (on_some (pieces_with old) (source.left old.source) (λ (pieces : List Piece). (rest : List Piece) × (pieces ≡ empty_chunk ∷ rest))
       (λ (frames : List FramePart). (
-        pieces_left sent.EmptyChunk old.phase old.options.stream_length old.trailers frames,
-        ap (λ (w : Sent). pieces_left w old.phase old.options.stream_length old.trailers frames) was ∙ chunk_left old.phase old.options.stream_length old.trailers frames on over,
+        pieces_to_come sent.EmptyChunk old.phase old.options.stream_length old.trailers frames,
+        ap (λ (w : Sent). pieces_to_come w old.phase old.options.stream_length old.trailers frames) was ∙ chunk_left old.phase old.options.stream_length old.trailers frames on over,
       ))))
 
   pub lines_lack : (old new : AwsChunkedBody F G) (error : AwsChunkedBodyError) → old.phase ≡ phase.Ended → old.sent ≡ sent.EmptyChunk
       → MakesLastLines old new (Err error) → PassesOn source (λ count. count ≡ 0) old new (Err error)
   lines_lack old new error ended was made = stays old new (Err error) made.1 tt (by made.0)
     where
-      first : IsNext source old (last_lines (listed old.trailers))
+      first : IsNextPiece source old (last_lines (listed old.trailers))
       first =
           on_some (pieces_with old) (source.left old.source) (λ (pieces : List Piece). (rest : List Piece) × (pieces ≡ last_lines (listed old.trailers) ∷ rest))
           (λ (frames : List FramePart). ([], lines_left old frames ended was))
@@ -359,7 +359,7 @@ module _ {F G : Type 0} (source : FrameSource.Ghosts F) where
   takes_new part old new from is gives = subst (λ (f : F). TakesFrame part (source.left old.source) (source.left f)) (sym is) gives
 
   one_taken : (P : ℕ → Type 0) (old new : AwsChunkedBody F G) (part : FramePart) → TakesFrame part (source.left old.source) (source.left new.source)
-      → counted new.taken ≡ counted (old.taken + length (data_left old.phase (part ∷ []))) → P (idle_count old.phase (part ∷ [])) → PassesFrames source P old new
+      → counted new.taken ≡ counted (old.taken + length (data_left old.phase (part ∷ []))) → P (idle_frames old.phase (part ∷ [])) → PassesFrames source P old new
   one_taken P old new part gives count is =
       record { frames = part ∷ []; taken = left_one part (source.left old.source) (source.left new.source) gives; turns = is; data_count = count }
 
@@ -413,15 +413,15 @@ module _ {F G : Type 0} (source : FrameSource.Ghosts F) where
       omega (arith, ap length passes.0, passes.2),
       first_taken (pieces_with old) (pieces_with new) (passed piece) (frame.Data piece) (source.left old.source) (source.left new.source) gives_new
           (λ (frames : List FramePart).
-          ap (λ (at : Phase). pieces_left old.sent at old.options.stream_length old.trailers (frame.Data piece ∷ frames)) passes.1
+          ap (λ (at : Phase). pieces_to_come old.sent at old.options.stream_length old.trailers (frame.Data piece ∷ frames)) passes.1
           ∙ data_behind old.sent old.options.stream_length piece (filled_before frames) (listed (trailers_left phase.Data old.trailers frames)) begun passes.2
-          ∙ ap (λ (at : Phase). passed piece ∷ pieces_left old.sent at old.options.stream_length old.trailers frames) (sym passes.1)
+          ∙ ap (λ (at : Phase). passed piece ∷ pieces_to_come old.sent at old.options.stream_length old.trailers frames) (sym passes.1)
           ∙ sym (ap (λ (body : AwsChunkedBody F G). passed piece ∷ pieces_with body frames) passes.4)),
       subst (λ (body : AwsChunkedBody F G). 0 < body.options.stream_length) (sym passes.4) passes.3,
     );
     cause = tt;
     turns = one_taken (λ n. n ≡ 0) old new (frame.Data piece) gives_new (counts passes.1 passes.4)
-        (ap (λ (at : Phase). idle_count at (frame.Data piece ∷ [])) passes.1 ∙ idle_filled piece passes.2);
+        (ap (λ (at : Phase). idle_frames at (frame.Data piece ∷ [])) passes.1 ∙ idle_filled piece passes.2);
     keeps = from_kept old new from source_is waits faults
         (passes.4 ∙ ap (λ (body : AwsChunkedBody F G). record old { source = body.source; phase = body.phase; sent = body.sent; taken = body.taken; trailers = body.trailers; ready = body.ready }) (sym passes.4));
   }
@@ -459,12 +459,12 @@ module _ {F G : Type 0} (source : FrameSource.Ghosts F) where
       none_declared : new.options.stream_length ≡ 0
       none_declared = ap (λ (body : AwsChunkedBody F G). body.options.stream_length) passes.4 ∙ passes.2
 
-      first : IsNext source old (passed piece)
+      first : IsNextPiece source old (passed piece)
       first =
           next_taken (pieces_with old) (passed piece) (frame.Data piece) (source.left old.source) (source.left new.source) gives_new
           (λ (frames : List FramePart). (
             pieces_of old.sent old.options.stream_length (filled_before frames) (listed (trailers_left phase.Data old.trailers frames)),
-            ap (λ (at : Phase). pieces_left old.sent at old.options.stream_length old.trailers (frame.Data piece ∷ frames)) passes.0
+            ap (λ (at : Phase). pieces_to_come old.sent at old.options.stream_length old.trailers (frame.Data piece ∷ frames)) passes.0
                 ∙ data_behind old.sent old.options.stream_length piece (filled_before frames) (listed (trailers_left phase.Data old.trailers frames)) begun passes.1,
           ))
 
@@ -473,17 +473,17 @@ module _ {F G : Type 0} (source : FrameSource.Ghosts F) where
       counts at is =
           omega (arith, ap (λ (body : AwsChunkedBody F G). body.taken) is, ap (λ (p : Phase). length (data_left p (frame.Data piece ∷ []))) at, length-append piece [])
 
-      none : idle_count old.phase (frame.Data piece ∷ []) ≡ 0
-      none = ap (λ (at : Phase). idle_count at (frame.Data piece ∷ [])) passes.0 ∙ idle_filled piece passes.1
+      none : idle_frames old.phase (frame.Data piece ∷ []) ≡ 0
+      none = ap (λ (at : Phase). idle_frames at (frame.Data piece ∷ [])) passes.0 ∙ idle_filled piece passes.1
 
-      few : (e : AwsChunkedBodyError) → AreFew (Err e) (idle_count old.phase (frame.Data piece ∷ []))
+      few : (e : AwsChunkedBodyError) → AreFew (Err e) (idle_frames old.phase (frame.Data piece ∷ []))
       few (fault.StreamLengthMismatch actual expected) = none
       few (fault.ReportedTrailerLengthMismatch actual expected) = none
       few (fault.FailedToSign why) = none
       few fault.SourceFault = none
       few fault.NoMemory = omega (arith, none)
 
-  pub trailers_idle : (old new : AwsChunkedBody F G) (from : F) (trailers : List Trailer) → GoesOn old
+  pub trailers_idle : (old new : AwsChunkedBody F G) (from : F) (trailers : List Trailer) → MayReadOn old
       → TakesFrame (frame.Trailers trailers) (source.left old.source) (source.left from)
       → source.waits old.source ≤ source.waits from → source.faults old.source ≤ source.faults from
       → new ≡ record old { source = from; phase = phase.Trailers; trailers = Some (with_frame old.trailers trailers) } → Idles source 1 old new
@@ -582,7 +582,7 @@ module _ {F G : Type 0} (source : FrameSource.Ghosts F) where
   takes_later old mid new (Ok next.End) due closed takes = (takes.0 ∙ due, closed takes.1)
   takes_later old mid new (Err error) due closed takes = tt
 
-  next_later : (old mid : AwsChunkedBody F G) (piece : Piece) → pieces_due source mid ≡ pieces_due source old → IsNext source mid piece → IsNext source old piece
+  next_later : (old mid : AwsChunkedBody F G) (piece : Piece) → pieces_due source mid ≡ pieces_due source old → IsNextPiece source mid piece → IsNextPiece source old piece
   next_later old mid piece due is = subst (λ (all : Option (List Piece)). IfSome all (λ (pieces : List Piece). (rest : List Piece) × (pieces ≡ piece ∷ rest))) due is
 
   cause_later : (old mid new : AwsChunkedBody F G) (answer : Result ChunkNext AwsChunkedBodyError) → pieces_due source mid ≡ pieces_due source old
@@ -608,8 +608,8 @@ module _ {F G : Type 0} (source : FrameSource.Ghosts F) where
     frames = idles.turns.frames ++ turns.frames;
     taken = left_more idles.turns.frames turns.frames (source.left old.source) (source.left mid.source) (source.left new.source) idles.turns.taken turns.taken;
     turns = subst Q
-        (sym (idle_more old.phase idles.turns.frames turns.frames ∙ (λ i. idles.turns.turns i + idle_count (sym idles.at i) turns.frames)))
-        (is (idle_count mid.phase turns.frames) turns.turns);
+        (sym (idle_more old.phase idles.turns.frames turns.frames ∙ (λ i. idles.turns.turns i + idle_frames (sym idles.at i) turns.frames)))
+        (is (idle_frames mid.phase turns.frames) turns.turns);
     data_count = omega (
       arith,
       turns.data_count,
@@ -676,7 +676,7 @@ module _ {F G : Type 0} (source : FrameSource.Ghosts F) where
 
   -- ---- the source has ended
 
-  pub made_at_end : (old new : AwsChunkedBody F G) (from : F) (answer : Result ChunkNext AwsChunkedBodyError) → GoesOn old
+  pub made_at_end : (old new : AwsChunkedBody F G) (from : F) (answer : Result ChunkNext AwsChunkedBodyError) → MayReadOn old
       → source.left from ≡ source.left old.source → IsDrained (source.left from)
       → source.waits old.source ≤ source.waits from → source.faults old.source ≤ source.faults from
       → PassesOn source (AreNone answer) (record old { source = from; phase = phase.Ended }) new answer → PassesOn source (AreFew answer) old new answer
@@ -687,8 +687,8 @@ module _ {F G : Type 0} (source : FrameSource.Ghosts F) where
       frames = [];
       taken = sym left ∙ passes.turns.taken ∙ ap (λ (frames : List FramePart). option_map (λ (rest : List FramePart). frames ++ rest) (source.left new.source)) none;
       turns = subst (AreFew answer) (sym (idle_none old.phase))
-          (subst (AreFew answer) (none_ended answer (idle_count phase.Ended passes.turns.frames) passes.turns.turns)
-          (none_few answer (idle_count phase.Ended passes.turns.frames) passes.turns.turns));
+          (subst (AreFew answer) (none_ended answer (idle_frames phase.Ended passes.turns.frames) passes.turns.turns)
+          (none_few answer (idle_frames phase.Ended passes.turns.frames) passes.turns.turns));
       data_count = passes.turns.data_count ∙ ap (λ (n : ℕ). counted (old.taken + n)) (sym (data_none old.phase));
     };
     keeps = keeps_joined old mid new (record { waits = waits; faults = faults; others = refl }) passes.keeps;
@@ -698,7 +698,7 @@ module _ {F G : Type 0} (source : FrameSource.Ghosts F) where
       mid = record old { source = from; phase = phase.Ended }
 
       none : passes.turns.frames ≡ []
-      none = ended_none passes.turns.frames (none_ended answer (idle_count phase.Ended passes.turns.frames) passes.turns.turns)
+      none = ended_none passes.turns.frames (none_ended answer (idle_frames phase.Ended passes.turns.frames) passes.turns.turns)
 
       due : pieces_due source mid ≡ pieces_due source old
       due =

@@ -6,8 +6,8 @@ use Rattle.std.proofs.lemmas.Bool.{cases_lt, ltb-false}
 use Rattle.std.proofs.lemmas.List.{drop_all}
 use Rattle.aws_chunked.specs.Body.{Trailer}
 use Rattle.aws_chunked.specs.Decoded.{IsPiecesText, IsTextOf, IsTrailer, TakesSignature}
-use Rattle.aws_chunked.specs.Rests.{ChunkRest, ChunksThen, Follows, IsSignedBy, WholeSays, given, most_after}
-use Rattle.aws_chunked.specs.Text.{chunk_text, crlf, cut, cut_within, head_text, last_line, length_text, signature_text, tail_text, trailer_line}
+use Rattle.aws_chunked.specs.Rests.{ChunkRest, ChunksThen, FollowsFront, IsSignedBy, WholeSays, one_or_none, most_after}
+use Rattle.aws_chunked.specs.Text.{chunk_text, crlf, pieces_of_size, cut_within, head_text, last_line, length_text, signature_text, tail_text, trailer_line}
 use Rattle.aws_chunked.proofs.CutLemmas.{cut_first, cut_none}
 use Rattle.aws_chunked.proofs.FollowLemmas.{follows_as, says_same}
 
@@ -43,8 +43,8 @@ within_are (suc k) size (byte ∷ bytes) some =
       within_are k size (drop size all) some,
     )
 
-cut_are : (size : ℕ) (bytes : List ℕ) → 0 < size → AreCut size (cut size bytes)
-unfolding cut
+cut_are : (size : ℕ) (bytes : List ℕ) → 0 < size → AreCut size (pieces_of_size size bytes)
+unfolding pieces_of_size
 cut_are size bytes some = within_are (length bytes) size bytes some
 
 within_whole : (k size : ℕ) (bytes : List ℕ) → 0 < size → length bytes ≤ k → concat (cut_within k size bytes) ≡ bytes
@@ -56,8 +56,8 @@ within_whole (suc k) size (byte ∷ bytes) some low =
     ap (λ (r : List ℕ). take size all ++ r) (within_whole k size (drop size all) some (omega (arith, some, low, length-drop size all)))
     ∙ take-append-drop size all
 
-cut_whole : (size : ℕ) (bytes : List ℕ) → 0 < size → concat (cut size bytes) ≡ bytes
-unfolding cut
+cut_whole : (size : ℕ) (bytes : List ℕ) → 0 < size → concat (pieces_of_size size bytes) ≡ bytes
+unfolding pieces_of_size
 cut_whole size bytes some = within_whole (length bytes) size bytes some (omega arith)
 
 -- a piece before others has the size
@@ -66,20 +66,20 @@ unfolding AreCut
 full_piece size piece next pieces are =
     elim (cases_lt (length piece) size) [ inl short ↦ absurd (omega (arith, ap length (are.2 short))) | inr long ↦ omega (arith, long, are.1) ]
 
-cut_of : (size : ℕ) (pieces : List (List ℕ)) → 0 < size → AreCut size pieces → cut size (concat pieces) ≡ pieces
+cut_of : (size : ℕ) (pieces : List (List ℕ)) → 0 < size → AreCut size pieces → pieces_of_size size (concat pieces) ≡ pieces
 unfolding AreCut
 cut_of size [] some are = cut_none size
 cut_of size (piece ∷ []) some are =
     let whole = append-nil piece in
     let low : length (piece ++ []) ≤ size = omega (arith, are.1, ap length whole) in
     cut_first size (piece ++ []) some (omega (arith, are.0, ap length whole))
-    ∙ (λ i. (take_all size (piece ++ []) low ∙ whole) i ∷ cut size (drop_all size (piece ++ []) low i))
+    ∙ (λ i. (take_all size (piece ++ []) low ∙ whole) i ∷ pieces_of_size size (drop_all size (piece ++ []) low i))
     ∙ ap (λ (r : List (List ℕ)). piece ∷ r) (cut_none size)
 cut_of size (piece ∷ next ∷ pieces) some are =
     let all = concat (next ∷ pieces) in
     let full = full_piece size piece next pieces are in
     cut_first size (piece ++ all) some (omega (arith, are.0, length-append piece all))
-    ∙ (λ i. take_at piece all size full i ∷ cut size (drop_at piece all size full i))
+    ∙ (λ i. take_at piece all size full i ∷ pieces_of_size size (drop_at piece all size full i))
     ∙ ap (λ (r : List (List ℕ)). piece ∷ r) (cut_of size (next ∷ pieces) some are.3)
 
 -- pieces of some size have that of the first
@@ -103,16 +103,16 @@ none_first size (piece ∷ pieces) are none = absurd (omega (arith, are.0, none)
 -- ## Signatures
 
 pub takes_given : (is_signed : Bool) (signature : Option (List ℕ)) (others : List (List ℕ)) → IsSignedBy is_signed signature
-    → TakesSignature is_signed (given signature ++ others) signature others
+    → TakesSignature is_signed (one_or_none signature ++ others) signature others
 takes_given false None others signed = (refl, refl)
 takes_given false (Some signature) others signed = absurd signed
 takes_given true None others signed = absurd signed
 takes_given true (Some signature) others signed = (signed, refl)
 
 pub takes_is : (is_signed : Bool) (before : List (List ℕ)) (signature : Option (List ℕ)) (after : List (List ℕ)) → TakesSignature is_signed before signature after
-    → IsSignedBy is_signed signature × (before ≡ given signature ++ after)
+    → IsSignedBy is_signed signature × (before ≡ one_or_none signature ++ after)
 takes_is false before signature after takes =
-    subst (λ (o : Option (List ℕ)). IsSignedBy false o × (before ≡ given o ++ after)) (sym takes.0) (tt, sym takes.1)
+    subst (λ (o : Option (List ℕ)). IsSignedBy false o × (before ≡ one_or_none o ++ after)) (sym takes.0) (tt, sym takes.1)
 takes_is true before None after takes = absurd takes
 takes_is true before (Some signature) after takes = (takes.0, takes.1)
 
@@ -182,7 +182,7 @@ record Pieces (is_signed : Bool) (size n : ℕ) (body : List ℕ) (signatures : 
   body_is : body ≡ concat pieces
   trailers_are : AllByRecursion IsTrailer trailers
   goes_on : (signature : Option (List ℕ)) → IsSignedBy is_signed signature
-      → IsPiecesText is_signed pieces (given signature ++ signatures) trailers (head_text n signature ++ text)
+      → IsPiecesText is_signed pieces (one_or_none signature ++ signatures) trailers (head_text n signature ++ text)
 
 same_signatures : (is_signed : Bool) (pieces ss ts : List (List ℕ)) (trailers : List Trailer) (text other : List ℕ) → ts ≡ ss → other ≡ text
     → IsPiecesText is_signed pieces ss trailers text → IsPiecesText is_signed pieces ts trailers other
@@ -234,7 +234,7 @@ pieces_of is_signed size (suc k) n body signatures trailers text low is =
         head_text m end.0 ++ end.2,
         takes_given is_signed signature signatures signed,
         chunk_read n m signature end.0 piece text chunk_.2 next.1 end.2 long chunk_.5 next.3 end.5,
-        same_signatures is_signed more.pieces (given end.0 ++ end.1) signatures trailers (head_text m end.0 ++ end.2) (head_text m end.0 ++ end.2) end.4 refl
+        same_signatures is_signed more.pieces (one_or_none end.0 ++ end.1) signatures trailers (head_text m end.0 ++ end.2) (head_text m end.0 ++ end.2) end.4 refl
             (more.goes_on end.0 end.3),
       );
     }
@@ -249,7 +249,7 @@ text_of zero is_signed [] body signatures trailers text same bound cuts are is =
   size_in_range = (omega arith, omega arith);
   is_signed = is_signed;
   trailers_are = are;
-  is_text = subst (λ (ps : List (List ℕ)). IsPiecesText is_signed ps signatures trailers text) (sym (ap (cut 1) same ∙ cut_none 1)) is;
+  is_text = subst (λ (ps : List (List ℕ)). IsPiecesText is_signed ps signatures trailers text) (sym (ap (pieces_of_size 1) same ∙ cut_none 1)) is;
 }
 text_of zero is_signed (piece ∷ pieces) body signatures trailers text same bound cuts are is = absurd (omega (arith, cuts.0, cuts.1))
 text_of (suc size) is_signed pieces body signatures trailers text same bound cuts are is = record {
@@ -258,7 +258,7 @@ text_of (suc size) is_signed pieces body signatures trailers text same bound cut
   is_signed = is_signed;
   trailers_are = are;
   is_text = subst (λ (ps : List (List ℕ)). IsPiecesText is_signed ps signatures trailers text)
-      (sym (ap (cut (suc size)) same ∙ cut_of (suc size) pieces (omega arith) cuts)) is;
+      (sym (ap (pieces_of_size (suc size)) same ∙ cut_of (suc size) pieces (omega arith) cuts)) is;
 }
 
 whole_text : (body : List ℕ) (signatures : List (List ℕ)) (trailers : List Trailer) (text : List ℕ) → WholeSays body signatures trailers text
@@ -270,7 +270,7 @@ whole_text body signatures trailers text is =
     let end = first.1 in
     let found = pieces_of is_signed n end.6.0 n body end.1 trailers end.2 (omega arith) end.6.1 in
     text_of n is_signed found.pieces body signatures trailers text found.body_is is.2 found.are_cut found.trailers_are
-    (same_signatures is_signed found.pieces (given end.0 ++ end.1) signatures trailers (head_text n end.0 ++ end.2) text end.4
+    (same_signatures is_signed found.pieces (one_or_none end.0 ++ end.1) signatures trailers (head_text n end.0 ++ end.2) text end.4
     (is.3 ∙ ap (λ (t : List ℕ). length_text n ++ t) end.5 ∙ sym (append_assoc (length_text n) (signature_text end.0 ++ crlf) end.2)
     ∙ ap (λ (t : List ℕ). t ++ end.2) (sym (append_assoc (length_text n) (signature_text end.0) crlf)))
     (found.goes_on end.0 end.3))
@@ -283,7 +283,7 @@ record Lined (is_signed : Bool) (size : ℕ) (pieces : List (List ℕ)) (signatu
   others : List (List ℕ)
   rest : List ℕ
   signed : IsSignedBy is_signed signature
-  signatures_are : signatures ≡ given signature ++ others
+  signatures_are : signatures ≡ one_or_none signature ++ others
   text_is : text ≡ length_text (first_length pieces) ++ ((signature_text signature ++ crlf) ++ rest)
   goes_on : ChunkRest is_signed size (first_length pieces) (concat pieces) others trailers rest
 
@@ -363,7 +363,7 @@ lined is_signed size (piece ∷ pieces) signatures trailers text cuts are is =
 text_whole : (body : List ℕ) (signatures : List (List ℕ)) (trailers : List Trailer) (text : List ℕ) → IsTextOf body signatures trailers text
     → WholeSays body signatures trailers text
 text_whole body signatures trailers text is =
-    let pieces = cut is.size body in
+    let pieces = pieces_of_size is.size body in
     let some : 0 < is.size = omega (arith, is.size_in_range.0) in
     let cuts = cut_are is.size body some in
     let n = first_length pieces in
@@ -389,5 +389,5 @@ text_whole body signatures trailers text is =
     )
 
 -- a whole text is one from its first length on
-pub follows_whole : (rest : List ℕ) → Follows IsTextOf WholeSays [] [] [] rest
+pub follows_whole : (rest : List ℕ) → FollowsFront IsTextOf WholeSays [] [] [] rest
 follows_whole rest = follows_as IsTextOf WholeSays rest whole_text (λ body signatures trailers text same is. text_whole body signatures trailers text is)

@@ -1,19 +1,19 @@
 -- The place where reading stops, from one part to the whole.
 use Rattle.std.proofs.Common.{◌≡◌, ℕ, ◌+◌, ◌-◌, ◌<◌, ◌≤◌, inl, inr, List, [], ◌∷◌, ◌++◌, length, take, drop, ap, sym, subst, ◌∙◌, arith, append_assoc}
 use Rattle.std.proofs.lemmas.List.{append-nil, length-append, take-append-drop, take-append-le, take_at}
-use Rattle.aws_chunked.specs.Decoded.{Begins, IsBadAt, StopsAt}
-use Rattle.aws_chunked.specs.Reading.{Refuses, Stops, Tells}
+use Rattle.aws_chunked.specs.Decoded.{CanGoOn, IsBadAt, StopsAtByte}
+use Rattle.aws_chunked.specs.Reading.{RefusesNext, Stops, TellsWhere}
 use Rattle.aws_chunked.specs.declared.decode.fault.ReadFault.{ReadFault}
 use Rattle.aws_chunked.specs.declared.decode.fault.ReadFault.TheVariants.{Bad, NoMemory}
 
 -- what is refused in the more is refused in the less
-refuses_less : (More Less : List ℕ → Type 0) (front back : List ℕ) → ((bytes : List ℕ) → Less bytes → More bytes) → Refuses More front back → Refuses Less front back
+refuses_less : (More Less : List ℕ → Type 0) (front back : List ℕ) → ((bytes : List ℕ) → Less bytes → More bytes) → RefusesNext More front back → RefusesNext Less front back
 refuses_less More Less front [] within refuses = λ is. refuses (within front is)
 refuses_less More Less front (byte ∷ back) within refuses = λ begins. refuses (begins.0, within ((front ++ byte ∷ []) ++ begins.0) begins.1)
 
 -- the first of two parts stops the whole: each word of the part goes on to one of the whole, and what leads to the whole leads to it
-pub stops_first : (IsPart LedPart IsWhole LedWhole : List ℕ → Type 0) (bytes : List ℕ) (fault : ReadFault) → ((word : List ℕ) → IsPart word → Begins IsWhole word)
-    → ((all : List ℕ) → LedWhole all → LedPart all) → Tells IsPart LedPart bytes fault → Tells IsWhole LedWhole bytes fault
+pub stops_first : (IsPart LedPart IsWhole LedWhole : List ℕ → Type 0) (bytes : List ℕ) (fault : ReadFault) → ((word : List ℕ) → IsPart word → CanGoOn IsWhole word)
+    → ((all : List ℕ) → LedWhole all → LedPart all) → TellsWhere IsPart LedPart bytes fault → TellsWhere IsWhole LedWhole bytes fault
 stops_first IsPart LedPart IsWhole LedWhole bytes NoMemory goes_on within told = tt
 stops_first IsPart LedPart IsWhole LedWhole bytes (Bad left) goes_on within told =
     let front = told.0 in
@@ -22,8 +22,8 @@ stops_first IsPart LedPart IsWhole LedWhole bytes (Bad left) goes_on within told
     let whole = goes_on (front ++ begins.0) begins.1 in
     (front, back, told.2, told.3, (begins.0 ++ whole.0, subst IsWhole (append_assoc front begins.0 whole.0) whole.1), refuses_less LedPart LedWhole front back within told.5)
 
-refuses_behind : (LedRest LedWhole : List ℕ → Type 0) (word front back : List ℕ) → ((rest : List ℕ) → LedWhole (word ++ rest) → LedRest rest) → Refuses LedRest front back
-    → Refuses LedWhole (word ++ front) back
+refuses_behind : (LedRest LedWhole : List ℕ → Type 0) (word front back : List ℕ) → ((rest : List ℕ) → LedWhole (word ++ rest) → LedRest rest) → RefusesNext LedRest front back
+    → RefusesNext LedWhole (word ++ front) back
 refuses_behind LedRest LedWhole word front [] within refuses = λ is. refuses (within front is)
 refuses_behind LedRest LedWhole word front (byte ∷ back) within refuses = λ begins.
     refuses (
@@ -35,7 +35,7 @@ refuses_behind LedRest LedWhole word front (byte ∷ back) within refuses = λ b
 -- what stands behind a word stops the whole: it goes on to the whole behind the word, and what leads to the whole leads to it behind the word
 pub stops_next : (IsRest LedRest IsWhole LedWhole : List ℕ → Type 0) (word bytes rest : List ℕ) (fault : ReadFault) → bytes ≡ word ++ rest
     → ((text : List ℕ) → IsRest text → IsWhole (word ++ text)) → ((text : List ℕ) → LedWhole (word ++ text) → LedRest text)
-    → Tells IsRest LedRest rest fault → Tells IsWhole LedWhole bytes fault
+    → TellsWhere IsRest LedRest rest fault → TellsWhere IsWhole LedWhole bytes fault
 stops_next IsRest LedRest IsWhole LedWhole word bytes rest NoMemory parted goes_on within told = tt
 stops_next IsRest LedRest IsWhole LedWhole word bytes rest (Bad left) parted goes_on within told =
     let front = told.0 in
@@ -51,23 +51,23 @@ stops_next IsRest LedRest IsWhole LedWhole word bytes rest (Bad left) parted goe
 
 -- ## The place
 
-begins_less : (Is : List ℕ → Type 0) (front back : List ℕ) (n : ℕ) → n ≤ length front → Begins Is front → Begins Is (take n (front ++ back))
+begins_less : (Is : List ℕ → Type 0) (front back : List ℕ) (n : ℕ) → n ≤ length front → CanGoOn Is front → CanGoOn Is (take n (front ++ back))
 begins_less Is front back n low begins = (
   drop n front ++ begins.0,
   subst Is (ap (λ (t : List ℕ). t ++ begins.0) (sym (take-append-drop n front)) ∙ append_assoc (take n front) (drop n front) begins.0
       ∙ ap (λ (t : List ℕ). t ++ (drop n front ++ begins.0)) (sym (take-append-le n front back low))) begins.1,
 )
 
-stops_here : (Is : List ℕ → Type 0) (front back : List ℕ) → Refuses Is front back → StopsAt Is (front ++ back) (length front)
+stops_here : (Is : List ℕ → Type 0) (front back : List ℕ) → RefusesNext Is front back → StopsAtByte Is (front ++ back) (length front)
 stops_here Is front [] refuses = inr (ap length (sym (append-nil front)), λ is. refuses (subst Is (append-nil front) is))
 stops_here Is front (byte ∷ back) refuses =
-    inl (omega (arith, length-append front (byte ∷ back)), λ begins. refuses (subst (Begins Is) next begins))
+    inl (omega (arith, length-append front (byte ∷ back)), λ begins. refuses (subst (CanGoOn Is) next begins))
   where
     next : take (length front + 1) (front ++ byte ∷ back) ≡ front ++ byte ∷ []
     next = ap (take (length front + 1)) (sym (append_assoc front (byte ∷ []) back))
         ∙ take_at (front ++ byte ∷ []) back (length front + 1) (length-append front (byte ∷ []) ∙ omega arith)
 
-not_before : (Is : List ℕ → Type 0) (front back : List ℕ) (n : ℕ) → Begins Is front → n < length front → StopsAt Is (front ++ back) n → ⊥
+not_before : (Is : List ℕ → Type 0) (front back : List ℕ) (n : ℕ) → CanGoOn Is front → n < length front → StopsAtByte Is (front ++ back) n → ⊥
 not_before Is front back n begins low (inl stops) = stops.1 (begins_less Is front back (n + 1) (omega (arith, low)) begins)
 not_before Is front back n begins low (inr ends) = omega (arith, low, ends.0, length-append front back)
 
@@ -84,5 +84,5 @@ place_told Is bytes left stops =
 pub left_low : (Is : List ℕ → Type 0) (bytes : List ℕ) (left : ℕ) → Stops Is Is bytes left → left ≤ length bytes
 left_low Is bytes left stops = omega (arith, ap length stops.2, length-append stops.0 stops.1, stops.3)
 
-pub place_of : (Is : List ℕ → Type 0) (bytes : List ℕ) (fault : ReadFault) (left : ℕ) → fault ≡ Bad left → Tells Is Is bytes fault → IsBadAt Is bytes (length bytes - left)
-place_of Is bytes fault left is told = place_told Is bytes left (subst (Tells Is Is bytes) is told)
+pub place_of : (Is : List ℕ → Type 0) (bytes : List ℕ) (fault : ReadFault) (left : ℕ) → fault ≡ Bad left → TellsWhere Is Is bytes fault → IsBadAt Is bytes (length bytes - left)
+place_of Is bytes fault left is told = place_told Is bytes left (subst (TellsWhere Is Is bytes) is told)

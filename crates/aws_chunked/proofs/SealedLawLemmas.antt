@@ -16,10 +16,10 @@ use Rattle.aws_chunked.specs.Body.{Trailer, actual_length, IsNothing}
 use Rattle.aws_chunked.specs.Decoded.{IsPiecesText, IsSignature, IsTextOf, IsTrailer, TakesSignature, is_signature_digit}
 use Rattle.aws_chunked.specs.Laws.{TakeDue, answered_bytes}
 use Rattle.aws_chunked.specs.Options.{IsChunkSize, Options, declared_length, encoded_length}
-use Rattle.aws_chunked.specs.Rests.{given}
+use Rattle.aws_chunked.specs.Rests.{one_or_none}
 use Rattle.aws_chunked.specs.Due.{sealed_chunked_text, sealed_signatures, sealed_text, trailers_signature}
 use Rattle.aws_chunked.specs.Signing.{has_signature}
-use Rattle.aws_chunked.specs.Text.{chunk, cut, tail}
+use Rattle.aws_chunked.specs.Text.{chunk, pieces_of_size, tail}
 use Rattle.aws_chunked.specs.declared.body.ChunkNext.{ChunkNext}
 use Rattle.aws_chunked.specs.declared.body.ChunkNext.TheVariants as next
 use Rattle.aws_chunked.specs.declared.error.AwsChunkedBodyError.{AwsChunkedBodyError}
@@ -57,7 +57,7 @@ trailers_sealed trailers signer t before = text_sealed signer t _
 -- ## Whole texts
 
 last_taken : (signer : Signer) (t : Instant) (before : List ℕ) (trailers : List Trailer)
-    → TakesSignature (has_signature true trailers) (given (trailers_signature signer t before trailers)) (trailers_signature signer t before trailers) []
+    → TakesSignature (has_signature true trailers) (one_or_none (trailers_signature signer t before trailers)) (trailers_signature signer t before trailers) []
 last_taken signer t before [] = (refl, refl)
 last_taken signer t before (trailer ∷ trailers) = (trailers_sealed (trailer ∷ trailers) signer t before, refl)
 
@@ -67,7 +67,7 @@ unfolding sealed_text
 pieces_sealed signer t before [] trailers =
     let signature = chunk_signature [] signer t before in
     let last = trailers_signature signer t signature trailers in
-    (Some signature, given last, last, (chunk_sealed [] signer t before, refl), last_taken signer t signature trailers, refl)
+    (Some signature, one_or_none last, last, (chunk_sealed [] signer t before, refl), last_taken signer t signature trailers, refl)
 pieces_sealed signer t before (piece ∷ pieces) trailers =
     let signature = chunk_signature piece signer t before in (
       Some signature,
@@ -80,14 +80,14 @@ pieces_sealed signer t before (piece ∷ pieces) trailers =
 
 pub sealed_whole : (signer : Signer) (t : Instant) (before : List ℕ) (size : ℕ) (body : List ℕ) (trailers : List Trailer)
     → IsChunkSize size → AllByRecursion IsTrailer trailers
-    → IsTextOf body (sealed_signatures signer t before (cut size body) trailers) trailers (sealed_chunked_text signer t before size body trailers)
+    → IsTextOf body (sealed_signatures signer t before (pieces_of_size size body) trailers) trailers (sealed_chunked_text signer t before size body trailers)
 unfolding sealed_chunked_text
 sealed_whole signer t before size body trailers in_range are = record {
   size = size;
   size_in_range = in_range;
   is_signed = true;
   trailers_are = are;
-  is_text = pieces_sealed signer t before (cut size body) trailers;
+  is_text = pieces_sealed signer t before (pieces_of_size size body) trailers;
 }
 
 -- ## Joined frames
@@ -117,6 +117,6 @@ sealed_long options signer t before bytes trailers in_range signed long declared
     omega (
       arith,
       declared,
-      signed_long options in_range signed bytes (sealed_signatures signer t before (cut size bytes) trailers) trailers
-          (sealed_text signer t before (map chunk (cut size bytes) ++ tail trailers ∷ [])) long (pieces_sealed signer t before (cut size bytes) trailers),
+      signed_long options in_range signed bytes (sealed_signatures signer t before (pieces_of_size size bytes) trailers) trailers
+          (sealed_text signer t before (map chunk (pieces_of_size size bytes) ++ tail trailers ∷ [])) long (pieces_sealed signer t before (pieces_of_size size bytes) trailers),
     )

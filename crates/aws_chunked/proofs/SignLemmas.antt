@@ -11,11 +11,11 @@ use Rattle.aws_chunked.specs.Body.{listed}
 use Rattle.aws_chunked.specs.Error.{signing_error, signing_error_for}
 use Rattle.aws_chunked.specs.declared.error.AwsChunkedBodyError.{AwsChunkedBodyError}
 use Rattle.aws_chunked.specs.declared.error.AwsChunkedBodyError.TheVariants.{FailedToSign, NoMemory}
-use Rattle.aws_chunked.specs.Signing.{Answering, SignsPart, has_signature}
+use Rattle.aws_chunked.specs.Signing.{Answering, SignsWhereSigned, has_signature}
 
 -- the signature that the signer of a signed body answers
 pub signs_some : {G : Type 0} (answers : Answering G) (is_signed : Bool) (held : Option G) (old new : G) (answer : String Global)
-    → is_signed ≡ true → held ≡ Some old → answers old (Ok answer) new → SignsPart answers is_signed held (Ok (Some answer)) (Some new)
+    → is_signed ≡ true → held ≡ Some old → answers old (Ok answer) new → SignsWhereSigned answers is_signed held (Ok (Some answer)) (Some new)
 signs_some answers is_signed held old new answer signed is told = rw (signed, is) (new, answer, told, refl, refl)
 
 -- no trailers have no signature
@@ -30,7 +30,7 @@ signed_filled is_signed (trailer ∷ trailers) some = refl
 pub signs_trailers : {G : Type 0} (answers : List (List ℕ × List ℕ) → Answering G) (is_signed asked has : Bool) (kept : Option (List (List ℕ × List ℕ)))
     (trailers : List (List ℕ × List ℕ)) (held : Option G) (old new : G) (answer : String Global) → kept ≡ Some trailers → asked ≡ is_signed
     → has ≡ has_signature asked trailers → has ≡ true → held ≡ Some old → answers trailers old (Ok answer) new
-    → SignsPart (answers (listed kept)) (has_signature is_signed (listed kept)) held (Ok (Some answer)) (Some new)
+    → SignsWhereSigned (answers (listed kept)) (has_signature is_signed (listed kept)) held (Ok (Some answer)) (Some new)
 signs_trailers answers is_signed asked has kept trailers held old new answer is same asks signed held_is told =
     signs_some (answers (listed kept)) (has_signature is_signed (listed kept)) held old new answer
     ((λ i. has_signature (sym same i) (listed (is i))) ∙ sym asks ∙ signed) held_is
@@ -73,7 +73,7 @@ of_signing signing.SignerNotWired = inr (signing.SignerNotWired, refl)
 of_signing signing.NoMemory = inl refl
 
 pub signs_error : {G : Type 0} (answers : Answering G) (is_signed : Bool) (held new : Option G) (error : AwsChunkedBodyError)
-    → SignsPart answers is_signed held (Err error) new → IsOfSigning error
+    → SignsWhereSigned answers is_signed held (Err error) new → IsOfSigning error
 signs_error answers false held new error signs = absurd signs
 signs_error answers true None new error signs = inr (signing.SignerNotWired, signs.0)
 signs_error answers true (Some old) new error signs = subst IsOfSigning (sym signs.3) (of_signing signs.1)

@@ -4,8 +4,8 @@ use Rattle.std.specs.Prelude.{All, IsTrue}
 use Rattle.std.proofs.lemmas.Bool.{false≢true}
 use Rattle.std.proofs.lemmas.List.{get_or_append_left, length-append, length-replicate}
 use Rattle.std.proofs.lemmas.List.Elements.{All-append, All-push, All-replicate}
-use Rattle.aws_chunked.specs.Decoded.{Begins, IsSignature, is_signature_digit}
-use Rattle.aws_chunked.specs.Reading.{Led, Refuses, Tells}
+use Rattle.aws_chunked.specs.Decoded.{CanGoOn, IsSignature, is_signature_digit}
+use Rattle.aws_chunked.specs.Reading.{Led, RefusesNext, TellsWhere}
 use Rattle.aws_chunked.specs.Rests.{IsSignedBy}
 use Rattle.aws_chunked.specs.declared.decode.fault.ReadFault.{ReadFault}
 use Rattle.aws_chunked.specs.declared.decode.fault.ReadFault.TheVariants.{Bad}
@@ -57,7 +57,7 @@ digits_read byte text now more are pushed ascii is =
     (All-push (λ byte. IsTrue (is_signature_digit byte)) text byte are is)
 
 -- the first digits of a signature
-pub begins_signature : (front : List ℕ) → length front ≤ 64 → All (λ byte. IsTrue (is_signature_digit byte)) front → Begins IsSignature front
+pub begins_signature : (front : List ℕ) → length front ≤ 64 → All (λ byte. IsTrue (is_signature_digit byte)) front → CanGoOn IsSignature front
 begins_signature front low are = (
   replicate (64 - length front) 48,
   (
@@ -68,17 +68,17 @@ begins_signature front low are = (
 )
 
 pub signature_ends : (bytes front rest : List ℕ) (i : ℕ) (fault : ReadFault) → i < 64 → length front ≡ i → All (λ byte. IsTrue (is_signature_digit byte)) front
-    → bytes ≡ front ++ rest → length rest ≡ 0 → fault ≡ Bad (length rest) → Tells IsSignature (Led IsSignature) bytes fault
+    → bytes ≡ front ++ rest → length rest ≡ 0 → fault ≡ Bad (length rest) → TellsWhere IsSignature (Led IsSignature) bytes fault
 signature_ends bytes front rest i fault low long are read none told =
     stops_behind IsSignature (Led IsSignature) bytes front rest fault told read (begins_signature front (omega (arith, low, long)) are)
-    (subst (Refuses (Led IsSignature) front) (sym (empty_list rest none)) (λ led.
+    (subst (RefusesNext (Led IsSignature) front) (sym (empty_list rest none)) (λ led.
     omega (arith, low, long, ap length led.3, length-append led.0 led.1, led.2.0)))
 
 pub signature_differs : (bytes front rest others : List ℕ) (i byte : ℕ) (fault : ReadFault) → i < 64 → length front ≡ i → All (λ byte. IsTrue (is_signature_digit byte)) front
-    → bytes ≡ front ++ rest → rest ≡ byte ∷ others → is_signature_digit byte ≡ false → fault ≡ Bad (length rest) → Tells IsSignature (Led IsSignature) bytes fault
+    → bytes ≡ front ++ rest → rest ≡ byte ∷ others → is_signature_digit byte ≡ false → fault ≡ Bad (length rest) → TellsWhere IsSignature (Led IsSignature) bytes fault
 signature_differs bytes front rest others i byte fault low long are read first other told =
     stops_behind IsSignature (Led IsSignature) bytes front rest fault told read (begins_signature front (omega (arith, low, long)) are)
-    (subst (Refuses (Led IsSignature) front) (sym first) (λ begins.
+    (subst (RefusesNext (Led IsSignature) front) (sym first) (λ begins.
     let led = begins.1 in
     let same : byte ≡ get_or led.0 i 0 =
     sym (byte_behind front byte begins.0 i long) ∙ ap (λ (xs : List ℕ). get_or xs i 0) led.3

@@ -14,7 +14,7 @@ use Rattle.simdutf8.specs.Steps.{IsClosed, Step, StepsThen, first, later, least_
 use Rattle.simdutf8.specs.Tracks.{last_three}
 use Rattle.simdutf8.proofs.Chars.{StepsThen-IsUtf8, closed-IsUtf8, least_is, most_is}
 use Rattle.simdutf8.proofs.StepsLemmas.{StepsThen-append, StepsThen_parts}
-use Rattle.aws_chunked.specs.TailRests.{IsSound}
+use Rattle.aws_chunked.specs.TailRests.{IsLongestFront}
 
 AreValue : List ℕ → Type 0
 AreValue more = All (λ byte. IsTrue (is_value_byte byte)) more
@@ -308,7 +308,7 @@ none_after value n up k some steps =
     up.longest (n + k) (omega (arith, some)) (subst IsUtf8 (sym (take-add n k value)) (IsUtf8-append (take n value) (take k (drop n value)) up.front rest))
 
 from_part : (value : List ℕ) (n p : ℕ) → IsValidUpTo value n
-    → Part (last_three 0 0 0 (take n value)).0 (last_three 0 0 0 (take n value)).1 (last_three 0 0 0 (take n value)).2 (drop n value) p → IsSound value (n + p)
+    → Part (last_three 0 0 0 (take n value)).0 (last_three 0 0 0 (take n value)).1 (last_three 0 0 0 (take n value)).2 (drop n value) p → IsLongestFront value (n + p)
 from_part value n p up part =
     let front = take n value in
     let rest = drop n value in
@@ -330,24 +330,24 @@ from_part value n p up part =
           ((StepsThen-append IsClosed 0 0 0 front (take p rest ++ get_or rest p 0 ∷ behind)).0 ((StepsThen-IsUtf8 (front ++ (take p rest ++ get_or rest p 0 ∷ behind))).1 whole)).1;
     }
 
-pub sound_other : (value : List ℕ) (n : ℕ) → IsValidUpTo value n → is_in_range 0xC2 0xF4 (get_or value n 0) ≡ false → IsSound value n
+pub sound_other : (value : List ℕ) (n : ℕ) → IsValidUpTo value n → is_in_range 0xC2 0xF4 (get_or value n 0) ≡ false → IsLongestFront value n
 sound_other value n up other =
     let t = last_three 0 0 0 (take n value) in
     let parted = drop-cons value n 0 up.short in
-    subst (IsSound value) (omega arith)
+    subst (IsLongestFront value) (omega arith)
     (from_part value n 0 up
     (subst (λ (r : List ℕ). Part t.0 t.1 t.2 r 0) (sym parted)
     (other_part t.0 t.1 t.2 (get_or value n 0) (drop (suc n) value) (closed_after (take n value) up.front)
     (subst (IsNone t.0 t.1 t.2) parted (none_after value n up)) other)))
 
 pub sound_lead : (value : List ℕ) (n m : ℕ) → IsValidUpTo value n → is_in_range 0xC2 0xF4 (get_or value n 0) ≡ true
-    → m ≡ n + unwrap_or (utf8_error_len (drop n value)) (length (drop n value)) → IsSound value m
+    → m ≡ n + unwrap_or (utf8_error_len (drop n value)) (length (drop n value)) → IsLongestFront value m
 sound_lead value n m up lead is =
     let t = last_three 0 0 0 (take n value) in
     let b = get_or value n 0 in
     let behind = drop (suc n) value in
     let parted = drop-cons value n 0 up.short in
-    subst (IsSound value) (sym is)
+    subst (IsLongestFront value) (sym is)
     (from_part value n (unwrap_or (utf8_error_len (drop n value)) (length (drop n value))) up
     (subst (λ (r : List ℕ). Part t.0 t.1 t.2 r (unwrap_or (utf8_error_len r) (length r))) (sym parted)
     (subst (λ (e : Option ℕ). Part t.0 t.1 t.2 (b ∷ behind) (unwrap_or e (length (b ∷ behind)))) (sym (error_is b behind lead))
@@ -355,17 +355,17 @@ sound_lead value n m up lead is =
 
 -- ## What the reader of values knows
 
-pub sound_before : (value : List ℕ) (n m : ℕ) → m ≡ n → IsValidUpTo value n → false ≡ is_in_range 0xC2 0xF4 (get_or value m 0) → IsSound value m
+pub sound_before : (value : List ℕ) (n m : ℕ) → m ≡ n → IsValidUpTo value n → false ≡ is_in_range 0xC2 0xF4 (get_or value m 0) → IsLongestFront value m
 sound_before value n m same up other = sound_other value m (subst (IsValidUpTo value) (sym same) up) (sym other)
 
 pub sound_some : (value : List ℕ) (n m part : ℕ) → m ≡ n → IsValidUpTo value n → true ≡ is_in_range 0xC2 0xF4 (get_or value m 0)
-    → Some part ≡ utf8_error_len (drop n value) → IsSound value (m + part)
+    → Some part ≡ utf8_error_len (drop n value) → IsLongestFront value (m + part)
 sound_some value n m part same up lead is =
     sound_lead value n (m + part) up (ap (λ (k : ℕ). is_in_range 0xC2 0xF4 (get_or value k 0)) (sym same) ∙ sym lead)
     (λ i. same i + unwrap_or (is i) (length (drop n value)))
 
 pub sound_none : (value : List ℕ) (n m : ℕ) → m ≡ n → IsValidUpTo value n → true ≡ is_in_range 0xC2 0xF4 (get_or value m 0)
-    → None ≡ utf8_error_len (drop n value) → IsSound value (length value)
+    → None ≡ utf8_error_len (drop n value) → IsLongestFront value (length value)
 sound_none value n m same up lead is =
     sound_lead value n (length value) up (ap (λ (k : ℕ). is_in_range 0xC2 0xF4 (get_or value k 0)) (sym same) ∙ sym lead)
     (whole ∙ ap (λ (e : Option ℕ). n + unwrap_or e (length (drop n value))) is)

@@ -6,8 +6,8 @@ use Rattle.std.proofs.lemmas.List.{append_cancel_left, append_cancel_right, leng
 use Rattle.std.proofs.lemmas.List.Elements.{All-cons, All-nil}
 use Rattle.aws_chunked.specs.Body.{Trailer}
 use Rattle.aws_chunked.specs.Decoded.{IsTextOf}
-use Rattle.aws_chunked.specs.Reading.{BeginsOther, IsEndedLength, IsLength, Led, Tells, is_length_digit}
-use Rattle.aws_chunked.specs.Rests.{ChunkRest, ChunksThen, DataThen, FirstRest, Follows, HeadEndThen, IsData, IsHeadEnd, IsSignedBy, IsTail, LengthThen, NextRest, Said, Says, TailSays, WholeSays, begins_with, given, most_after}
+use Rattle.aws_chunked.specs.Reading.{BeginsOther, IsEndedLength, IsLength, Led, TellsWhere, is_length_digit}
+use Rattle.aws_chunked.specs.Rests.{ChunkRest, ChunksThen, DataThen, FirstRest, FollowsFront, HeadEndThen, IsData, IsHeadEnd, IsSignedBy, IsTail, LengthThen, NextRest, Said, TextSays, TailSays, WholeSays, begins_with, one_or_none, most_after}
 use Rattle.aws_chunked.specs.TailRests.{EndsRun}
 use Rattle.aws_chunked.specs.Text.{crlf, length_text, signature_text}
 use Rattle.aws_chunked.specs.declared.decode.fault.ReadFault.{ReadFault}
@@ -23,16 +23,16 @@ pub tail_some : (is_signed : Bool) → IsTail is_signed [] [] crlf
 tail_some is_signed = (None, tt, (refl, refl), refl)
 
 -- something is said by some text
-abbrev pub IsSome : Says → Type 0
+abbrev pub IsSome : TextSays → Type 0
 IsSome Is = (text : List ℕ) × Said Is text
 
-head_some : (is_signed : Bool) (Rest : Says) → IsSome Rest → IsSome (HeadEndThen is_signed Rest)
+head_some : (is_signed : Bool) (Rest : TextSays) → IsSome Rest → IsSome (HeadEndThen is_signed Rest)
 head_some is_signed Rest is =
     let signature = some_signature is_signed in (
       (signature_text signature ++ crlf) ++ is.0,
       (
         is.1.0,
-        given signature ++ is.1.1,
+        one_or_none signature ++ is.1.1,
         is.1.2,
         (signature, is.1.1, is.0, some_signed is_signed, refl, refl, is.1.3),
       ),
@@ -95,11 +95,11 @@ same_length m n rest more small low ends stops same =
     (sym (text_value m (omega (arith, small))) ∙ ap (digits_value_after 16 0) found.0 ∙ text_value n (omega (arith, low)), found.1)
 
 -- what stands behind a length begins with no digit
-abbrev AllOther : (ℕ → Says) → Type 0
+abbrev AllOther : (ℕ → TextSays) → Type 0
 AllOther Rest = (m : ℕ) (b : List ℕ) (s : List (List ℕ)) (t : List Trailer) (text : List ℕ) → Rest m b s t text → BeginsOther text
 
-follows_length : (most n : ℕ) (Rest : ℕ → Says) (rest : List ℕ) → most ≤ 4294967295 → n ≤ most → BeginsOther rest → AllOther Rest
-    → Follows (LengthThen most Rest) (Rest n) [] [] (length_text n) rest
+follows_length : (most n : ℕ) (Rest : ℕ → TextSays) (rest : List ℕ) → most ≤ 4294967295 → n ≤ most → BeginsOther rest → AllOther Rest
+    → FollowsFront (LengthThen most Rest) (Rest n) [] [] (length_text n) rest
 follows_length most n Rest rest bound low other all_other = record {
   goes_on = λ b all_b s all_s t text all is_b is_s is part. (n, text, low, is, says_same (Rest n) b all_b s all_s t text text is_b is_s refl part);
   comes_so = λ all_b all_s t text all is same whole.
@@ -119,8 +119,8 @@ ended_other most n [] all low is other = absurd other
 ended_other most n (byte ∷ rest) all low is other =
     (length_text n ++ byte ∷ [], rest, (n, byte, low, other, refl), is ∙ sym (append_assoc (length_text n) (byte ∷ []) rest))
 
-stops_length : (most : ℕ) (Rest : ℕ → Says) (bytes : List ℕ) (fault : ReadFault) → ((m : ℕ) → IsSome (Rest m)) → AllOther Rest
-    → Tells (IsLength most) (Led (IsEndedLength most)) bytes fault → Tells (Said (LengthThen most Rest)) (Said (LengthThen most Rest)) bytes fault
+stops_length : (most : ℕ) (Rest : ℕ → TextSays) (bytes : List ℕ) (fault : ReadFault) → ((m : ℕ) → IsSome (Rest m)) → AllOther Rest
+    → TellsWhere (IsLength most) (Led (IsEndedLength most)) bytes fault → TellsWhere (Said (LengthThen most Rest)) (Said (LengthThen most Rest)) bytes fault
 stops_length most Rest bytes fault some all_other told =
     stops_part (IsLength most) (Led (IsEndedLength most)) (Said (LengthThen most Rest)) bytes fault
     (λ word is.
@@ -133,14 +133,14 @@ stops_length most Rest bytes fault some all_other told =
 
 -- ## Behind a length
 
-head_other : (is_signed : Bool) (Rest : Says) (b : List ℕ) (s : List (List ℕ)) (t : List Trailer) (text : List ℕ) → HeadEndThen is_signed Rest b s t text → BeginsOther text
+head_other : (is_signed : Bool) (Rest : TextSays) (b : List ℕ) (s : List (List ℕ)) (t : List Trailer) (text : List ℕ) → HeadEndThen is_signed Rest b s t text → BeginsOther text
 head_other is_signed Rest b s t text is = by is.0 is.5
   where
     by : (signature : Option (List ℕ)) → text ≡ (signature_text signature ++ crlf) ++ is.2 → BeginsOther text
     by None same = subst BeginsOther (sym same) refl
     by (Some signature) same = subst BeginsOther (sym same) refl
 
-head_begins : (is_signed : Bool) (Rest : Says) (b : List ℕ) (s : List (List ℕ)) (t : List Trailer) (text : List ℕ) → HeadEndThen is_signed Rest b s t text
+head_begins : (is_signed : Bool) (Rest : TextSays) (b : List ℕ) (s : List (List ℕ)) (t : List Trailer) (text : List ℕ) → HeadEndThen is_signed Rest b s t text
     → begins_with 59 text ≡ is_signed
 head_begins is_signed Rest b s t text is = by is_signed is.0 is.3 is.5
   where
@@ -151,7 +151,7 @@ head_begins is_signed Rest b s t text is = by is_signed is.0 is.3 is.5
     by true (Some signature) signed same = ap (begins_with 59) same
 
 follows_signed : (is_signed : Bool) (n : ℕ) (rest : List ℕ) → begins_with 59 rest ≡ is_signed
-    → Follows (FirstRest n) (HeadEndThen is_signed (ChunkRest is_signed n n)) [] [] [] rest
+    → FollowsFront (FirstRest n) (HeadEndThen is_signed (ChunkRest is_signed n n)) [] [] [] rest
 follows_signed is_signed n rest shows =
     follows_as (FirstRest n) (HeadEndThen is_signed (ChunkRest is_signed n n)) rest
     (λ b s t text is. (is_signed, is))
@@ -182,8 +182,8 @@ same_end true (Some one) (Some two) rest more first second same =
       found.1,
     )
 
-follows_head : (is_signed : Bool) (Rest : Says) (signature : Option (List ℕ)) (rest : List ℕ) → IsSignedBy is_signed signature
-    → Follows (HeadEndThen is_signed Rest) Rest [] (given signature) (signature_text signature ++ crlf) rest
+follows_head : (is_signed : Bool) (Rest : TextSays) (signature : Option (List ℕ)) (rest : List ℕ) → IsSignedBy is_signed signature
+    → FollowsFront (HeadEndThen is_signed Rest) Rest [] (one_or_none signature) (signature_text signature ++ crlf) rest
 follows_head is_signed Rest signature rest signed = record {
   goes_on = λ b all_b s all_s t text all is_b is_s is part.
       (signature, s, text, signed, is_s, is, says_same Rest b all_b s s t text text is_b refl refl part);
@@ -192,20 +192,20 @@ follows_head is_signed Rest signature rest signed = record {
         all_b,
         whole.1,
         refl,
-        whole.4 ∙ ap (λ (o : Option (List ℕ)). given o ++ whole.1) found.0,
+        whole.4 ∙ ap (λ (o : Option (List ℕ)). one_or_none o ++ whole.1) found.0,
         says_same Rest all_b all_b whole.1 whole.1 t whole.2 text refl refl (sym found.1) whole.6,
       );
 }
 
-stops_head : (is_signed : Bool) (Rest : Says) (bytes : List ℕ) (fault : ReadFault) → IsSome Rest → Tells (IsHeadEnd is_signed) (Led (IsHeadEnd is_signed)) bytes fault
-    → Tells (Said (HeadEndThen is_signed Rest)) (Said (HeadEndThen is_signed Rest)) bytes fault
+stops_head : (is_signed : Bool) (Rest : TextSays) (bytes : List ℕ) (fault : ReadFault) → IsSome Rest → TellsWhere (IsHeadEnd is_signed) (Led (IsHeadEnd is_signed)) bytes fault
+    → TellsWhere (Said (HeadEndThen is_signed Rest)) (Said (HeadEndThen is_signed Rest)) bytes fault
 stops_head is_signed Rest bytes fault more told =
     stops_part (IsHeadEnd is_signed) (Led (IsHeadEnd is_signed)) (Said (HeadEndThen is_signed Rest)) bytes fault
     (λ word is. (
       more.0,
       (
         more.1.0,
-        given is.0 ++ more.1.1,
+        one_or_none is.0 ++ more.1.1,
         more.1.2,
         (is.0, more.1.1, more.0, is.1, refl, ap (λ (w : List ℕ). w ++ more.0) is.2, more.1.3),
       ),
@@ -218,7 +218,7 @@ stops_head is_signed Rest bytes fault more told =
 -- ## Data
 
 follows_next : (is_signed : Bool) (size n : ℕ) (rest : List ℕ) → 0 < n
-    → Follows (ChunkRest is_signed size n) (DataThen n (NextRest is_signed size n)) [] [] [] rest
+    → FollowsFront (ChunkRest is_signed size n) (DataThen n (NextRest is_signed size n)) [] [] [] rest
 follows_next is_signed size n rest some =
     follows_as (ChunkRest is_signed size n) (DataThen n (NextRest is_signed size n)) rest
     (λ b s t text is. data_more is_signed size n b s t text some is)
@@ -240,7 +240,7 @@ follows_next is_signed size n rest some =
           (next.0, next.1, next.2, next.3, (end.0, end.1, end.2, end.3, end.4, end.5, (k, end.6))),
         )
 
-follows_tail : (is_signed : Bool) (size n : ℕ) (rest : List ℕ) → n ≤ 0 → Follows (ChunkRest is_signed size n) (TailSays is_signed) [] [] [] rest
+follows_tail : (is_signed : Bool) (size n : ℕ) (rest : List ℕ) → n ≤ 0 → FollowsFront (ChunkRest is_signed size n) (TailSays is_signed) [] [] [] rest
 follows_tail is_signed size n rest none =
     follows_as (ChunkRest is_signed size n) (TailSays is_signed) rest
     (λ b s t text is. (0, (omega (arith, none), is)))
@@ -250,7 +250,7 @@ follows_tail is_signed size n rest none =
     by zero b s t text is = is.1
     by (suc k) b s t text is = absurd (omega (arith, is.0, none))
 
-follows_data : (n : ℕ) (Rest : Says) (piece rest : List ℕ) → length piece ≡ n → Follows (DataThen n Rest) Rest piece [] (piece ++ crlf) rest
+follows_data : (n : ℕ) (Rest : TextSays) (piece rest : List ℕ) → length piece ≡ n → FollowsFront (DataThen n Rest) Rest piece [] (piece ++ crlf) rest
 follows_data n Rest piece rest long = record {
   goes_on = λ b all_b s all_s t text all is_b is_s is part. (piece, b, text, long, is_b, is, says_same Rest b b s all_s t text text refl is_s refl part);
   comes_so = λ all_b all_s t text all is same whole.
@@ -264,8 +264,8 @@ follows_data n Rest piece rest long = record {
       );
 }
 
-stops_data : (n : ℕ) (Rest : Says) (bytes : List ℕ) (fault : ReadFault) → IsSome Rest → Tells (IsData n) (Led (IsData n)) bytes fault
-    → Tells (Said (DataThen n Rest)) (Said (DataThen n Rest)) bytes fault
+stops_data : (n : ℕ) (Rest : TextSays) (bytes : List ℕ) (fault : ReadFault) → IsSome Rest → TellsWhere (IsData n) (Led (IsData n)) bytes fault
+    → TellsWhere (Said (DataThen n Rest)) (Said (DataThen n Rest)) bytes fault
 stops_data n Rest bytes fault more told =
     stops_part (IsData n) (Led (IsData n)) (Said (DataThen n Rest)) bytes fault
     (λ word is. (
@@ -285,13 +285,13 @@ stops_data n Rest bytes fault more told =
 -- ## How far reading has come
 
 -- the first bytes say this data and these signatures, and the rest is at hand
-pub record At (Rest : Says) (bytes body : List ℕ) (signatures : List (List ℕ)) (rest : List ℕ) : Type 0 where
+pub record At (Rest : TextSays) (bytes body : List ℕ) (signatures : List (List ℕ)) (rest : List ℕ) : Type 0 where
   pub front : List ℕ
   pub parted : bytes ≡ front ++ rest
-  pub follows : Follows IsTextOf Rest body signatures front rest
+  pub follows : FollowsFront IsTextOf Rest body signatures front rest
 
-at_next : (Mid Rest : Says) (bytes body more all_body : List ℕ) (signatures others all_signatures : List (List ℕ)) (next before rest : List ℕ)
-    → all_body ≡ body ++ more → all_signatures ≡ signatures ++ others → before ≡ next ++ rest → Follows Mid Rest more others next rest
+at_next : (Mid Rest : TextSays) (bytes body more all_body : List ℕ) (signatures others all_signatures : List (List ℕ)) (next before rest : List ℕ)
+    → all_body ≡ body ++ more → all_signatures ≡ signatures ++ others → before ≡ next ++ rest → FollowsFront Mid Rest more others next rest
     → At Mid bytes body signatures before → At Rest bytes all_body all_signatures rest
 at_next Mid Rest bytes body more all_body signatures others all_signatures next before rest bodies texts parted follows at = record {
   front = at.front ++ next;
@@ -300,11 +300,11 @@ at_next Mid Rest bytes body more all_body signatures others all_signatures next 
       at.follows follows;
 }
 
-pub at_stops : (Rest : Says) (bytes body : List ℕ) (signatures : List (List ℕ)) (rest : List ℕ) (fault : ReadFault) → At Rest bytes body signatures rest
-    → Tells (Said Rest) (Said Rest) rest fault → Tells (Said IsTextOf) (Said IsTextOf) bytes fault
+pub at_stops : (Rest : TextSays) (bytes body : List ℕ) (signatures : List (List ℕ)) (rest : List ℕ) (fault : ReadFault) → At Rest bytes body signatures rest
+    → TellsWhere (Said Rest) (Said Rest) rest fault → TellsWhere (Said IsTextOf) (Said IsTextOf) bytes fault
 at_stops Rest bytes body signatures rest fault at told = stops_rest IsTextOf Rest body signatures at.front bytes rest fault at.parted at.follows told
 
-at_same : (Rest : Says) (bytes body other : List ℕ) (signatures texts : List (List ℕ)) (rest : List ℕ) → other ≡ body → texts ≡ signatures
+at_same : (Rest : TextSays) (bytes body other : List ℕ) (signatures texts : List (List ℕ)) (rest : List ℕ) → other ≡ body → texts ≡ signatures
     → At Rest bytes body signatures rest → At Rest bytes other texts rest
 at_same Rest bytes body other signatures texts rest bodies same at =
     subst (λ (b : List ℕ). At Rest bytes b texts rest) (sym bodies) (subst (λ (s : List (List ℕ)). At Rest bytes body s rest) (sym same) at)
@@ -322,8 +322,8 @@ first_some n =
 first_other : AllOther FirstRest
 first_other n b s t text is = head_other is.0 (ChunkRest is.0 n n) b s t text is.1
 
-pub first_length_stops : (bytes : List ℕ) (fault : ReadFault) → Tells (IsLength 4294967295) (Led (IsEndedLength 4294967295)) bytes fault
-    → Tells (Said IsTextOf) (Said IsTextOf) bytes fault
+pub first_length_stops : (bytes : List ℕ) (fault : ReadFault) → TellsWhere (IsLength 4294967295) (Led (IsEndedLength 4294967295)) bytes fault
+    → TellsWhere (Said IsTextOf) (Said IsTextOf) bytes fault
 first_length_stops bytes fault told =
     at_stops WholeSays bytes [] [] bytes fault (at_whole bytes) (stops_length 4294967295 FirstRest bytes fault first_some first_other told)
 
@@ -336,7 +336,7 @@ at_first is_signed n bytes rest low parted other shows =
     (follows_length 4294967295 n FirstRest rest (omega arith) low other first_other) (at_whole bytes))
 
 pub first_head_stops : (is_signed : Bool) (n : ℕ) (bytes rest : List ℕ) (fault : ReadFault) → n ≤ 4294967295 → bytes ≡ length_text n ++ rest → BeginsOther rest
-    → is_signed ≡ begins_with 59 rest → Tells (IsHeadEnd is_signed) (Led (IsHeadEnd is_signed)) rest fault → Tells (Said IsTextOf) (Said IsTextOf) bytes fault
+    → is_signed ≡ begins_with 59 rest → TellsWhere (IsHeadEnd is_signed) (Led (IsHeadEnd is_signed)) rest fault → TellsWhere (Said IsTextOf) (Said IsTextOf) bytes fault
 first_head_stops is_signed n bytes rest fault low parted other shows told =
     at_stops (HeadEndThen is_signed (ChunkRest is_signed n n)) bytes [] [] rest fault (at_first is_signed n bytes rest low parted other shows)
     (stops_head is_signed (ChunkRest is_signed n n) rest fault (chunk_some is_signed n n) told)
@@ -350,14 +350,14 @@ pub record Reached (bytes : List ℕ) (size n : ℕ) (is_signed : Bool) (body : 
 
 pub reached_first : (size : ℕ) (is_signed now_signed : Bool) (signature : Option (List ℕ)) (bytes behind rest body : List ℕ) (before texts : List (List ℕ)) → size ≤ 4294967295
     → bytes ≡ length_text size ++ behind → BeginsOther behind → is_signed ≡ begins_with 59 behind → behind ≡ (signature_text signature ++ crlf) ++ rest
-    → IsSignedBy is_signed signature → before ≡ [] → texts ≡ before ++ given signature → now_signed ≡ is_signed → body ≡ []
+    → IsSignedBy is_signed signature → before ≡ [] → texts ≡ before ++ one_or_none signature → now_signed ≡ is_signed → body ≡ []
     → Reached bytes size size now_signed body texts rest
 reached_first size is_signed now_signed signature bytes behind rest body before texts bound parted other shows ended signed empty told same none =
     subst (λ (sg : Bool). Reached bytes size size sg body texts rest) (sym same) (record {
       low = omega arith;
       bound = bound;
-      at = at_same (ChunkRest is_signed size size) bytes [] body (given signature) texts rest none (told ∙ ap (λ (b : List (List ℕ)). b ++ given signature) empty)
-          (at_next (HeadEndThen is_signed (ChunkRest is_signed size size)) (ChunkRest is_signed size size) bytes [] [] [] [] (given signature) (given signature)
+      at = at_same (ChunkRest is_signed size size) bytes [] body (one_or_none signature) texts rest none (told ∙ ap (λ (b : List (List ℕ)). b ++ one_or_none signature) empty)
+          (at_next (HeadEndThen is_signed (ChunkRest is_signed size size)) (ChunkRest is_signed size size) bytes [] [] [] [] (one_or_none signature) (one_or_none signature)
           (signature_text signature ++ crlf) behind rest refl refl ended (follows_head is_signed (ChunkRest is_signed size size) signature rest signed)
           (at_first is_signed size bytes behind bound parted other shows));
     })
@@ -369,7 +369,7 @@ at_data bytes size n is_signed body signatures rest reached some =
     (follows_next is_signed size n rest some) reached.at
 
 pub data_stops : (bytes : List ℕ) (size n : ℕ) (is_signed : Bool) (body : List ℕ) (signatures : List (List ℕ)) (rest : List ℕ) (fault : ReadFault)
-    → Reached bytes size n is_signed body signatures rest → 0 < n → Tells (IsData n) (Led (IsData n)) rest fault → Tells (Said IsTextOf) (Said IsTextOf) bytes fault
+    → Reached bytes size n is_signed body signatures rest → 0 < n → TellsWhere (IsData n) (Led (IsData n)) rest fault → TellsWhere (Said IsTextOf) (Said IsTextOf) bytes fault
 data_stops bytes size n is_signed body signatures rest fault reached some told =
     at_stops (DataThen n (NextRest is_signed size n)) bytes body signatures rest fault (at_data bytes size n is_signed body signatures rest reached some)
     (stops_data n (NextRest is_signed size n) rest fault (next_some is_signed size n) told)
@@ -386,7 +386,7 @@ next_other is_signed size m b s t text is = head_other is_signed (ChunkRest is_s
 
 pub length_stops : (bytes : List ℕ) (size n : ℕ) (is_signed : Bool) (body now : List ℕ) (signatures : List (List ℕ)) (piece rest behind : List ℕ) (fault : ReadFault)
     → Reached bytes size n is_signed body signatures rest → 0 < n → length piece ≡ n → rest ≡ (piece ++ crlf) ++ behind → now ≡ body ++ piece
-    → Tells (IsLength (most_after size n)) (Led (IsEndedLength (most_after size n))) behind fault → Tells (Said IsTextOf) (Said IsTextOf) bytes fault
+    → TellsWhere (IsLength (most_after size n)) (Led (IsEndedLength (most_after size n))) behind fault → TellsWhere (Said IsTextOf) (Said IsTextOf) bytes fault
 length_stops bytes size n is_signed body now signatures piece rest behind fault reached some long read grown told =
     at_stops (NextRest is_signed size n) bytes now signatures behind fault (at_next_length bytes size n is_signed body now signatures piece rest behind reached some long read grown)
     (stops_length (most_after size n) (λ m. HeadEndThen is_signed (ChunkRest is_signed size m)) behind fault
@@ -404,8 +404,8 @@ at_head bytes size n m is_signed body now signatures piece rest behind after rea
 
 pub head_stops : (bytes : List ℕ) (size n m : ℕ) (is_signed : Bool) (body now : List ℕ) (signatures : List (List ℕ)) (piece rest behind after : List ℕ) (fault : ReadFault)
     → Reached bytes size n is_signed body signatures rest → 0 < n → length piece ≡ n → rest ≡ (piece ++ crlf) ++ behind → now ≡ body ++ piece
-    → m ≤ most_after size n → behind ≡ length_text m ++ after → BeginsOther after → Tells (IsHeadEnd is_signed) (Led (IsHeadEnd is_signed)) after fault
-    → Tells (Said IsTextOf) (Said IsTextOf) bytes fault
+    → m ≤ most_after size n → behind ≡ length_text m ++ after → BeginsOther after → TellsWhere (IsHeadEnd is_signed) (Led (IsHeadEnd is_signed)) after fault
+    → TellsWhere (Said IsTextOf) (Said IsTextOf) bytes fault
 head_stops bytes size n m is_signed body now signatures piece rest behind after fault reached some long read grown low parted other told =
     at_stops (HeadEndThen is_signed (ChunkRest is_signed size m)) bytes now signatures after fault
     (at_head bytes size n m is_signed body now signatures piece rest behind after reached some long read grown low parted other)
@@ -414,12 +414,12 @@ head_stops bytes size n m is_signed body now signatures piece rest behind after 
 pub reached_next : (bytes : List ℕ) (size n m : ℕ) (is_signed now_signed : Bool) (body now : List ℕ) (signatures next : List (List ℕ)) (signature : Option (List ℕ))
     (piece rest behind after last : List ℕ) → Reached bytes size n is_signed body signatures rest → 0 < n → length piece ≡ n → rest ≡ (piece ++ crlf) ++ behind
     → now ≡ body ++ piece → m ≤ most_after size n → behind ≡ length_text m ++ after → BeginsOther after → after ≡ (signature_text signature ++ crlf) ++ last
-    → IsSignedBy is_signed signature → next ≡ signatures ++ given signature → now_signed ≡ is_signed → Reached bytes size m now_signed now next last
+    → IsSignedBy is_signed signature → next ≡ signatures ++ one_or_none signature → now_signed ≡ is_signed → Reached bytes size m now_signed now next last
 reached_next bytes size n m is_signed now_signed body now signatures next signature piece rest behind after last reached some long read grown low parted other ended signed told same =
     subst (λ (sg : Bool). Reached bytes size m sg now next last) (sym same) (record {
       low = omega (arith, low, after_bound size n);
       bound = reached.bound;
-      at = at_next (HeadEndThen is_signed (ChunkRest is_signed size m)) (ChunkRest is_signed size m) bytes now [] now signatures (given signature) next
+      at = at_next (HeadEndThen is_signed (ChunkRest is_signed size m)) (ChunkRest is_signed size m) bytes now [] now signatures (one_or_none signature) next
           (signature_text signature ++ crlf) after last (sym (append-nil now)) told ended (follows_head is_signed (ChunkRest is_signed size m) signature last signed)
           (at_head bytes size n m is_signed body now signatures piece rest behind after reached some long read grown low parted other);
     })
@@ -427,7 +427,7 @@ reached_next bytes size n m is_signed now_signed body now signatures next signat
 -- behind the line of the empty chunk
 pub reached_end : (bytes : List ℕ) (size n : ℕ) (is_signed : Bool) (body : List ℕ) (signatures : List (List ℕ)) (rest : List ℕ)
     → Reached bytes size n is_signed body signatures rest → n ≤ 0
-    → (front : List ℕ) × (bytes ≡ front ++ rest) × Follows IsTextOf (TailSays is_signed) body signatures front rest
+    → (front : List ℕ) × (bytes ≡ front ++ rest) × FollowsFront IsTextOf (TailSays is_signed) body signatures front rest
 reached_end bytes size n is_signed body signatures rest reached none =
     let at = at_next (ChunkRest is_signed size n) (TailSays is_signed) bytes body [] body signatures [] signatures [] rest rest (sym (append-nil body)) (sym (append-nil signatures)) refl
     (follows_tail is_signed size n rest none) reached.at in

@@ -10,9 +10,9 @@ use Rattle.std.proofs.lemmas.Str.Ascii.{IsAscii-from_all}
 use Rattle.http_header.specs.Token.{is_token_byte, is_value_byte}
 use Rattle.http_header.proofs.TokenLemmas.{AllPass-from_test}
 use Rattle.aws_chunked.specs.Body.{Trailer}
-use Rattle.aws_chunked.specs.Decoded.{Begins, IsSignature, IsTrailer, TakesSignature, is_signature_digit}
-use Rattle.aws_chunked.specs.Reading.{Led, Refuses, Tells}
-use Rattle.aws_chunked.specs.Rests.{Follows, IsSignedBy, IsTail, Said, Says, TailSays, begins_with, first_byte, given}
+use Rattle.aws_chunked.specs.Decoded.{CanGoOn, IsSignature, IsTrailer, TakesSignature, is_signature_digit}
+use Rattle.aws_chunked.specs.Reading.{Led, RefusesNext, TellsWhere}
+use Rattle.aws_chunked.specs.Rests.{FollowsFront, IsSignedBy, IsTail, Said, TextSays, TailSays, begins_with, first_byte, one_or_none}
 use Rattle.aws_chunked.specs.Signing.{has_signature}
 use Rattle.aws_chunked.specs.TailRests.{IsLine, IsSplit, is_name_byte, last_trailer}
 use Rattle.aws_chunked.specs.Text.{crlf, last_line, trailer_line}
@@ -64,10 +64,10 @@ last_read None = refl
 last_read (Some signature) = append-nil (trailer_line (codes "x-amz-trailer-signature", signature))
 
 -- lines were read, and more may stand behind them, before the empty line
-pub LinesSay : Bool → List Trailer → Says
+pub LinesSay : Bool → List Trailer → TextSays
 LinesSay is_signed lines body signatures trailers text =
     (more : List Trailer) × (last : Option (List ℕ)) × (body ≡ []) × AllByRecursion IsTrailer more × IsSplit is_signed (lines ++ more) trailers last
-    × (signatures ≡ given last) × (text ≡ flat_map trailer_line more ++ crlf)
+    × (signatures ≡ one_or_none last) × (text ≡ flat_map trailer_line more ++ crlf)
 
 lines_text : (trailers : List Trailer) (last : Option (List ℕ)) → flat_map trailer_line (trailers ++ last_trailer last) ++ crlf ≡ flat_map trailer_line trailers ++ last_line last ++ crlf
 lines_text trailers last =
@@ -84,7 +84,7 @@ tail_lines is_signed b s t text is =
       is.0,
       all_both t (last_trailer last) tail.1 (last_is is_signed t last signed.0),
       (refl, signed.0),
-      signed.1 ∙ append-nil (given last),
+      signed.1 ∙ append-nil (one_or_none last),
       tail.3 ∙ sym (lines_text t last),
     )
 
@@ -97,13 +97,13 @@ lines_tail is_signed b s t text is =
       (
         last,
         all_front t (last_trailer last) (subst (λ (ts : List Trailer). AllByRecursion IsTrailer ts) split.0 is.3),
-        subst (λ (x : List (List ℕ)). TakesSignature (has_signature is_signed t) x last []) (append-nil (given last) ∙ sym is.5)
+        subst (λ (x : List (List ℕ)). TakesSignature (has_signature is_signed t) x last []) (append-nil (one_or_none last) ∙ sym is.5)
             (takes_given (has_signature is_signed t) last [] split.1),
         is.6 ∙ ap (λ (ts : List Trailer). flat_map trailer_line ts ++ crlf) split.0 ∙ lines_text t last,
       ),
     )
 
-follows_lines_none : (is_signed : Bool) (rest : List ℕ) → Follows (TailSays is_signed) (LinesSay is_signed []) [] [] [] rest
+follows_lines_none : (is_signed : Bool) (rest : List ℕ) → FollowsFront (TailSays is_signed) (LinesSay is_signed []) [] [] [] rest
 follows_lines_none is_signed rest =
     follows_as (TailSays is_signed) (LinesSay is_signed []) rest (lines_tail is_signed) (λ b s t text same is. tail_lines is_signed b s t text is)
 
@@ -126,7 +126,7 @@ no_more is_signed lines (line ∷ more) text are is begins =
     (subst (λ (t : List ℕ). IsTrue (begins_with 13 t)) (is ∙ append_assoc (trailer_line line) (flat_map trailer_line more) crlf) begins))
 
 follows_line : (is_signed : Bool) (lines : List Trailer) (line : Trailer) (rest : List ℕ) → IsTrailer line
-    → Follows (LinesSay is_signed lines) (LinesSay is_signed (lines ++ line ∷ [])) [] [] (trailer_line line) rest
+    → FollowsFront (LinesSay is_signed lines) (LinesSay is_signed (lines ++ line ∷ [])) [] [] (trailer_line line) rest
 unfolding LinesSay
 follows_line is_signed lines line rest is_line = record {
   goes_on = λ b all_b s all_s t text all is_b is_s is part. (
@@ -148,7 +148,7 @@ follows_line is_signed lines line rest is_line = record {
 }
   where
     by : (more : List Trailer) (last : Option (List ℕ)) (b : List ℕ) (s : List (List ℕ)) (t : List Trailer) (text : List ℕ) → b ≡ [] → AllByRecursion IsTrailer more
-        → IsSplit is_signed (lines ++ more) t last → s ≡ given last → trailer_line line ++ text ≡ flat_map trailer_line more ++ crlf
+        → IsSplit is_signed (lines ++ more) t last → s ≡ one_or_none last → trailer_line line ++ text ≡ flat_map trailer_line more ++ crlf
         → LinesSay is_signed (lines ++ line ∷ []) b s t text
     by [] last b s t text none are split sigs same =
         absurd (line_begins line text is_line (subst (λ (x : List ℕ). IsTrue (begins_with 13 x)) (sym same) refl))
@@ -165,12 +165,12 @@ follows_line is_signed lines line rest is_line = record {
         )
 
 follows_lines : (is_signed : Bool) (before lines : List Trailer) (rest : List ℕ) → AllByRecursion IsTrailer lines
-    → Follows (LinesSay is_signed before) (LinesSay is_signed (before ++ lines)) [] [] (flat_map trailer_line lines) rest
+    → FollowsFront (LinesSay is_signed before) (LinesSay is_signed (before ++ lines)) [] [] (flat_map trailer_line lines) rest
 follows_lines is_signed before [] rest are =
-    subst (λ (ls : List Trailer). Follows (LinesSay is_signed before) (LinesSay is_signed ls) [] [] [] rest) (sym (append-nil before))
+    subst (λ (ls : List Trailer). FollowsFront (LinesSay is_signed before) (LinesSay is_signed ls) [] [] [] rest) (sym (append-nil before))
     (follows_as (LinesSay is_signed before) (LinesSay is_signed before) rest (λ b s t text is. is) (λ b s t text same is. is))
 follows_lines is_signed before (line ∷ lines) rest are =
-    subst (λ (ls : List Trailer). Follows (LinesSay is_signed before) (LinesSay is_signed ls) [] [] (trailer_line line ++ flat_map trailer_line lines) rest)
+    subst (λ (ls : List Trailer). FollowsFront (LinesSay is_signed before) (LinesSay is_signed ls) [] [] (trailer_line line ++ flat_map trailer_line lines) rest)
     (append_assoc before (line ∷ []) lines)
     (follows_both (LinesSay is_signed before) (LinesSay is_signed (before ++ line ∷ [])) (LinesSay is_signed ((before ++ line ∷ []) ++ lines)) [] [] [] [] [] []
     (trailer_line line) (flat_map trailer_line lines) (trailer_line line ++ flat_map trailer_line lines) (flat_map trailer_line lines ++ rest) rest refl refl refl refl
@@ -178,14 +178,14 @@ follows_lines is_signed before (line ∷ lines) rest are =
 
 -- behind lines
 follows_tail_lines : (is_signed : Bool) (lines : List Trailer) (rest : List ℕ) → AllByRecursion IsTrailer lines
-    → Follows (TailSays is_signed) (LinesSay is_signed lines) [] [] (flat_map trailer_line lines) rest
+    → FollowsFront (TailSays is_signed) (LinesSay is_signed lines) [] [] (flat_map trailer_line lines) rest
 follows_tail_lines is_signed lines rest are =
     follows_both (TailSays is_signed) (LinesSay is_signed []) (LinesSay is_signed lines) [] [] [] [] [] [] [] (flat_map trailer_line lines) (flat_map trailer_line lines)
     (flat_map trailer_line lines ++ rest) rest refl refl refl refl (follows_lines_none is_signed (flat_map trailer_line lines ++ rest)) (follows_lines is_signed [] lines rest are)
 
 pub lines_stop : (is_signed : Bool) (lines : List Trailer) (bytes rest : List ℕ) (fault : ReadFault) → AllByRecursion IsTrailer lines
-    → bytes ≡ flat_map trailer_line lines ++ rest → Tells (Said (LinesSay is_signed lines)) (Said (LinesSay is_signed lines)) rest fault
-    → Tells (Said (TailSays is_signed)) (Said (TailSays is_signed)) bytes fault
+    → bytes ≡ flat_map trailer_line lines ++ rest → TellsWhere (Said (LinesSay is_signed lines)) (Said (LinesSay is_signed lines)) rest fault
+    → TellsWhere (Said (TailSays is_signed)) (Said (TailSays is_signed)) bytes fault
 lines_stop is_signed lines bytes rest fault are parted told =
     stops_rest (TailSays is_signed) (LinesSay is_signed lines) [] [] (flat_map trailer_line lines) bytes rest fault parted (follows_tail_lines is_signed lines rest are) told
 
@@ -195,7 +195,7 @@ signs_more : (is_signed : Bool) (lines : List Trailer) (line : Trailer) → IsSi
 signs_more is_signed [] line = some_signed is_signed
 signs_more is_signed (first ∷ lines) line = some_signed is_signed
 
-more_lines : (is_signed : Bool) (lines : List Trailer) (line : Trailer) → IsTrailer line → Begins (Said (LinesSay is_signed lines)) (trailer_line line)
+more_lines : (is_signed : Bool) (lines : List Trailer) (line : Trailer) → IsTrailer line → CanGoOn (Said (LinesSay is_signed lines)) (trailer_line line)
 unfolding LinesSay
 more_lines is_signed lines line is =
     let last = some_signature is_signed in
@@ -204,7 +204,7 @@ more_lines is_signed lines line is =
       behind,
       (
         [],
-        given last,
+        one_or_none last,
         lines ++ line ∷ [],
         (
           line ∷ last_trailer last,
@@ -218,19 +218,19 @@ more_lines is_signed lines line is =
       ),
     )
 
-begins_lines : (is_signed : Bool) (lines : List Trailer) → Begins (Said (LinesSay is_signed lines)) []
+begins_lines : (is_signed : Bool) (lines : List Trailer) → CanGoOn (Said (LinesSay is_signed lines)) []
 begins_lines is_signed lines =
     let line : Trailer = (97 ∷ [], []) in
     let more = more_lines is_signed lines line (a_name.0, a_name.1, IsUtf8-nil, All-nil (λ byte. IsTrue (is_value_byte byte))) in
     (trailer_line line ++ more.0, more.1)
 
 -- a line that stops
-pub line_stops : (is_signed : Bool) (lines : List Trailer) (rest : List ℕ) (fault : ReadFault) → begins_with 13 rest ≡ false → Tells IsLine (Led IsLine) rest fault
-    → Tells (Said (LinesSay is_signed lines)) (Said (LinesSay is_signed lines)) rest fault
+pub line_stops : (is_signed : Bool) (lines : List Trailer) (rest : List ℕ) (fault : ReadFault) → begins_with 13 rest ≡ false → TellsWhere IsLine (Led IsLine) rest fault
+    → TellsWhere (Said (LinesSay is_signed lines)) (Said (LinesSay is_signed lines)) rest fault
 unfolding LinesSay
 line_stops is_signed lines rest fault other told =
     stops_part IsLine (Led IsLine) (Said (LinesSay is_signed lines)) rest fault
-    (λ word is. subst (Begins (Said (LinesSay is_signed lines))) (sym is.2) (more_lines is_signed lines is.0 is.1))
+    (λ word is. subst (CanGoOn (Said (LinesSay is_signed lines))) (sym is.2) (more_lines is_signed lines is.0 is.1))
     (λ all same is. by all same is.3.0 is.3.3 is.3.6)
     told
   where
@@ -245,10 +245,10 @@ line_stops is_signed lines rest fault other told =
 -- the lines are no trailers and their signature
 pub split_stops : (is_signed : Bool) (lines : List Trailer) (rest : List ℕ) (fault : ReadFault) → IsTrue (begins_with 13 rest)
     → ((trailers : List Trailer) (last : Option (List ℕ)) → IsSplit is_signed lines trailers last → ⊥) → fault ≡ Bad (length rest)
-    → Tells (Said (LinesSay is_signed lines)) (Said (LinesSay is_signed lines)) rest fault
+    → TellsWhere (Said (LinesSay is_signed lines)) (Said (LinesSay is_signed lines)) rest fault
 unfolding LinesSay
 split_stops is_signed lines rest fault begins none told =
-    subst (Tells (Said (LinesSay is_signed lines)) (Said (LinesSay is_signed lines)) rest) (sym told) ([], rest, refl, refl, begins_lines is_signed lines, refuses rest begins)
+    subst (TellsWhere (Said (LinesSay is_signed lines)) (Said (LinesSay is_signed lines)) rest) (sym told) ([], rest, refl, refl, begins_lines is_signed lines, refuses rest begins)
   where
     not : (text : List ℕ) → IsTrue (begins_with 13 text) → Said (LinesSay is_signed lines) text → ⊥
     not text cr is =
@@ -256,19 +256,19 @@ split_stops is_signed lines rest fault begins none told =
         let empty = no_more is_signed lines says.0 text says.3 says.6 cr in
         none is.2 says.1 (sym (append-nil lines) ∙ ap (λ (m : List Trailer). lines ++ m) (sym empty) ∙ says.4.0, says.4.1)
 
-    refuses : (back : List ℕ) → IsTrue (begins_with 13 back) → Refuses (Said (LinesSay is_signed lines)) [] back
+    refuses : (back : List ℕ) → IsTrue (begins_with 13 back) → RefusesNext (Said (LinesSay is_signed lines)) [] back
     refuses [] cr = absurd (false≢true cr)
     refuses (b ∷ back) cr = λ begins_. not (b ∷ begins_.0) cr begins_.1
 
 -- no end of the line
 pub end_stops : (is_signed : Bool) (lines trailers : List Trailer) (last : Option (List ℕ)) (rest : List ℕ) (fault : ReadFault) → IsTrue (begins_with 13 rest)
-    → IsSplit is_signed lines trailers last → Tells (λ word. word ≡ crlf) (Led (λ word. word ≡ crlf)) rest fault
-    → Tells (Said (LinesSay is_signed lines)) (Said (LinesSay is_signed lines)) rest fault
+    → IsSplit is_signed lines trailers last → TellsWhere (λ word. word ≡ crlf) (Led (λ word. word ≡ crlf)) rest fault
+    → TellsWhere (Said (LinesSay is_signed lines)) (Said (LinesSay is_signed lines)) rest fault
 unfolding LinesSay
 end_stops is_signed lines trailers last rest fault cr split told =
     stops_part (λ word. word ≡ crlf) (Led (λ word. word ≡ crlf)) (Said (LinesSay is_signed lines)) rest fault
     (λ word is.
-    ([], ([], given last, trailers, ([], last, refl, tt, (append-nil lines ∙ split.0, split.1), refl, append-nil word ∙ is))))
+    ([], ([], one_or_none last, trailers, ([], last, refl, tt, (append-nil lines ∙ split.0, split.1), refl, append-nil word ∙ is))))
     (λ all same is.
     let says = is.3 in
     let empty = no_more is_signed lines says.0 all says.3 says.6 (same_begin 13 all rest same ∙ cr) in
@@ -278,19 +278,19 @@ end_stops is_signed lines trailers last rest fault cr split told =
 -- something behind the end
 pub more_stops : (is_signed : Bool) (lines trailers : List Trailer) (last : Option (List ℕ)) (rest final : List ℕ) (fault : ReadFault)
     → IsSplit is_signed lines trailers last → rest ≡ crlf ++ final → (length final ≡ 0 → ⊥) → fault ≡ Bad (length final)
-    → Tells (Said (LinesSay is_signed lines)) (Said (LinesSay is_signed lines)) rest fault
+    → TellsWhere (Said (LinesSay is_signed lines)) (Said (LinesSay is_signed lines)) rest fault
 unfolding LinesSay
 more_stops is_signed lines trailers last rest final fault split ended some told =
-    subst (Tells (Said (LinesSay is_signed lines)) (Said (LinesSay is_signed lines)) rest) (sym told) (
+    subst (TellsWhere (Said (LinesSay is_signed lines)) (Said (LinesSay is_signed lines)) rest) (sym told) (
       crlf,
       final,
       ended,
       refl,
-      ([], ([], given last, trailers, ([], last, refl, tt, (append-nil lines ∙ split.0, split.1), refl, refl))),
+      ([], ([], one_or_none last, trailers, ([], last, refl, tt, (append-nil lines ∙ split.0, split.1), refl, refl))),
       refuses final some,
     )
   where
-    refuses : (back : List ℕ) → (length back ≡ 0 → ⊥) → Refuses (Said (LinesSay is_signed lines)) crlf back
+    refuses : (back : List ℕ) → (length back ≡ 0 → ⊥) → RefusesNext (Said (LinesSay is_signed lines)) crlf back
     refuses [] some_ = absurd (some_ refl)
     refuses (b ∷ back) some_ = λ begins.
         let says = begins.1.3 in
@@ -332,13 +332,13 @@ same_split is_signed lines first (t ∷ second) (Some one) None is other = absur
 
 pub tail_whole : (is_signed : Bool) (lines trailers : List Trailer) (last : Option (List ℕ)) (bytes rest final : List ℕ) → AllByRecursion IsTrailer lines
     → bytes ≡ flat_map trailer_line lines ++ rest → IsSplit is_signed lines trailers last → rest ≡ crlf ++ final → final ≡ []
-    → IsTail is_signed (given last) trailers bytes
-    × ((s : List (List ℕ)) (t : List Trailer) → IsTail is_signed s t bytes → (s ≡ given last) × (t ≡ trailers))
+    → IsTail is_signed (one_or_none last) trailers bytes
+    × ((s : List (List ℕ)) (t : List Trailer) → IsTail is_signed s t bytes → (s ≡ one_or_none last) × (t ≡ trailers))
 unfolding LinesSay
 tail_whole is_signed lines trailers last bytes rest final are parted split ended none =
     let whole : rest ≡ crlf = ended ∙ ap (λ (f : List ℕ). crlf ++ f) none in
     let follows = follows_tail_lines is_signed lines rest are in
-    let is = follows.goes_on [] [] (given last) (given last) trailers rest bytes refl refl parted
+    let is = follows.goes_on [] [] (one_or_none last) (one_or_none last) trailers rest bytes refl refl parted
     ([], last, refl, tt, (append-nil lines ∙ split.0, split.1), refl, whole) in (
       is.1,
       λ s t other.
@@ -347,5 +347,5 @@ tail_whole is_signed lines trailers last bytes rest final are parted split ended
           let empty = no_more is_signed lines down.0 rest down.3 down.6 (subst (λ (x : List ℕ). IsTrue (begins_with 13 x)) (sym whole) refl) in
           let found = same_split is_signed lines t trailers down.1 last
           (sym (append-nil lines) ∙ ap (λ (m : List Trailer). lines ++ m) (sym empty) ∙ down.4.0, down.4.1) split in
-          (says.3 ∙ down.5 ∙ ap given found.1, found.0),
+          (says.3 ∙ down.5 ∙ ap one_or_none found.1, found.0),
     )

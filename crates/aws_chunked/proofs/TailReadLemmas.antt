@@ -8,7 +8,7 @@ use Rattle.std.proofs.lemmas.Bool.{eqb-false, eqb-true, false≢true}
 use Rattle.smithy_core.specs.TextPairs.{lower_name}
 use Rattle.aws_chunked.specs.Body.{Trailer}
 use Rattle.aws_chunked.specs.Decoded.{IsSignature, IsTextOf, IsTrailer}
-use Rattle.aws_chunked.specs.Rests.{Follows, IsSignedBy, IsTail, TailSays}
+use Rattle.aws_chunked.specs.Rests.{FollowsFront, IsSignedBy, IsTail, TailSays}
 use Rattle.aws_chunked.specs.Signing.{has_signature}
 use Rattle.aws_chunked.specs.TailRests.{IsSplit, last_trailer, pair_texts}
 use Rattle.aws_chunked.proofs.RunLemmas.{same_word}
@@ -95,13 +95,13 @@ tail_named is_signed signatures trailers headers bytes same is =
 -- ## The whole
 
 pub whole_read : (is_signed : Bool) (body all_body : List ℕ) (texts signatures all : List (List ℕ)) (trailers : List Trailer) (bytes front rest : List ℕ)
-    → Follows IsTextOf (TailSays is_signed) body texts front rest → bytes ≡ front ++ rest → IsTail is_signed signatures trailers rest → all_body ≡ body
+    → FollowsFront IsTextOf (TailSays is_signed) body texts front rest → bytes ≡ front ++ rest → IsTail is_signed signatures trailers rest → all_body ≡ body
     → all ≡ texts ++ signatures → IsTextOf all_body all trailers bytes
 whole_read is_signed body all_body texts signatures all trailers bytes front rest follows parted tail bodies same =
     follows.goes_on [] all_body signatures all trailers rest bytes (bodies ∙ sym (append-nil body)) same parted (refl, tail)
 
 pub only_read : (is_signed : Bool) (body all_body : List ℕ) (texts signatures all : List (List ℕ)) (trailers : List Trailer) (bytes front rest : List ℕ)
-    → Follows IsTextOf (TailSays is_signed) body texts front rest → bytes ≡ front ++ rest
+    → FollowsFront IsTextOf (TailSays is_signed) body texts front rest → bytes ≡ front ++ rest
     → ((s : List (List ℕ)) (t : List Trailer) → IsTail is_signed s t rest → (s ≡ signatures) × (t ≡ trailers)) → all_body ≡ body → all ≡ texts ++ signatures
     → (b : List ℕ) (s : List (List ℕ)) (t : List Trailer) → IsTextOf b s t bytes → (b ≡ all_body) × (s ≡ all) × (t ≡ trailers)
 only_read is_signed body all_body texts signatures all trailers bytes front rest follows parted unique bodies same b s t is =

@@ -7,7 +7,7 @@ use Rattle.smithy_core.specs.Outside.{RoseOrStands}
 use Rattle.smithy_core.specs.FrameSource.{TakesFrame}
 use Rattle.smithy_core.specs.declared.outside.frame_part.FramePart.{FramePart}
 use Rattle.smithy_core.specs.declared.outside.frame_part.FramePart.TheVariants as frame
-use Rattle.aws_chunked.specs.Body.{held_after, idle_count, idle_in, phase_after}
+use Rattle.aws_chunked.specs.Body.{held_after, idle_frames, idle_in, phase_after}
 use Rattle.aws_chunked.specs.declared.phase.Phase.{Phase}
 use Rattle.aws_chunked.specs.declared.phase.Phase.TheVariants as phase
 
@@ -35,13 +35,13 @@ left_more frames more before between now first second = first ∙ ap (option_map
 
 -- ---- how many have no data
 
-pub idle_none : (at : Phase) → idle_count at [] ≡ 0
+pub idle_none : (at : Phase) → idle_frames at [] ≡ 0
 idle_none phase.Data = refl
 idle_none phase.Trailers = refl
 idle_none phase.Ended = refl
 idle_none phase.Closed = refl
 
-pub idle_more : (at : Phase) (frames more : List FramePart) → idle_count at (frames ++ more) ≡ idle_count at frames + idle_count (phase_after at frames) more
+pub idle_more : (at : Phase) (frames more : List FramePart) → idle_frames at (frames ++ more) ≡ idle_frames at frames + idle_frames (phase_after at frames) more
 idle_more phase.Data [] more = omega arith
 idle_more phase.Data (frame.Data piece ∷ frames) more = omega (arith, idle_more phase.Data frames more)
 idle_more phase.Data (frame.Trailers trailers ∷ frames) more = omega (arith, length-append frames more)
@@ -69,7 +69,7 @@ phase_data phase.Trailers piece = refl
 phase_data phase.Ended piece = refl
 phase_data phase.Closed piece = refl
 
-pub idle_data : (at : Phase) (piece : List ℕ) → idle_in at piece ≡ idle_count at (frame.Data piece ∷ [])
+pub idle_data : (at : Phase) (piece : List ℕ) → idle_in at piece ≡ idle_frames at (frame.Data piece ∷ [])
 idle_data phase.Data piece = omega arith
 idle_data phase.Trailers piece = refl
 idle_data phase.Ended piece = refl

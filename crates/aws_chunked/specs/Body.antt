@@ -85,7 +85,7 @@ parts_left phase.Closed size held kept frames = []
 parts_left at size held kept frames = parts_of size (held ++ data_left at frames) (listed (trailers_left at kept frames))
 
 -- the text that was made and isn't answered yet, the parts that aren't made yet, and how much data there is in all
-pub record Rest : Type 0 where
+pub record TextLeft : Type 0 where
   pub ready : List ℕ
   pub parts : List Part
   pub total : ℕ
@@ -110,11 +110,11 @@ TakesDue before now (Ok End) = (now ≡ before) × IsNothing now
 TakesDue before now (Err error) = Unit {0}
 
 -- why nothing can be made, as an answer
-abbrev pub answer_of : Stop → Result ChunkNext AwsChunkedBodyError
-answer_of stop.End = Ok End
-answer_of stop.NotYet = Ok NotYet
-answer_of stop.OutOfTurns = Ok OutOfTurns
-answer_of (stop.Fault error) = Err error
+abbrev pub stop_answer : Stop → Result ChunkNext AwsChunkedBodyError
+stop_answer stop.End = Ok End
+stop_answer stop.NotYet = Ok NotYet
+stop_answer stop.OutOfTurns = Ok OutOfTurns
+stop_answer (stop.Fault error) = Err error
 
 -- the data that is held after a piece more: after the first trailers data is ignored
 abbrev pub held_after : Phase → List ℕ → List ℕ → List ℕ
@@ -132,11 +132,11 @@ idle_in phase.Data piece = if length piece == 0 then 1 else 0
 idle_in _ piece = 1
 
 -- how many of the frames have no data: each after the first trailers counts as one
-abbrev pub idle_count : Phase → List FramePart → ℕ
-idle_count phase.Data [] = 0
-idle_count phase.Data (frame.Data piece ∷ frames) = idle_in phase.Data piece + idle_count phase.Data frames
-idle_count phase.Data (frame.Trailers trailers ∷ frames) = 1 + length frames
-idle_count _ frames = length frames
+abbrev pub idle_frames : Phase → List FramePart → ℕ
+idle_frames phase.Data [] = 0
+idle_frames phase.Data (frame.Data piece ∷ frames) = idle_in phase.Data piece + idle_frames phase.Data frames
+idle_frames phase.Data (frame.Trailers trailers ∷ frames) = 1 + length frames
+idle_frames _ frames = length frames
 
 -- how far a body has come after the frames
 abbrev pub phase_after : Phase → List FramePart → Phase
@@ -170,8 +170,8 @@ CanMake phase.Closed size held = ⊥
 
 module _ {F G : Type 0} where
   -- the source of a body
-  abbrev pub source_of : AwsChunkedBody F G → F
-  source_of body = body.source
+  abbrev pub body_source : AwsChunkedBody F G → F
+  body_source body = body.source
 
   -- how a body is encoded
   abbrev pub options_in : AwsChunkedBody F G → Options
@@ -186,12 +186,12 @@ module _ {F G : Type 0} where
   ready_bytes body = body.ready
 
   -- nothing more is read, nor answered
-  pub record IsClosed (body : AwsChunkedBody F G) : Type 0 where
+  pub record IsBodyClosed (body : AwsChunkedBody F G) : Type 0 where
     pub over : body.phase ≡ phase.Closed
     pub answered : ready_bytes body ≡ []
 
   -- a body that has taken nothing
-  pub record IsNew (source : F) (options : Options) (body : AwsChunkedBody F G) : Type 0 where
+  pub record IsNewBody (source : F) (options : Options) (body : AwsChunkedBody F G) : Type 0 where
     pub reads_from : body.source ≡ source
     pub encoded : body.options ≡ options
     pub no_signer : body.signer ≡ None
@@ -203,8 +203,8 @@ module _ {F G : Type 0} where
     pub nothing_sent : body.sent ≡ sent.Nothing
 
   -- what is left of a body whose source has these frames left
-  abbrev pub rest_with : AwsChunkedBody F G → List FramePart → Rest
-  rest_with body frames = record {
+  abbrev pub text_to_come_with : AwsChunkedBody F G → List FramePart → TextLeft
+  text_to_come_with body frames = record {
     ready = ready_bytes body;
     parts = parts_left body.phase body.options.chunk_size (held_bytes body) body.trailers frames;
     total = counted (body.taken + length (data_left body.phase frames));
@@ -223,12 +223,12 @@ module _ {F G : Type 0} where
   with_data body piece = record body { taken = taken_after body.phase body.taken piece }
 
   -- a body that may read on
-  abbrev pub GoesOn : AwsChunkedBody F G → Type 0
-  GoesOn body = (body.phase ≡ phase.Data) ⊎ (body.phase ≡ phase.Trailers)
+  abbrev pub MayReadOn : AwsChunkedBody F G → Type 0
+  MayReadOn body = (body.phase ≡ phase.Data) ⊎ (body.phase ≡ phase.Trailers)
 
   -- a body that isn't closed
-  abbrev pub IsOpen : AwsChunkedBody F G → Type 0
-  IsOpen body = body.phase ≡ phase.Closed → ⊥
+  abbrev pub IsBodyOpen : AwsChunkedBody F G → Type 0
+  IsBodyOpen body = body.phase ≡ phase.Closed → ⊥
 
   -- a part of the text can be made
   abbrev pub IsAtHand : AwsChunkedBody F G → Type 0
@@ -250,11 +250,11 @@ module _ {F G : Type 0} where
       (actual ≡ body.taken) × (expected ≡ body.options.stream_length) × (actual ≡ expected → ⊥) × (held_bytes body ≡ [])
 
   -- whether a part can be made, or why there is none: before the end of the text the length of the data is compared
-  abbrev pub Tests : AwsChunkedBody F G → Result Bool AwsChunkedBodyError → Type 0
-  Tests body (Ok true) = IsAtHand body × (0 < body.options.chunk_size) × (held_bytes body ≡ [] → body.taken ≡ body.options.stream_length)
-  Tests body (Ok false) = (length (held_bytes body) < body.options.chunk_size) × (body.options.chunk_size ≤ 4294967295) × GoesOn body
-  Tests body (Err (StreamLengthMismatch actual expected)) = LacksLength body actual expected × HasEnded body
-  Tests body (Err error) = ⊥
+  abbrev pub TestsPart : AwsChunkedBody F G → Result Bool AwsChunkedBodyError → Type 0
+  TestsPart body (Ok true) = IsAtHand body × (0 < body.options.chunk_size) × (held_bytes body ≡ [] → body.taken ≡ body.options.stream_length)
+  TestsPart body (Ok false) = (length (held_bytes body) < body.options.chunk_size) × (body.options.chunk_size ≤ 4294967295) × MayReadOn body
+  TestsPart body (Err (StreamLengthMismatch actual expected)) = LacksLength body actual expected × HasEnded body
+  TestsPart body (Err error) = ⊥
 
   -- the lines of the trailers, where some came, have the declared lengths, or it is told which one they have
   abbrev pub HasTrailerLengths : AwsChunkedBody F G → Result (Unit {0}) AwsChunkedBodyError → Type 0
@@ -298,34 +298,34 @@ module _ {F G : Type 0} where
 
   module _ (source : FrameSource.Ghosts F) where
     -- what is left of a body, where its source tells its frames
-    abbrev pub rest_of : AwsChunkedBody F G → Option Rest
-    rest_of body = option_map (rest_with body) (source.left body.source)
+    abbrev pub text_to_come : AwsChunkedBody F G → Option TextLeft
+    text_to_come body = option_map (text_to_come_with body) (source.left body.source)
 
     -- the parts of the text that aren't made yet, and how much data there is in all, where the source tells its frames
     abbrev pub parts_due : AwsChunkedBody F G → Option (List Part)
-    parts_due body = option_map (λ (rest : Rest). rest.parts) (rest_of body)
+    parts_due body = option_map (λ (rest : TextLeft). rest.parts) (text_to_come body)
 
     abbrev pub total_of : AwsChunkedBody F G → Option ℕ
-    total_of body = option_map (λ (rest : Rest). rest.total) (rest_of body)
+    total_of body = option_map (λ (rest : TextLeft). rest.total) (text_to_come body)
 
     -- what is taken of the source is still left
-    pub record Keeps (old new : AwsChunkedBody F G) : Type 0 where
-      pub rest : rest_of new ≡ rest_of old
+    pub record KeepsText (old new : AwsChunkedBody F G) : Type 0 where
+      pub rest : text_to_come new ≡ text_to_come old
       pub others : OthersStay old new
       pub waits : source.waits old.source ≤ source.waits new.source
       pub faults : source.faults old.source ≤ source.faults new.source
 
     -- what is counted of the source never falls, and the encoding stays
-    pub record Counts (old new : AwsChunkedBody F G) : Type 0 where
+    pub record KeepsCounts (old new : AwsChunkedBody F G) : Type 0 where
       pub waits : source.waits old.source ≤ source.waits new.source
       pub faults : source.faults old.source ≤ source.faults new.source
       pub options : new.options ≡ old.options
 
     -- frames are taken of the source, and so many of them have no data
-    pub record TakesTurns (AreSo : ℕ → Type 0) (old new : AwsChunkedBody F G) : Type 0 where
+    pub record TakesIdleFrames (AreSo : ℕ → Type 0) (old new : AwsChunkedBody F G) : Type 0 where
       pub frames : List FramePart
       pub taken : source.left old.source ≡ option_map (λ rest. frames ++ rest) (source.left new.source)
-      pub turns : AreSo (idle_count old.phase frames)
+      pub turns : AreSo (idle_frames old.phase frames)
 
     -- a frame without data counts, and another brings some, or the source has ended
     abbrev pub Nears : ℕ → AwsChunkedBody F G → AwsChunkedBody F G → Type 0
@@ -335,36 +335,36 @@ module _ {F G : Type 0} where
         ⊎ ((idle ≡ 0) × (new.phase ≡ phase.Ended) × (length (held_bytes old) ≤ length (held_bytes new)))
 
     -- frames are taken, so many of them without data, and what they bring is still left
-    pub record Takes (frames : List FramePart) (old new : AwsChunkedBody F G) : Type 0 where
-      pub keeps : Keeps old new
+    pub record TakesSourceFrames (frames : List FramePart) (old new : AwsChunkedBody F G) : Type 0 where
+      pub keeps : KeepsText old new
       pub taken : source.left old.source ≡ option_map (λ rest. frames ++ rest) (source.left new.source)
       pub at : (new.phase ≡ phase_after old.phase frames) ⊎ (new.phase ≡ phase.Ended)
-      pub on : IsOpen new
+      pub on : IsBodyOpen new
 
     -- why nothing can be made
     abbrev pub StopsFor : AwsChunkedBody F G → AwsChunkedBody F G → Stop → Type 0
     StopsFor old new stop.End = ⊥
     StopsFor old new stop.NotYet =
-        Keeps old new × RoseOrStands (source.waits old.source) (source.waits new.source) × (length (held_bytes new) < new.options.chunk_size)
-    StopsFor old new stop.OutOfTurns = Keeps old new
+        KeepsText old new × RoseOrStands (source.waits old.source) (source.waits new.source) × (length (held_bytes new) < new.options.chunk_size)
+    StopsFor old new stop.OutOfTurns = KeepsText old new
     StopsFor old new (stop.Fault SourceFault) = RoseOrStands (source.faults old.source) (source.faults new.source)
-    StopsFor old new (stop.Fault (StreamLengthMismatch actual expected)) = Keeps old new × LacksLength new actual expected × HasEnded new
+    StopsFor old new (stop.Fault (StreamLengthMismatch actual expected)) = KeepsText old new × LacksLength new actual expected × HasEnded new
     StopsFor old new (stop.Fault NoMemory) = Unit {0}
     StopsFor old new (stop.Fault error) = ⊥
 
     -- a frame is taken, if the source has one, and what it brings is still left; or none is taken for a reason
-    abbrev pub Pulls : AwsChunkedBody F G → AwsChunkedBody F G → Result ℕ Stop → Type 0
-    Pulls old new (Ok idle) = (frames : List FramePart) × Takes frames old new × (idle ≡ idle_count old.phase frames) × Nears idle old new
-    Pulls old new (Err stop.OutOfTurns) = ⊥
-    Pulls old new (Err (stop.Fault NoMemory)) = Counts old new × TakesTurns (λ count. count ≤ 1) old new
-    Pulls old new (Err why) = Counts old new × StopsFor old new why × TakesTurns (λ count. count ≡ 0) old new
+    abbrev pub PullsFrame : AwsChunkedBody F G → AwsChunkedBody F G → Result ℕ Stop → Type 0
+    PullsFrame old new (Ok idle) = (frames : List FramePart) × TakesSourceFrames frames old new × (idle ≡ idle_frames old.phase frames) × Nears idle old new
+    PullsFrame old new (Err stop.OutOfTurns) = ⊥
+    PullsFrame old new (Err (stop.Fault NoMemory)) = KeepsCounts old new × TakesIdleFrames (λ count. count ≤ 1) old new
+    PullsFrame old new (Err why) = KeepsCounts old new × StopsFor old new why × TakesIdleFrames (λ count. count ≡ 0) old new
 
     -- frames are taken until a part can be made, and what they bring is still left; or none can be made for a reason
     abbrev pub Gathers : AwsChunkedBody F G → AwsChunkedBody F G → Result (Unit {0}) Stop → Type 0
     Gathers old new (Ok _) =
-        Keeps old new × IsAtHand new × (0 < new.options.chunk_size) × (held_bytes new ≡ [] → new.taken ≡ new.options.stream_length)
-        × TakesTurns (λ count. count < 65536) old new
-    Gathers old new (Err why) = Counts old new × StopsFor old new why × TakesTurns (AreTurns (answer_of why)) old new
+        KeepsText old new × IsAtHand new × (0 < new.options.chunk_size) × (held_bytes new ≡ [] → new.taken ≡ new.options.stream_length)
+        × TakesIdleFrames (λ count. count < 65536) old new
+    Gathers old new (Err why) = KeepsCounts old new × StopsFor old new why × TakesIdleFrames (AreTurns (stop_answer why)) old new
 
   module _ (source : FrameSource.Ghosts F) (signer : SignChunk.Ghosts G) where
     -- the text of the first part that is due is made, with its signatures where the body is signed
@@ -377,17 +377,17 @@ module _ {F G : Type 0} where
 
     -- what a call answers: bytes of text that was made, or, where there is none, of that of the first part; where nothing comes the
     -- frames that were taken are still due; the end changes nothing
-    abbrev pub Answers : AwsChunkedBody F G → AwsChunkedBody F G → Result ChunkNext AwsChunkedBodyError → Type 0
-    Answers old new (Ok (Frame bytes)) = (text : List ℕ) × (text ≡ bytes ++ ready_bytes new)
+    abbrev pub AnswersFrame : AwsChunkedBody F G → AwsChunkedBody F G → Result ChunkNext AwsChunkedBodyError → Type 0
+    AnswersFrame old new (Ok (Frame bytes)) = (text : List ℕ) × (text ≡ bytes ++ ready_bytes new)
         × (((text ≡ ready_bytes old) × (new ≡ record old { ready = ready_bytes new })) ⊎ ((ready_bytes old ≡ []) × MakesFirst old new text))
-    Answers old new (Ok NotYet) = Keeps source old new
-    Answers old new (Ok OutOfTurns) = Keeps source old new
-    Answers old new (Ok End) = new ≡ old
-    Answers old new (Err error) = Unit {0}
+    AnswersFrame old new (Ok NotYet) = KeepsText source old new
+    AnswersFrame old new (Ok OutOfTurns) = KeepsText source old new
+    AnswersFrame old new (Ok End) = new ≡ old
+    AnswersFrame old new (Err error) = Unit {0}
 
     -- the part is the first that was due
-    abbrev pub IsFirst : AwsChunkedBody F G → Part → Type 0
-    IsFirst body part = IfSome (parts_due source body) (λ parts. (rest : List Part) × (parts ≡ part ∷ rest))
+    abbrev pub IsFirstPart : AwsChunkedBody F G → Part → Type 0
+    IsFirstPart body part = IfSome (parts_due source body) (λ parts. (rest : List Part) × (parts ≡ part ∷ rest))
 
     -- why a call gives no more: where the lines of the trailers don't have the declared lengths, nothing was signed
     abbrev pub Causes : AwsChunkedBody F G → AwsChunkedBody F G → Result ChunkNext AwsChunkedBodyError → Type 0
@@ -398,20 +398,20 @@ module _ {F G : Type 0} where
         LacksLength new actual expected × IfSome (total_of source old) (λ total. total ≡ counted actual)
     Causes old new (Err (ReportedTrailerLengthMismatch actual expected)) =
         HasTrailerLengths new (Err (ReportedTrailerLengthMismatch actual expected)) × (new.taken ≡ new.options.stream_length)
-        × IsFirst old (tail (listed new.trailers)) × (new.signer ≡ old.signer)
+        × IsFirstPart old (tail (listed new.trailers)) × (new.signer ≡ old.signer)
     Causes old new (Err (FailedToSign why)) =
-        (part : Part) × FailsPart signer old.options.is_signed part old.signer (FailedToSign why) new.signer × IsFirst old part
+        (part : Part) × FailsPart signer old.options.is_signed part old.signer (FailedToSign why) new.signer × IsFirstPart old part
     Causes old new result = Unit {0}
 
     -- what a call takes of its source, and why it gives no more
     abbrev pub HasCause : AwsChunkedBody F G → AwsChunkedBody F G → Result ChunkNext AwsChunkedBodyError → Type 0
-    HasCause old new result = Counts source old new × Causes old new result
+    HasCause old new result = KeepsCounts source old new × Causes old new result
 
     -- some text is ready, or none can be made for a reason
     abbrev pub Readies : AwsChunkedBody F G → AwsChunkedBody F G → Result (Unit {0}) Stop → Type 0
     Readies old new (Ok _) =
-        Counts source old new × (0 < length (ready_bytes new)) × TakesTurns source (λ count. count < 65536) old new
+        KeepsCounts source old new × (0 < length (ready_bytes new)) × TakesIdleFrames source (λ count. count < 65536) old new
         × ((new ≡ old) ⊎ ((ready_bytes old ≡ []) × MakesFirst old new (ready_bytes new)))
-    Readies old new (Err stop.End) = (new ≡ old) × IsClosed new
-    Readies old new (Err (stop.Fault error)) = HasCause old new (Err error) × TakesTurns source (AreTurns (Err error)) old new
-    Readies old new (Err why) = Keeps source old new × HasCause old new (answer_of why) × TakesTurns source (AreTurns (answer_of why)) old new
+    Readies old new (Err stop.End) = (new ≡ old) × IsBodyClosed new
+    Readies old new (Err (stop.Fault error)) = HasCause old new (Err error) × TakesIdleFrames source (AreTurns (Err error)) old new
+    Readies old new (Err why) = KeepsText source old new × HasCause old new (stop_answer why) × TakesIdleFrames source (AreTurns (stop_answer why)) old new

@@ -7,7 +7,7 @@ use Rattle.smithy_core.specs.TextPairs.{lower}
 use Rattle.aws_chunked.specs.Body.{Trailer}
 use Rattle.aws_chunked.specs.Options.{IsChunkSize}
 use Rattle.aws_chunked.specs.Signing.{has_signature}
-use Rattle.aws_chunked.specs.Text.{chunk_text, cut, tail_text}
+use Rattle.aws_chunked.specs.Text.{chunk_text, pieces_of_size, tail_text}
 use Rattle.aws_chunked.specs.declared.decode.DecodeFault.{DecodeFault}
 use Rattle.aws_chunked.specs.declared.decode.DecodeFault.TheVariants.{BadChunk, NoMemory}
 use Rattle.aws_chunked.specs.declared.decode.Decoded.{Decoded}
@@ -52,7 +52,7 @@ pub record IsTextOf (body : List ℕ) (signatures : List (List ℕ)) (trailers :
   pub size_in_range : IsChunkSize size
   pub is_signed : Bool
   pub trailers_are : AllByRecursion IsTrailer trailers
-  pub is_text : IsPiecesText is_signed (cut size body) signatures trailers text
+  pub is_text : IsPiecesText is_signed (pieces_of_size size body) signatures trailers text
 
 -- the text of some data
 abbrev pub IsText : List ℕ → Type 0
@@ -61,16 +61,16 @@ IsText text = (body : List ℕ) × (signatures : List (List ℕ)) × (trailers :
 -- ## Where bytes stop
 
 -- of texts of which it is told what they are: one begins with the bytes
-abbrev pub Begins : (List ℕ → Type 0) → List ℕ → Type 0
-Begins Is bytes = (rest : List ℕ) × Is (bytes ++ rest)
+abbrev pub CanGoOn : (List ℕ → Type 0) → List ℕ → Type 0
+CanGoOn Is bytes = (rest : List ℕ) × Is (bytes ++ rest)
 
 -- none begins with the bytes up to and with the one at this place, or the bytes end here and are none
-abbrev pub StopsAt : (List ℕ → Type 0) → List ℕ → ℕ → Type 0
-StopsAt Is bytes k = ((k < length bytes) × (Begins Is (take (k + 1) bytes) → ⊥)) ⊎ ((k ≡ length bytes) × (Is bytes → ⊥))
+abbrev pub StopsAtByte : (List ℕ → Type 0) → List ℕ → ℕ → Type 0
+StopsAtByte Is bytes k = ((k < length bytes) × (CanGoOn Is (take (k + 1) bytes) → ⊥)) ⊎ ((k ≡ length bytes) × (Is bytes → ⊥))
 
 -- the least place where they stop
 abbrev pub IsBadAt : (List ℕ → Type 0) → List ℕ → ℕ → Type 0
-IsBadAt Is bytes k = StopsAt Is bytes k × ((n : ℕ) → n < k → StopsAt Is bytes n → ⊥)
+IsBadAt Is bytes k = StopsAtByte Is bytes k × ((n : ℕ) → n < k → StopsAtByte Is bytes n → ⊥)
 
 -- ## Calls
 

@@ -7,9 +7,9 @@ use Rattle.eventstream.specs.Key.{Signer}
 use Rattle.sigv4.specs.Chunk.{chunk_signature, trailer_signature}
 use Rattle.sigv4.specs.ChunkTold.{ChunkTold, sealed, unwired}
 use Rattle.sigv4.specs.declared.chunk_signer.SignChunk as SignChunk
-use Rattle.aws_chunked.specs.Body.{IsNew, Trailer, data_before, listed, parts_due, ready_bytes, trailers_from}
+use Rattle.aws_chunked.specs.Body.{IsNewBody, Trailer, data_before, listed, parts_due, ready_bytes, trailers_from}
 use Rattle.aws_chunked.specs.Options.{Options}
-use Rattle.aws_chunked.specs.Rests.{given}
+use Rattle.aws_chunked.specs.Rests.{one_or_none}
 use Rattle.aws_chunked.specs.Text.{Part, chunk, chunk_text, parts_of, parts_text, tail, tail_text}
 use Rattle.aws_chunked.specs.declared.body.AwsChunkedBody.{AwsChunkedBody}
 
@@ -40,14 +40,14 @@ sealed_signatures signer t before (piece ∷ pieces) trailers =
     signature ∷ sealed_signatures signer t signature pieces trailers
 sealed_signatures signer t before [] trailers =
     let signature = chunk_signature [] signer t before in
-    signature ∷ given (trailers_signature signer t signature trailers)
+    signature ∷ one_or_none (trailers_signature signer t signature trailers)
 
 -- ## What is due
 
 -- what is told of the signer of a body: one that has none waits for it
-abbrev pub told_of : {G : Type 0} → SignChunk.Ghosts G → Option G → ChunkTold
-told_of signer None = unwired
-told_of signer (Some held) = signer.told held
+abbrev pub told_of_chunks : {G : Type 0} → SignChunk.Ghosts G → Option G → ChunkTold
+told_of_chunks signer None = unwired
+told_of_chunks signer (Some held) = signer.told held
 
 -- the text of parts without signatures, or by a signer of which this is told: one that signs over a signature, at a moment in the years
 abbrev pub writing : Bool → ChunkTold → Option (List Part → List ℕ)
@@ -64,12 +64,12 @@ module _ {F G : Type 0} (source : FrameSource.Ghosts F) (signer : SignChunk.Ghos
   -- the text that is due of a body, where its source tells its frames and, of a signed one, its signer signs over a signature at a
   -- moment in the years
   unfoldable pub due : AwsChunkedBody F G → Option (List ℕ)
-  due body = text_due (writing body.options.is_signed (told_of signer body.signer)) (ready_bytes body) (parts_due source body)
+  due body = text_due (writing body.options.is_signed (told_of_chunks signer body.signer)) (ready_bytes body) (parts_due source body)
 
   -- of a signed body that had taken nothing, once it has such a signer, the signed text of the data before the first trailers and of
   -- the trailers is due
   abbrev pub StartsSealed : AwsChunkedBody F G → AwsChunkedBody F G → Type 0
   StartsSealed old new = (from : F) (options : Options) (before : List ℕ) (who : Signer) (t : Instant)
-      → IsNew from options old → options.is_signed ≡ true → told_of signer new.signer ≡ sealed before who t → IsTrue (is_in_years t)
+      → IsNewBody from options old → options.is_signed ≡ true → told_of_chunks signer new.signer ≡ sealed before who t → IsTrue (is_in_years t)
       → due new
       ≡ option_map (λ frames. sealed_chunked_text who t before options.chunk_size (data_before frames) (listed (trailers_from None frames))) (source.left from)

@@ -5,7 +5,7 @@ use Rattle.smithy_core.specs.Outside.{RoseOrStands}
 use Rattle.smithy_core.specs.declared.outside.frame_part.FramePart.{FramePart}
 use Rattle.smithy_core.specs.declared.outside.frame_part.FramePart.TheVariants as frame
 use Rattle.smithy_core.specs.declared.outside.frame_source.FrameSource as FrameSource
-use Rattle.aws_chunked.specs.Body.{AreTurns, GoesOn, HasLength, Trailer, answer_of, data_left, idle_count, lines_length, listed, phase_after, trailers_left}
+use Rattle.aws_chunked.specs.Body.{AreTurns, MayReadOn, HasLength, Trailer, stop_answer, data_left, idle_frames, lines_length, listed, phase_after, trailers_left}
 use Rattle.aws_chunked.specs.Options.{counted, declared_length}
 use Rattle.aws_chunked.specs.Text.{crlf, head_text, trailer_line}
 use Rattle.aws_chunked.specs.declared.body.AwsChunkedBody.{AwsChunkedBody}
@@ -78,9 +78,9 @@ filled_left phase.Data frames = filled_before frames
 filled_left _ frames = []
 
 -- the pieces of the text that aren't answered yet
-abbrev pub pieces_left : Sent → Phase → ℕ → Option (List Trailer) → List FramePart → List Piece
-pieces_left was phase.Closed n kept frames = []
-pieces_left was at n kept frames = pieces_of was n (filled_left at frames) (listed (trailers_left at kept frames))
+abbrev pub pieces_to_come : Sent → Phase → ℕ → Option (List Trailer) → List FramePart → List Piece
+pieces_to_come was phase.Closed n kept frames = []
+pieces_to_come was at n kept frames = pieces_of was n (filled_left at frames) (listed (trailers_left at kept frames))
 
 -- how many frames without data a step takes
 abbrev pub AreFew : Result ChunkNext AwsChunkedBodyError → ℕ → Type 0
@@ -106,11 +106,11 @@ MayLack (last_lines trailers) expected = Unit {0}
 module _ {F G : Type 0} where
   -- the pieces that aren't answered yet of a body whose source has these frames left
   abbrev pub pieces_with : AwsChunkedBody F G → List FramePart → List Piece
-  pieces_with body frames = pieces_left body.sent body.phase body.options.stream_length body.trailers frames
+  pieces_with body frames = pieces_to_come body.sent body.phase body.options.stream_length body.trailers frames
 
   -- the line of the declared length was answered, and more frames are to be taken
   abbrev pub AsksSource : AwsChunkedBody F G → Type 0
-  AsksSource body = GoesOn body × (body.sent ≡ sent.Nothing → ⊥)
+  AsksSource body = MayReadOn body × (body.sent ≡ sent.Nothing → ⊥)
 
   -- the lines of the trailers, of which there are none where none came, have the declared lengths, or it is told which one they have
   abbrev pub HasLineLengths : AwsChunkedBody F G → Result (Unit {0}) AwsChunkedBodyError → Type 0
@@ -165,8 +165,8 @@ module _ {F G : Type 0} where
     pieces_due body = option_map (pieces_with body) (source.left body.source)
 
     -- the piece is the first that is due
-    abbrev pub IsNext : AwsChunkedBody F G → Piece → Type 0
-    IsNext body piece = IfSome (pieces_due body) (λ pieces. (rest : List Piece) × (pieces ≡ piece ∷ rest))
+    abbrev pub IsNextPiece : AwsChunkedBody F G → Piece → Type 0
+    IsNextPiece body piece = IfSome (pieces_due body) (λ pieces. (rest : List Piece) × (pieces ≡ piece ∷ rest))
 
     -- a frame is the piece that is due first, and isn't empty; where nothing came nothing is taken; the end comes of a closed body
     abbrev pub TakesPiece : AwsChunkedBody F G → AwsChunkedBody F G → Result ChunkNext AwsChunkedBodyError → Type 0
@@ -183,10 +183,10 @@ module _ {F G : Type 0} where
     PassCauses old new (Err SourceFault) = RoseOrStands (source.faults old.source) (source.faults new.source)
     PassCauses old new (Err (StreamLengthMismatch actual expected)) =
         (actual ≡ new.taken) × (expected ≡ new.options.stream_length) × (actual ≡ expected → ⊥)
-        × (piece : Piece) × MayLack piece expected × IsNext old piece
+        × (piece : Piece) × MayLack piece expected × IsNextPiece old piece
     PassCauses old new (Err (ReportedTrailerLengthMismatch actual expected)) =
         HasLineLengths new (Err (ReportedTrailerLengthMismatch actual expected)) × (new.taken ≡ new.options.stream_length)
-        × IsNext old (last_lines (listed new.trailers))
+        × IsNextPiece old (last_lines (listed new.trailers))
     PassCauses old new (Err (FailedToSign why)) = ⊥
     PassCauses old new result = Unit {0}
 
@@ -194,7 +194,7 @@ module _ {F G : Type 0} where
     pub record PassesFrames (AreSo : ℕ → Type 0) (old new : AwsChunkedBody F G) : Type 0 where
       pub frames : List FramePart
       pub taken : source.left old.source ≡ option_map (λ rest. frames ++ rest) (source.left new.source)
-      pub turns : AreSo (idle_count old.phase frames)
+      pub turns : AreSo (idle_frames old.phase frames)
       pub data_count : counted new.taken ≡ counted (old.taken + length (data_left old.phase frames))
 
     -- what is counted of the source never falls; nothing is signed, and the rest stays
@@ -222,9 +222,9 @@ module _ {F G : Type 0} where
     abbrev pub Steps : Type 0 → (Result ChunkNext AwsChunkedBodyError → ℕ → Type 0) → AwsChunkedBody F G → AwsChunkedBody F G → Result (Option (List ℕ)) Stop → Type 0
     Steps More AreSo old new (Ok None) = More
     Steps More AreSo old new (Ok (Some bytes)) = PassesOn (AreSo (Ok (Frame bytes))) old new (Ok (Frame bytes))
-    Steps More AreSo old new (Err why) = PassesOn (AreSo (answer_of why)) old new (answer_of why)
+    Steps More AreSo old new (Err why) = PassesOn (AreSo (stop_answer why)) old new (stop_answer why)
 
     -- a piece goes out, or there is none for a reason
     abbrev pub Passes : AwsChunkedBody F G → AwsChunkedBody F G → Result (List ℕ) Stop → Type 0
     Passes old new (Ok bytes) = PassesOn (AreTurns (Ok (Frame bytes))) old new (Ok (Frame bytes))
-    Passes old new (Err why) = PassesOn (AreTurns (answer_of why)) old new (answer_of why)
+    Passes old new (Err why) = PassesOn (AreTurns (stop_answer why)) old new (stop_answer why)

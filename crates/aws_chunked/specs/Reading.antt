@@ -4,7 +4,7 @@ use Rattle.std.specs.Borrow.{Bor}
 use Rattle.std.specs.Fmt.{digit_glyph}
 use Rattle.std.specs.Int.{is_in_range}
 use Rattle.std.specs.declared.alloc.Global.{Global}
-use Rattle.aws_chunked.specs.Decoded.{Begins, IsSignature}
+use Rattle.aws_chunked.specs.Decoded.{CanGoOn, IsSignature}
 use Rattle.aws_chunked.specs.Text.{length_text}
 use Rattle.aws_chunked.specs.declared.decode.fault.ReadFault.{ReadFault}
 use Rattle.aws_chunked.specs.declared.decode.fault.ReadFault.TheVariants.{Bad, NoMemory}
@@ -16,25 +16,25 @@ abbrev pub Led : (List ℕ → Type 0) → List ℕ → Type 0
 Led IsWord bytes = (word more : List ℕ) × IsWord word × (bytes ≡ word ++ more)
 
 -- behind the first bytes these don't go on: with the next byte they begin none, or they end and are none
-abbrev pub Refuses : (List ℕ → Type 0) → List ℕ → List ℕ → Type 0
-Refuses Is front [] = Is front → ⊥
-Refuses Is front (byte ∷ back) = Begins Is (front ++ byte ∷ []) → ⊥
+abbrev pub RefusesNext : (List ℕ → Type 0) → List ℕ → List ℕ → Type 0
+RefusesNext Is front [] = Is front → ⊥
+RefusesNext Is front (byte ∷ back) = CanGoOn Is (front ++ byte ∷ []) → ⊥
 
 -- the first bytes begin a word, and so many bytes are left that don't go on
 abbrev pub Stops : (List ℕ → Type 0) → (List ℕ → Type 0) → List ℕ → ℕ → Type 0
 Stops IsWord Is bytes left =
-    (front back : List ℕ) × (bytes ≡ front ++ back) × (length back ≡ left) × Begins IsWord front × Refuses Is front back
+    (front back : List ℕ) × (bytes ≡ front ++ back) × (length back ≡ left) × CanGoOn IsWord front × RefusesNext Is front back
 
 -- what a fault tells of bytes: where they stop, but where memory ran out
-abbrev pub Tells : (List ℕ → Type 0) → (List ℕ → Type 0) → List ℕ → ReadFault → Type 0
-Tells IsWord Is bytes (Bad left) = Stops IsWord Is bytes left
-Tells IsWord Is bytes NoMemory = Unit {0}
+abbrev pub TellsWhere : (List ℕ → Type 0) → (List ℕ → Type 0) → List ℕ → ReadFault → Type 0
+TellsWhere IsWord Is bytes (Bad left) = Stops IsWord Is bytes left
+TellsWhere IsWord Is bytes NoMemory = Unit {0}
 
 -- ## Fixed bytes
 
 abbrev pub Expects : List ℕ → List ℕ → Result (Bor (List ℕ)) ReadFault → Type 0
 Expects wanted bytes (Ok rest) = bytes ≡ wanted ++ rest.now
-Expects wanted bytes (Err fault) = Tells (λ word. word ≡ wanted) (Led (λ word. word ≡ wanted)) bytes fault
+Expects wanted bytes (Err fault) = TellsWhere (λ word. word ≡ wanted) (Led (λ word. word ≡ wanted)) bytes fault
 
 -- ## Lengths
 
@@ -67,14 +67,14 @@ BeginsOther (byte ∷ bytes) = is_length_digit byte ≡ false
 
 abbrev pub ReadsFirstDigit : ℕ → List ℕ → Result (ℕ × Bor (List ℕ)) ReadFault → Type 0
 ReadsFirstDigit most bytes (Ok (digit, rest)) = (digit < 16) × (digit ≤ most) × (bytes ≡ length_text digit ++ rest.now)
-ReadsFirstDigit most bytes (Err fault) = Tells (IsLength most) (Led (IsEndedLength most)) bytes fault
+ReadsFirstDigit most bytes (Err fault) = TellsWhere (IsLength most) (Led (IsEndedLength most)) bytes fault
 
 abbrev pub ReadsLength : ℕ → List ℕ → Result (ℕ × Bor (List ℕ)) ReadFault → Type 0
 ReadsLength most bytes (Ok (n, rest)) = (n ≤ most) × (bytes ≡ length_text n ++ rest.now) × BeginsOther rest.now
-ReadsLength most bytes (Err fault) = Tells (IsLength most) (Led (IsEndedLength most)) bytes fault
+ReadsLength most bytes (Err fault) = TellsWhere (IsLength most) (Led (IsEndedLength most)) bytes fault
 
 -- ## Signatures
 
 abbrev pub ReadsSignature : List ℕ → Result (String Global × Bor (List ℕ)) ReadFault → Type 0
 ReadsSignature bytes (Ok (text, rest)) = IsSignature (string_bytes text) × (bytes ≡ string_bytes text ++ rest.now)
-ReadsSignature bytes (Err fault) = Tells IsSignature (Led IsSignature) bytes fault
+ReadsSignature bytes (Err fault) = TellsWhere IsSignature (Led IsSignature) bytes fault

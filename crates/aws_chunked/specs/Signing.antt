@@ -23,14 +23,14 @@ TrailerAnswers signer trailers old answer new = signer.closes old trailers answe
 
 -- an unsigned body asks no signer; a signed one has the signature that its signer answers, or the error of what it answers, or else
 -- of a signer that isn't wired
-abbrev pub SignsPart : {G : Type 0} → Answering G → Bool → Option G → Result (Option (String Global)) AwsChunkedBodyError → Option G → Type 0
-SignsPart answers false old (Ok signature) new = (signature ≡ None) × (new ≡ old)
-SignsPart answers false old (Err error) new = ⊥
-SignsPart answers true None (Ok signature) new = ⊥
-SignsPart answers true None (Err error) new = (error ≡ FailedToSign SignerNotWired) × (new ≡ None)
-SignsPart {G} answers true (Some old) (Ok signature) new =
+abbrev pub SignsWhereSigned : {G : Type 0} → Answering G → Bool → Option G → Result (Option (String Global)) AwsChunkedBodyError → Option G → Type 0
+SignsWhereSigned answers false old (Ok signature) new = (signature ≡ None) × (new ≡ old)
+SignsWhereSigned answers false old (Err error) new = ⊥
+SignsWhereSigned answers true None (Ok signature) new = ⊥
+SignsWhereSigned answers true None (Err error) new = (error ≡ FailedToSign SignerNotWired) × (new ≡ None)
+SignsWhereSigned {G} answers true (Some old) (Ok signature) new =
     (after : G) × (answer : String Global) × answers old (Ok answer) after × (signature ≡ Some answer) × (new ≡ Some after)
-SignsPart {G} answers true (Some old) (Err error) new =
+SignsWhereSigned {G} answers true (Some old) (Err error) new =
     (after : G) × (why : SigningError) × answers old (Err why) after × (error ≡ signing_error why) × (new ≡ Some after)
 
 -- whether trailers have a signature: in a signed body those of a list that isn't empty
@@ -42,18 +42,18 @@ has_signature is_signed (trailer ∷ trailers) = is_signed
 -- trailers
 abbrev pub MakesPart : {G : Type 0} → SignChunk.Ghosts G → Bool → Part → Option G → List ℕ → Option G → Type 0
 MakesPart signer is_signed (chunk piece) old text new =
-    (signature : Option (String Global)) × SignsPart (ChunkAnswers signer piece) is_signed old (Ok signature) new
+    (signature : Option (String Global)) × SignsWhereSigned (ChunkAnswers signer piece) is_signed old (Ok signature) new
     × (text ≡ chunk_text (option_map string_bytes signature) piece)
 MakesPart {G} signer is_signed (tail trailers) old text new =
     (signature : Option (String Global)) × (between : Option G) × (last : Option (String Global))
-    × SignsPart (ChunkAnswers signer []) is_signed old (Ok signature) between
-    × SignsPart (TrailerAnswers signer trailers) (has_signature is_signed trailers) between (Ok last) new
+    × SignsWhereSigned (ChunkAnswers signer []) is_signed old (Ok signature) between
+    × SignsWhereSigned (TrailerAnswers signer trailers) (has_signature is_signed trailers) between (Ok last) new
     × (text ≡ tail_text (option_map string_bytes signature) trailers (option_map string_bytes last))
 
 -- the signer refuses a part, or a signed body has none
 abbrev pub FailsPart : {G : Type 0} → SignChunk.Ghosts G → Bool → Part → Option G → AwsChunkedBodyError → Option G → Type 0
-FailsPart signer is_signed (chunk piece) old error new = SignsPart (ChunkAnswers signer piece) is_signed old (Err error) new
+FailsPart signer is_signed (chunk piece) old error new = SignsWhereSigned (ChunkAnswers signer piece) is_signed old (Err error) new
 FailsPart {G} signer is_signed (tail trailers) old error new =
-    SignsPart (ChunkAnswers signer []) is_signed old (Err error) new
-    ⊎ ((signature : Option (String Global)) × (between : Option G) × SignsPart (ChunkAnswers signer []) is_signed old (Ok signature) between
-    × SignsPart (TrailerAnswers signer trailers) (has_signature is_signed trailers) between (Err error) new)
+    SignsWhereSigned (ChunkAnswers signer []) is_signed old (Err error) new
+    ⊎ ((signature : Option (String Global)) × (between : Option G) × SignsWhereSigned (ChunkAnswers signer []) is_signed old (Ok signature) between
+    × SignsWhereSigned (TrailerAnswers signer trailers) (has_signature is_signed trailers) between (Err error) new)

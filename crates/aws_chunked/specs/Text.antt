@@ -45,8 +45,8 @@ cut_within zero size (byte ∷ bytes) = []
 cut_within (suc bound) size (byte ∷ bytes) = take size (byte ∷ bytes) ∷ cut_within bound size (drop size (byte ∷ bytes))
 
 -- data, cut every so many bytes; the last piece has the rest
-unfoldable pub cut : ℕ → List ℕ → List (List ℕ)
-cut size bytes = cut_within (length bytes) size bytes
+unfoldable pub pieces_of_size : ℕ → List ℕ → List (List ℕ)
+pieces_of_size size bytes = cut_within (length bytes) size bytes
 
 -- a part of a text: a chunk of data, or the end with its trailers
 pub data Part : Type 0 where
@@ -55,7 +55,7 @@ pub data Part : Type 0 where
 
 -- the parts of the text of data and trailers
 abbrev pub parts_of : ℕ → List ℕ → List (List ℕ × List ℕ) → List Part
-parts_of size bytes trailers = map chunk (cut size bytes) ++ tail trailers ∷ []
+parts_of size bytes trailers = map chunk (pieces_of_size size bytes) ++ tail trailers ∷ []
 
 -- the text of a part without signatures
 abbrev pub part_text : Part → List ℕ

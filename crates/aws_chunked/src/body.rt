@@ -1,5 +1,5 @@
 ghost use Rattle.std.specs.Prelude.{◌≡◌, ◌↔◌, IsTrue, None, Some, false, length, option_map};
-ghost use Rattle.aws_chunked.specs.Body.{IsClosed, IsNew, data_before, listed, parts_due, total_of, trailers_from};
+ghost use Rattle.aws_chunked.specs.Body.{IsBodyClosed, IsNewBody, data_before, listed, parts_due, total_of, trailers_from};
 ghost use Rattle.aws_chunked.specs.Due.{StartsSealed, due};
 ghost use Rattle.aws_chunked.specs.Options.{counted, data_length, encoded_length, fitting};
 ghost use Rattle.aws_chunked.specs.Passing.{filled_before, pieces_due, pieces_of};
@@ -52,7 +52,7 @@ pub struct AwsChunkedBody<F, G> {
 impl<F: FrameSource, G: SignChunk> AwsChunkedBody<F, G> {
     /// The body of a source, of which nothing was taken.
     pub fn new(alloc: Global, body: F, options: AwsChunkedBodyOptions) -> AwsChunkedBody<F, G>
-        ensures starts { IsNew body options result }
+        ensures starts { IsNewBody body options result }
         ensures due { options.is_signed ≡ false → due F.FrameSource G.SignChunk result
             ≡ option_map (λ frames. chunked_text options.chunk_size (data_before frames) (listed (trailers_from None frames))) (F.FrameSource.left body) }
         ensures parts { parts_due F.FrameSource result
@@ -79,7 +79,7 @@ impl<F: FrameSource, G: SignChunk> AwsChunkedBody<F, G> {
 impl<F, G> AwsChunkedBody<F, G> {
     /// Whether all was answered, or there was a fault.
     pub fn is_end_stream(&self) -> bool
-        ensures { IsTrue result ↔ IsClosed self.now }
+        ensures { IsTrue result ↔ IsBodyClosed self.now }
     {
         self.phase == Phase::Closed && self.ready.is_empty()
     }

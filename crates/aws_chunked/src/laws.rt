@@ -5,9 +5,9 @@ ghost use Rattle.eventstream.specs.Key.{Signer};
 ghost use Rattle.aws_chunked.specs.Body.{Trailer, actual_length};
 ghost use Rattle.aws_chunked.specs.Decoded.{Decodes, DecodesOnly, IsTextOf, IsTrailer};
 ghost use Rattle.aws_chunked.specs.Due.{sealed_chunked_text, sealed_signatures};
-ghost use Rattle.aws_chunked.specs.Laws.{Answers, IsSignedLengthOf, TakeDue, answered_bytes};
+ghost use Rattle.aws_chunked.specs.Laws.{AnswersDecoded, IsSignedLengthOf, TakeDue, answered_bytes};
 ghost use Rattle.aws_chunked.specs.Options.{IsChunkSize, Options, declared_length, encoded_length};
-ghost use Rattle.aws_chunked.specs.Text.{chunked_text, cut};
+ghost use Rattle.aws_chunked.specs.Text.{chunked_text, pieces_of_size};
 ghost use Rattle.aws_chunked.specs.declared.body.ChunkNext.{ChunkNext};
 ghost use Rattle.aws_chunked.specs.declared.body.ChunkNext.TheVariants.{End};
 ghost use Rattle.aws_chunked.specs.declared.decode.DecodeFault.{DecodeFault};
@@ -34,7 +34,7 @@ pub fn texts_are_whole()
 /// memory ran out.
 pub fn whole_texts_are_decoded()
     ensures { (bytes body : List ℕ) (signatures : List (List ℕ)) (trailers : List Trailer) (result : Result Decoded DecodeFault)
-        → IsTextOf body signatures trailers bytes → Decodes bytes result → DecodesOnly bytes result → Answers body signatures trailers result }
+        → IsTextOf body signatures trailers bytes → Decodes bytes result → DecodesOnly bytes result → AnswersDecoded body signatures trailers result }
 {}
 
 /// A signed text is as long as its options tell.
@@ -49,7 +49,7 @@ pub fn signed_texts_are_as_long()
 pub fn sealed_texts_are_whole()
     ensures { (signer : Signer) (t : Instant) (before : List ℕ) (size : ℕ) (body : List ℕ) (trailers : List Trailer) → IsChunkSize size
         → AllByRecursion IsTrailer trailers
-        → IsTextOf body (sealed_signatures signer t before (cut size body) trailers) trailers (sealed_chunked_text signer t before size body trailers) }
+        → IsTextOf body (sealed_signatures signer t before (pieces_of_size size body) trailers) trailers (sealed_chunked_text signer t before size body trailers) }
 {}
 
 /// Where the data and the lines of the trailers have the declared lengths, the signed text is as long as its options tell.

@@ -1,5 +1,5 @@
 ghost use Rattle.std.specs.Prelude.{◌≡◌, IfOk, OnErr, OnOk, Ok};
-ghost use Rattle.aws_chunked.specs.Body.{AreTurns, IsClosed, answer_of};
+ghost use Rattle.aws_chunked.specs.Body.{AreTurns, IsBodyClosed, stop_answer};
 ghost use Rattle.aws_chunked.specs.Passing.{AreFew, AreNone, AsksSource, Idles, MakesEmptyChunk, MakesLastLines, PassCauses, PassKeeps, Passes, PassesData, PassesFrames, Steps, TakesPiece, after_stop, length_line, piece_text, sent_after};
 ghost use Rattle.aws_chunked.specs.declared.body.ChunkNext.TheVariants as next;
 
@@ -38,8 +38,8 @@ impl<F: FrameSource, G> AwsChunkedBody<F, G> {
         ensures cause { PassCauses F.FrameSource self.old self.new result }
         ensures turns { PassesFrames F.FrameSource (AreTurns result) self.old self.new }
         ensures keeps { PassKeeps F.FrameSource self.old self.new }
-        ensures closed { OnErr result (IsClosed self.new) }
-        ensures end { result ≡ Ok next.End → IsClosed self.new }
+        ensures closed { OnErr result (IsBodyClosed self.new) }
+        ensures end { result ≡ Ok next.End → IsBodyClosed self.new }
     {
         match self.next_piece() {
             Ok(piece) => Ok(ChunkNext::Frame(piece)),
@@ -102,7 +102,7 @@ impl<F: FrameSource, G> AwsChunkedBody<F, G> {
 impl<F, G> AwsChunkedBody<F, G> {
     // A stop as an answer: the body is closed where nothing more comes.
     fn stopped(&mut self, stop: Stop) -> Result<ChunkNext, AwsChunkedBodyError>
-        ensures answer { result ≡ answer_of stop }
+        ensures answer { result ≡ stop_answer stop }
         ensures after { self.new ≡ after_stop stop self.old }
     {
         match stop {

@@ -1,5 +1,5 @@
 ghost use Rattle.std.specs.Prelude.{◌≡◌, ◌<◌, ◌≤◌, [], ◌++◌, length, option_map, string_bytes, OnErr, OnOk, Ok};
-ghost use Rattle.aws_chunked.specs.Body.{Answers, AreTurns, Gathers, GoesOn, HasCause, IsClosed, IsOpen, MakesChunk, MakesTail, Pulls, Readies, TakesDue, TakesTurns, Tests, held_bytes, listed, ready_bytes};
+ghost use Rattle.aws_chunked.specs.Body.{AnswersFrame, AreTurns, Gathers, MayReadOn, HasCause, IsBodyClosed, IsBodyOpen, MakesChunk, MakesTail, PullsFrame, Readies, TakesDue, TakesIdleFrames, TestsPart, held_bytes, listed, ready_bytes};
 ghost use Rattle.aws_chunked.specs.Due.{due};
 ghost use Rattle.aws_chunked.specs.Text.{chunk_text, tail_text};
 ghost use Rattle.aws_chunked.specs.declared.body.ChunkNext.TheVariants as next;
@@ -35,11 +35,11 @@ impl<F: FrameSource, G: SignChunk> AwsChunkedBody<F, G> {
     /// - [`AwsChunkedBodyError::SourceFault`] where the source failed.
     pub fn poll_frame(&mut self) -> Result<ChunkNext, AwsChunkedBodyError>
         ensures due { TakesDue (due F.FrameSource G.SignChunk self.old) (due F.FrameSource G.SignChunk self.new) result }
-        ensures answers { Answers F.FrameSource G.SignChunk self.old self.new result }
+        ensures answers { AnswersFrame F.FrameSource G.SignChunk self.old self.new result }
         ensures cause { HasCause F.FrameSource G.SignChunk self.old self.new result }
-        ensures turns { TakesTurns F.FrameSource (AreTurns result) self.old self.new }
-        ensures closed { OnErr result (IsClosed self.new) }
-        ensures end { result ≡ Ok next.End → IsClosed self.new }
+        ensures turns { TakesIdleFrames F.FrameSource (AreTurns result) self.old self.new }
+        ensures closed { OnErr result (IsBodyClosed self.new) }
+        ensures end { result ≡ Ok next.End → IsBodyClosed self.new }
     {
         match self.next_frame() {
             Ok(next) => Ok(next),
@@ -53,10 +53,10 @@ impl<F: FrameSource, G: SignChunk> AwsChunkedBody<F, G> {
     // As `poll_frame`, but after a fault the body isn't closed: the caller does that.
     fn next_frame(&mut self) -> Result<ChunkNext, AwsChunkedBodyError>
         ensures due { TakesDue (due F.FrameSource G.SignChunk self.old) (due F.FrameSource G.SignChunk self.new) result }
-        ensures answers { Answers F.FrameSource G.SignChunk self.old self.new result }
+        ensures answers { AnswersFrame F.FrameSource G.SignChunk self.old self.new result }
         ensures cause { HasCause F.FrameSource G.SignChunk self.old self.new result }
-        ensures turns { TakesTurns F.FrameSource (AreTurns result) self.old self.new }
-        ensures end { result ≡ Ok next.End → IsClosed self.new }
+        ensures turns { TakesIdleFrames F.FrameSource (AreTurns result) self.old self.new }
+        ensures end { result ≡ Ok next.End → IsBodyClosed self.new }
     {
         match self.fill() {
             Ok(()) => Ok(ChunkNext::Frame(self.take_ready())),
@@ -80,7 +80,7 @@ impl<F: FrameSource, G: SignChunk> AwsChunkedBody<F, G> {
 
     // Takes frames until a part of the text can be made.
     fn gather(&mut self) -> Result<(), Stop>
-        requires { IsOpen self.old }
+        requires { IsBodyOpen self.old }
         ensures { Gathers F.FrameSource self.old self.new result }
     {
         let mut idle = 0;
@@ -96,8 +96,8 @@ impl<F: FrameSource, G: SignChunk> AwsChunkedBody<F, G> {
     // Whether a part can be made: a whole chunk, the last one, or the end of the text. Before the end the length of the data is
     // compared.
     fn is_at_hand(&self) -> Result<bool, AwsChunkedBodyError>
-        requires { IsOpen self.now }
-        ensures { Tests self.now result }
+        requires { IsBodyOpen self.now }
+        ensures { TestsPart self.now result }
     {
         let held = self.held.remaining();
         let size = self.options.chunk_size();
@@ -120,8 +120,8 @@ impl<F: FrameSource, G: SignChunk> AwsChunkedBody<F, G> {
     fn pull(&mut self) -> Result<u32, Stop>
         requires short { length (held_bytes self.old) < self.old.options.chunk_size }
         requires bound { self.old.options.chunk_size ≤ 4294967295 }
-        requires goes_on { GoesOn self.old }
-        ensures { Pulls F.FrameSource self.old self.new result }
+        requires goes_on { MayReadOn self.old }
+        ensures { PullsFrame F.FrameSource self.old self.new result }
     {
         self.held.reserve_one()?;
         match self.source.poll_frame() {

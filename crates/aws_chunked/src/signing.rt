@@ -1,6 +1,6 @@
 ghost use Rattle.std.specs.Prelude.{◌≡◌};
 ghost use Rattle.aws_chunked.specs.Body.{ChangesSigner, listed};
-ghost use Rattle.aws_chunked.specs.Signing.{ChunkAnswers, SignsPart, TrailerAnswers, has_signature};
+ghost use Rattle.aws_chunked.specs.Signing.{ChunkAnswers, SignsWhereSigned, TrailerAnswers, has_signature};
 
 use crate::body::AwsChunkedBody;
 use crate::error::AwsChunkedBodyError;
@@ -14,7 +14,7 @@ impl<F, G: SignChunk> AwsChunkedBody<F, G> {
         &mut self,
         chunk: &Bytes,
     ) -> Result<Option<String>, AwsChunkedBodyError>
-        ensures signs { SignsPart (ChunkAnswers G.SignChunk chunk.now) self.old.options.is_signed self.old.signer result self.new.signer }
+        ensures signs { SignsWhereSigned (ChunkAnswers G.SignChunk chunk.now) self.old.options.is_signed self.old.signer result self.new.signer }
         ensures others { ChangesSigner self.old self.new }
     {
         if !self.options.is_signed() {
@@ -28,7 +28,7 @@ impl<F, G: SignChunk> AwsChunkedBody<F, G> {
 
     // The signature of the trailers, where the body is signed and there are some.
     pub(crate) fn sign_trailers(&mut self) -> Result<Option<String>, AwsChunkedBodyError>
-        ensures signs { SignsPart (TrailerAnswers G.SignChunk (listed self.old.trailers))
+        ensures signs { SignsWhereSigned (TrailerAnswers G.SignChunk (listed self.old.trailers))
             (has_signature self.old.options.is_signed (listed self.old.trailers)) self.old.signer result self.new.signer }
         ensures others { ChangesSigner self.old self.new }
     {

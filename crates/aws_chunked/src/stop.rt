@@ -17,11 +17,11 @@ pub(crate) enum Stop {
 
 impl Stop {
     ghost use Rattle.std.specs.Prelude.{◌≡◌};
-    ghost use Rattle.aws_chunked.specs.Body.{answer_of};
+    ghost use Rattle.aws_chunked.specs.Body.{stop_answer};
 
     // As an answer of a poll.
     pub(crate) fn answered(self) -> Result<ChunkNext, AwsChunkedBodyError>
-        ensures { result ≡ answer_of self }
+        ensures { result ≡ stop_answer self }
     {
         match self {
             Stop::End => Ok(ChunkNext::End),

@@ -1,5 +1,5 @@
 ghost use Rattle.std.specs.Prelude.{◌≡◌, ◌≤◌, ◌<◌, ◌+◌, ◌^◌, [], length, IfOk, OnOk, Some, MatchResult};
-ghost use Rattle.aws_chunked.specs.Body.{HasLength, HasTrailerLengths, IsClosed, actual_length, held_after, held_bytes, idle_in, with_data, with_frame};
+ghost use Rattle.aws_chunked.specs.Body.{HasLength, HasTrailerLengths, IsBodyClosed, actual_length, held_after, held_bytes, idle_in, with_data, with_frame};
 ghost use Rattle.aws_chunked.specs.Options.{counted};
 ghost use Rattle.aws_chunked.specs.Passing.{HasLineLengths};
 ghost use Rattle.aws_chunked.specs.declared.phase.Phase.TheVariants as phase;
@@ -18,7 +18,7 @@ const SIGNATURE_LINE: u64 = 90;
 impl<F, G> AwsChunkedBody<F, G> {
     // Closes the body: nothing more is read, nor answered.
     pub(crate) fn close(&mut self)
-        ensures closed { IsClosed self.new }
+        ensures closed { IsBodyClosed self.new }
         ensures others { self.new ≡ record self.old { phase = phase.Closed; ready = [] } }
     {
         self.phase = Phase::Closed;

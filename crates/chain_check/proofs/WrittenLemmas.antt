@@ -28,7 +28,7 @@ use Rattle.eventstream.specs.declared.error.ErrorKind.TheVariants.{TimestampValu
 use Rattle.eventstream.proofs.FrameLemmas.{frame_again, length-frame}
 use Rattle.eventstream.proofs.ReadingLemmas.{frame_first}
 use Rattle.eventstream.proofs.RoundLemmas.{both_none}
-use Rattle.chain_check.specs.Chain.{IsChained}
+use Rattle.chain_check.specs.Chain.{IsWholeChain}
 use Rattle.chain_check.specs.Walk.{before, chain_events, frame_test, inner_event, signed_moment, walk, walk_outcome}
 use Rattle.chain_check.proofs.WalkLemmas.{closes, closing_passes, event_passes, inner_whole, link_carried, starts, test_passes}
 
@@ -145,7 +145,7 @@ event_held event proper framed =
 
 -- the walk over a chain, after these events
 walked : (signer : Signer) (events : List Parts) (moments : List Instant) (signature : List ℕ) (passed : List Parts) (place : ℕ)
-    → AllByRecursion IsProper events → IsChained signer events moments signature
+    → AllByRecursion IsProper events → IsWholeChain signer events moments signature
     → walk_outcome passed (walk signer (before signature place) (concat (chain signer events moments signature))) ≡ Ok (passed ++ map floored_message events)
 walked signer [] [] signature passed place proper chained = absurd chained
 walked signer [] (t ∷ []) signature passed place proper chained =
@@ -164,7 +164,7 @@ walked signer (event ∷ events) (t ∷ moments) signature passed place proper c
     ∙ ap Ok (append_assoc passed (floored_message event ∷ []) (map floored_message events))
 
 -- a chain that was written is accepted, and its events come back in whole milliseconds
-pub written_accepted : (signer : Signer) (events : List Parts) (moments : List Instant) (seed : List ℕ) → All IsProper events → IsChained signer events moments seed
+pub written_accepted : (signer : Signer) (events : List Parts) (moments : List Instant) (seed : List ℕ) → All IsProper events → IsWholeChain signer events moments seed
     → chain_events signer seed (concat (chain signer events moments seed)) ≡ Ok (map floored_message events)
 written_accepted signer events moments seed proper chained =
     sym (starts signer seed (concat (chain signer events moments seed)))

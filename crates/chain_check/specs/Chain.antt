@@ -16,13 +16,13 @@ use Rattle.chain_check.specs.declared.chain_fault.ChainFault.TheVariants.{NoMemo
 
 -- each frame of the chain is defined, those of the events, of their signed messages and of the closing one; each moment lies in the years 0 to 9999, and there
 -- is one more than events
-abbrev pub IsChained : Signer → List Parts → List Instant → List ℕ → Type 0
-IsChained signer events [] signature = ⊥
-IsChained signer [] (at ∷ []) signature = IsInYears at × (unframed (link_message signer signature [] at) ≡ None)
-IsChained signer [] (at ∷ moments) signature = ⊥
-IsChained signer (event ∷ events) (at ∷ moments) signature =
+abbrev pub IsWholeChain : Signer → List Parts → List Instant → List ℕ → Type 0
+IsWholeChain signer events [] signature = ⊥
+IsWholeChain signer [] (at ∷ []) signature = IsInYears at × (unframed (link_message signer signature [] at) ≡ None)
+IsWholeChain signer [] (at ∷ moments) signature = ⊥
+IsWholeChain signer (event ∷ events) (at ∷ moments) signature =
     (unframed event ≡ None) × IsInYears at × (unframed (link_message signer signature (frame event) at) ≡ None)
-    × IsChained signer events moments (link_signature signer signature (frame event) at)
+    × IsWholeChain signer events moments (link_signature signer signature (frame event) at)
 
 -- the moments that the frames carry, in order
 abbrev pub carried_moments : List ℕ → List Instant
@@ -31,7 +31,7 @@ carried_moments bytes = filter_map (λ m. option_map (λ headers. headers.1) (ca
 -- the bytes are the chain of the events for the moments that its frames carry, one frame after another; the events have timestamps of whole milliseconds
 pub record IsChainOf (signer : Signer) (seed bytes : List ℕ) (events : List Parts) : Type 0 where
   pub spelled : bytes ≡ concat (chain signer events (carried_moments bytes) seed)
-  pub chained : IsChained signer events (carried_moments bytes) seed
+  pub chained : IsWholeChain signer events (carried_moments bytes) seed
   pub whole : map floored_message events ≡ events
 
 -- a byte

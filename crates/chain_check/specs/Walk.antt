@@ -182,9 +182,9 @@ abbrev pub Faults : Option ChainFault → ChainFault → Type 0
 Faults wanted told = (wanted ≡ Some told) ⊎ (told ≡ NoMemory)
 
 -- the frame at a place is taken
-abbrev pub TakesFrame : ℕ → List ℕ → List ℕ → Result Parts ChainFault → Type 0
-TakesFrame place old new (Ok message) = first_of old ≡ begins message new
-TakesFrame place old new (Err told) = Faults (no_frame place old (first_of old)) told
+abbrev pub TakesChainFrame : ℕ → List ℕ → List ℕ → Result Parts ChainFault → Type 0
+TakesChainFrame place old new (Ok message) = first_of old ≡ begins message new
+TakesChainFrame place old new (Err told) = Faults (no_frame place old (first_of old)) told
 
 -- the link of the bytes over the signature before
 abbrev pub IsLink : Signer → List ℕ → List ℕ → Instant → SigningOutput Parts → Type 0
@@ -202,9 +202,9 @@ ReadsEvent place payload (Ok event) = read payload ≡ Ok (event, announced payl
 ReadsEvent place payload (Err told) = (IsErr (read payload) × (told ≡ NotChain place Inner)) ⊎ (told ≡ NoMemory)
 
 -- the event of a payload, and its link, are the answer
-abbrev pub SignsAgain : Signer → List ℕ → ℕ → List ℕ → Instant → Result SignedAgain ChainFault → Type 0
-SignsAgain signer signature place payload at (Ok again) = (inner_event payload ≡ Some again.event) × IsLink signer signature payload at again.signed
-SignsAgain signer signature place payload at (Err told) = ((inner_event payload ≡ None) × (told ≡ NotChain place Inner)) ⊎ (told ≡ NoMemory)
+abbrev pub SignsFrameAgain : Signer → List ℕ → ℕ → List ℕ → Instant → Result SignedAgain ChainFault → Type 0
+SignsFrameAgain signer signature place payload at (Ok again) = (inner_event payload ≡ Some again.event) × IsLink signer signature payload at again.signed
+SignsFrameAgain signer signature place payload at (Err told) = ((inner_event payload ≡ None) × (told ≡ NotChain place Inner)) ⊎ (told ≡ NoMemory)
 
 -- the tests of a frame have this answer
 abbrev pub TestsFrame : Result Passed ChainFault → Result CheckedFrame ChainFault → Type 0

@@ -4,7 +4,7 @@ ghost use Rattle.sigv4.specs.Output.{signed_output};
 ghost use Rattle.sigv4.specs.Params.{secret_of, signer_of, v4_identity, v4_time};
 ghost use Rattle.smithy_core.specs.Identity.{IsCredentials};
 ghost use Rattle.chain_check.specs.Chain.{TellsChain};
-ghost use Rattle.chain_check.specs.Walk.{AnswersChain, IsLink, ReadsEvent, SignsAgain, SignsEvent, TakesFrame, TestsFrame, carried, carried_code, carried_date, carried_parts, chain_events, chain_signer, frame_test, signed_moment};
+ghost use Rattle.chain_check.specs.Walk.{AnswersChain, IsLink, ReadsEvent, SignsFrameAgain, SignsEvent, TakesChainFrame, TestsFrame, carried, carried_code, carried_date, carried_parts, chain_events, chain_signer, frame_test, signed_moment};
 
 use crate::chain_fault::{ChainFault, ChainPart};
 use bytes::Bytes;
@@ -127,7 +127,7 @@ fn walk_frames(
 // Takes the message of the frame at a place.
 #[tactic(auto, using(crate::proofs::WalkLemmas::none_left))]
 fn next_message(alloc: Global, left: &mut SegBuf, frame: usize) -> Result<Message, ChainFault>
-    ensures { TakesFrame frame left.old.bytes left.new.bytes result }
+    ensures { TakesChainFrame frame left.old.bytes left.new.bytes result }
 {
     if left.remaining() == 0 {
         return Err(not_chain(frame, ChainPart::NoClosing));
@@ -269,7 +269,7 @@ fn sign_again(
 ) -> Result<SignedAgain, ChainFault>
     requires identity { IsCredentials (v4_identity params.now) }
     requires in_years { IsInYears (v4_time params.now) }
-    ensures { SignsAgain (signer_of params.now) signature.now frame payload.now (v4_time params.now) result }
+    ensures { SignsFrameAgain (signer_of params.now) signature.now frame payload.now (v4_time params.now) result }
 {
     if payload.is_empty() {
         return Ok(SignedAgain {
@@ -292,7 +292,7 @@ fn sign_inner(
     requires identity { IsCredentials (v4_identity params.now) }
     requires in_years { IsInYears (v4_time params.now) }
     requires filled { 0 < length payload.now }
-    ensures { SignsAgain (signer_of params.now) signature.now frame payload.now (v4_time params.now) result }
+    ensures { SignsFrameAgain (signer_of params.now) signature.now frame payload.now (v4_time params.now) result }
 {
     let event = read_event(alloc, payload, frame)?;
     let signed = sign_event(alloc, &event, frame, signature, params)?;

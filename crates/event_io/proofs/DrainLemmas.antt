@@ -16,7 +16,7 @@ use Rattle.eventstream.specs.declared.unmarshall.UnmarshallMessage as Unmarshall
 use Rattle.eventstream.specs.declared.unmarshall.UnmarshalledMessage.{UnmarshalledMessage}
 use Rattle.eventstream.proofs.ReadingLemmas.{begin_join, begin_unfinished}
 use Rattle.event_io.specs.Drain.{BeginsWith, Counts, HoldsOnly, IsCauseToStop, ReceivesAll, stops}
-use Rattle.event_io.specs.Frames.{TakesFrames, data_of, idle_count, most_idle}
+use Rattle.event_io.specs.Frames.{TakesFrames, frames_data, idle_count, most_idle}
 use Rattle.event_io.specs.Receiver.{Begins, Cuts, EndsAs, IsReadOut, KeepsOthers, Reads, Receives, Rest, TellsWantOfMemory, Unmarshals, frames_of, is_terminated, kept_message, recv_stop, rest_after, rest_of, taken_bytes, terminated, terminates, unmarshaller_of, unread, untold}
 use Rattle.event_io.specs.ResponseFault.{ReceiveError}
 use Rattle.event_io.specs.declared.drain.Drained.{Drained}
@@ -182,7 +182,7 @@ module _ {F U : Type 0} (source : FrameSource.Ghosts F) where
   }
 
   -- the bytes at hand are less than a frame
-  unfinished_left : (old new : Receiver F U) (frames : List FramePart) → IsUnfinished (first_of (taken_bytes old ++ data_of frames)) → taken_bytes new ≡ taken_bytes old ++ data_of frames
+  unfinished_left : (old new : Receiver F U) (frames : List FramePart) → IsUnfinished (first_of (taken_bytes old ++ frames_data frames)) → taken_bytes new ≡ taken_bytes old ++ frames_data frames
       → IsUnfinished (first_of (taken_bytes new))
   unfinished_left old new frames less same = subst (λ (bytes : List ℕ). IsUnfinished (first_of bytes)) (sym same) less
 

@@ -15,7 +15,7 @@ use Rattle.eventstream.specs.Reading.{First, leftover, begins, as_first, first_o
 use Rattle.eventstream.specs.declared.error.Error.{Error}
 use Rattle.eventstream.specs.declared.error.ErrorKind.{ErrorKind}
 use Rattle.eventstream.proofs.FrontLemmas.{first_bad, first_more, first_whole, short_is}
-use Rattle.event_io.specs.Frames.{TakesFrames, data_in, data_of, idle_count, most_idle, one_if_idle}
+use Rattle.event_io.specs.Frames.{TakesFrames, data_in, frames_data, idle_count, most_idle, one_if_idle}
 use Rattle.event_io.specs.Receiver.{IsCause, LacksFrame, Pulls, PullsFront, PullsOne, Reads, StopsAt, TakesTurns, taken_bytes}
 use Rattle.event_io.specs.ResponseFault.{is_want_kind}
 use Rattle.event_io.specs.Stop.{TellsStop, stop_of}
@@ -160,8 +160,8 @@ module _ {F U : Type 0} (source : FrameSource.Ghosts F) where
     taken = takes_more frames more (source.left old.source) (source.left between.source) (source.left new.source) first.taken second.taken;
     bytes =
         second.bytes
-        ∙ ap (λ (bytes : List ℕ). bytes ++ data_of more) first.bytes
-        ∙ append_assoc old.buffer.bytes (data_of frames) (data_of more)
+        ∙ ap (λ (bytes : List ℕ). bytes ++ frames_data more) first.bytes
+        ∙ append_assoc old.buffer.bytes (frames_data frames) (frames_data more)
         ∙ ap (λ (bytes : List ℕ). old.buffer.bytes ++ bytes) (sym (flat_map-append data_in frames more));
     waits = omega (arith, first.waits, second.waits);
     faults = omega (arith, first.faults, second.faults);
@@ -380,39 +380,39 @@ untold_cuts stop.NoMemory = tt
 untold_cuts (stop.Faulty error) = tt
 
 -- what holds of the bytes that came holds of all
-cuts_at : (why : Stop) (seen : List ℕ) (left : List FramePart) → StopsAt why seen → Drains why (Some left) → CutsAt why (unread (seen ++ data_of left))
+cuts_at : (why : Stop) (seen : List ℕ) (left : List FramePart) → StopsAt why seen → Drains why (Some left) → CutsAt why (unread (seen ++ frames_data left))
 cuts_at stop.End seen left is drained = rw (drained, is) refl
 cuts_at (stop.CutOff bytes) seen left is drained =
-    let same : seen ++ data_of left ≡ seen = rw drained (append-nil seen) in
+    let same : seen ++ frames_data left ≡ seen = rw drained (append-nil seen) in
     let ends : reading seen ≡ record { messages = []; end = first_of seen } = begin_unfinished [] seen seen refl (subst IsUnfinished (sym is) tt) in
     rw same (ends ∙ ap (λ (last : First). record { messages = []; end = last }) is)
 cuts_at (stop.Faulty error) seen left is drained =
-    begin_fault [] (seen ++ data_of left) (seen ++ data_of left) (error_kind error) refl (fault_stays seen (error_kind error) (data_of left) is)
+    begin_fault [] (seen ++ frames_data left) (seen ++ frames_data left) (error_kind error) refl (fault_stays seen (error_kind error) (frames_data left) is)
 cuts_at stop.NotYet seen left is drained = tt
 cuts_at stop.OutOfTurns seen left is drained = tt
 cuts_at stop.Failed seen left is drained = tt
 cuts_at stop.NoMemory seen left is drained = tt
 
-joined : (bytes : List ℕ) (frames left : List FramePart) → (bytes ++ data_of frames) ++ data_of left ≡ bytes ++ data_of (frames ++ left)
+joined : (bytes : List ℕ) (frames left : List FramePart) → (bytes ++ frames_data frames) ++ frames_data left ≡ bytes ++ frames_data (frames ++ left)
 joined bytes frames left =
-    append_assoc bytes (data_of frames) (data_of left) ∙ ap (λ (more : List ℕ). bytes ++ more) (sym (flat_map-append data_in frames left))
+    append_assoc bytes (frames_data frames) (frames_data left) ∙ ap (λ (more : List ℕ). bytes ++ more) (sym (flat_map-append data_in frames left))
 
 cuts_open : (why : Option Stop) (said : Parts → Type 0) (bytes after : List ℕ) (frames : List FramePart) (before now : Option (List FramePart))
-    → TakesFrames frames before now → Finds why said (bytes ++ data_of frames) after → DrainsFor why now → CutsOpen why said (rest_after bytes before) (rest_after after now)
+    → TakesFrames frames before now → Finds why said (bytes ++ frames_data frames) after → DrainsFor why now → CutsOpen why said (rest_after bytes before) (rest_after after now)
 cuts_open (Some why) said bytes after frames None now takes found drains = (untold_cuts why, ap (rest_after after) takes)
 cuts_open (Some why) said bytes after frames (Some before) None takes found drains = absurd takes
 cuts_open (Some why) said bytes after frames (Some before) (Some now) takes found drains =
-    let all : (bytes ++ data_of frames) ++ data_of now ≡ bytes ++ data_of before = joined bytes frames now ∙ ap (λ (left : List FramePart). bytes ++ data_of left) (sym takes) in (
-      subst (λ (b : List ℕ). CutsAt why (unread b)) all (cuts_at why (bytes ++ data_of frames) now found.0 drains),
-      ap (λ (b : List ℕ). unread (b ++ data_of now)) found.1 ∙ ap unread all,
+    let all : (bytes ++ frames_data frames) ++ frames_data now ≡ bytes ++ frames_data before = joined bytes frames now ∙ ap (λ (left : List FramePart). bytes ++ frames_data left) (sym takes) in (
+      subst (λ (b : List ℕ). CutsAt why (unread b)) all (cuts_at why (bytes ++ frames_data frames) now found.0 drains),
+      ap (λ (b : List ℕ). unread (b ++ frames_data now)) found.1 ∙ ap unread all,
     )
 cuts_open None said bytes after frames None now takes found drains = (found.0, found.1, ap (rest_after after) takes)
 cuts_open None said bytes after frames (Some before) None takes found drains = absurd takes
 cuts_open None said bytes after frames (Some before) (Some now) takes found drains =
-    let all : (bytes ++ data_of frames) ++ data_of now ≡ bytes ++ data_of before = joined bytes frames now ∙ ap (λ (left : List FramePart). bytes ++ data_of left) (sym takes) in (
+    let all : (bytes ++ frames_data frames) ++ frames_data now ≡ bytes ++ frames_data before = joined bytes frames now ∙ ap (λ (left : List FramePart). bytes ++ frames_data left) (sym takes) in (
       found.0,
       found.1,
-      subst (λ (b : List ℕ). first_of b ≡ begins found.0 (after ++ data_of now)) all (first_stays (bytes ++ data_of frames) found.0 after (data_of now) found.2),
+      subst (λ (b : List ℕ). first_of b ≡ begins found.0 (after ++ frames_data now)) all (first_stays (bytes ++ frames_data frames) found.0 after (frames_data now) found.2),
     )
 
 cuts_close : (why : Option Stop) (ends over : Bool) (said : Parts → Type 0) (before after : Rest) → CutsOpen why said before after → over ≡ ends
@@ -551,7 +551,7 @@ module _ {M E : Type 0} (answers others : Parts → Result (Parts × M) Error �
         frames = tries.0.frames;
         taken = tries.0.taken;
         found = finds_weaker (tried_stop result) (λ message. Tries answers kind message (kept_message new) result) (λ message. Tries others kind message (kept_message new) result)
-            (taken_bytes old ++ data_of tries.0.frames) (taken_bytes new) (λ message says. (tries_weaker message result says.0, says.1)) tries.0.found;
+            (taken_bytes old ++ frames_data tries.0.frames) (taken_bytes new) (λ message says. (tries_weaker message result says.0, says.1)) tries.0.found;
         cause = tries.0.cause;
         turns = tries.0.turns;
       },

@@ -64,16 +64,16 @@ module _ {S M EM G : Type 0} where
       record { alloc = alloc; marshaller = marshaller; error_marshaller = error_marshaller; signer = signer; source = source; phase = Open }
 
   -- the marshallers of an adapter, its signer and the source of its items
-  abbrev pub parts_of : MessageStreamAdapter S M EM G → M × EM × G × S
-  parts_of adapter = (adapter.marshaller, adapter.error_marshaller, adapter.signer, adapter.source)
+  abbrev pub adapter_parts : MessageStreamAdapter S M EM G → M × EM × G × S
+  adapter_parts adapter = (adapter.marshaller, adapter.error_marshaller, adapter.signer, adapter.source)
 
   -- the source of an adapter's items
-  abbrev pub items_of : MessageStreamAdapter S M EM G → S
-  items_of adapter = adapter.source
+  abbrev pub item_source_of : MessageStreamAdapter S M EM G → S
+  item_source_of adapter = adapter.source
 
   -- the signer of an adapter
-  abbrev pub signer_of : MessageStreamAdapter S M EM G → G
-  signer_of adapter = adapter.signer
+  abbrev pub adapter_signer : MessageStreamAdapter S M EM G → G
+  adapter_signer adapter = adapter.signer
 
   -- an adapter of copies of the same parts, which goes on where this one does
   pub record IsAdapterCopy (sources : S → S → Type 0) (marshallers : M → M → Type 0) (error_marshallers : EM → EM → Type 0) (signers : G → G → Type 0)

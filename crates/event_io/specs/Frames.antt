@@ -10,8 +10,8 @@ data_in (Data piece) = piece
 data_in (Trailers trailers) = []
 
 -- the data of frames, one after another
-abbrev pub data_of : List FramePart → List ℕ
-data_of frames = flat_map data_in frames
+abbrev pub frames_data : List FramePart → List ℕ
+frames_data frames = flat_map data_in frames
 
 -- one for a frame without data, as trailers and empty pieces are, and else none
 abbrev pub one_if_idle : FramePart → ℕ

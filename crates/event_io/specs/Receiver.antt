@@ -14,7 +14,7 @@ use Rattle.eventstream.specs.Reading.{First, fault, leftover, begins, first_of, 
 use Rattle.eventstream.specs.declared.error.Error.{Error}
 use Rattle.eventstream.specs.declared.unmarshall.UnmarshallMessage as UnmarshallMessage
 use Rattle.eventstream.specs.declared.unmarshall.UnmarshalledMessage.TheVariants as made
-use Rattle.event_io.specs.Frames.{TakesFrames, data_of, idle_count, most_idle, one_if_idle}
+use Rattle.event_io.specs.Frames.{TakesFrames, frames_data, idle_count, most_idle, one_if_idle}
 use Rattle.event_io.specs.Received.{is_initial}
 use Rattle.event_io.specs.ResponseFault.{ReceiveError, is_want}
 use Rattle.event_io.specs.Stop.{TellsStop}
@@ -107,7 +107,7 @@ pub data Rest : Type 0 where
 -- the bytes that were taken, and then the data of the frames that are left
 abbrev pub rest_after : List ℕ → Option (List FramePart) → Rest
 rest_after taken None = untold
-rest_after taken (Some frames) = unread (taken ++ data_of frames)
+rest_after taken (Some frames) = unread (taken ++ frames_data frames)
 
 -- the rest has no message, and ends so
 abbrev pub EndsAs : Rest → First → Type 0
@@ -229,7 +229,7 @@ module _ {F U : Type 0} where
     pub record Reads (why : Option Stop) (said : Parts → Type 0) (old new : Receiver F U) : Type 0 where
       pub frames : List FramePart
       pub taken : TakesFrames frames (source.left (frames_of old)) (source.left (frames_of new))
-      pub found : Finds why said (taken_bytes old ++ data_of frames) (taken_bytes new)
+      pub found : Finds why said (taken_bytes old ++ frames_data frames) (taken_bytes new)
       pub cause : IsCause source why (frames_of old) (frames_of new)
       pub turns : TakesTurns why (idle_count frames)
 
@@ -288,7 +288,7 @@ module _ {F U : Type 0} (source : FrameSource.Ghosts F) where
   -- these frames of the source are taken, and their data comes behind the other bytes
   pub record Pulls (frames : List FramePart) (old new : Receiver F U) : Type 0 where
     pub taken : TakesFrames frames (source.left (frames_of old)) (source.left (frames_of new))
-    pub bytes : taken_bytes new ≡ taken_bytes old ++ data_of frames
+    pub bytes : taken_bytes new ≡ taken_bytes old ++ frames_data frames
     pub waits : source.waits (frames_of old) ≤ source.waits (frames_of new)
     pub faults : source.faults (frames_of old) ≤ source.faults (frames_of new)
     pub others_stay : new ≡ record old { source = frames_of new; buffer = new.buffer }

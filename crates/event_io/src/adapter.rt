@@ -1,5 +1,5 @@
 ghost use Rattle.std.specs.Prelude.{◌≡◌, ◌≤◌, IfOk, OnErr, OnOk};
-ghost use Rattle.event_io.specs.Adapter.{Frames, FramesMessage, IsAdapterCopy, IsOpen, KeepsMarshallers, Marshals, Polls, PollsOpen, TakesMoment, TellsWant, items_of, left_by, new_adapter, parts_of};
+ghost use Rattle.event_io.specs.Adapter.{Frames, FramesMessage, IsAdapterCopy, IsOpen, KeepsMarshallers, Marshals, Polls, PollsOpen, TakesMoment, TellsWant, item_source_of, left_by, new_adapter, adapter_parts};
 
 use crate::adapter_fault::{AdapterFault, SendError};
 use crate::event_source::{EventPolled, EventSource};
@@ -97,7 +97,7 @@ impl<S, M, EM, G> MessageStreamAdapter<S, M, EM, G> {
 
     /// The marshallers, the signer and the source.
     pub fn into_parts(self) -> (M, EM, G, S)
-        ensures { result ≡ parts_of self }
+        ensures { result ≡ adapter_parts self }
     {
         (
             self.marshaller,
@@ -150,7 +150,7 @@ where
         moments: &mut Vec<Moment>,
     ) -> Result<Next, SdkError<AdapterFault, AdapterFault, RawMessage>>
         ensures polls { Polls S.EventSource M.MarshallMessage EM.MarshallMessage G.SignMessage C.Clock clock.old clock.new moments.old.items moments.new.items self.old self.new result }
-        ensures waits { S.EventSource.waits (items_of self.old) ≤ S.EventSource.waits (items_of self.new) }
+        ensures waits { S.EventSource.waits (item_source_of self.old) ≤ S.EventSource.waits (item_source_of self.new) }
         ensures kept { KeepsMarshallers self.old self.new }
         ensures want { TellsWant result }
     {
@@ -173,7 +173,7 @@ where
     ) -> Result<Next, SendError>
         requires { IsOpen self.old }
         ensures polls { PollsOpen S.EventSource M.MarshallMessage EM.MarshallMessage G.SignMessage C.Clock clock.old clock.new moments.old.items moments.new.items self.old (left_by result self.new) result }
-        ensures waits { S.EventSource.waits (items_of self.old) ≤ S.EventSource.waits (items_of self.new) }
+        ensures waits { S.EventSource.waits (item_source_of self.old) ≤ S.EventSource.waits (item_source_of self.new) }
         ensures kept { KeepsMarshallers self.old self.new }
         ensures want { TellsWant result }
     {

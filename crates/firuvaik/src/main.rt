@@ -7,7 +7,7 @@ ghost use Rattle.std.specs.String.{string_bytes};
 ghost use Rattle.firuvaik.specs.Asked.{text_asked};
 ghost use Rattle.signed_stream.specs.Plan.{GoesAsPlanned, writes};
 ghost use Rattle.signed_stream.specs.Running.{CountsWrites};
-ghost use Rattle.signed_stream.specs.Saying.{Says};
+ghost use Rattle.signed_stream.specs.Saying.{SaysEnding};
 ghost use Rattle.signed_stream.specs.Status.{bad_words, done, ending_of, exit_code, no_memory};
 
 mod help;
@@ -62,7 +62,7 @@ fn answer<R: rt::Clock + rt::Env + Files + Input + Alloc<A = Global>, K: ByteSin
 ) -> Status
     ensures printed { IfSome (text_asked (map string_bytes words.now)) (λ text. GoesAsPlanned (writes text done) (ending_of result) (K.held out.old) (K.held out.new)) }
     ensures counted { CountsWrites (ending_of result) (K.faults out.old) (K.faults out.new) }
-    ensures said { Says (ending_of result) (E.held err.old) (E.held err.new) (E.faults err.old) (E.faults err.new) }
+    ensures said { SaysEnding (ending_of result) (E.held err.old) (E.held err.new) (E.faults err.old) (E.faults err.new) }
 {
     match help::text_asked(words) {
         Some(text) => say(rt.alloc(), print_text(text, out), err),
@@ -77,7 +77,7 @@ fn run_on_host<
     E: ByteSink,
 >(rt: &R, words: &[String], out: &mut K, err: &mut E) -> Status
     ensures counted { CountsWrites (ending_of result) (K.faults out.old) (K.faults out.new) }
-    ensures said { Says (ending_of result) (E.held err.old) (E.held err.new) (E.faults err.old) (E.faults err.new) }
+    ensures said { SaysEnding (ending_of result) (E.held err.old) (E.held err.new) (E.faults err.old) (E.faults err.new) }
 {
     let alloc = rt.alloc();
     let env = match Env::real(alloc, rt) {

@@ -17,7 +17,7 @@ use Rattle.sigv4.specs.declared.error.SigningError.TheVariants.{InvalidUri}
 use Rattle.sigv4.specs.declared.settings.SignatureLocation.{SignatureLocation}
 use Rattle.sigv4.specs.declared.settings.SignatureLocation.TheVariants.{Headers, QueryParams}
 use Rattle.sigv4.proofs.FitLemmas.{passed}
-use Rattle.request_check.specs.Recomputation.{IsAlike, IsSentOf, IsToldApart, Recomputes, Signs}
+use Rattle.request_check.specs.Recomputation.{IsAlike, IsSentOf, IsToldApart, Recomputes, IsSignedAsSent}
 use Rattle.request_check.specs.Recomputed.{ChecksRequest, RefusesSent, recomputed, unfit_sent}
 use Rattle.request_check.specs.Sealed.{IsSealed, IsUnsealed, SealParts, SealsHeaders, SealsParameters}
 use Rattle.request_check.specs.declared.check.CheckRequestFault.{CheckRequestFault}
@@ -77,7 +77,7 @@ takes c fits = by (takes_no_more (parameters c) c.target) (passed _ InvalidUri f
     by true e = absurd (true≢false (sym e))
     by false e = refl
 
-sent_accepted : (c : Case) (sent : HttpRequest) → Signs c → IsSentOf c sent → SpellsNone (string_bytes sent.target) → ⊥
+sent_accepted : (c : Case) (sent : HttpRequest) → IsSignedAsSent c → IsSentOf c sent → SpellsNone (string_bytes sent.target) → ⊥
 unfolding signed_target
 sent_accepted c sent is of none = by of.spelled
   where
@@ -99,7 +99,7 @@ no_parameters : (c : Case) → is_query_form c.settings ≡ false → parameters
 unfolding parameters
 no_parameters c form = header.otherwise (is_query_form c.settings) _ _ form
 
-resealed_header : (c : Case) (sent : HttpRequest) → Signs c → header.SignsHeaders c → IsSentOf c sent → IsResealed c sent
+resealed_header : (c : Case) (sent : HttpRequest) → IsSignedAsSent c → header.SignsHeaders c → IsSentOf c sent → IsResealed c sent
 resealed_header c sent signs is of =
     let unchanged : with_params c.target (parameters c) ≡ c.target = ap (with_params c.target) (no_parameters c is.form) in
     let seals = subst (λ (headers : List Pair). SealsHeaders headers c.signer.region c.signer.name (header.own_seal c is)) (sym of.headers) (header.sealed_by c is) in
@@ -117,7 +117,7 @@ resealed_header c sent signs is of =
 
 -- ---- query form
 
-resealed_query : (c : Case) (sent : HttpRequest) → Signs c → query.SignsQuery c → IsSentOf c sent → IsResealed c sent
+resealed_query : (c : Case) (sent : HttpRequest) → IsSignedAsSent c → query.SignsQuery c → IsSentOf c sent → IsResealed c sent
 resealed_query c sent signs is of =
     let added : with_params c.target (parameters c) ≡ query.sent_target c is = ap (with_params c.target) (query.parameters_are c is) in
     let unsealed = subst (λ (headers : List Pair). IsUnsealed headers c.signer.region c.signer.name) (sym of.headers) (query.unsealed c is) in
@@ -142,7 +142,7 @@ resealed_query c sent signs is of =
 
 -- ---- both forms
 
-resealed : (c : Case) (sent : HttpRequest) → Signs c → IsSentOf c sent → IsResealed c sent
+resealed : (c : Case) (sent : HttpRequest) → IsSignedAsSent c → IsSentOf c sent → IsResealed c sent
 resealed c sent is of = by c.settings.signature_location refl is.apart
   where
     by : (place : SignatureLocation) → c.settings.signature_location ≡ place → IsToldApart place c → IsResealed c sent

@@ -9,7 +9,7 @@ use Rattle.sigv4.specs.Canonical.{given_headers, joined_values, with_optional}
 use Rattle.sigv4.specs.Query.{Pair}
 use Rattle.sigv4.specs.Trim.{trim_all}
 use Rattle.sigv4.proofs.InsertedLemmas.{named-inserted_other, named-inserted_same, same_name}
-use Rattle.request_check.specs.HeaderLines.{before_value, values_to_come}
+use Rattle.request_check.specs.HeaderLines.{before_listed, values_to_come}
 
 -- texts are compared in either order
 pub flipped : (a b : List ℕ) → bytes_eq a b ≡ bytes_eq b a
@@ -40,12 +40,12 @@ passed_over text name key value rest is_first other =
 
 -- and one of the name its value
 pub one_more : (text new name key value : List ℕ) (rest : List Pair) (is_first : Bool) → bytes_eq name (lower key) ≡ true
-    → new ≡ text ++ (before_value is_first ++ trim_all value)
+    → new ≡ text ++ (before_listed is_first ++ trim_all value)
     → text ++ values_to_come is_first (named_values (given_headers ((key, value) ∷ rest)) name) ≡ new ++ values_to_come false (named_values (given_headers rest) name)
 one_more text new name key value rest is_first same more =
     let values = named_values (given_headers rest) name in
     ap (λ (b : Bool). text ++ values_to_come is_first (cond b (trim_all value ∷ values) values)) (flipped (lower key) name ∙ same)
-    ∙ sym (append_assoc text (before_value is_first ++ trim_all value) (values_to_come false values))
+    ∙ sym (append_assoc text (before_listed is_first ++ trim_all value) (values_to_come false values))
     ∙ ap (λ (front : List ℕ). front ++ values_to_come false values) (sym more)
 
 -- the added host is the one value of its name

@@ -15,7 +15,7 @@ use Rattle.sigv4.specs.Query.{Pair, decoded, decoded_pairs}
 use Rattle.sigv4.specs.Signed.{authorization_text}
 use Rattle.sigv4.specs.declared.settings.SignatureLocation.{SignatureLocation}
 use Rattle.sigv4.specs.declared.settings.SignatureLocation.TheVariants.{Headers, QueryParams}
-use Rattle.request_check.specs.Carried.{CutsScope, IsAuthorization, IsCarried, IsFirst, MakesSeal, ReadsAuthorization, ReadsParameters, TellsHeaderSeal, TellsTargetSeal}
+use Rattle.request_check.specs.Carried.{CutsScope, IsAuthorization, IsCarried, CarriesFirst, MakesSeal, ReadsAuthorization, ReadsParameters, TellsHeaderSeal, TellsTargetSeal}
 use Rattle.request_check.specs.Cuts.{CutsEnd}
 use Rattle.request_check.specs.SealTexts.{has_space, is_signature}
 use Rattle.request_check.specs.Sealed.{HasOneSeal, IsSealedAt, IsUnsealed, SealParts, SealsHeaders, SealsParameters, TellsSeal, sealed_credential}
@@ -145,7 +145,7 @@ without_signature pairs none = λ region name seal is. absent (sym none ∙ is.s
 pub undigited : (pairs : List Pair) (text : List ℕ) → first_value pairs (codes "X-Amz-Signature") ≡ Some text → is_signature text ≡ false → ReadsParameters pairs None
 undigited pairs text here other = λ region name seal is. true≢false (sym is.digits ∙ (ap is_signature (both is.signature here) ∙ other))
 
-carried_first : (pairs : List Pair) (region name : List ℕ) (carried : Carried) (seal : SealParts) → IsFirst pairs carried → SealsParameters pairs region name seal
+carried_first : (pairs : List Pair) (region name : List ℕ) (carried : Carried) (seal : SealParts) → CarriesFirst pairs carried → SealsParameters pairs region name seal
     → IsCarried region name carried seal
 carried_first pairs region name carried seal first is = record {
   moment = is.moment;
@@ -155,7 +155,7 @@ carried_first pairs region name carried seal first is = record {
   signature = both first.signature is.signature;
 }
 
-pub target_seal : (target region name : List ℕ) (uri : Uri) (carried : Carried) (made : Option SealParts) → Spells target uri → IsFirst (decoded (target_of uri)) carried
+pub target_seal : (target region name : List ℕ) (uri : Uri) (carried : Carried) (made : Option SealParts) → Spells target uri → CarriesFirst (decoded (target_of uri)) carried
     → MakesSeal QueryParams region name carried made → TellsTargetSeal target region name made
 target_seal target region name uri carried None spells first none = λ seal here.
     none seal (carried_first (decoded (target_of uri)) region name carried seal first (rw (sym (one_query target uri here.0 spells here.1)) at here.2))

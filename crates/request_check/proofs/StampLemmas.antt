@@ -11,7 +11,7 @@ use Rattle.smithy_core.specs.CivilText.{FitsDigits, date_of, stamp_of, two_digit
 use Rattle.smithy_core.specs.Moment.{Instant}
 use Rattle.smithy_core.specs.declared.civil_text.Civil.{Civil}
 use Rattle.smithy_core.proofs.DayLemmas.{civil_fits, day_after_is, year_bound}
-use Rattle.request_check.specs.Stamped.{FindsMoment, IsNumber, IsOnlyCivil, IsShort, IsWholeSecond, ReadsStamp, at_civil}
+use Rattle.request_check.specs.Stamped.{FindsMoment, IsTwoDigits, IsOnlyCivil, IsShortDate, IsWholeSecond, ReadsStamp, at_civil}
 
 first_is : day_count (pos 0) 1 1 ≡ 3652425
 unfolding day_count days_of_years days_of_months
@@ -46,7 +46,7 @@ dated t is =
     )
 
 -- and it has it too as the numbers with a sign that a date is made of
-pub dated_signed : (civil : Civil) → IsShort civil → (t : Instant) → IsInYears t → civil_of t ≡ civil
+pub dated_signed : (civil : Civil) → IsShortDate civil → (t : Instant) → IsInYears t → civil_of t ≡ civil
     → IsDate (to_z w16 civil.year) (to_z w8 civil.month) (to_z w8 civil.day)
 dated_signed civil short t is same =
     rw (to_z_pos w16 civil.year (omega (arith, short.year)), to_z_pos w8 civil.month (omega (arith, short.month)), to_z_pos w8 civil.day (omega (arith, short.day)))
@@ -106,8 +106,8 @@ civil year month day hour minute second = record { year = year; month = month; d
 
 -- the numbers at their places in a text are those of a date and a time of day with this stamp
 pub read_back : (c : Civil) (text : List ℕ) (century year month day hour minute second : ℕ)
-    → IsNumber (take 2 text) century → IsNumber (take 2 (drop 2 text)) year → IsNumber (take 2 (drop 4 text)) month → IsNumber (take 2 (drop 6 text)) day
-    → IsNumber (take 2 (drop 9 text)) hour → IsNumber (take 2 (drop 11 text)) minute → IsNumber (take 2 (drop 13 text)) second
+    → IsTwoDigits (take 2 text) century → IsTwoDigits (take 2 (drop 2 text)) year → IsTwoDigits (take 2 (drop 4 text)) month → IsTwoDigits (take 2 (drop 6 text)) day
+    → IsTwoDigits (take 2 (drop 9 text)) hour → IsTwoDigits (take 2 (drop 11 text)) minute → IsTwoDigits (take 2 (drop 13 text)) second
     → FitsDigits c → stamp_of c ≡ text
     → c ≡ record { year = century * 100 + year; month = month; day = day; hour = hour; minute = minute; second = second }
 unfolding civil
@@ -136,7 +136,7 @@ pub stamped_length : (t : Instant) → length (stamp t) ≡ 16
 unfolding stamp
 stamped_length t = stamp_length (civil_of t)
 
-digit_number : (n : ℕ) → n < 100 → IsNumber (two_digits n) n
+digit_number : (n : ℕ) → n < 100 → IsTwoDigits (two_digits n) n
 digit_number n small = (small, λ m low e. same_digits m n low small e)
 
 same_civil : (c d : Civil) → FitsDigits c → FitsDigits d → stamp_of c ≡ stamp_of d → c ≡ d

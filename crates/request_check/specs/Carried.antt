@@ -60,7 +60,7 @@ SpellsMaybe text None = SpellsNone text
 SpellsMaybe text (Some uri) = Spells text uri
 
 -- the texts are the first of each of a signature's parameters
-pub record IsFirst (pairs : List Pair) (carried : Carried) : Type 0 where
+pub record CarriesFirst (pairs : List Pair) (carried : Carried) : Type 0 where
   pub digits : is_signature carried.signature.now ≡ true
   pub date : first_value pairs (codes "X-Amz-Date") ≡ Some carried.date.now
   pub credential : first_value pairs (codes "X-Amz-Credential") ≡ Some carried.credential.now
@@ -70,4 +70,4 @@ pub record IsFirst (pairs : List Pair) (carried : Carried) : Type 0 where
 -- the texts that carry a seal in pairs, or that these carry none
 abbrev pub ReadsParameters : List Pair → Option Carried → Type 0
 ReadsParameters pairs None = (region name : List ℕ) (seal : SealParts) → SealsParameters pairs region name seal → ⊥
-ReadsParameters pairs (Some carried) = IsFirst pairs carried
+ReadsParameters pairs (Some carried) = CarriesFirst pairs carried

@@ -4,10 +4,10 @@ use Rattle.sigv4.specs.declared.error.SigningError.TheVariants.{NoMemory as NoRo
 use Rattle.request_check.specs.declared.check.CheckRequestFault.{CheckRequestFault}
 use Rattle.request_check.specs.declared.check.CheckRequestFault.TheVariants.{NoMemory, Signing}
 
-abbrev pub fault_for : SigningError → SigningError → CheckRequestFault
-fault_for NoRoom error = NoMemory
-fault_for _ error = Signing error
+abbrev pub check_fault_for : SigningError → SigningError → CheckRequestFault
+check_fault_for NoRoom error = NoMemory
+check_fault_for _ error = Signing error
 
 -- `NoMemory` stays what it is
 abbrev pub fault_of : SigningError → CheckRequestFault
-fault_of error = fault_for error error
+fault_of error = check_fault_for error error

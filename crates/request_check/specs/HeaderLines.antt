@@ -2,11 +2,11 @@
 use Rattle.std.specs.Prelude.{ℕ, Bool, true, false, List, [], ◌∷◌, ◌++◌}
 
 -- what stands before a value: `,`, unless it is the first
-abbrev pub before_value : Bool → List ℕ
-before_value true = []
-before_value false = 44 ∷ []
+abbrev pub before_listed : Bool → List ℕ
+before_listed true = []
+before_listed false = 44 ∷ []
 
 -- the values to come, each behind `,` but the first of all
 abbrev pub values_to_come : Bool → List (List ℕ) → List ℕ
 values_to_come is_first [] = []
-values_to_come is_first (value ∷ values) = before_value is_first ++ value ++ values_to_come false values
+values_to_come is_first (value ∷ values) = before_listed is_first ++ value ++ values_to_come false values

@@ -57,7 +57,7 @@ IsToldApart QueryParams c = (first_value c.headers (codes "authorization") ≡ N
 
 -- a case that is signed: nothing of it is refused, the usual names aren't signed, and what its signature adds is told apart. The headers of a
 -- request have their names in lower case
-pub record Signs (c : Case) : Type 0 where
+pub record IsSignedAsSent (c : Case) : Type 0 where
   pub strings : IsOfStrings c
   pub lower : AreLower c.headers
   pub usual : c.settings.excluded_headers ≡ Some default_exclusions
@@ -83,4 +83,4 @@ IsAlike c (Err fault) = ⊥
 -- what is answered of the signed request of a case with these settings, this payload, secret, region and name
 abbrev pub Recomputes : HttpRequest → Settings → List ℕ → Signer → Result Checked CheckRequestFault → Type 0
 Recomputes sent settings payload signer result =
-    (c : Case) → c.settings ≡ settings → c.payload ≡ payload → c.signer ≡ signer → Signs c → IsSentOf c sent → IsAlike c result
+    (c : Case) → c.settings ≡ settings → c.payload ≡ payload → c.signer ≡ signer → IsSignedAsSent c → IsSentOf c sent → IsAlike c result

@@ -17,11 +17,11 @@ ReadsStamp text None = (t : Instant) → IsWholeSecond t → stamp t ≡ text �
 ReadsStamp text (Some t) = IsWholeSecond t × (stamp t ≡ text)
 
 -- a number below 100, and the only one that can have these two digits
-abbrev pub IsNumber : List ℕ → ℕ → Type 0
-IsNumber digits number = (number < 100) × ((n : ℕ) → n < 100 → two_digits n ≡ digits → n ≡ number)
+abbrev pub IsTwoDigits : List ℕ → ℕ → Type 0
+IsTwoDigits digits number = (number < 100) × ((n : ℕ) → n < 100 → two_digits n ≡ digits → n ≡ number)
 
 -- the year has at most four digits, and the month and the day have at most two
-pub record IsShort (c : Civil) : Type 0 where
+pub record IsShortDate (c : Civil) : Type 0 where
   pub year : c.year < 10000
   pub month : c.month < 100
   pub day : c.day < 100

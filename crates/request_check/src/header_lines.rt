@@ -4,7 +4,7 @@ ghost use Rattle.std.specs.List.{flat_map, join_with_byte};
 ghost use Rattle.smithy_core.specs.TextPairs.{named_values};
 ghost use Rattle.sigv4.specs.Canonical.{given_headers, header_line, joined_values, with_optional};
 ghost use Rattle.sigv4.specs.Trim.{before_word, trim_all};
-ghost use Rattle.request_check.specs.HeaderLines.{before_value};
+ghost use Rattle.request_check.specs.HeaderLines.{before_listed};
 ghost use Rattle.request_check.specs.Recomputed.{carried_names};
 
 use smithy_core::{Headers, Mem, is_lower_of};
@@ -73,7 +73,7 @@ fn push_values(text: &mut String, headers: &Headers, name: &str) -> Mem<()>
 
 // Appends a value, trimmed, behind `,` where it isn't the first.
 fn push_value(text: &mut String, is_first: bool, value: &str) -> Mem<()>
-    ensures { OnOk result (string_bytes text.new ≡ string_bytes text.old ++ (before_value is_first ++ trim_all value.now)) }
+    ensures { OnOk result (string_bytes text.new ≡ string_bytes text.old ++ (before_listed is_first ++ trim_all value.now)) }
 {
     if !is_first {
         text.push_str(",")?;

@@ -1,7 +1,7 @@
 ghost use Rattle.std.specs.Prelude.{◌≡◌, ◌+◌, ◌≤◌, ◌∷◌, [], drop, length, take, pos, ◌+ℤ◌, ◌*ℤ◌, MatchBool};
 ghost use Rattle.jiff_core.specs.Date.{epoch_day};
 ghost use Rattle.smithy_core.specs.Civil.{IsInYears, stamp};
-ghost use Rattle.request_check.specs.Stamped.{FindsMoment, IsNumber, IsOnlyCivil, IsShort, ReadsStamp, second_of_day};
+ghost use Rattle.request_check.specs.Stamped.{FindsMoment, IsTwoDigits, IsOnlyCivil, IsShortDate, ReadsStamp, second_of_day};
 
 use jiff_core::civil::Date;
 use smithy_core::{Civil, Moment, civil};
@@ -36,7 +36,7 @@ fn has_stamp(moment: Moment, text: &[u8]) -> bool
 // The date and the time of day that a text tells, if it is a stamp.
 fn civil_at(text: &[u8]) -> Civil
     requires { length text.now ≡ 16 }
-    ensures short { IsShort result }
+    ensures short { IsShortDate result }
     ensures only { IsOnlyCivil text.now result }
 {
     Civil {
@@ -52,14 +52,14 @@ fn civil_at(text: &[u8]) -> Civil
 // The number of the two decimal digits at a place, and 0 where there are none.
 fn number_at(text: &[u8], at: usize) -> u8
     requires { at + 2 ≤ length text.now }
-    ensures { IsNumber (take 2 (drop at text.now)) result }
+    ensures { IsTwoDigits (take 2 (drop at text.now)) result }
 {
     number_of(text[at], text[at + 1])
 }
 
 // The number of two decimal digits, and 0 where they aren't digits.
 fn number_of(high: u8, low: u8) -> u8
-    ensures { IsNumber (high ∷ low ∷ []) result }
+    ensures { IsTwoDigits (high ∷ low ∷ []) result }
 {
     if high.is_ascii_digit() && low.is_ascii_digit() {
         (high - b'0') * 10 + (low - b'0')
@@ -70,7 +70,7 @@ fn number_of(high: u8, low: u8) -> u8
 
 // The moment of a date and a time of day, where the calendar has that date.
 fn moment_of(civil: Civil) -> Option<Moment>
-    requires { IsShort civil }
+    requires { IsShortDate civil }
     ensures { FindsMoment civil result }
 {
     match Date::new(civil.year as i16, civil.month as i8, civil.day as i8) {

@@ -20,10 +20,10 @@ use Rattle.eventstream.proofs.LinkLemmas.{link_framed}
 use Rattle.eventstream.proofs.UnframedLemmas.{unframed_fault}
 use Rattle.event_io.specs.Chain.{next_bytes, next_unsigned}
 use Rattle.signed_stream.specs.declared.form.Form.{Form}
-use Rattle.chain_check.specs.Chain.{IsChained}
+use Rattle.chain_check.specs.Chain.{IsWholeChain}
 use Rattle.signed_stream.specs.Chain.{Refusal, chain_text, fault_at, first_refusal, frames_text, link_text, outside_years, refusal_at, refusal_fault, streamed_text, text_before, unframed_at, unlinked}
 use Rattle.signed_stream.specs.Halt.{Halt, Halts, fails, refuses, unless_refused, wants}
-use Rattle.signed_stream.specs.Sending.{IsNext, IsSignFault, next_refused, sign_halt}
+use Rattle.signed_stream.specs.Sending.{TakesInTurn, IsSignFault, next_refused, sign_halt}
 use Rattle.signed_stream.specs.Status.{RunFault, moment_out_of_range}
 use Rattle.signed_stream.proofs.YearLemmas.{in_years, years_in}
 
@@ -403,13 +403,13 @@ length_before (u ∷ front) rest t = let others = length_before front rest t in 
 
 module _ (who : Signer) (events : List Parts) (seed : List ℕ) (sent : List Instant) (none : first_refusal who 1 events sent seed ≡ None) where
   -- each of the moments that refuse nothing was needed
-  pub sent_needed : length sent ≤ length events + 1 → IsNext who events seed sent
+  pub sent_needed : length sent ≤ length events + 1 → TakesInTurn who events seed sent
   sent_needed within front t rest is =
       let count : length front + 1 ≤ length sent = rw is (length_before front rest t) in
       (front_unrefused who 1 events front (t ∷ rest) seed (rw is at none), omega (arith, count, within))
 
   -- and so was the one after them, where events or the closing frame are left
-  pub next_needed : (t : Instant) → length sent ≤ length events → IsNext who events seed (sent ++ t ∷ [])
+  pub next_needed : (t : Instant) → length sent ≤ length events → TakesInTurn who events seed (sent ++ t ∷ [])
   next_needed t within front u rest is =
       let found = front_before sent front rest t u is in
       let count : length front ≤ length sent = rw found.1 (length_front front found.0) in
@@ -443,7 +443,7 @@ linked_frames signer place signature event at linked =
 
 -- where there is one moment more than events and none is refused the chain is defined
 pub unrefused_frames : (signer : Signer) (place : ℕ) (events : List Parts) (moments : List Instant) (signature : List ℕ) → length moments ≡ length events + 1
-    → first_refusal signer place events moments signature ≡ None → IsChained signer events moments signature
+    → first_refusal signer place events moments signature ≡ None → IsWholeChain signer events moments signature
 unrefused_frames signer place [] [] signature counted none = absurd (omega arith)
 unrefused_frames signer place (event ∷ events) [] signature counted none = absurd (omega arith)
 unrefused_frames signer place [] (at ∷ []) signature counted none =
@@ -457,7 +457,7 @@ unrefused_frames signer place (event ∷ events) (at ∷ moments) signature coun
 
 -- where the chain is defined none is refused
 pub frames_unrefused : (signer : Signer) (place : ℕ) (events : List Parts) (moments : List Instant) (signature : List ℕ)
-    → IsChained signer events moments signature → first_refusal signer place events moments signature ≡ None
+    → IsWholeChain signer events moments signature → first_refusal signer place events moments signature ≡ None
 unfolding unlinked
 frames_unrefused signer place [] [] signature chained = absurd chained
 frames_unrefused signer place (event ∷ events) [] signature chained = absurd chained
@@ -468,7 +468,7 @@ frames_unrefused signer place (event ∷ events) (at ∷ moments) signature chai
     rw (chained.0, years_in at chained.1, chained.2, others) refl
 
 -- it has one moment more than events
-pub chained_moments : (signer : Signer) (events : List Parts) (moments : List Instant) (signature : List ℕ) → IsChained signer events moments signature → length moments ≡ length events + 1
+pub chained_moments : (signer : Signer) (events : List Parts) (moments : List Instant) (signature : List ℕ) → IsWholeChain signer events moments signature → length moments ≡ length events + 1
 chained_moments signer [] [] signature chained = absurd chained
 chained_moments signer (event ∷ events) [] signature chained = absurd chained
 chained_moments signer [] (at ∷ []) signature chained = omega arith

@@ -13,7 +13,7 @@ use Rattle.smithy_core.proofs.GainLemmas.{gains_at_start, gains_front, gains_joi
 use Rattle.eventstream.specs.Frame.{frame, unframed}
 use Rattle.eventstream.specs.Key.{Signer}
 use Rattle.eventstream.specs.Link.{link_signature}
-use Rattle.chain_check.specs.Chain.{IsChainOf, IsChained, carried_moments}
+use Rattle.chain_check.specs.Chain.{IsChainOf, IsWholeChain, carried_moments}
 use Rattle.chain_check.specs.Walk.{AnswersChain, chain_events}
 use Rattle.chain_check.specs.declared.chain_fault.ChainFault.{ChainFault}
 use Rattle.chain_check.specs.declared.chain_fault.ChainFault.TheVariants as chains
@@ -31,7 +31,7 @@ use Rattle.signed_stream.proofs.SendLemmas.{text_goes}
 -- ## The events of a chain
 
 -- each event of a chain has a frame
-framed_from : (signer : Signer) (events : List Parts) (moments : List Instant) (signature : List ℕ) → IsChained signer events moments signature → AllByRecursion (λ event. unframed event ≡ None) events
+framed_from : (signer : Signer) (events : List Parts) (moments : List Instant) (signature : List ℕ) → IsWholeChain signer events moments signature → AllByRecursion (λ event. unframed event ≡ None) events
 framed_from signer [] moments signature chained = tt
 framed_from signer (event ∷ events) [] signature chained = absurd chained
 framed_from signer (event ∷ events) (at ∷ moments) signature chained =

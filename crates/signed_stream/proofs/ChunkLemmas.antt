@@ -10,14 +10,14 @@ use Rattle.smithy_core.specs.declared.outside.frame_part.FramePart.{FramePart}
 use Rattle.smithy_core.specs.declared.outside.frame_part.FramePart.TheVariants as frame
 use Rattle.smithy_core.specs.declared.outside.frame_source.FrameSource as FrameSource
 use Rattle.sigv4.specs.declared.chunk_signer.SignChunk as SignChunk
-use Rattle.aws_chunked.specs.Body.{Answers, AreTurns, HasCause, IsClosed, IsNew, IsNothing, Rest, TakesDue, TakesText, TakesTurns, Trailer, data_before, lines_length, listed, parts_due, ready_bytes, rest_with, source_of, total_of, trailers_from}
+use Rattle.aws_chunked.specs.Body.{AnswersFrame, AreTurns, HasCause, IsBodyClosed, IsNewBody, IsNothing, TextLeft, TakesDue, TakesText, TakesIdleFrames, Trailer, data_before, lines_length, listed, parts_due, ready_bytes, text_to_come_with, body_source, total_of, trailers_from}
 use Rattle.aws_chunked.specs.Due.{due}
 use Rattle.aws_chunked.specs.Options.{Options, counted, declared_length}
-use Rattle.aws_chunked.specs.Text.{Part, chunk, chunked_text, crlf, cut, parts_of, tail, trailer_line}
+use Rattle.aws_chunked.specs.Text.{Part, chunk, chunked_text, crlf, pieces_of_size, parts_of, tail, trailer_line}
 use Rattle.aws_chunked.specs.declared.body.AwsChunkedBody.{AwsChunkedBody}
 use Rattle.aws_chunked.specs.declared.body.ChunkNext.TheVariants as next
 use Rattle.aws_chunked.proofs.DueLemmas.{closed_due, parts_same}
-use Rattle.signed_stream.specs.ChunkJob.{IsBodyOf, IsPartWith, IsSound, text_left, told_text}
+use Rattle.signed_stream.specs.ChunkJob.{IsBodyOf, IsPartWith, IsSoundBody, text_left, told_text}
 use Rattle.signed_stream.specs.Halt.{Halt, Halts, Sends, fails, halt_of, refuses, wants}
 use Rattle.signed_stream.specs.declared.status.StreamFault.{StreamFault}
 use Rattle.signed_stream.specs.Plan.{most_input}
@@ -34,7 +34,7 @@ module _ {F G : Type 0} (source : FrameSource.Ghosts F) (signer : SignChunk.Ghos
 
   -- the body of bytes and trailers of the declared lengths
   pub new_body : (options : Options) (bytes : List ℕ) (trailers : List Trailer) (from : F) (body : AwsChunkedBody F G)
-      → source.left from ≡ Some (frame.Data bytes ∷ frame.Trailers trailers ∷ []) → IsNew from options body
+      → source.left from ≡ Some (frame.Data bytes ∷ frame.Trailers trailers ∷ []) → IsNewBody from options body
       → (options.is_signed ≡ false → due source signer body
       ≡ option_map (λ (frames : List FramePart). chunked_text options.chunk_size (data_before frames) (listed (trailers_from None frames))) (source.left from))
       → parts_due source body ≡ option_map (λ (frames : List FramePart). parts_of options.chunk_size (data_before frames) (listed (trailers_from None frames))) (source.left from)
@@ -52,7 +52,7 @@ module _ {F G : Type 0} (source : FrameSource.Ghosts F) (signer : SignChunk.Ghos
           ∙ ap (option_map (λ (frames : List FramePart). chunked_text options.chunk_size (data_before frames) (listed (trailers_from None frames)))) left
           ∙ ap (λ (b : List ℕ). Some (chunked_text options.chunk_size b trailers)) all
 
-      is : IsSound source signer body
+      is : IsSoundBody source signer body
       is = record {
         text = chunked_text options.chunk_size bytes trailers;
         text_is = text_is;
@@ -65,7 +65,7 @@ module _ {F G : Type 0} (source : FrameSource.Ghosts F) (signer : SignChunk.Ghos
             ∙ ap Some (omega (arith, ap length all, ap (λ (o : Options). o.stream_length) new.encoded, long, short));
         parts = parts_of options.chunk_size (bytes ++ []) trailers;
         parts_are = parts ∙ ap (option_map (λ (frames : List FramePart). parts_of options.chunk_size (data_before frames) (listed (trailers_from None frames)))) left;
-        with_trailers = parts_with trailers (cut options.chunk_size (bytes ++ []));
+        with_trailers = parts_with trailers (pieces_of_size options.chunk_size (bytes ++ []));
         frames = frame.Data bytes ∷ frame.Trailers trailers ∷ [];
         frames_are = ap source.left new.reads_from ∙ left;
         few = omega arith;
@@ -76,12 +76,12 @@ module _ {F G : Type 0} (source : FrameSource.Ghosts F) (signer : SignChunk.Ghos
   totals_same : (body : AwsChunkedBody F G) (ready : List ℕ) → total_of source (record body { ready = ready }) ≡ total_of source body
   totals_same body ready = by (source.left body.source)
     where
-      by : (left : Option (List FramePart)) → option_map (λ (rest : Rest). rest.total) (option_map (rest_with (record body { ready = ready })) left)
-          ≡ option_map (λ (rest : Rest). rest.total) (option_map (rest_with body) left)
+      by : (left : Option (List FramePart)) → option_map (λ (rest : TextLeft). rest.total) (option_map (text_to_come_with (record body { ready = ready })) left)
+          ≡ option_map (λ (rest : TextLeft). rest.total) (option_map (text_to_come_with body) left)
       by None = refl
       by (Some frames) = refl
 
-  total_stays : (old new : AwsChunkedBody F G) (bytes : List ℕ) → Answers source signer old new (Ok (next.Frame bytes)) → total_of source new ≡ total_of source old
+  total_stays : (old new : AwsChunkedBody F G) (bytes : List ℕ) → AnswersFrame source signer old new (Ok (next.Frame bytes)) → total_of source new ≡ total_of source old
   total_stays old new bytes (text, is, inl (same, others)) =
       ap (λ (body : AwsChunkedBody F G). total_of source body) others ∙ totals_same old (ready_bytes new)
   total_stays old new bytes (text, is, inr (none, first)) = first.total
@@ -92,7 +92,7 @@ module _ {F G : Type 0} (source : FrameSource.Ghosts F) (signer : SignChunk.Ghos
     are : parts_due source body ≡ Some parts
     with_trailers : AllByRecursion (IsPartWith trailers) parts
 
-  parts_stay : (trailers : List Trailer) (old new : AwsChunkedBody F G) (bytes : List ℕ) → Answers source signer old new (Ok (next.Frame bytes)) → Parts trailers old → Parts trailers new
+  parts_stay : (trailers : List Trailer) (old new : AwsChunkedBody F G) (bytes : List ℕ) → AnswersFrame source signer old new (Ok (next.Frame bytes)) → Parts trailers old → Parts trailers new
   parts_stay trailers old new bytes (text, is, inl (same, others)) left = record {
     parts = left.parts;
     are = ap (λ (body : AwsChunkedBody F G). parts_due source body) others ∙ parts_same source signer old (ready_bytes new) ∙ left.are;
@@ -116,10 +116,10 @@ module _ {F G : Type 0} (source : FrameSource.Ghosts F) (signer : SignChunk.Ghos
   -- the frames that are left
   record Few (body : AwsChunkedBody F G) : Type 0 where
     frames : List FramePart
-    are : source.left (source_of body) ≡ Some frames
+    are : source.left (body_source body) ≡ Some frames
     few : length frames ≤ 2
 
-  few_stay : (P : ℕ → Type 0) (old new : AwsChunkedBody F G) → TakesTurns source P old new → Few old → Few new
+  few_stay : (P : ℕ → Type 0) (old new : AwsChunkedBody F G) → TakesIdleFrames source P old new → Few old → Few new
   few_stay P old new turns left = by (source.left new.source) refl
     where
       by : (now : Option (List FramePart)) → source.left new.source ≡ now → Few new
@@ -133,10 +133,10 @@ module _ {F G : Type 0} (source : FrameSource.Ghosts F) (signer : SignChunk.Ghos
           record { frames = rest; are = now_is; few = omega (arith, few, length-append turns.frames rest) }
 
   -- a sound body stays so, and gives the next bytes of its text
-  pub sound_next : (old new : AwsChunkedBody F G) (bytes : List ℕ) → IsSound source signer old
-      → TakesDue (due source signer old) (due source signer new) (Ok (next.Frame bytes)) → Answers source signer old new (Ok (next.Frame bytes))
-      → HasCause source signer old new (Ok (next.Frame bytes)) → TakesTurns source (AreTurns (Ok (next.Frame bytes))) old new
-      → IsSound source signer new × (text_left source signer old ≡ bytes ++ text_left source signer new) × (0 < length bytes)
+  pub sound_next : (old new : AwsChunkedBody F G) (bytes : List ℕ) → IsSoundBody source signer old
+      → TakesDue (due source signer old) (due source signer new) (Ok (next.Frame bytes)) → AnswersFrame source signer old new (Ok (next.Frame bytes))
+      → HasCause source signer old new (Ok (next.Frame bytes)) → TakesIdleFrames source (AreTurns (Ok (next.Frame bytes))) old new
+      → IsSoundBody source signer new × (text_left source signer old ≡ bytes ++ text_left source signer new) × (0 < length bytes)
   sound_next old new bytes sound takes answers cause turns =
       by (due source signer new) refl (subst (λ (before : Option (List ℕ)). TakesText bytes before (due source signer new)) sound.text_is takes.0)
     where
@@ -150,7 +150,7 @@ module _ {F G : Type 0} (source : FrameSource.Ghosts F) (signer : SignChunk.Ghos
       frames = few_stay (AreTurns (Ok (next.Frame bytes))) old new turns (record { frames = sound.frames; are = sound.frames_are; few = sound.few })
 
       by : (now : Option (List ℕ)) → due source signer new ≡ now → TakesText bytes (Some sound.text) now
-          → IsSound source signer new × (text_left source signer old ≡ bytes ++ text_left source signer new) × (0 < length bytes)
+          → IsSoundBody source signer new × (text_left source signer old ≡ bytes ++ text_left source signer new) × (0 < length bytes)
       by None now_is taken = absurd taken
       by (Some rest) now_is taken = (
         record {
@@ -173,7 +173,7 @@ module _ {F G : Type 0} (source : FrameSource.Ghosts F) (signer : SignChunk.Ghos
       )
 
   -- nothing is left of a body that is closed
-  pub closed_left : (body : AwsChunkedBody F G) → IsClosed body → text_left source signer body ≡ []
+  pub closed_left : (body : AwsChunkedBody F G) → IsBodyClosed body → text_left source signer body ≡ []
   closed_left body closed = by (due source signer body) (closed_due source signer body closed)
     where
       by : (left : Option (List ℕ)) → IsNothing left → told_text left ≡ []

@@ -26,7 +26,7 @@ use Rattle.eventstream.specs.Link.{chain, date_header, link_code, link_message, 
 use Rattle.eventstream.proofs.FrameLemmas.{length-be32, length-frame}
 use Rattle.eventstream.proofs.LinkLemmas.{length-link_code, link_framed}
 use Rattle.aws_auth.specs.MessageSigner.{SignerState, signer_in}
-use Rattle.chain_check.specs.Chain.{IsChained}
+use Rattle.chain_check.specs.Chain.{IsWholeChain}
 use Rattle.chain_check.specs.Walk.{chain_events}
 use Rattle.chain_check.specs.declared.chain_fault.ChainFault.{ChainFault}
 use Rattle.chain_check.specs.declared.chain_fault.ChainFault.TheVariants as chains
@@ -89,7 +89,7 @@ moment_in_years : IsInYears generated_moment
 moment_in_years = (omega arith, omega arith)
 
 -- the chain of events at the one moment is defined
-pub drawn_chained : (signer : Signer) (count draw : ℕ) (signature : List ℕ) → IsChained signer (drawn_events count draw) (replicate (suc count) generated_moment) signature
+pub drawn_chained : (signer : Signer) (count draw : ℕ) (signature : List ℕ) → IsWholeChain signer (drawn_events count draw) (replicate (suc count) generated_moment) signature
 unfolding drawn_events
 drawn_chained signer zero draw signature = (moment_in_years, link_framed signer signature [] generated_moment moment_in_years (omega arith))
 drawn_chained signer (suc count) draw signature =
@@ -306,10 +306,10 @@ check_passes seed bytes events drawn is same =
     proper : All IsProper events
     proper = rw drawn.2 (drawn_proper drawn.0 drawn.1)
 
-    chained : IsChained generated_signer events (one_more events) (signature_of generated_case)
+    chained : IsWholeChain generated_signer events (one_more events) (signature_of generated_case)
     chained =
-        subst (λ (es : List Parts). IsChained generated_signer es (one_more es) (signature_of generated_case)) (sym drawn.2)
-        (subst (λ (n : ℕ). IsChained generated_signer (drawn_events drawn.0 drawn.1) (replicate (suc n) generated_moment) (signature_of generated_case)) (sym (length-drawn_events drawn.0 drawn.1))
+        subst (λ (es : List Parts). IsWholeChain generated_signer es (one_more es) (signature_of generated_case)) (sym drawn.2)
+        (subst (λ (n : ℕ). IsWholeChain generated_signer (drawn_events drawn.0 drawn.1) (replicate (suc n) generated_moment) (signature_of generated_case)) (sym (length-drawn_events drawn.0 drawn.1))
         (drawn_chained generated_signer drawn.0 drawn.1 (signature_of generated_case)))
 
 -- so a fault of it only wants memory

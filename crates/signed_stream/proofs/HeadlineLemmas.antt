@@ -21,10 +21,10 @@ use Rattle.env_config.specs.Sections.{FileText}
 use Rattle.signed_stream.specs.declared.form.Form.{Form}
 use Rattle.signed_stream.specs.declared.status.StreamFault.{StreamFault}
 use Rattle.signed_stream.specs.Case.{job_case, request_moment}
-use Rattle.chain_check.specs.Chain.{IsChainOf, IsChained}
+use Rattle.chain_check.specs.Chain.{IsChainOf, IsWholeChain}
 use Rattle.chain_check.proofs.AcceptedLemmas.{accepted_chain}
 use Rattle.signed_stream.specs.Chain.{Refusal, first_refusal}
-use Rattle.signed_stream.specs.CheckRecord.{CarriesSeal, GaveRecord, GaveRecordParts, IsSound, check_plan, check_signer, checked_plan, sealed_plan, shown_events}
+use Rattle.signed_stream.specs.CheckRecord.{CarriesSeal, GaveRecord, GaveRecordParts, IsSoundRecord, check_plan, check_signer, checked_plan, sealed_plan, shown_events}
 use Rattle.signed_stream.specs.ChunkJob.{chunk_plan, shown_chunks}
 use Rattle.signed_stream.specs.ChunkWords.{ChunkWanted}
 use Rattle.signed_stream.specs.Command.{CheckWanted, Command, Wanted, bad_word, check_record, generate, show_settings, stream, write_chunks}
@@ -45,11 +45,11 @@ use Rattle.signed_stream.specs.Settings.{Selected, settings}
 use Rattle.signed_stream.specs.ShowSettings.{GaveTexts, IsShowable, settings_plan, shown_plan}
 use Rattle.signed_stream.specs.Shown.{shown_settings}
 use Rattle.signed_stream.specs.Halt.{Halt, ended, fails, halt_of, halted, refuses, wants}
-use Rattle.signed_stream.specs.Sign.{IsSigned, case_fault, fault_for, unsigned}
+use Rattle.signed_stream.specs.Sign.{IsSignedFor, case_fault, run_fault_for, unsigned}
 use Rattle.signed_stream.specs.Sources.{or_refused, selection, when_selected}
 use Rattle.signed_stream.specs.Status.{Ending, RunFault, done, job_too_large, no_memory, output_fault, read_fault, refused, moment_out_of_range}
 use Rattle.signed_stream.specs.Stream.{GaveJob, GaveReading, IsStreamable, IsValid, case_plan, job_plan, selected_plan, streamed, target_plan, written_valid}
-use Rattle.signed_stream.specs.Streaming.{CompletesStream, HasSent, IsSentSigned, job_with, stream_plan}
+use Rattle.signed_stream.specs.Streaming.{CompletesStream, HasSentStream, IsSentSigned, job_with, stream_plan}
 use Rattle.signed_stream.specs.Written.{case_refusal, written_stream, written_end, written_until}
 use Rattle.signed_stream.proofs.ChainLemmas.{frames_unrefused, front_unrefused, unrefused_frames}
 use Rattle.signed_stream.proofs.TargetLemmas.{reads_one, reads_one_way}
@@ -80,10 +80,10 @@ writes_done text end before now goes = by_end goes.ends
 record DoneCase (form : Form) (text : List ℕ) (c : Case) (events : List Parts) (moments : List Instant) (before now : Option (List ℕ)) : Type 0 where
   fit : unfit c ≡ None
   fits : unfit_signed_target c ≡ None
-  chained : IsChained c.signer events moments (signature_of c)
+  chained : IsWholeChain c.signer events moments (signature_of c)
   gains : Gains before now (written_stream form text c events moments)
 
-no_fault : (error : Option SigningError) → option_map fault_for error ≡ None → error ≡ None
+no_fault : (error : Option SigningError) → option_map run_fault_for error ≡ None → error ≡ None
 no_fault None none = refl
 no_fault (Some error) none = cc
 
@@ -231,7 +231,7 @@ done_texts gave env wanted bytes (Ok texts) given before now short spelled found
 -- an input whose record passes
 abbrev HasChecked : (List Place → FilesRead → Type 0) → List (List ℕ × List ℕ) → CheckWanted → List ℕ → Supplied → Option (List ℕ) → Option (List ℕ) → Type 0
 HasChecked gave env wanted bytes given before now =
-    (input : IsSound gave env wanted bytes given) × IsChainOf (check_signer wanted input.selected) input.signature input.read.chain input.events × Gains before now (shown_events input.events)
+    (input : IsSoundRecord gave env wanted bytes given) × IsChainOf (check_signer wanted input.selected) input.signature input.read.chain input.events × Gains before now (shown_events input.events)
 
 -- a chain that passes over a seal
 record HasPassed (signer : Signer) (chain : List ℕ) (seal : SealRead) (before now : Option (List ℕ)) : Type 0 where
@@ -256,7 +256,7 @@ done_record gave env wanted bytes (Err place) given before now short spelled fou
 done_record gave env wanted bytes (Ok parts) given before now short spelled found goes =
     let has = done_files env wanted.profile.service_id given.files (λ selected. sealed_plan (check_signer wanted selected) parts.chain given.seal) before now goes in
     let passed = done_seal (check_signer wanted has.selected) parts.chain given.seal before now has.goes in
-    let input : IsSound gave env wanted bytes given = record {
+    let input : IsSoundRecord gave env wanted bytes given = record {
       read = parts;
       texts = has.texts;
       selected = has.selected;
@@ -390,7 +390,7 @@ seal_is headers target region name (sealed_over own) signature told other =
     inr (ap sealed_over (sym told.2 ∙ sym (ap (λ (seal : SealParts). seal.signature) (told.3 other.0 other.1)) ∙ other.2))
 
 -- what passes completes
-completes_record : (gave : List Place → FilesRead → Type 0) (env : List (List ℕ × List ℕ)) (wanted : CheckWanted) (bytes : List ℕ) (given other : Supplied) (answer : Ending) (input : IsSound gave env wanted bytes other)
+completes_record : (gave : List Place → FilesRead → Type 0) (env : List (List ℕ × List ℕ)) (wanted : CheckWanted) (bytes : List ℕ) (given other : Supplied) (answer : Ending) (input : IsSoundRecord gave env wanted bytes other)
     → other.files ≡ given.files → GaveRecordParts gave env wanted input.read given → EndsAsPlanned (command_plan env (check_record wanted) bytes given) answer → Completes answer
 unfolding command_plan
 completes_record gave env wanted bytes given other answer input files found goes =
@@ -430,7 +430,7 @@ same_back (t ∷ front) a b is = same_back front a b (let others : front ++ a �
 pub headline_sent : (files : List FileText) (profile : List ℕ) (env : List (List ℕ × List ℕ)) (wanted : Wanted) (request : HttpRequest) (events : List Parts) (target : TargetRead) (selected : Selected)
     (old new taken : List Instant) (before now : Option (List ℕ)) (result : Result HttpRequest StreamFault) → settings files profile env wanted.profile.service_id ≡ Ok selected → new ≡ old ++ taken
     → TargetSpells (string_bytes request.target) target → GoesAsPlanned (stream_plan files profile env wanted (job_with request events) target taken) (ended result) before now
-    → IfOk result (IsSentSigned (job_with request events) wanted selected request old new) → HasSent files profile env wanted request events target taken before now result
+    → IfOk result (IsSentSigned (job_with request events) wanted selected request old new) → HasSentStream files profile env wanted request events target taken before now result
 headline_sent files profile env wanted request events target selected old new taken before now (Err fault) settled gained spells goes sent = tt
 headline_sent files profile env wanted request events target selected old new taken before now (Ok answer) settled gained spells goes sent =
     let did = done_stream files profile env wanted (job_with request events) target taken before now goes in
@@ -442,11 +442,11 @@ headline_sent files profile env wanted request events target selected old new ta
     (valid, did.1, signed_for sent.first valid.first selected valid.selected sent.target valid.parts first same parts sent.signed)
   where
     signed_for : (first one : Instant) (selected other : Selected) (parts target : Target) → first ≡ one → selected ≡ other → parts ≡ target
-        → IsSigned (job_case (job_with request events) wanted selected first parts) request answer → IsSigned (job_case (job_with request events) wanted other one target) request answer
+        → IsSignedFor (job_case (job_with request events) wanted selected first parts) request answer → IsSignedFor (job_case (job_with request events) wanted other one target) request answer
     signed_for first one selected other parts target is same spelled signed =
-        subst (λ (t : Target). IsSigned (job_case (job_with request events) wanted other one t) request answer) spelled
-        (subst (λ (s : Selected). IsSigned (job_case (job_with request events) wanted s one parts) request answer) same
-        (subst (λ (m : Instant). IsSigned (job_case (job_with request events) wanted selected m parts) request answer) is signed))
+        subst (λ (t : Target). IsSignedFor (job_case (job_with request events) wanted other one t) request answer) spelled
+        (subst (λ (s : Selected). IsSignedFor (job_case (job_with request events) wanted s one parts) request answer) same
+        (subst (λ (m : Instant). IsSignedFor (job_case (job_with request events) wanted selected m parts) request answer) is signed))
 
 -- it ends for no input
 pub completes_sent : {T : Type 0} (answer : Result T StreamFault) → Completes (ended answer) → CompletesStream (ended answer)

@@ -7,8 +7,8 @@ use Rattle.eventstream.specs.Frame.{frame}
 use Rattle.eventstream.specs.Key.{Signer}
 use Rattle.eventstream.specs.Laws.{IsProper, floored_message}
 use Rattle.eventstream.specs.Link.{chain, link_signature}
-use Rattle.event_io.specs.Laws.{IsChained as IsFramed, ReadsChain}
-use Rattle.chain_check.specs.Chain.{IsChained}
+use Rattle.event_io.specs.Laws.{IsChained, ReadsChain}
+use Rattle.chain_check.specs.Chain.{IsWholeChain}
 use Rattle.chain_check.specs.Walk.{chain_events}
 use Rattle.env_config.specs.Sections.{FileText}
 use Rattle.sigv4.specs.Signed.{signature_of}
@@ -32,7 +32,7 @@ unfolding chain_text
 raw_chain signer events moments seed = raw_frames (chain signer events moments seed)
 
 -- a chain is one of frames, whatever its moments
-is_framed : (signer : Signer) (events : List Parts) (moments : List Instant) (seed : List ℕ) → IsChained signer events moments seed → IsFramed signer events moments seed
+is_framed : (signer : Signer) (events : List Parts) (moments : List Instant) (seed : List ℕ) → IsWholeChain signer events moments seed → IsChained signer events moments seed
 is_framed signer [] [] seed chained = absurd chained
 is_framed signer [] (t ∷ []) seed chained = chained.1
 is_framed signer [] (t ∷ u ∷ moments) seed chained = absurd chained
@@ -47,14 +47,14 @@ module _ {files : List FileText} {profile : List ℕ} {env : List (List ℕ × L
   written_raw raw = rw raw (raw_chain (valid_case input).signer j.events input.others (signature_of (valid_case input)))
 
   pub raw_read : ((signer : Signer) (events : List Parts) (moments : List Instant) (signature : List ℕ) → All IsProper events
-      → IsFramed signer events moments signature → ReadsChain signer events moments signature)
+      → IsChained signer events moments signature → ReadsChain signer events moments signature)
       → wanted.form ≡ Raw → All IsProper j.events → ReadsEvents j.events (written_valid input)
   raw_read chains_read_back raw proper =
       let chained = is_framed (valid_case input).signer j.events input.others (signature_of (valid_case input)) input.chained in
       let read = chains_read_back (valid_case input).signer j.events input.others (signature_of (valid_case input)) proper chained in
       record { messages = read.messages; carried = read.carried; joined = rw (written_raw raw) read.joined }
 
-  pub raw_accepted : ((signer : Signer) (events : List Parts) (moments : List Instant) (seed : List ℕ) → All IsProper events → IsChained signer events moments seed
+  pub raw_accepted : ((signer : Signer) (events : List Parts) (moments : List Instant) (seed : List ℕ) → All IsProper events → IsWholeChain signer events moments seed
       → chain_events signer seed (concat (chain signer events moments seed)) ≡ Ok (map floored_message events))
       → wanted.form ≡ Raw → All IsProper j.events
       → AcceptsEvents (valid_case input).signer (signature_of (valid_case input)) j.events (written_valid input)

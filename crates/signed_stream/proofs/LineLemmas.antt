@@ -10,7 +10,8 @@ use Rattle.std.proofs.lemmas.Bool.{and_parts, eq-eqb, eqb-true}
 use Rattle.std.proofs.lemmas.Str.{utf8_valid_len-IsUtf8}
 use Rattle.signed_stream.specs.Fault.{placed}
 use Rattle.signed_stream.specs.Job.{Draft, JobParts, job_line_step, lines_from}
-use Rattle.signed_stream.specs.Lines.{job_lines, onto_first_line, header_pair, text_lines}
+use Rattle.env_config.specs.Line.{onto_first_line}
+use Rattle.signed_stream.specs.Lines.{job_lines, header_of_line, text_lines}
 use Rattle.signed_stream.specs.Draft.{ReadsJob, MovesDraft, texts_of_pair}
 use Rattle.signed_stream.specs.ProfileTexts.{MovesTexts, ProfileTexts, ReadsTexts, texts_from, texts_line_step}
 use Rattle.signed_stream.specs.declared.job.draft.Draft.{Draft as JobDraft}
@@ -97,20 +98,20 @@ begins_pair b [] is = let parts = and_parts (eqb b 58) false is in cc
 begins_pair b (c ∷ bytes) is = let parts = and_parts (eqb b 58) (eqb c 32) is in (bytes, rw (eqb-true b 58 parts.0, eqb-true c 32 parts.1) refl)
 
 -- where `: ` stands nowhere, there is no pair
-pair_none : (bs : List ℕ) → ((i : ℕ) → i ≤ length bs → (rest : List ℕ) → drop i bs ≢ 58 ∷ 32 ∷ rest) → header_pair bs ≡ None
-unfolding header_pair
+pair_none : (bs : List ℕ) → ((i : ℕ) → i ≤ length bs → (rest : List ℕ) → drop i bs ≢ 58 ∷ 32 ∷ rest) → header_of_line bs ≡ None
+unfolding header_of_line
 pair_none [] lacks = refl
 pair_none (b ∷ bytes) lacks = by_test (eqb b 58 && eqb (get_or bytes 0 0) 32) refl (pair_none bytes (λ i within rest. lacks (suc i) (omega arith) rest))
   where
-    by_test : (v : Bool) → (eqb b 58 && eqb (get_or bytes 0 0) 32) ≡ v → header_pair bytes ≡ None
-        → cond {A = Option (List ℕ × List ℕ)} v (Some ([], drop 1 bytes)) (option_map (λ (pair : List ℕ × List ℕ). (b ∷ pair.0, pair.1)) (header_pair bytes)) ≡ None
+    by_test : (v : Bool) → (eqb b 58 && eqb (get_or bytes 0 0) 32) ≡ v → header_of_line bytes ≡ None
+        → cond {A = Option (List ℕ × List ℕ)} v (Some ([], drop 1 bytes)) (option_map (λ (pair : List ℕ × List ℕ). (b ∷ pair.0, pair.1)) (header_of_line bytes)) ≡ None
     by_test true is again = let first = begins_pair b bytes is in absurd (lacks 0 (omega arith) first.0 first.1)
     by_test false is again = rw again refl
 
 -- where it stands first at a place, the pair is what stands before and what stands after
 pair_some : (bs : List ℕ) (i : ℕ) (tail : List ℕ) → drop i bs ≡ 58 ∷ 32 ∷ tail → ((k : ℕ) → k < i → (rest : List ℕ) → drop k bs ≢ 58 ∷ 32 ∷ rest)
-    → header_pair bs ≡ Some (take i bs, tail)
-unfolding header_pair
+    → header_of_line bs ≡ Some (take i bs, tail)
+unfolding header_of_line
 pair_some [] zero tail here lacks = cc
 pair_some [] (suc i) tail here lacks = cc
 pair_some (b ∷ bytes) zero tail here lacks =
@@ -121,15 +122,15 @@ pair_some (b ∷ bytes) zero tail here lacks =
 pair_some (b ∷ bytes) (suc i) tail here lacks =
     by_test (eqb b 58 && eqb (get_or bytes 0 0) 32) refl (pair_some bytes i tail here (λ k before rest. lacks (suc k) (omega arith) rest))
   where
-    by_test : (v : Bool) → (eqb b 58 && eqb (get_or bytes 0 0) 32) ≡ v → header_pair bytes ≡ Some (take i bytes, tail)
-        → cond {A = Option (List ℕ × List ℕ)} v (Some ([], drop 1 bytes)) (option_map (λ (pair : List ℕ × List ℕ). (b ∷ pair.0, pair.1)) (header_pair bytes)) ≡ Some (b ∷ take i bytes, tail)
+    by_test : (v : Bool) → (eqb b 58 && eqb (get_or bytes 0 0) 32) ≡ v → header_of_line bytes ≡ Some (take i bytes, tail)
+        → cond {A = Option (List ℕ × List ℕ)} v (Some ([], drop 1 bytes)) (option_map (λ (pair : List ℕ × List ℕ). (b ∷ pair.0, pair.1)) (header_of_line bytes)) ≡ Some (b ∷ take i bytes, tail)
     by_test true is again = let first = begins_pair b bytes is in absurd (lacks 0 (omega arith) first.0 first.1)
     by_test false is again = rw again refl
 
 -- what `split_once` gives at `: `
 pub pair_cut : (bs : List ℕ) (r : Option (Bor (List ℕ) × Bor (List ℕ))) → MatchOption r (FindsText (58 ∷ 32 ∷ []) bs None)
     (λ x. (i : ℕ) × (j : ℕ) × FindsText (58 ∷ 32 ∷ []) bs (Some (i, j)) × (x.0.now ≡ take i bs) × (x.1.now ≡ drop j bs) × (i ≤ j) × (length x.0.now ≡ i) × (length x.1.now + j ≡ length bs))
-    → texts_of_pair r ≡ header_pair bs
+    → texts_of_pair r ≡ header_of_line bs
 pair_cut bs None found = sym (pair_none bs (λ i within rest. found i within rest))
 pair_cut bs (Some x) found =
     let place = found.2 in

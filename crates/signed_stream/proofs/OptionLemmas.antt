@@ -2,9 +2,9 @@
 use Rattle.std.proofs.Common.{◌≡◌, ℕ, ◌<◌, ◌≤◌, ◌||◌, List, [], ◌∷◌, length, get_or, drop, map, refl, ap, arith}
 use Rattle.std.specs.List.{list_any}
 use Rattle.env_config.specs.declared.source.EnvConfigFileKind.{EnvConfigFileKind}
-use Rattle.signed_stream.specs.Command.{after_seed, bad_word, command, counted, generator_from, seeded}
+use Rattle.signed_stream.specs.Command.{after_seed, bad_word, command, count_given, generator_from, seeded}
 use Rattle.signed_stream.specs.Numbers.{natural_below}
-use Rattle.signed_stream.specs.ProfileOptions.{is_same_kind, kind_of, place_of}
+use Rattle.signed_stream.specs.ProfileOptions.{is_same_kind, place_kind, place_of}
 use Rattle.signed_stream.specs.declared.command.profile.NamedFile.{NamedFile}
 
 pub command_empty : {A : Type 0} (text : A → List ℕ) (words : List A) → length words < 1 → command (map text words) ≡ bad_word 1
@@ -31,11 +31,11 @@ seeded_empty seed text [] h = refl
 seeded_empty seed text (word ∷ words) h = absurd (omega arith)
 
 pub seeded_first : {A : Type 0} (seed : ℕ) (text : A → List ℕ) (words : List A) (word : A) → word ≡ get_or words 0 word → 1 ≤ length words
-    → seeded seed (map text words) ≡ counted seed (natural_below 100001 (text word)) (map text (drop 1 words))
+    → seeded seed (map text words) ≡ count_given seed (natural_below 100001 (text word)) (map text (drop 1 words))
 seeded_first seed text [] word here h = absurd (omega arith)
 seeded_first seed text (first ∷ words) word here h = rw here refl
 
 -- the kinds of named files are those of their places
-pub kind_named : (kind : EnvConfigFileKind) (files : List NamedFile) → list_any (λ place. is_same_kind kind (kind_of place)) (map place_of files) ≡ list_any (λ file. is_same_kind kind file.kind) files
+pub kind_named : (kind : EnvConfigFileKind) (files : List NamedFile) → list_any (λ place. is_same_kind kind (place_kind place)) (map place_of files) ≡ list_any (λ file. is_same_kind kind file.kind) files
 kind_named kind [] = refl
 kind_named kind (file ∷ files) = ap (λ rest. is_same_kind kind file.kind || rest) (kind_named kind files)

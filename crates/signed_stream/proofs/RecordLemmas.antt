@@ -10,7 +10,7 @@ use Rattle.smithy_core.specs.TextPairs.{lower}
 use Rattle.chain_check.specs.Chain.{IsByte}
 use Rattle.signed_stream.specs.EventHeader.{hex_bytes}
 use Rattle.signed_stream.specs.Fault.{placed}
-use Rattle.signed_stream.specs.Lines.{after_line, after_text, header_pair, job_lines, text_lines}
+use Rattle.signed_stream.specs.Lines.{after_job_line, after_text, header_of_line, job_lines, text_lines}
 use Rattle.signed_stream.specs.ProfileTexts.{ProfileTexts, texts_line_step}
 use Rattle.signed_stream.specs.Record.{MovesRecord, ReadsRecord, RecordParts, chain_line_step, head_line_step, is_record, no_record, record_from, record_of, record_step, request_line, request_line_step, spelled_record, text_line_step}
 use Rattle.signed_stream.specs.declared.job.fault.LineFault.{LineFault}
@@ -62,7 +62,7 @@ request_line_bytes parts line small = by_sent (request_line line)
 
 head_line_bytes : (parts : RecordParts) (line : List ℕ) → All IsByte parts.chain → All IsByte (chain_in (head_line_step parts line))
 unfolding head_line_step
-head_line_bytes parts line small = by_test (length line == 0) (header_pair line)
+head_line_bytes parts line small = by_test (length line == 0) (header_of_line line)
   where
     by_test : (test : Bool) (header : Option (List ℕ × List ℕ))
         → All IsByte (chain_in (if test then Some (record parts { stage = Chain }) else option_map (λ header. record parts { headers = parts.headers ++ (lower header.0, header.1) ∷ [] }) header))
@@ -98,7 +98,7 @@ lines_bytes place parts [] small = by_stage parts.stage
 lines_bytes place parts (line ∷ lines) small = by_step (record_step parts.stage parts line) (line_bytes parts.stage parts line small) (λ next. lines_bytes (place + 1) next lines)
   where
     by_step : (step : Option RecordParts) → All IsByte (chain_in step) → ((next : RecordParts) → All IsByte next.chain → All IsByte (chain_read (record_from (place + 1) next lines)))
-        → All IsByte (chain_read (after_line place (λ next. record_from (place + 1) next lines) step))
+        → All IsByte (chain_read (after_job_line place (λ next. record_from (place + 1) next lines) step))
     by_step None still others = All-nil IsByte
     by_step (Some next) still others = others next still
 

@@ -15,7 +15,7 @@ use Rattle.sigv4.specs.declared.error.SigningError.{SigningError}
 use Rattle.sigv4.specs.declared.error.SigningError.TheVariants as errors
 use Rattle.sigv4.specs.declared.settings.SigningSettings.{SigningSettings}
 use Rattle.aws_auth.specs.Error.{override_error}
-use Rattle.aws_auth.specs.Inputs.{Chosen, chosen, chosen_case, chosen_text, given_config}
+use Rattle.aws_auth.specs.Inputs.{ChosenInputs, chosen, chosen_case, chosen_text, given_config}
 use Rattle.aws_auth.specs.NameOverride.{MayAnswer, NameAnswer}
 use Rattle.eventstream.specs.Key.{Signer}
 use Rattle.eventstream.specs.Told.{sealed}
@@ -39,12 +39,12 @@ use Rattle.signed_stream.specs.Chain.{outside_years}
 use Rattle.signed_stream.specs.Command.{Wanted}
 use Rattle.signed_stream.specs.Plan.{TargetSpells, TargetRead, accepted, unaccepted, unread}
 use Rattle.signed_stream.specs.Halt.{Halt, fails, refuses, wants}
-use Rattle.signed_stream.specs.Sign.{GivesName, IsRequestError, SealsFor, SignsJob, Unsigned, case_fault, error_halt, fault_for, identity_case, request_fault, unsigned}
+use Rattle.signed_stream.specs.Sign.{GivesName, IsRequestError, SealsFor, SignsJob, Unsigned, case_fault, error_halt, run_fault_for, identity_case, request_fault, unsigned}
 use Rattle.signed_stream.specs.Status.{moment_out_of_range}
 use Rattle.signed_stream.proofs.TestLemmas.{IsPartError, IsTestError, unsigned_test}
 
 -- what is chosen by what was wanted, for a region
-abbrev pub wanted_choice : Wanted → List ℕ → Instant → Chosen
+abbrev pub wanted_choice : Wanted → List ℕ → Instant → ChosenInputs
 wanted_choice wanted region first = record {
   region = Some region;
   name = Some wanted.name;
@@ -68,7 +68,7 @@ right_identity (Token token) can = absurd can
 -- no test fails
 passed_fault : (years : Bool) (t : Instant) (error : Option SigningError)
     → option_or (if years then None else Some (auth.Signing (errors.MomentOutOfRange t))) (option_map auth.Signing error) ≡ None
-    → option_or (if years then None else Some (moment_out_of_range t)) (option_map fault_for error) ≡ None
+    → option_or (if years then None else Some (moment_out_of_range t)) (option_map run_fault_for error) ≡ None
 passed_fault true t None none = refl
 passed_fault true t (Some error) none = cc
 passed_fault false t error none = cc

@@ -18,7 +18,7 @@ use Rattle.signed_stream.specs.Carriers.{IsAfterTexts}
 use Rattle.signed_stream.specs.Plan.{FilesRead, loaded, unloaded, unreadable}
 use Rattle.signed_stream.specs.ProfileOptions.{place_of}
 use Rattle.signed_stream.specs.ProfileTexts.{ProfileTexts}
-use Rattle.signed_stream.specs.Settings.{GivesSettings, selected_of, settings}
+use Rattle.signed_stream.specs.Settings.{GivesSettings, selected_in, settings}
 use Rattle.signed_stream.specs.Sources.{DiskGives, given_place, given_places, or_usual, selection, source_places}
 use Rattle.signed_stream.specs.Status.{could_not_read_file, ending_of, load_ending, settings_ending}
 use Rattle.signed_stream.specs.declared.command.profile.NamedFile.{NamedFile}
@@ -116,8 +116,8 @@ module _ {D : Type 0} (answers : D → List ℕ → Result (Vec ℕ) DiskError �
   settings_lack places service_id before now source faults.NoMemory status found gives ends = (unloaded, tt, rw ends refl)
 
   pub settings_select : (places : List Place) (service_id : Option (List ℕ)) (before now : D) (source : Source) (given : Settings)
-      → Loads answers reads tells env places before now (Ok source) → settings (map file_of source.files.items) (string_bytes source.profile) env service_id ≡ Ok (selected_of given)
-      → (files : FilesRead) × DiskGives answers reads tells env before now places files × (selection env service_id files ≡ Ok (selected_of given))
+      → Loads answers reads tells env places before now (Ok source) → settings (map file_of source.files.items) (string_bytes source.profile) env service_id ≡ Ok (selected_in given)
+      → (files : FilesRead) × DiskGives answers reads tells env before now places files × (selection env service_id files ≡ Ok (selected_in given))
   settings_select places service_id before now source given found gives = (loaded (map file_of source.files.items), found.0, rw (← found.1, gives) refl)
 
 -- files that aren't loaded end a run once its texts were read

@@ -21,11 +21,11 @@ use Rattle.signed_stream.specs.Job.{JobParts}
 use Rattle.signed_stream.specs.Plan.{GoesAsPlanned, IsNeeded, Plan, TargetRead, TargetSpells, accepted, stops, unaccepted, unread}
 use Rattle.signed_stream.specs.Sending.{SendsAll}
 use Rattle.signed_stream.specs.Settings.{GivesSettings, Selected, settings}
-use Rattle.signed_stream.specs.Sign.{IsSigned, SealsFor, Unsigned, case_fault, request_fault, target_fault}
+use Rattle.signed_stream.specs.Sign.{IsSignedFor, SealsFor, Unsigned, case_fault, request_fault, target_fault}
 use Rattle.signed_stream.specs.Status.{RunFault, invalid_uri, missing_credentials, missing_signing_region, moment_out_of_range, parse_error, refused, settings_ending}
 use Rattle.signed_stream.specs.Stream.{case_plan, request_plan, selected_plan, target_plan}
 use Rattle.signed_stream.specs.Streaming.{CompletesStream, Streams, stream_plan}
-use Rattle.signed_stream.specs.Written.{case_refusal, head_text}
+use Rattle.signed_stream.specs.Written.{case_refusal, head_in_form}
 use Rattle.signed_stream.specs.declared.form.Form.{Form}
 use Rattle.signed_stream.specs.declared.settings.SettingsFault.{SettingsFault}
 use Rattle.signed_stream.specs.declared.settings.SettingsFault.TheVariants as faults
@@ -94,11 +94,11 @@ module _ (j : JobParts) (wanted : Wanted) (selected : Selected) (first : Instant
     signed_plan : (later : List Instant) → planned (accepted target) (first ∷ later) ≡ case_plan wanted.form j.target (job_case j wanted selected first target) j.events later None
     signed_plan later = passed_plan wanted.form j.target (request_moment wanted first) (job_case j wanted selected first) j.events later target passed
 
-    module _ (old new : HttpRequest) (signer : SignerState (Unit {0})) (text_is : string_bytes old.target ≡ j.target) (signed : IsSigned (job_case j wanted selected first target) old new)
+    module _ (old new : HttpRequest) (signer : SignerState (Unit {0})) (text_is : string_bytes old.target ≡ j.target) (signed : IsSignedFor (job_case j wanted selected first target) old new)
         (seals : SealsFor (job_case j wanted selected first target) signer) where
       -- a request that is signed is sent, and its events after it
       pub signed_goes : {T : Type 0} (later : List Instant) (before now : Option (List ℕ)) (answer : Result T StreamFault)
-          → SendsAll wanted.form (head_text wanted.form (string_bytes new.method) (string_bytes new.target) new.headers) (signer_in signer) j.events (running_signature signer) before now later answer
+          → SendsAll wanted.form (head_in_form wanted.form (string_bytes new.method) (string_bytes new.target) new.headers) (signer_in signer) j.events (running_signature signer) before now later answer
           → GoesAsPlanned (planned (accepted target) (first ∷ later)) (ended answer) before now
       signed_goes later before now answer sends =
           let c = job_case j wanted selected first target in
@@ -123,7 +123,7 @@ module _ (j : JobParts) (wanted : Wanted) (selected : Selected) (first : Instant
       -- so the moments are the first and these
       pub signed_streams : {T : Type 0} (gave : List Instant → Type 0) (start middle end later : List Instant) (before now : Option (List ℕ)) (answer : Result T StreamFault)
           → middle ≡ start ++ first ∷ [] → end ≡ middle ++ later → gave (first ∷ later) → TargetSpells (string_bytes old.target) (accepted target)
-          → SendsAll wanted.form (head_text wanted.form (string_bytes new.method) (string_bytes new.target) new.headers) (signer_in signer) j.events (running_signature signer) before now later answer
+          → SendsAll wanted.form (head_in_form wanted.form (string_bytes new.method) (string_bytes new.target) new.headers) (signer_in signer) j.events (running_signature signer) before now later answer
           → Streams gave start end (string_bytes old.target) (λ target taken. selected_plan j wanted target taken selected) (ended answer) before now
       signed_streams gave start middle end later before now answer one more gives spells sends = record {
         target = accepted target;

@@ -32,7 +32,7 @@ use Rattle.signed_stream.specs.ShowSettings.{settings_plan, shown_plan}
 use Rattle.signed_stream.specs.ProfileOptions.{ProfileWanted}
 use Rattle.signed_stream.specs.ProfileTexts.{ProfileTexts, profile_texts}
 use Rattle.signed_stream.specs.Shown.{shown_settings}
-use Rattle.signed_stream.specs.Sign.{case_fault, fault_for, unsigned}
+use Rattle.signed_stream.specs.Sign.{case_fault, run_fault_for, unsigned}
 use Rattle.signed_stream.specs.Sources.{or_refused, selection, when_selected}
 use Rattle.signed_stream.specs.Status.{Ending, RunFault, done, invalid_uri, job_too_large, moment_out_of_range, no_memory, refused}
 use Rattle.signed_stream.specs.Stream.{GaveReading, ReadsUnfitTarget, case_plan, job_plan, selected_plan, target_plan}
@@ -47,11 +47,11 @@ other_stop end other (inr (inl is)) = cc
 other_stop end other (inr (inr is)) = cc
 
 -- a test that tells of the target
-target_test : (c : Case) (error : SigningError) → IsTestError c error → fault_for error ≡ invalid_uri → takes_no_more (parameters c) c.target ≡ true
+target_test : (c : Case) (error : SigningError) → IsTestError c error → run_fault_for error ≡ invalid_uri → takes_no_more (parameters c) c.target ≡ true
 target_test c error (inl target) is = target.1
 target_test c error (inr part) is = absurd (by_error error part is)
   where
-    by_error : (error : SigningError) → IsPartError error → fault_for error ≡ invalid_uri → ⊥
+    by_error : (error : SigningError) → IsPartError error → run_fault_for error ≡ invalid_uri → ⊥
     by_error (errors.InvalidHeaderName place) part is = cc
     by_error (errors.InvalidHeaderValue place) part is = cc
     by_error errors.MissingHost part is = cc
@@ -77,7 +77,7 @@ case_refused : (form : Form) (text : List ℕ) (c : Case) (events : List Parts) 
     → takes_no_more (parameters c) c.target ≡ true
 case_refused form text c events moments (Some fault) is (inl end) = by_error (unsigned c) refl (let same : fault ≡ invalid_uri = cc in rw same at is)
   where
-    by_error : (error : Option SigningError) → unsigned c ≡ error → option_map fault_for error ≡ Some invalid_uri → takes_no_more (parameters c) c.target ≡ true
+    by_error : (error : Option SigningError) → unsigned c ≡ error → option_map run_fault_for error ≡ Some invalid_uri → takes_no_more (parameters c) c.target ≡ true
     by_error None found is = cc
     by_error (Some error) found is = target_test c error (unsigned_test c error found) cc
 case_refused form text c events moments (Some fault) is (inr (inl end)) = cc

@@ -11,7 +11,7 @@ use Rattle.signed_stream.specs.Plan.{FilesRead, GoesAsPlanned, IsNeeded, Plan, S
 use Rattle.signed_stream.specs.ProfileTexts.{ProfileTexts}
 use Rattle.signed_stream.specs.Record.{RecordParts}
 use Rattle.signed_stream.specs.Running.{Gave, OfClock, RunsAsPlanned, TakesMoments, TellsInput, read_plan}
-use Rattle.signed_stream.specs.Settings.{Selected, selected_of}
+use Rattle.signed_stream.specs.Settings.{Selected, selected_in}
 use Rattle.signed_stream.specs.ShowSettings.{GaveTexts, settings_plan}
 use Rattle.signed_stream.specs.Sources.{selection, source_places}
 use Rattle.signed_stream.specs.Status.{Ending, bad_job, check_failed, could_not_read_file, done, ending_of, no_memory, output_fault, refused}
@@ -70,14 +70,14 @@ IsAfterInput end = IsAfterTexts end
 -- ## What is selected
 
 -- the settings are what is selected, or the run ends so
-abbrev pub GivesSelected : Result Selected Ending → Result Settings Status → Type 0
-GivesSelected outcome (Ok settings) = outcome ≡ Ok (selected_of settings)
-GivesSelected outcome (Err status) = outcome ≡ Err (ending_of status)
+abbrev pub AnswersSettings : Result Selected Ending → Result Settings Status → Type 0
+AnswersSettings outcome (Ok settings) = outcome ≡ Ok (selected_in settings)
+AnswersSettings outcome (Err status) = outcome ≡ Err (ending_of status)
 
 -- there is what the disk gave for the files that are named and these texts, and what it selects is answered
 abbrev pub Selects : (List Place → FilesRead → Type 0) → List (List ℕ × List ℕ) → ProfileWanted → ProfileTexts → Result Settings Status → Type 0
 Selects gave env wanted texts result =
-    (files : FilesRead) × gave (source_places wanted.files texts) files × GivesSelected (selection env wanted.service_id files) result
+    (files : FilesRead) × gave (source_places wanted.files texts) files × AnswersSettings (selection env wanted.service_id files) result
 
 -- the ends without anything selected: before the target is read
 abbrev pub IsUnselected : Ending → Type 0

@@ -90,7 +90,7 @@ check_plan env wanted given (Err place) = stops (bad_job place)
 
 -- The record passes with what I/O supplied: the input isn't too large, and is a record; the files are there, and give a key id, a secret and a region; its
 -- request carries a seal, and its frames are a chain over the signature of that.
-pub record IsSound (gave : List Place → FilesRead → Type 0) (env : List (List ℕ × List ℕ)) (wanted : CheckWanted) (bytes : List ℕ) (given : Supplied) : Type 0 where
+pub record IsSoundRecord (gave : List Place → FilesRead → Type 0) (env : List (List ℕ × List ℕ)) (wanted : CheckWanted) (bytes : List ℕ) (given : Supplied) : Type 0 where
   pub read : RecordParts
   pub texts : List FileText
   pub selected : Selected

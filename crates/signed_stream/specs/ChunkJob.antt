@@ -4,7 +4,7 @@ use Rattle.std.specs.List.{AllByRecursion}
 use Rattle.smithy_core.specs.declared.outside.frame_part.FramePart.{FramePart}
 use Rattle.smithy_core.specs.declared.outside.frame_source.FrameSource as FrameSource
 use Rattle.sigv4.specs.declared.chunk_signer.SignChunk as SignChunk
-use Rattle.aws_chunked.specs.Body.{Trailer, lines_length, options_in, parts_due, source_of, total_of}
+use Rattle.aws_chunked.specs.Body.{Trailer, lines_length, options_in, parts_due, body_source, total_of}
 use Rattle.aws_chunked.specs.Due.{due}
 use Rattle.aws_chunked.specs.Options.{declared_length}
 use Rattle.aws_chunked.specs.Text.{Part, chunk, chunked_text, tail}
@@ -34,7 +34,7 @@ IsPartWith trailers (chunk bytes) = Unit {0}
 IsPartWith trailers (tail last) = last ≡ trailers
 
 -- An unsigned body of a few frames, whose data and trailers have the declared lengths: it has no fault.
-pub record IsSound {F G : Type 0} (source : FrameSource.Ghosts F) (signer : SignChunk.Ghosts G) (body : AwsChunkedBody F G) : Type 0 where
+pub record IsSoundBody {F G : Type 0} (source : FrameSource.Ghosts F) (signer : SignChunk.Ghosts G) (body : AwsChunkedBody F G) : Type 0 where
   pub text : List ℕ
   pub text_is : due source signer body ≡ Some text
   pub trailers : List Trailer
@@ -46,7 +46,7 @@ pub record IsSound {F G : Type 0} (source : FrameSource.Ghosts F) (signer : Sign
   pub parts_are : parts_due source body ≡ Some parts
   pub with_trailers : AllByRecursion (IsPartWith trailers) parts
   pub frames : List FramePart
-  pub frames_are : source.left (source_of body) ≡ Some frames
+  pub frames_are : source.left (body_source body) ≡ Some frames
   pub few : length frames ≤ 2
 
 -- the text of a sound body that is still to be answered
@@ -55,4 +55,4 @@ text_left source signer body = told_text (due source signer body)
 
 -- the body is sound, and its text is this
 abbrev pub IsBodyOf : {F G : Type 0} → FrameSource.Ghosts F → SignChunk.Ghosts G → List ℕ → AwsChunkedBody F G → Type 0
-IsBodyOf source signer text body = IsSound source signer body × (text_left source signer body ≡ text)
+IsBodyOf source signer text body = IsSoundBody source signer body × (text_left source signer body ≡ text)

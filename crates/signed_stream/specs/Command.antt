@@ -58,7 +58,7 @@ pub data Command : Type 0 where
 -- ## `stream`
 
 -- what the words so far gave, and the option that waits for its value
-pub record Options : Type 0 where
+pub record OptionsGiven : Type 0 where
   pub name : Option (List ℕ)
   pub at : Option Instant
   pub signing : SigningOptions
@@ -69,20 +69,20 @@ pub record Options : Type 0 where
   pub awaited : Option Valued
 
 -- no options
-abbrev pub no_options : Options
+abbrev pub no_options : OptionsGiven
 no_options = record { name = None; at = None; signing = default_options; token_name = None; skew_millis = None; form = HexLines; profile = nothing_wanted; awaited = None }
 
 -- goes on with more words, or ends
 pub data WordTaken : Type 0 where
-  options : Options → WordTaken
+  options : OptionsGiven → WordTaken
   ends : Command → WordTaken
 
 -- an option that stands once
-abbrev pub once : ℕ → Bool → Options → WordTaken
+abbrev pub once : ℕ → Bool → OptionsGiven → WordTaken
 once place stood given = if stood then ends (bad_word place) else options given
 
 -- an option without a value at a place, or none of them
-abbrev pub take_flag : ℕ → Options → List ℕ → WordTaken
+abbrev pub take_flag : ℕ → OptionsGiven → List ℕ → WordTaken
 take_flag place given word =
     if bytes_eq word (codes "--query") then once place (is_query (location_of given.signing.signature_type)) (record given { signing = record given.signing { signature_type = HttpRequestQueryParams } })
     else if bytes_eq word (codes "--omit-token") then once place given.signing.omit_session_token (record given { signing = record given.signing { omit_session_token = true } })
@@ -94,12 +94,12 @@ take_flag place given word =
     else ends (bad_word place)
 
 -- an option of profiles at a place, whose files may repeat, or none of them
-abbrev pub take_profile_option : ℕ → Options → Option ProfileOption → List ℕ → WordTaken
+abbrev pub take_profile_option : ℕ → OptionsGiven → Option ProfileOption → List ℕ → WordTaken
 take_profile_option place given None word = take_flag place given word
 take_profile_option place given (Some option) word = once place (stands given.profile option && not (names_file option)) (record given { awaited = Some (OfProfile option) })
 
 -- the word at a place, where it is an option
-abbrev pub take_option : ℕ → Options → List ℕ → WordTaken
+abbrev pub take_option : ℕ → OptionsGiven → List ℕ → WordTaken
 take_option place given word =
     if bytes_eq word (codes "--name") then once place (is_some given.name) (record given { awaited = Some Name })
     else if bytes_eq word (codes "--at") then once place (is_some given.at) (record given { awaited = Some At })
@@ -109,22 +109,22 @@ take_option place given word =
     else take_profile_option place given (profile_option word) word
 
 -- the value of `--at` at a place: the seconds of the moment, where the word is a number of 64 bits
-abbrev pub take_moment : ℕ → Options → Option ℤ → WordTaken
+abbrev pub take_moment : ℕ → OptionsGiven → Option ℤ → WordTaken
 take_moment place given None = ends (bad_word place)
 take_moment place given (Some secs) = options (record given { at = Some (record { secs = secs; nanos = 0 }); awaited = None })
 
 -- the value of `--expires`: seconds, where the word is a natural number of 64 bits
-abbrev pub take_expiry : ℕ → Options → Option ℕ → WordTaken
+abbrev pub take_expiry : ℕ → OptionsGiven → Option ℕ → WordTaken
 take_expiry place given None = ends (bad_word place)
 take_expiry place given (Some seconds) = options (record given { signing = record given.signing { expires_in = Some seconds }; awaited = None })
 
 -- the value of `--skew`: milliseconds, where the word is a number of 64 bits
-abbrev pub take_skew : ℕ → Options → Option ℤ → WordTaken
+abbrev pub take_skew : ℕ → OptionsGiven → Option ℤ → WordTaken
 take_skew place given None = ends (bad_word place)
 take_skew place given (Some millis) = options (record given { skew_millis = Some millis; awaited = None })
 
 -- the word at a place: the value of the option that waits for one, or else an option
-abbrev pub take_word : ℕ → Options → Option Valued → List ℕ → WordTaken
+abbrev pub take_word : ℕ → OptionsGiven → Option Valued → List ℕ → WordTaken
 take_word place given None word = take_option place given word
 take_word place given (Some Name) word = options (record given { name = Some word; awaited = None })
 take_word place given (Some At) word = take_moment place given (number w64 word)
@@ -134,19 +134,19 @@ take_word place given (Some Skew) word = take_skew place given (number w64 word)
 take_word place given (Some (OfProfile option)) word = options (record given { profile = with_profile_option given.profile option word; awaited = None })
 
 -- the words are over: the command, or the place after the last word
-abbrev pub command_of : ℕ → Options → Option (List ℕ) → Option Valued → Command
+abbrev pub command_of : ℕ → OptionsGiven → Option (List ℕ) → Option Valued → Command
 command_of place given name (Some option) = bad_word place
 command_of place given None None = bad_word place
 command_of place given (Some name) None =
     stream (record { name = name; at = given.at; signing = given.signing; token_name = given.token_name; skew_millis = given.skew_millis; form = given.form; profile = given.profile })
 
 -- goes on, where the word didn't end the matter
-abbrev pub after_taken : WordTaken → (Options → Command) → Command
+abbrev pub after_taken : WordTaken → (OptionsGiven → Command) → Command
 after_taken (options given) others = others given
 after_taken (ends command) others = command
 
 -- the words from a place on, after those that gave this
-abbrev pub options_from : ℕ → Options → List (List ℕ) → Command
+abbrev pub options_from : ℕ → OptionsGiven → List (List ℕ) → Command
 options_from place given [] = command_of place given given.name given.awaited
 options_from place given (word ∷ words) = after_taken (take_word place given given.awaited word) (λ more. options_from (place + 1) more words)
 
@@ -182,9 +182,9 @@ after_word place others None = bad_word place
 after_word place others (Some given) = others given
 
 -- the words from a place on, after those that gave this
-abbrev pub settings_from : ℕ → ProfileGiven → List (List ℕ) → Command
-settings_from place given [] = settings_command place given.profile given.awaited
-settings_from place given (word ∷ words) = after_word place (λ more. settings_from (place + 1) more words) (take_profile_word given given.awaited word)
+abbrev pub settings_words : ℕ → ProfileGiven → List (List ℕ) → Command
+settings_words place given [] = settings_command place given.profile given.awaited
+settings_words place given (word ∷ words) = after_word place (λ more. settings_words (place + 1) more words) (take_profile_word given given.awaited word)
 
 -- ## `check`
 
@@ -236,15 +236,15 @@ check_from place given (word ∷ words) = after_word place (λ more. check_from 
 -- ## `gen`
 
 -- after a seed and a count: they are over
-abbrev pub counted : ℕ → Option ℕ → List (List ℕ) → Command
-counted seed None words = bad_word 3
-counted seed (Some count) [] = generate seed count
-counted seed (Some count) (word ∷ words) = bad_word 4
+abbrev pub count_given : ℕ → Option ℕ → List (List ℕ) → Command
+count_given seed None words = bad_word 3
+count_given seed (Some count) [] = generate seed count
+count_given seed (Some count) (word ∷ words) = bad_word 4
 
 -- after a seed of 64 bits: the count, at most 100,000
 abbrev pub seeded : ℕ → List (List ℕ) → Command
 seeded seed [] = bad_word 3
-seeded seed (word ∷ words) = counted seed (natural_below 100001 word) words
+seeded seed (word ∷ words) = count_given seed (natural_below 100001 word) words
 
 -- goes on, where the first word is a seed
 abbrev pub after_seed : Option ℕ → List (List ℕ) → Command
@@ -270,7 +270,7 @@ unfoldable pub command : List (List ℕ) → Command
 command [] = bad_word 1
 command (word ∷ words) =
     if bytes_eq word (codes "stream") then options_from 2 no_options words
-    else if bytes_eq word (codes "settings") then settings_from 2 no_profile_given words
+    else if bytes_eq word (codes "settings") then settings_words 2 no_profile_given words
     else if bytes_eq word (codes "check") then check_from 2 no_check_given words
     else if bytes_eq word (codes "gen") then generator_from words
     else if bytes_eq word (codes "chunk") then chunk_command (chunk_from 2 no_chunk_given words)

@@ -7,7 +7,7 @@ use Rattle.smithy_core.specs.Header.{Header}
 use Rattle.smithy_core.specs.declared.header.HeaderValue.{HeaderValue}
 use Rattle.smithy_core.specs.declared.header.HeaderValue.TheVariants.{Bool as Truth, Byte, Int16, Int32, Int64, ByteArray, String as Text, Timestamp, Uuid}
 use Rattle.smithy_core.specs.Moment.{Instant}
-use Rattle.signed_stream.specs.Lines.{rest_of, word_of}
+use Rattle.signed_stream.specs.Lines.{after_word_of, word_of}
 use Rattle.signed_stream.specs.Numbers.{natural_below, number}
 
 -- the bytes of an even number of hexadecimal digits, in either case
@@ -26,7 +26,7 @@ moment_of None nanos = None
 
 -- the moment of `SECS NANOS`
 unfoldable pub spelled_time : List ℕ → Option Instant
-spelled_time text = moment_of (number w64 (word_of text)) (natural_below 1000000000 (rest_of text))
+spelled_time text = moment_of (number w64 (word_of text)) (natural_below 1000000000 (after_word_of text))
 
 -- the value, where the text is empty
 abbrev pub if_empty : List ℕ → HeaderValue → Option HeaderValue
@@ -61,4 +61,4 @@ header_value kind text =
 unfoldable pub event_header : List ℕ → Option Header
 event_header rest =
     if length (word_of rest) == 0 then None
-    else option_map (λ value. record { name = word_of rest; value = value }) (header_value (word_of (rest_of rest)) (rest_of (rest_of rest)))
+    else option_map (λ value. record { name = word_of rest; value = value }) (header_value (word_of (after_word_of rest)) (after_word_of (after_word_of rest)))

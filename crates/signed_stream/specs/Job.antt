@@ -6,7 +6,7 @@ use Rattle.smithy_core.specs.TextPairs.{lower}
 use Rattle.smithy_core.specs.Message.{Parts}
 use Rattle.smithy_core.specs.Header.{Header}
 use Rattle.signed_stream.specs.EventHeader.{hex_bytes, event_header}
-use Rattle.signed_stream.specs.Lines.{after_line, after_text, header_pair, rest_of, text_lines, word_of}
+use Rattle.signed_stream.specs.Lines.{after_job_line, after_text, header_of_line, after_word_of, text_lines, word_of}
 use Rattle.signed_stream.specs.ProfileTexts.{ProfileTexts, no_texts, profile_step}
 
 -- ## Events
@@ -51,7 +51,7 @@ target_step draft rest = if is_some draft.target then None else Some (record dra
 -- `header NAME: VALUE`: the name goes in lower case
 unfoldable pub header_step : Draft → List ℕ → Option Draft
 header_step draft rest =
-    option_map (λ header. record draft { headers = draft.headers ++ (lower header.0, header.1) ∷ [] }) (header_pair rest)
+    option_map (λ header. record draft { headers = draft.headers ++ (lower header.0, header.1) ∷ [] }) (header_of_line rest)
 
 -- `body HEX`: once, an even number of digits in either case
 unfoldable pub body_step : Draft → List ℕ → Option Draft
@@ -100,7 +100,7 @@ word_step draft word rest =
 
 -- what a line does; an empty one does nothing
 unfoldable pub job_line_step : Draft → List ℕ → Option Draft
-job_line_step draft line = if length line == 0 then Some draft else word_step draft (word_of line) (rest_of line)
+job_line_step draft line = if length line == 0 then Some draft else word_step draft (word_of line) (after_word_of line)
 
 -- ## The job
 
@@ -124,7 +124,7 @@ job_of place draft None target = Err place
 -- what the lines from a place on spell, after those that gave the draft
 abbrev pub lines_from : ℕ → Draft → List (List ℕ) → Result JobParts ℕ
 lines_from place draft [] = job_of place draft draft.method draft.target
-lines_from place draft (line ∷ lines) = after_line place (λ next. lines_from (place + 1) next lines) (job_line_step draft line)
+lines_from place draft (line ∷ lines) = after_job_line place (λ next. lines_from (place + 1) next lines) (job_line_step draft line)
 
 -- the job that the bytes spell, or the place of the first bad line
 unfoldable pub job : List ℕ → Result JobParts ℕ

@@ -2,7 +2,7 @@
 use Rattle.std.specs.Prelude.{◌≡◌, ℕ, Option, Some, None, option_map, Result, Ok, Err, string_bytes}
 use Rattle.std.specs.Option.{option_copied}
 use Rattle.signed_stream.specs.ChunkWords.{chunk_wanted}
-use Rattle.signed_stream.specs.Command.{CheckGiven, CheckWanted, Command, bad_word, check_record, generate, write_chunks, stream, show_settings, Options, ProfileGiven, WordTaken, Wanted, options, ends}
+use Rattle.signed_stream.specs.Command.{CheckGiven, CheckWanted, Command, bad_word, check_record, generate, write_chunks, stream, show_settings, OptionsGiven, ProfileGiven, WordTaken, Wanted, options, ends}
 use Rattle.signed_stream.specs.ProfileOptions.{profile_wanted}
 use Rattle.signed_stream.specs.declared.command.Command.{Command as Commanded}
 use Rattle.signed_stream.specs.declared.command.Command.TheVariants.{Generate, OfInput}
@@ -87,8 +87,8 @@ ReadsProfile command (Ok profile) = command ≡ show_settings (profile_wanted pr
 ReadsProfile command (Err fault) = TellsWordsFault command fault
 
 -- what the words so far gave
-abbrev pub options_of : GivenOptions → Options
-options_of given = record {
+abbrev pub given_options : GivenOptions → OptionsGiven
+given_options given = record {
   name = option_copied given.name;
   at = given.at;
   signing = given.signing;
@@ -100,10 +100,10 @@ options_of given = record {
 }
 
 -- the word is taken as the step says, or ends the matter; or memory ran out
-abbrev pub Takes : WordTaken → GivenOptions → Result (Unit {0}) WordsFault → Type 0
-Takes taken now (Ok _) = taken ≡ options (options_of now)
-Takes taken now (Err (BadWord place)) = taken ≡ ends (bad_word place)
-Takes taken now (Err NoMemory) = Unit {0}
+abbrev pub TakesWord : WordTaken → GivenOptions → Result (Unit {0}) WordsFault → Type 0
+TakesWord taken now (Ok _) = taken ≡ options (given_options now)
+TakesWord taken now (Err (BadWord place)) = taken ≡ ends (bad_word place)
+TakesWord taken now (Err NoMemory) = Unit {0}
 
 -- what the words of `settings` so far gave
 abbrev pub profile_given : GivenProfile → ProfileGiven

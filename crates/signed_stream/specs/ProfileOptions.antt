@@ -27,10 +27,10 @@ profile_option word =
     else None
 
 -- the kind of a file
-abbrev pub kind_of : Place → EnvConfigFileKind
-kind_of (Usual kind) = kind
-kind_of (At kind path) = kind
-kind_of (Given kind contents) = kind
+abbrev pub place_kind : Place → EnvConfigFileKind
+place_kind (Usual kind) = kind
+place_kind (At kind path) = kind
+place_kind (Given kind contents) = kind
 
 abbrev pub is_same_kind : EnvConfigFileKind → EnvConfigFileKind → Bool
 is_same_kind Config Config = true
@@ -41,7 +41,7 @@ is_same_kind Credentials Credentials = true
 -- the option stood
 abbrev pub stands : ProfileWanted → ProfileOption → Bool
 stands wanted ServiceId = is_some wanted.service_id
-stands wanted (NamesFile kind) = list_any (λ place. is_same_kind kind (kind_of place)) wanted.files
+stands wanted (NamesFile kind) = list_any (λ place. is_same_kind kind (place_kind place)) wanted.files
 
 -- the option names a file
 abbrev pub names_file : ProfileOption → Bool

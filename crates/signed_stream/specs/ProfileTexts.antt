@@ -1,7 +1,7 @@
 -- The texts of profile files that an input holds, line by line.
 use Rattle.std.specs.Prelude.{◌≡◌, ℕ, ◌+◌, ◌==◌, if◌then◌else◌, List, [], ◌∷◌, ◌++◌, length, codes, bytes_eq, string_bytes, Option, Some, None, option_map, unwrap_or, Result, Ok, Err}
 use Rattle.smithy_core.specs.Text.{line}
-use Rattle.signed_stream.specs.Lines.{after_line, after_text, rest_of, text_lines, word_of}
+use Rattle.signed_stream.specs.Lines.{after_job_line, after_text, after_word_of, text_lines, word_of}
 use Rattle.signed_stream.specs.declared.job.fault.JobFault.{JobFault}
 use Rattle.signed_stream.specs.declared.job.fault.JobFault.TheVariants.{BadLine, NoMemory}
 use Rattle.signed_stream.specs.declared.job.fault.LineFault.{LineFault}
@@ -29,12 +29,12 @@ profile_step texts word rest =
 
 -- what a line of texts alone does; an empty one does nothing
 unfoldable pub texts_line_step : ProfileTexts → List ℕ → Option ProfileTexts
-texts_line_step texts line = if length line == 0 then Some texts else profile_step texts (word_of line) (rest_of line)
+texts_line_step texts line = if length line == 0 then Some texts else profile_step texts (word_of line) (after_word_of line)
 
 -- what the lines from a place on spell, after those that gave these texts
 abbrev pub texts_from : ℕ → ProfileTexts → List (List ℕ) → Result ProfileTexts ℕ
 texts_from place texts [] = Ok texts
-texts_from place texts (line ∷ lines) = after_line place (λ next. texts_from (place + 1) next lines) (texts_line_step texts line)
+texts_from place texts (line ∷ lines) = after_job_line place (λ next. texts_from (place + 1) next lines) (texts_line_step texts line)
 
 -- the texts that the bytes spell, or the place of the first bad line
 unfoldable pub profile_texts : List ℕ → Result ProfileTexts ℕ

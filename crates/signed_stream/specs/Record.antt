@@ -3,7 +3,7 @@
 use Rattle.std.specs.Prelude.{◌≡◌, ℕ, ◌+◌, ◌==◌, Bool, ◌&&◌, ◌||◌, if◌then◌else◌, List, [], ◌∷◌, ◌++◌, length, codes, bytes_eq, string_bytes, Option, Some, None, option_map, Result, Ok, Err}
 use Rattle.smithy_core.specs.TextPairs.{lower}
 use Rattle.signed_stream.specs.EventHeader.{hex_bytes}
-use Rattle.signed_stream.specs.Lines.{after_line, after_text, header_pair, rest_of, text_lines, word_of}
+use Rattle.signed_stream.specs.Lines.{after_job_line, after_text, header_of_line, after_word_of, text_lines, word_of}
 use Rattle.signed_stream.specs.ProfileTexts.{ProfileTexts, no_texts, texts_line_step, texts_of}
 use Rattle.signed_stream.specs.declared.job.fault.JobFault.{JobFault}
 use Rattle.signed_stream.specs.declared.job.fault.JobFault.TheVariants.{BadLine, NoMemory}
@@ -27,11 +27,11 @@ no_record = record { stage = Texts; texts = no_texts; method = []; target = []; 
 
 -- the line `record`, whose rest is empty
 abbrev pub is_record : List ℕ → Bool
-is_record line = bytes_eq (word_of line) (codes "record") && length (rest_of line) == 0
+is_record line = bytes_eq (word_of line) (codes "record") && length (after_word_of line) == 0
 
 -- `METHOD target`: a method that isn't empty, a space, and the target
 unfoldable pub request_line : List ℕ → Option (List ℕ × List ℕ)
-request_line line = if length (word_of line) == 0 || length (word_of line) == length line then None else Some (word_of line, rest_of line)
+request_line line = if length (word_of line) == 0 || length (word_of line) == length line then None else Some (word_of line, after_word_of line)
 
 -- a line of profile texts, or the line `record`
 unfoldable pub text_line_step : RecordParts → List ℕ → Option RecordParts
@@ -46,7 +46,7 @@ request_line_step parts line = option_map (λ sent. record parts { stage = Heade
 unfoldable pub head_line_step : RecordParts → List ℕ → Option RecordParts
 head_line_step parts line =
     if length line == 0 then Some (record parts { stage = Chain })
-    else option_map (λ header. record parts { headers = parts.headers ++ (lower header.0, header.1) ∷ [] }) (header_pair line)
+    else option_map (λ header. record parts { headers = parts.headers ++ (lower header.0, header.1) ∷ [] }) (header_of_line line)
 
 -- an even number of hexadecimal digits in either case
 unfoldable pub chain_line_step : RecordParts → List ℕ → Option RecordParts
@@ -67,7 +67,7 @@ record_of place parts stage = Err place
 -- what the lines from a place on spell, after those that gave these parts
 abbrev pub record_from : ℕ → RecordParts → List (List ℕ) → Result RecordParts ℕ
 record_from place parts [] = record_of place parts parts.stage
-record_from place parts (line ∷ lines) = after_line place (λ next. record_from (place + 1) next lines) (record_step parts.stage parts line)
+record_from place parts (line ∷ lines) = after_job_line place (λ next. record_from (place + 1) next lines) (record_step parts.stage parts line)
 
 -- the record that the bytes spell, or the place of the first bad line
 unfoldable pub spelled_record : List ℕ → Result RecordParts ℕ

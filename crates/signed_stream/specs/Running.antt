@@ -6,7 +6,7 @@ use Rattle.smithy_core.specs.Outside.{Gains, RoseOrStands}
 use Rattle.env_config.specs.Files.{Place}
 use Rattle.signed_stream.specs.Case.{request_moment}
 use Rattle.chain_check.specs.Chain.{IsChainOf}
-use Rattle.signed_stream.specs.CheckRecord.{GaveRecord, IsSound, check_plan, check_signer, shown_events}
+use Rattle.signed_stream.specs.CheckRecord.{GaveRecord, IsSoundRecord, check_plan, check_signer, shown_events}
 use Rattle.signed_stream.specs.ChunkJob.{chunk_plan, shown_chunks}
 use Rattle.signed_stream.specs.Command.{Command, Wanted, bad_word, check_record, generate, show_settings, stream, write_chunks}
 use Rattle.signed_stream.specs.Generate.{generate_plan, shown_stream}
@@ -15,7 +15,7 @@ use Rattle.signed_stream.specs.Job.{job}
 use Rattle.signed_stream.specs.Plan.{FilesRead, GoesAsPlanned, IsNeeded, Plan, Supplied, most_input, stops, unless_large, unreadable}
 use Rattle.signed_stream.specs.ProfileTexts.{profile_texts}
 use Rattle.signed_stream.specs.Record.{spelled_record}
-use Rattle.signed_stream.specs.Saying.{Says}
+use Rattle.signed_stream.specs.Saying.{SaysEnding}
 use Rattle.signed_stream.specs.ShowSettings.{GaveTexts, IsShowable, settings_plan}
 use Rattle.signed_stream.specs.Shown.{shown_settings}
 use Rattle.signed_stream.specs.Status.{Ending, RunFault, bad_job, bad_words, could_not_read_file, done, header_value_too_long, headers_too_long, invalid_header_name_length, job_too_large, message_too_long, moment_out_of_range, no_memory, output_fault, payload_too_long, read_fault, refused, timestamp_value_too_large}
@@ -179,7 +179,7 @@ abbrev pub HasDone : (List Place → FilesRead → Type 0) → List (List ℕ ×
 HasDone gave env (stream wanted) bytes given before now = (input : IsStreamable gave env wanted bytes given) × Gains before now (streamed input)
 HasDone gave env (show_settings wanted) bytes given before now = (input : IsShowable gave env wanted bytes given) × Gains before now (shown_settings input.selected)
 HasDone gave env (check_record wanted) bytes given before now =
-    (input : IsSound gave env wanted bytes given) × IsChainOf (check_signer wanted input.selected) input.signature input.read.chain input.events × Gains before now (shown_events input.events)
+    (input : IsSoundRecord gave env wanted bytes given) × IsChainOf (check_signer wanted input.selected) input.signature input.read.chain input.events × Gains before now (shown_events input.events)
 HasDone gave env (write_chunks wanted) bytes given before now = (length bytes ≤ most_input) × Gains before now (shown_chunks wanted bytes)
 HasDone gave env (generate seed count) bytes given before now = Gains before now (shown_stream (drawn_events count seed))
 HasDone gave env command bytes given before now = ⊥
@@ -188,7 +188,7 @@ HasDone gave env command bytes given before now = ⊥
 abbrev pub CanBeDone : (List Place → FilesRead → Type 0) → List (List ℕ × List ℕ) → Command → List ℕ → Supplied → Type 0
 CanBeDone gave env (stream wanted) bytes given = IsStreamable gave env wanted bytes given
 CanBeDone gave env (show_settings wanted) bytes given = IsShowable gave env wanted bytes given
-CanBeDone gave env (check_record wanted) bytes given = IsSound gave env wanted bytes given
+CanBeDone gave env (check_record wanted) bytes given = IsSoundRecord gave env wanted bytes given
 CanBeDone gave env (write_chunks wanted) bytes given = length bytes ≤ most_input
 CanBeDone gave env (generate seed count) bytes given = Unit {0}
 CanBeDone gave env command bytes given = ⊥
@@ -223,7 +223,7 @@ pub record Ran (gave : List Place → FilesRead → Type 0) (clock : List Instan
   -- a file that couldn't be read is one that the words name
   pub named : (path : List ℕ) → answer ≡ could_not_read_file path → NamesUnreadable gave command path
   -- what `err` gained
-  pub said : Says answer err.held_before err.held_now err.faults_before err.faults_now
+  pub said : SaysEnding answer err.held_before err.held_now err.faults_before err.faults_now
   -- which counts rose
   pub reads : CountsReads answer reads_before reads_now
   pub writes : CountsWrites answer out.faults_before out.faults_now

@@ -75,8 +75,8 @@ IsWhole events moments (Ok _) = length moments ≡ length events + 1
 IsWhole events moments (Err _) = Unit {0}
 
 -- a moment was taken only where the moments before it refuse no event, and each of them had its own
-abbrev pub IsNext : Signer → List Parts → List ℕ → List Instant → Type 0
-IsNext who events seed moments =
+abbrev pub TakesInTurn : Signer → List Parts → List ℕ → List Instant → Type 0
+TakesInTurn who events seed moments =
     (front : List Instant) (t : Instant) (rest : List Instant) → moments ≡ front ++ t ∷ rest
     → (first_refusal who 1 events front seed ≡ None) × (length front ≤ length events)
 
@@ -85,11 +85,11 @@ pub record SendsChain {T : Type 0} (form : Form) (who : Signer) (events : List P
   pub sends : let refusal = first_refusal who 1 events moments seed in
       Sends (refusal_fault refusal) (streamed_text form who events moments seed refusal) before now answer
   pub whole : IsWhole events moments answer
-  pub next : IsNext who events seed moments
+  pub next : TakesInTurn who events seed moments
 
 -- a head was sent, and then these frames
 pub record SendsAll {T : Type 0} (form : Form) (head : List ℕ) (who : Signer) (events : List Parts) (seed : List ℕ) (before now : Option (List ℕ)) (moments : List Instant) (answer : Result T StreamFault) : Type 0 where
   pub sends : let refusal = first_refusal who 1 events moments seed in
       Sends (refusal_fault refusal) (head ++ streamed_text form who events moments seed refusal) before now answer
   pub whole : IsWhole events moments answer
-  pub next : IsNext who events seed moments
+  pub next : TakesInTurn who events seed moments

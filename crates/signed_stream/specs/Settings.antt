@@ -53,8 +53,8 @@ settings files profile env service_id = settings_from (sections files) profile e
 -- ## Answers
 
 -- what contracts see of settings
-abbrev pub selected_of : Settings → Selected
-selected_of settings = record {
+abbrev pub selected_in : Settings → Selected
+selected_in settings = record {
   profile = string_bytes settings.profile;
   key_id = access_key_id settings.credentials;
   secret = secret_access_key settings.credentials;
@@ -64,7 +64,7 @@ selected_of settings = record {
 
 -- the settings are the ones that are read, or the fault tells why there are none; or memory ran out
 abbrev pub GivesSettings : Result Selected RunFault → Result Settings SettingsFault → Type 0
-GivesSettings read (Ok settings) = read ≡ Ok (selected_of settings)
+GivesSettings read (Ok settings) = read ≡ Ok (selected_in settings)
 GivesSettings read (Err (ParseError error)) = read ≡ Err (parse_error (faulty_line_of error))
 GivesSettings read (Err MissingCredentials) = read ≡ Err missing_credentials
 GivesSettings read (Err MissingSigningRegion) = read ≡ Err missing_signing_region

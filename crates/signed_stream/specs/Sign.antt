@@ -30,21 +30,21 @@ use Rattle.signed_stream.specs.declared.status.StreamFault.{StreamFault}
 -- ## Why a request is refused
 
 -- the fault that tells why a request isn't signed; the last reason is its target
-abbrev pub fault_for : SigningError → RunFault
-fault_for (errors.InvalidHeaderName place) = invalid_header_name place
-fault_for (errors.InvalidHeaderValue place) = invalid_header_value place
-fault_for errors.MissingHost = missing_host
-fault_for errors.InvalidTokenName = invalid_token_name
-fault_for errors.MissingExpires = missing_expires
-fault_for (errors.MomentOutOfRange moment) = moment_out_of_range moment
-fault_for error = invalid_uri
+abbrev pub run_fault_for : SigningError → RunFault
+run_fault_for (errors.InvalidHeaderName place) = invalid_header_name place
+run_fault_for (errors.InvalidHeaderValue place) = invalid_header_value place
+run_fault_for errors.MissingHost = missing_host
+run_fault_for errors.InvalidTokenName = invalid_token_name
+run_fault_for errors.MissingExpires = missing_expires
+run_fault_for (errors.MomentOutOfRange moment) = moment_out_of_range moment
+run_fault_for error = invalid_uri
 
 -- the first test of a case that fails: those of the request, and then that of its signed target
 abbrev pub unsigned : Case → Option SigningError
 unsigned c = option_or (unfit c) (unfit_signed_target c)
 
 abbrev pub case_fault : Case → Option RunFault
-case_fault c = option_map fault_for (unsigned c)
+case_fault c = option_map run_fault_for (unsigned c)
 
 -- the fault of a request whose case is this for what its target spells
 abbrev pub target_fault : (Target → Case) → TargetRead → Option RunFault
@@ -73,7 +73,7 @@ identity_case request identity region wanted first target = record {
 }
 
 -- the request goes out as the signed one of the case
-pub record IsSigned (c : Case) (old new : HttpRequest) : Type 0 where
+pub record IsSignedFor (c : Case) (old new : HttpRequest) : Type 0 where
   pub method : string_bytes new.method ≡ c.method
   pub target : string_bytes new.target ≡ signed_target c (string_bytes old.target)
   pub headers : new.headers ≡ signed_headers c
@@ -95,7 +95,7 @@ Unsigned text at case wants = Unit {0}
 abbrev pub SignsJob : Instant → (Target → Case) → HttpRequest → Result (HttpRequest × SignerState (Unit {0})) StreamFault → Type 0
 SignsJob at case old (Ok signed) =
     (target : Target) × TargetSpells (string_bytes old.target) (accepted target) × (request_fault at case (accepted target) ≡ None)
-    × IsSigned (case target) old signed.0 × SealsFor (case target) signed.1
+    × IsSignedFor (case target) old signed.0 × SealsFor (case target) signed.1
 SignsJob at case old (Err fault) = Unsigned (string_bytes old.target) at case (halt_of fault)
 
 -- ## Between the functions that sign: a reader of `run` needs none of it
@@ -114,7 +114,7 @@ IsRequestError error = ⊥
 
 -- how the error of signing a request halts the stream
 abbrev pub error_halt : SigV4SigningError → Halt
-error_halt (auth.Signing error) = refuses (fault_for error)
+error_halt (auth.Signing error) = refuses (run_fault_for error)
 error_halt error = wants
 
 -- the answer is the name that is asked for, or memory ran out

@@ -13,7 +13,7 @@ use Rattle.env_config.specs.Files.{Place}
 use Rattle.env_config.specs.Loading.{selected_profile}
 use Rattle.env_config.specs.Sections.{FileText}
 use Rattle.signed_stream.specs.Case.{job_case, request_moment}
-use Rattle.chain_check.specs.Chain.{IsChained}
+use Rattle.chain_check.specs.Chain.{IsWholeChain}
 use Rattle.signed_stream.specs.Command.{Wanted}
 use Rattle.signed_stream.specs.Job.{JobParts, job}
 use Rattle.signed_stream.specs.Plan.{FilesRead, Plan, TargetSpells, Supplied, TargetRead, accepted, loaded, most_input, stops, unaccepted, unread, writes}
@@ -86,7 +86,7 @@ pub record IsValid (files : List FileText) (profile : List ℕ) (env : List (Lis
   pub years : IsInYears (request_moment wanted first)
   pub fit : unfit (job_case j wanted selected first parts) ≡ None
   pub fits : unfit_signed_target (job_case j wanted selected first parts) ≡ None
-  pub chained : IsChained (job_case j wanted selected first parts).signer j.events others (signature_of (job_case j wanted selected first parts))
+  pub chained : IsWholeChain (job_case j wanted selected first parts).signer j.events others (signature_of (job_case j wanted selected first parts))
 
 module _ {files : List FileText} {profile : List ℕ} {env : List (List ℕ × List ℕ)} {wanted : Wanted} {j : JobParts} {target : TargetRead} {moments : List Instant}
     (input : IsValid files profile env wanted j target moments) where

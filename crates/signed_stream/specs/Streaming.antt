@@ -13,7 +13,7 @@ use Rattle.signed_stream.specs.Halt.{ended}
 use Rattle.signed_stream.specs.Job.{JobParts}
 use Rattle.signed_stream.specs.Plan.{GoesAsPlanned, IsNeeded, Plan, TargetRead, TargetSpells, accepted}
 use Rattle.signed_stream.specs.Settings.{Selected, settings}
-use Rattle.signed_stream.specs.Sign.{IsSigned}
+use Rattle.signed_stream.specs.Sign.{IsSignedFor}
 use Rattle.signed_stream.specs.Sources.{or_refused, when_selected}
 use Rattle.signed_stream.specs.Status.{Ending, done, no_memory, output_fault}
 use Rattle.signed_stream.specs.Stream.{IsValid, selected_plan, valid_case, written_valid}
@@ -83,18 +83,18 @@ abbrev pub CompletesStream : Ending → Type 0
 CompletesStream answer = (answer ≡ done) ⊎ (answer ≡ output_fault) ⊎ (answer ≡ no_memory)
 
 -- The headline: the sink gained the head of the signed request and then the chain of the events, and the answer is the signed request.
-abbrev pub HasSent : (files : List FileText) (profile : List ℕ) (env : List (List ℕ × List ℕ)) (wanted : Wanted) → HttpRequest → List Parts → TargetRead → List Instant
+abbrev pub HasSentStream : (files : List FileText) (profile : List ℕ) (env : List (List ℕ × List ℕ)) (wanted : Wanted) → HttpRequest → List Parts → TargetRead → List Instant
     → Option (List ℕ) → Option (List ℕ) → Result HttpRequest StreamFault → Type 0
-HasSent files profile env wanted request events target moments before now (Ok new) =
+HasSentStream files profile env wanted request events target moments before now (Ok new) =
     (input : IsValid files profile env wanted (job_with request events) target moments)
-    × Gains before now (written_valid input) × IsSigned (valid_case input) request new
-HasSent files profile env wanted request events target moments before now (Err fault) = Unit {0}
+    × Gains before now (written_valid input) × IsSignedFor (valid_case input) request new
+HasSentStream files profile env wanted request events target moments before now (Err fault) = Unit {0}
 
 -- How a call went: as planned, with the headline where it is done, and done where its input is valid at the moments that were taken and any later ones.
 pub record SignsAndStreams (clock : List Instant → Type 0) (old new : List Instant) (files : List FileText) (profile : List ℕ) (env : List (List ℕ × List ℕ)) (wanted : Wanted)
     (request : HttpRequest) (events : List Parts) (result : Result HttpRequest StreamFault) (before now : Option (List ℕ)) : Type 0 where
   pub streams : Streams clock old new (string_bytes request.target) (stream_plan files profile env wanted (job_with request events)) (ended result) before now
-  pub headline : HasSent files profile env wanted request events streams.target streams.taken before now result
+  pub headline : HasSentStream files profile env wanted request events streams.target streams.taken before now result
   pub complete : (target : TargetRead) (later : List Instant) → TargetSpells (string_bytes request.target) target
       → IsValid files profile env wanted (job_with request events) target (streams.taken ++ later) → CompletesStream (ended result)
 
@@ -107,4 +107,4 @@ pub record IsSentSigned (j : JobParts) (wanted : Wanted) (selected : Selected) (
   pub target : Target
   pub taken : new ≡ old ++ first ∷ others
   pub spelled : TargetSpells (string_bytes request.target) (accepted target)
-  pub signed : IsSigned (job_case j wanted selected first target) request sent
+  pub signed : IsSignedFor (job_case j wanted selected first target) request sent

@@ -20,13 +20,13 @@ unfoldable pub head : List ℕ → List ℕ → List (List ℕ × List ℕ) → 
 head method target headers = line (method ++ codes " " ++ target) ++ flat_map name_value_line headers ++ line []
 
 -- the head of a form: raw there is none
-abbrev pub head_text : Form → List ℕ → List ℕ → List (List ℕ × List ℕ) → List ℕ
-head_text Raw method target headers = []
-head_text HexLines method target headers = head method target headers
+abbrev pub head_in_form : Form → List ℕ → List ℕ → List (List ℕ × List ℕ) → List ℕ
+head_in_form Raw method target headers = []
+head_in_form HexLines method target headers = head method target headers
 
 -- the head of the signed request, whose own target was given by this text
 abbrev pub signed_head : Form → List ℕ → Case → List ℕ
-signed_head form text c = head_text form c.method (signed_target c text) (signed_headers c)
+signed_head form text c = head_in_form form c.method (signed_target c text) (signed_headers c)
 
 -- the head of the signed request, and then the chain of the events at their moments
 unfoldable pub written_stream : Form → List ℕ → Case → List Parts → List Instant → List ℕ

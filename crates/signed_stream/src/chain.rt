@@ -4,7 +4,7 @@ ghost use Rattle.smithy_core.specs.Moment.{Instant};
 ghost use Rattle.smithy_core.specs.Outside.{RoseOrStands};
 ghost use Rattle.eventstream.specs.Told.{sealed};
 ghost use Rattle.eventstream.specs.Write.{IsFrameFault};
-ghost use Rattle.event_io.specs.Adapter.{signer_of};
+ghost use Rattle.event_io.specs.Adapter.{adapter_signer};
 ghost use Rattle.event_io.specs.Chain.{Chains};
 ghost use Rattle.aws_auth.specs.MessageSigner.{running_signature, signer_in, told_of};
 ghost use Rattle.signed_stream.specs.Chain.{fault_at, frame_text};
@@ -76,10 +76,10 @@ fn send_frames<G: SignMessage, C: Clock, K: ByteSink>(
     sink: &mut K,
     moments: &mut Vec<Moment>,
 ) -> Result<(), StreamFault>
-    requires { Chains ⟦<ListEvents<Message, Message> as EventSource>⟧ G.SignMessage (sealed_signer (G.told (signer_of adapter))) events.now (sealed_signature (G.told (signer_of adapter))) adapter }
+    requires { Chains ⟦<ListEvents<Message, Message> as EventSource>⟧ G.SignMessage (sealed_signer (G.told (adapter_signer adapter))) events.now (sealed_signature (G.told (adapter_signer adapter))) adapter }
     ensures count { K.faults sink.old ≤ K.faults sink.new }
     ensures sends { (taken : List Instant) × (moments.new.items ≡ moments.old.items ++ taken) × GivesEach C.Clock clock.old taken clock.new
-        × SendsChain form (sealed_signer (G.told (signer_of adapter))) events.now (sealed_signature (G.told (signer_of adapter))) (K.held sink.old) (K.held sink.new) taken result }
+        × SendsChain form (sealed_signer (G.told (adapter_signer adapter))) events.now (sealed_signature (G.told (adapter_signer adapter))) (K.held sink.old) (K.held sink.new) taken result }
     ensures failed { IsErrOf result StreamFault.SinkFault → RoseOrStands (K.faults sink.old) (K.faults sink.new) }
     ensures steady { (IsErrOf result StreamFault.SinkFault → ⊥) → K.faults sink.new ≡ K.faults sink.old }
 {

@@ -9,7 +9,7 @@ ghost use Rattle.signed_stream.specs.Halt.{Sends};
 ghost use Rattle.signed_stream.specs.Options.{check_wanted};
 ghost use Rattle.signed_stream.specs.Record.{record_parts};
 ghost use Rattle.signed_stream.specs.Running.{NamesUnreadable};
-ghost use Rattle.signed_stream.specs.Settings.{selected_of};
+ghost use Rattle.signed_stream.specs.Settings.{selected_in};
 ghost use Rattle.signed_stream.specs.Sources.{DiskGives};
 ghost use Rattle.signed_stream.specs.Status.{could_not_read_file, ending_of, output_fault};
 
@@ -77,7 +77,7 @@ fn show_checked<K: ByteSink>(
     out: &mut K,
 ) -> Status
     ensures end { IsAfterTexts (ending_of result) }
-    ensures planned { GoesForSeal request.now name.now (selected_of settings.now) chain.now (ending_of result) (K.held out.old) (K.held out.new) }
+    ensures planned { GoesForSeal request.now name.now (selected_in settings.now) chain.now (ending_of result) (K.held out.old) (K.held out.new) }
     ensures unnamed { (path : List ℕ) → ending_of result ≡ could_not_read_file path → ⊥ }
     ensures output_failed { ending_of result ≡ output_fault → RoseOrStands (K.faults out.old) (K.faults out.new) }
     ensures output_steady { (ending_of result ≡ output_fault → ⊥) → K.faults out.new ≡ K.faults out.old }
@@ -97,7 +97,7 @@ fn checked_events(
     name: &str,
     settings: &Settings,
 ) -> Result<Vec<Message>, Status>
-    ensures { ChecksRecord request.now name.now (selected_of settings.now) chain.now result }
+    ensures { ChecksRecord request.now name.now (selected_in settings.now) chain.now result }
 {
     let region = settings.region.as_str();
     let Some(seal) = seal_of(alloc, request, region, name)? else {

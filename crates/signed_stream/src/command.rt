@@ -1,7 +1,7 @@
 ghost use Rattle.std.specs.Prelude.{map};
 ghost use Rattle.std.specs.String.{string_bytes};
 ghost use Rattle.signed_stream.specs.ChunkWords.{chunk_from, no_chunk_given};
-ghost use Rattle.signed_stream.specs.Command.{command, check_from, chunk_command, generator_from, no_check_given, no_options, no_profile_given, options_from, settings_from};
+ghost use Rattle.signed_stream.specs.Command.{command, check_from, chunk_command, generator_from, no_check_given, no_options, no_profile_given, options_from, settings_words};
 ghost use Rattle.signed_stream.specs.Options.{ReadsCheck, ReadsChunk, ReadsProfile, ReadsStream, ReadsWords};
 
 mod check;
@@ -100,7 +100,7 @@ fn read_options<'a>(alloc: Global, words: &'a [String]) -> Result<StreamWords<'a
 
 // What the words after `settings` ask for.
 fn read_profile<'a>(alloc: Global, words: &'a [String]) -> Result<ProfileOptions<'a>, WordsFault>
-    ensures { ReadsProfile (settings_from 2 no_profile_given (map string_bytes words.now)) result }
+    ensures { ReadsProfile (settings_words 2 no_profile_given (map string_bytes words.now)) result }
 {
     let mut given = GivenProfile::new(alloc);
     let mut place = 2;

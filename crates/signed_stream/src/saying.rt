@@ -1,6 +1,6 @@
 ghost use Rattle.std.specs.Prelude.{◌≡◌, ◌≤◌, ◌⊎◌, IfOk};
 ghost use Rattle.std.specs.String.{string_bytes};
-ghost use Rattle.signed_stream.specs.Saying.{Says, ending_line, failed_at, part_text};
+ghost use Rattle.signed_stream.specs.Saying.{SaysEnding, ending_line, failed_at, chain_part_text};
 ghost use Rattle.signed_stream.specs.Status.{check_failed, done, ending_of, run_fault, no_memory, refused};
 
 use crate::status::{CheckFault, Status, StreamFault};
@@ -11,7 +11,7 @@ use std::alloc::Global;
 /// Says the line of a status on `err`, and answers how the run ended: as the status says, or out of memory.
 pub fn say<E: ByteSink>(alloc: Global, status: Status, err: &mut E) -> Status
     ensures answer { (ending_of result ≡ ending_of status) ⊎ (ending_of result ≡ no_memory) }
-    ensures said { Says (ending_of result) (E.held err.old) (E.held err.new) (E.faults err.old) (E.faults err.new) }
+    ensures said { SaysEnding (ending_of result) (E.held err.old) (E.held err.new) (E.faults err.old) (E.faults err.new) }
     ensures count { E.faults err.old ≤ E.faults err.new }
 {
     if let Status::Done = &status {
@@ -27,7 +27,7 @@ fn say_line<E: ByteSink>(status: Status, line: &str, err: &mut E) -> Status
     requires told { ending_of status ≡ done → ⊥ }
     requires line { line.now ≡ ending_line (ending_of status) }
     ensures answer { (ending_of result ≡ ending_of status) ⊎ (ending_of result ≡ no_memory) }
-    ensures said { Says (ending_of result) (E.held err.old) (E.held err.new) (E.faults err.old) (E.faults err.new) }
+    ensures said { SaysEnding (ending_of result) (E.held err.old) (E.held err.new) (E.faults err.old) (E.faults err.new) }
     ensures count { E.faults err.old ≤ E.faults err.new }
 {
     match write_all(err, line.as_bytes()) {
@@ -104,7 +104,7 @@ fn failed_at(fault: CheckFault) -> (usize, &'static str)
 }
 
 fn part_name(part: ChainPart) -> &'static str
-    ensures { result.now ≡ part_text part }
+    ensures { result.now ≡ chain_part_text part }
 {
     match part {
         ChainPart::NotFrame => "NotFrame",

@@ -2,7 +2,7 @@ ghost use Rattle.std.specs.Prelude.{◌≡◌, IfOk, map, option_copied, option_
 ghost use Rattle.std.specs.String.{string_bytes};
 ghost use Rattle.env_config.specs.EnvConfigValue.{asked_of, chosen_of};
 ghost use Rattle.env_config.specs.Source.{file_of};
-ghost use Rattle.signed_stream.specs.Settings.{GivesSettings, IsSameSettingsFault, asked_region, region_in, selected_of, settings, settings_in};
+ghost use Rattle.signed_stream.specs.Settings.{GivesSettings, IsSameSettingsFault, asked_region, region_in, selected_in, settings, settings_in};
 
 use crate::text::copied;
 use env_config::{EnvConfigParseError, EnvConfigSections, EnvConfigValue, ParseFault, Source};
@@ -25,7 +25,7 @@ pub struct Settings {
 impl Settings {
     /// Equal settings.
     pub fn try_clone(&self) -> Mem<Settings>
-        ensures { IfOk result (λ copy. selected_of copy ≡ selected_of self.now) }
+        ensures { IfOk result (λ copy. selected_in copy ≡ selected_in self.now) }
     {
         Ok(Settings {
             profile: self.profile.clone()?,

@@ -3,9 +3,9 @@ ghost use Rattle.std.specs.Prelude.{◌≡◌, ◌≤◌, ◌++◌, ◌<◌, Non
 ghost use Rattle.smithy_core.specs.Outside.{RoseOrStands};
 ghost use Rattle.smithy_core.specs.FrameSource.{AreShort};
 ghost use Rattle.smithy_core.specs.declared.outside.frame_part.FramePart.TheVariants as frame;
-ghost use Rattle.aws_chunked.specs.Body.{IsClosed, lines_length};
+ghost use Rattle.aws_chunked.specs.Body.{IsBodyClosed, lines_length};
 ghost use Rattle.aws_chunked.specs.Options.{declared_length};
-ghost use Rattle.signed_stream.specs.ChunkJob.{IsBodyOf, IsSound, chunk_plan, shown_chunks, text_left};
+ghost use Rattle.signed_stream.specs.ChunkJob.{IsBodyOf, IsSoundBody, chunk_plan, shown_chunks, text_left};
 ghost use Rattle.signed_stream.specs.ChunkWords.{chunk_wanted};
 ghost use Rattle.signed_stream.specs.Halt.{Sends};
 ghost use Rattle.signed_stream.specs.Plan.{GoesAsPlanned, most_input};
@@ -62,7 +62,7 @@ fn write_chunked<K: ByteSink>(
 
 // Writes the text of a body.
 fn send_body<K: ByteSink>(mut body: Chunks, out: &mut K) -> Result<(), StreamFault>
-    requires { IsSound ⟦<CalmFrames as FrameSource>⟧ ⟦<SigV4MessageSigner<SigningSettings> as SignChunk>⟧ body }
+    requires { IsSoundBody ⟦<CalmFrames as FrameSource>⟧ ⟦<SigV4MessageSigner<SigningSettings> as SignChunk>⟧ body }
     ensures count { K.faults out.old ≤ K.faults out.new }
     ensures sends { Sends None (text_left ⟦<CalmFrames as FrameSource>⟧ ⟦<SigV4MessageSigner<SigningSettings> as SignChunk>⟧ body) (K.held out.old) (K.held out.new) result }
     ensures failed { IsErrOf result StreamFault.SinkFault → RoseOrStands (K.faults out.old) (K.faults out.new) }
@@ -77,9 +77,9 @@ fn send_body<K: ByteSink>(mut body: Chunks, out: &mut K) -> Result<(), StreamFau
 
 // The next bytes of the text of a body that isn't closed: one in memory neither waits nor has a fault.
 fn next_bytes(body: &mut Chunks) -> Mem<Bytes>
-    requires sound { IsSound ⟦<CalmFrames as FrameSource>⟧ ⟦<SigV4MessageSigner<SigningSettings> as SignChunk>⟧ body.old }
-    requires going { IsClosed body.old → ⊥ }
-    ensures { IfOk result (λ bytes. IsSound ⟦<CalmFrames as FrameSource>⟧ ⟦<SigV4MessageSigner<SigningSettings> as SignChunk>⟧ body.new
+    requires sound { IsSoundBody ⟦<CalmFrames as FrameSource>⟧ ⟦<SigV4MessageSigner<SigningSettings> as SignChunk>⟧ body.old }
+    requires going { IsBodyClosed body.old → ⊥ }
+    ensures { IfOk result (λ bytes. IsSoundBody ⟦<CalmFrames as FrameSource>⟧ ⟦<SigV4MessageSigner<SigningSettings> as SignChunk>⟧ body.new
         × (text_left ⟦<CalmFrames as FrameSource>⟧ ⟦<SigV4MessageSigner<SigningSettings> as SignChunk>⟧ body.old ≡ bytes ++ text_left ⟦<CalmFrames as FrameSource>⟧ ⟦<SigV4MessageSigner<SigningSettings> as SignChunk>⟧ body.new) × (0 < length bytes)) }
 {
     match body.poll_frame() {

@@ -6,7 +6,7 @@ ghost use Rattle.signed_stream.specs.Halt.{Sends};
 ghost use Rattle.signed_stream.specs.ProfileOptions.{profile_wanted};
 ghost use Rattle.signed_stream.specs.ProfileTexts.{texts_of};
 ghost use Rattle.signed_stream.specs.Running.{NamesUnreadable};
-ghost use Rattle.signed_stream.specs.Settings.{selected_of};
+ghost use Rattle.signed_stream.specs.Settings.{selected_in};
 ghost use Rattle.signed_stream.specs.Shown.{shown_settings};
 ghost use Rattle.signed_stream.specs.Sources.{DiskGives};
 ghost use Rattle.signed_stream.specs.Status.{could_not_read_file, ending_of, output_fault};
@@ -54,7 +54,7 @@ fn write_settings<K: ByteSink>(
     out: &mut K,
 ) -> Result<(), StreamFault>
     ensures count { K.faults out.old ≤ K.faults out.new }
-    ensures sends { Sends None (shown_settings (selected_of settings.now)) (K.held out.old) (K.held out.new) result }
+    ensures sends { Sends None (shown_settings (selected_in settings.now)) (K.held out.old) (K.held out.new) result }
     ensures failed { IsErrOf result StreamFault.SinkFault → RoseOrStands (K.faults out.old) (K.faults out.new) }
     ensures steady { (IsErrOf result StreamFault.SinkFault → ⊥) → K.faults out.new ≡ K.faults out.old }
 {

@@ -3,7 +3,7 @@ ghost use Rattle.std.specs.Prelude.{◌≡◌, ◌++◌, IfOk, OnOk, codes, opti
 ghost use Rattle.std.specs.String.{string_bytes};
 ghost use Rattle.smithy_core.specs.Text.{line};
 ghost use Rattle.smithy_http.specs.Escape.{escaped};
-ghost use Rattle.signed_stream.specs.Settings.{selected_of};
+ghost use Rattle.signed_stream.specs.Settings.{selected_in};
 ghost use Rattle.signed_stream.specs.Shown.{is_hidden, shown_line, shown_settings, yes_or_no};
 
 use crate::settings::Settings;
@@ -17,7 +17,7 @@ const HIDDEN: AsciiSet = ascii_set!(CONTROLS.add(b'%'));
 /// The lines of the command `settings`: the profile, the region, the key id, and whether there is a token.
 #[tactic(auto, unfolding(crate::specs::Shown::shown_settings))]
 pub fn settings_text(alloc: Global, settings: &Settings) -> Mem<String>
-    ensures { IfOk result (λ text. string_bytes text ≡ shown_settings (selected_of settings.now)) }
+    ensures { IfOk result (λ text. string_bytes text ≡ shown_settings (selected_in settings.now)) }
 {
     let credentials = &settings.credentials;
     let mut text = String::new(alloc);

@@ -3,7 +3,7 @@ ghost use Rattle.std.specs.String.{string_bytes};
 ghost use Rattle.smithy_core.specs.Identity.{IsCredentials};
 ghost use Rattle.signed_stream.specs.Case.{request_moment};
 ghost use Rattle.signed_stream.specs.Halt.{halt_of, refuses};
-ghost use Rattle.signed_stream.specs.Sign.{GivesName, IsRequestError, SignsJob, error_halt, fault_for, identity_case};
+ghost use Rattle.signed_stream.specs.Sign.{GivesName, IsRequestError, SignsJob, error_halt, run_fault_for, identity_case};
 ghost use Rattle.signed_stream.specs.Streaming.{stream_wanted};
 
 use crate::status::StreamFault;
@@ -85,7 +85,7 @@ fn fault_of(error: &SigV4SigningError) -> StreamFault
 // The fault that tells why a request isn't signed.
 fn refusal_for(error: &SigningError) -> StreamFault
     requires { IsRequestError (SigV4SigningError.Signing error.now) }
-    ensures { halt_of result ≡ refuses (fault_for error.now) }
+    ensures { halt_of result ≡ refuses (run_fault_for error.now) }
 {
     match error {
         SigningError::InvalidUri => StreamFault::InvalidUri,

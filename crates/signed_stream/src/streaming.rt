@@ -8,10 +8,10 @@ ghost use Rattle.env_config.specs.Source.{file_of};
 ghost use Rattle.aws_auth.specs.MessageSigner.{running_signature, signer_in, told_of};
 ghost use Rattle.signed_stream.specs.Halt.{Sends, ended};
 ghost use Rattle.signed_stream.specs.Sending.{SendsAll};
-ghost use Rattle.signed_stream.specs.Settings.{selected_of};
+ghost use Rattle.signed_stream.specs.Settings.{selected_in};
 ghost use Rattle.signed_stream.specs.Streaming.{IsSameStreamOptions, IsSentSigned, SignsAndStreams, Streams, job_with, stream_wanted};
 ghost use Rattle.signed_stream.specs.Stream.{selected_plan};
-ghost use Rattle.signed_stream.specs.Written.{head_text};
+ghost use Rattle.signed_stream.specs.Written.{head_in_form};
 
 use crate::chain::{stream_events, write_text};
 use crate::form::Form;
@@ -120,9 +120,9 @@ fn stream_selected<C: Clock, K: ByteSink>(
 ) -> Result<HttpRequest, StreamFault>
     ensures count { K.faults sink.old ≤ K.faults sink.new }
     ensures streams { Streams (λ taken. GivesEach C.Clock clock.old taken clock.new) moments.old.items moments.new.items (string_bytes request.now.target)
-        (λ target taken. selected_plan (job_with request.now events.now) (stream_wanted options.now form) target taken (selected_of settings))
+        (λ target taken. selected_plan (job_with request.now events.now) (stream_wanted options.now form) target taken (selected_in settings))
         (ended result) (K.held sink.old) (K.held sink.new) }
-    ensures signed { IfOk result (IsSentSigned (job_with request.now events.now) (stream_wanted options.now form) (selected_of settings) request.now moments.old.items moments.new.items) }
+    ensures signed { IfOk result (IsSentSigned (job_with request.now events.now) (stream_wanted options.now form) (selected_in settings) request.now moments.old.items moments.new.items) }
     ensures failed { IsErrOf result StreamFault.SinkFault → RoseOrStands (K.faults sink.old) (K.faults sink.new) }
     ensures steady { (IsErrOf result StreamFault.SinkFault → ⊥) → K.faults sink.new ≡ K.faults sink.old }
 {
@@ -148,7 +148,7 @@ fn stream_signed<C: Clock, K: ByteSink>(
     requires { told_of signer ≡ sealed (running_signature signer) (signer_in signer) }
     ensures count { K.faults sink.old ≤ K.faults sink.new }
     ensures sends { (taken : List Instant) × (moments.new.items ≡ moments.old.items ++ taken) × GivesEach C.Clock clock.old taken clock.new
-        × SendsAll form (head_text form (string_bytes request.now.method) (string_bytes request.now.target) request.now.headers)
+        × SendsAll form (head_in_form form (string_bytes request.now.method) (string_bytes request.now.target) request.now.headers)
         (signer_in signer) events.now (running_signature signer) (K.held sink.old) (K.held sink.new) taken result }
     ensures failed { IsErrOf result StreamFault.SinkFault → RoseOrStands (K.faults sink.old) (K.faults sink.new) }
     ensures steady { (IsErrOf result StreamFault.SinkFault → ⊥) → K.faults sink.new ≡ K.faults sink.old }
@@ -166,7 +166,7 @@ fn write_head<K: ByteSink>(
     sink: &mut K,
 ) -> Result<(), StreamFault>
     ensures count { K.faults sink.old ≤ K.faults sink.new }
-    ensures sends { Sends None (head_text form (string_bytes request.now.method) (string_bytes request.now.target) request.now.headers) (K.held sink.old) (K.held sink.new) result }
+    ensures sends { Sends None (head_in_form form (string_bytes request.now.method) (string_bytes request.now.target) request.now.headers) (K.held sink.old) (K.held sink.new) result }
     ensures failed { IsErrOf result StreamFault.SinkFault → RoseOrStands (K.faults sink.old) (K.faults sink.new) }
     ensures steady { (IsErrOf result StreamFault.SinkFault → ⊥) → K.faults sink.new ≡ K.faults sink.old }
 {

@@ -15,7 +15,7 @@ use Rattle.std.proofs.lemmas.List.Folds.{list_any-append}
 use Rattle.std.proofs.lemmas.Map.Lookups.{exact_bytes}
 use Rattle.smithy_core.specs.TextPairs.{inserted, named_values, without}
 use Rattle.sigv4.specs.Canonical.{header_line, is_signed, joined_values, signed_names, token_header, with_optional, with_signing_headers}
-use Rattle.sigv4.specs.CanonicalHeaders.{HoldsHeaders, gathered, header_pair, header_pairs, header_texts, pair_line, ordered_headers, signed_values, value_text}
+use Rattle.sigv4.specs.CanonicalHeaders.{HoldsHeaders, gathered, header_pair, header_pairs, header_texts, pair_line, ordered_headers, signed_values, signed_value_text}
 use Rattle.sigv4.specs.Query.{Pair}
 use Rattle.sigv4.specs.Settings.{Settings, is_query}
 use Rattle.sigv4.specs.declared.canonical_headers.SignedValue.{SignedValue}
@@ -90,8 +90,8 @@ pub sorted-held : (settings : Settings) (pairs : List Pair) (before after : List
     → IsSortedBy (λ x y. is_lt (order x.0.now y.0.now)) after → IsStableBy (λ x y. is_lt (order x.0.now y.0.now)) before after
     → HoldsHeaders settings pairs before → header_texts after ≡ ordered_headers settings pairs
 sorted-held settings pairs before after up stable holds =
-    texts-held settings pairs (header_pairs after) (sorted_in_order value_text after up)
-    (λ name. ap (λ held. named_values held name) (sorted_by_name value_text before after up stable) ∙ by_name_named (header_pairs before) name ∙ holds name)
+    texts-held settings pairs (header_pairs after) (sorted_in_order signed_value_text after up)
+    (λ name. ap (λ held. named_values held name) (sorted_by_name signed_value_text before after up stable) ∙ by_name_named (header_pairs before) name ∙ holds name)
 
 -- ---- one header after another
 

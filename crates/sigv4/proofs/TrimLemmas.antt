@@ -2,7 +2,8 @@
 use Rattle.std.proofs.Common.{◌≡◌, ℕ, Bool, true, false, not, ◌==◌, cond, List, [], ◌∷◌, ◌++◌, length, filter, refl, sym, ap, ◌∙◌, append_assoc, append-nil}
 use Rattle.std.specs.List.{AllByRecursion, join_with_byte, slice_split}
 use Rattle.std.proofs.lemmas.List.Elements.{filter-append, filter_passes, recursion_from_All}
-use Rattle.sigv4.specs.Trim.{before_word, is_word, space, trim_all, value_words}
+use Rattle.smithy_core.specs.Text.{space}
+use Rattle.sigv4.specs.Trim.{before_word, is_word, trim_all, value_words}
 use Rattle.sigv4.proofs.JoinLemmas.{AllLack, is_none, join_more, split_joined, split_lacks}
 
 -- words are kept

@@ -11,13 +11,13 @@ use Rattle.sigv4.specs.declared.canonical_headers.SignedValue.{SignedValue}
 use Rattle.sigv4.specs.declared.canonical_headers.SignedValue.TheVariants.{Given, Added}
 
 -- the value as it is signed: a given one trimmed
-abbrev pub value_text : SignedValue → List ℕ
-value_text (Given value) = trim_all value.now
-value_text (Added value) = value.now
+abbrev pub signed_value_text : SignedValue → List ℕ
+signed_value_text (Given value) = trim_all value.now
+signed_value_text (Added value) = value.now
 
 -- a name and a value, as texts
 abbrev pub header_pair : Bor (List ℕ) × SignedValue → Pair
-header_pair header = (header.0.now, value_text header.1)
+header_pair header = (header.0.now, signed_value_text header.1)
 
 abbrev pub header_pairs : List (Bor (List ℕ) × SignedValue) → List Pair
 header_pairs headers = map header_pair headers

@@ -24,8 +24,8 @@ abbrev pub begun_text : List ℕ → Signer → Instant → List ℕ → List �
 begun_text algorithm signer t signature = line algorithm ++ line (stamp t) ++ line (scope t signer.region signer.name) ++ line signature
 
 -- the string to sign of a chunk: after these lines the digest of nothing, and that of the chunk
-unfoldable pub chunk_text : List ℕ → Signer → Instant → List ℕ → List ℕ
-chunk_text chunk signer t signature =
+unfoldable pub chunk_string_to_sign : List ℕ → Signer → Instant → List ℕ → List ℕ
+chunk_string_to_sign chunk signer t signature =
     begun_text (codes "AWS4-HMAC-SHA256-PAYLOAD") signer t signature ++ line (encode_lower (sha256 [])) ++ encode_lower (sha256 chunk)
 
 -- the trailer before the first one whose name isn't less
@@ -40,8 +40,8 @@ by_name [] = []
 by_name (trailer ∷ trailers) = placed_by_name trailer (by_name trailers)
 
 -- `name:value` as a line, without the white space at the ends of the value
-abbrev pub trailer_line : Pair → List ℕ
-trailer_line trailer = line (trailer.0 ++ codes ":" ++ trim trailer.1)
+abbrev pub canonical_trailer_line : Pair → List ℕ
+canonical_trailer_line trailer = line (trailer.0 ++ codes ":" ++ trim trailer.1)
 
 -- a pair of borrowed texts, as contracts see it
 abbrev pub borrowed_pair : Bor (List ℕ) × Bor (List ℕ) → Pair
@@ -49,7 +49,7 @@ borrowed_pair pair = (pair.0.now, pair.1.now)
 
 -- the lines of the trailers by name
 unfoldable pub trailer_lines : List Pair → List ℕ
-trailer_lines trailers = flat_map trailer_line (by_name trailers)
+trailer_lines trailers = flat_map canonical_trailer_line (by_name trailers)
 
 -- the string to sign of trailers: after the first lines the digest of those of the trailers
 unfoldable pub trailer_text : List Pair → Signer → Instant → List ℕ → List ℕ
@@ -62,7 +62,7 @@ text_signature signer t text = encode_lower (mac (signing_key signer t) text)
 
 -- the signature of a chunk at a moment, over the signature before it
 unfoldable pub chunk_signature : List ℕ → Signer → Instant → List ℕ → List ℕ
-chunk_signature chunk signer t signature = text_signature signer t (chunk_text chunk signer t signature)
+chunk_signature chunk signer t signature = text_signature signer t (chunk_string_to_sign chunk signer t signature)
 
 -- the signature of trailers, likewise
 unfoldable pub trailer_signature : List Pair → Signer → Instant → List ℕ → List ℕ

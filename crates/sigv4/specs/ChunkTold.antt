@@ -19,14 +19,14 @@ pub data ChunkTold : Type 0 where
   untold : ChunkTold
 
 -- why nothing is signed at a moment: it lies outside the years 0 to 9999
-abbrev pub unsigned_at : Instant → Option SigningError
-unsigned_at t = if is_in_years t then None else Some (MomentOutOfRange t)
+abbrev pub unsigned_chunk_at : Instant → Option SigningError
+unsigned_chunk_at t = if is_in_years t then None else Some (MomentOutOfRange t)
 
 -- with no reason against it the answer is the next signature, and the signer goes on from it; else it is the reason, or
 -- memory ran out, and the signer stays
 abbrev pub SealsNext : List ℕ → List ℕ → Signer → Instant → Result (String Global) SigningError → ChunkTold → Type 0
-SealsNext next signature signer t (Ok answer) now = (unsigned_at t ≡ None) × (string_bytes answer ≡ next) × (now ≡ sealed next signer t)
-SealsNext next signature signer t (Err error) now = ((unsigned_at t ≡ Some error) ⊎ (error ≡ NoMemory)) × (now ≡ sealed signature signer t)
+SealsNext next signature signer t (Ok answer) now = (unsigned_chunk_at t ≡ None) × (string_bytes answer ≡ next) × (now ≡ sealed next signer t)
+SealsNext next signature signer t (Err error) now = ((unsigned_chunk_at t ≡ Some error) ⊎ (error ≡ NoMemory)) × (now ≡ sealed signature signer t)
 
 -- what a signer answers for a part that has a signature for who signs, a moment and the signature before it, by what is told of the
 -- signer before and after

@@ -36,13 +36,13 @@ pub record IsSigned (c : Case) (output : SigningOutput SigningInstructions) : Ty
   pub signature : output_signature output ≡ signature_of c
 
 -- with no refusal the case is signed; with one it is the refusal, or memory ran out
-abbrev pub Signs : Option SigningError → Case → Result (SigningOutput SigningInstructions) SigningError → Type 0
-Signs refused c (Ok output) = (refused ≡ None) × IsSigned c output
-Signs refused c (Err error) = (refused ≡ Some error) ⊎ (error ≡ NoMemory)
+abbrev pub SignsUnlessRefused : Option SigningError → Case → Result (SigningOutput SigningInstructions) SigningError → Type 0
+SignsUnlessRefused refused c (Ok output) = (refused ≡ None) × IsSigned c output
+SignsUnlessRefused refused c (Err error) = (refused ≡ Some error) ⊎ (error ≡ NoMemory)
 
 -- the case is signed, unless who signs, or when, or the request itself is refused
 abbrev pub SignsCase : Identity → Case → Result (SigningOutput SigningInstructions) SigningError → Type 0
-SignsCase identity c result = Signs (request_refusal identity c) c result
+SignsCase identity c result = SignsUnlessRefused (request_refusal identity c) c result
 
 -- the texts that a signature of a case is made of
 pub record HasTexts (c : Case) (made : SigningTexts) : Type 0 where

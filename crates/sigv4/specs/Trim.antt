@@ -1,10 +1,7 @@
 -- Values of headers in a canonical request.
 use Rattle.std.specs.Prelude.{ℕ, Bool, not, ◌==◌, List, [], ◌∷◌, length, filter, if◌then◌else◌}
 use Rattle.std.specs.List.{join_with_byte, slice_split}
-
--- a space
-abbrev pub space : ℕ
-space = 32
+use Rattle.smithy_core.specs.Text.{space}
 
 -- a piece that isn't empty
 abbrev pub is_word : List ℕ → Bool

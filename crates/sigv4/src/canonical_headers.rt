@@ -2,7 +2,7 @@ ghost use Rattle.std.specs.Prelude.{◌≡◌, ℕ, List, [], ◌∷◌, ◌++�
 ghost use Rattle.std.specs.List.{flat_map, list_any};
 ghost use Rattle.smithy_core.specs.TextPairs.{AreLower, inserted, lower, named_values, without};
 ghost use Rattle.sigv4.specs.Canonical.{excluded_token, given_headers, is_signed, joined_names, told_payload, token_header, unsigned_in_query_form, unsigned_token, with_optional, with_signing_headers};
-ghost use Rattle.sigv4.specs.CanonicalHeaders.{HoldsHeaders, after_values, before_value, header_pairs, header_texts, next_name, ordered_headers, pair_line, signed_values, value_text};
+ghost use Rattle.sigv4.specs.CanonicalHeaders.{HoldsHeaders, after_values, before_value, header_pairs, header_texts, next_name, ordered_headers, pair_line, signed_values, signed_value_text};
 ghost use Rattle.sigv4.specs.Query.{Pair};
 ghost use Rattle.sigv4.specs.Settings.{Settings, settings_of};
 ghost use Rattle.sigv4.specs.Trim.{trim_all};
@@ -286,7 +286,7 @@ fn push_front(text: &mut String, last: Option<&str>, name: &str) -> Mem<()>
 }
 
 fn push_value(text: &mut String, value: &SignedValue<'_>) -> Mem<()>
-    ensures { OnOk result (string_bytes text.new ≡ string_bytes text.old ++ value_text value.now) }
+    ensures { OnOk result (string_bytes text.new ≡ string_bytes text.old ++ signed_value_text value.now) }
 {
     match value {
         SignedValue::Given(value) => push_trimmed(text, *value),

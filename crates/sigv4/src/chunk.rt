@@ -3,7 +3,7 @@ ghost use Rattle.std.specs.List.{flat_map};
 ghost use Rattle.hex.specs.Hex.{encode_lower};
 ghost use Rattle.mac_core.specs.Mac.{mac};
 ghost use Rattle.eventstream.specs.Key.{signing_key};
-ghost use Rattle.sigv4.specs.Chunk.{SignsPart, begun_text, borrowed_pair, by_name, chunk_signature, chunk_text, trailer_line, trailer_lines, trailer_signature, trailer_text};
+ghost use Rattle.sigv4.specs.Chunk.{SignsPart, begun_text, borrowed_pair, by_name, chunk_signature, chunk_string_to_sign, canonical_trailer_line, trailer_lines, trailer_signature, trailer_text};
 ghost use Rattle.sigv4.specs.EventStream.{unsignable};
 ghost use Rattle.sigv4.specs.Output.{output_signature};
 ghost use Rattle.sigv4.specs.Params.{signer_of, v4_identity, v4_time};
@@ -36,7 +36,7 @@ pub fn sign_chunk<S>(
         (chunk_signature chunk.now (signer_of params.now) (v4_time params.now) running_signature.now) result }
 {
     let (key, time) = key_at(params)?;
-    let text = chunk_text(alloc, chunk.as_slice(), &time, running_signature, params)?;
+    let text = chunk_string_to_sign(alloc, chunk.as_slice(), &time, running_signature, params)?;
     Ok(sign_text(alloc, &key, text.as_slice())?)
 }
 
@@ -82,15 +82,15 @@ fn sign_text(alloc: Global, key: &[u8; 32], text: &[u8]) -> Mem<SigningOutput<()
 }
 
 // The string to sign of a chunk, where the time is that of the parameters.
-#[tactic(auto, unfolding(crate::specs::Chunk::chunk_text))]
-fn chunk_text<S>(
+#[tactic(auto, unfolding(crate::specs::Chunk::chunk_string_to_sign))]
+fn chunk_string_to_sign<S>(
     alloc: Global,
     chunk: &[u8],
     time: &SigningTime,
     running_signature: &str,
     params: &SigningParams<'_, S>,
 ) -> Mem<Vec<u8>>
-    ensures { IfOk result (λ text. text.items ≡ chunk_text chunk.now (signer_of params.now) time.now running_signature.now) }
+    ensures { IfOk result (λ text. text.items ≡ chunk_string_to_sign chunk.now (signer_of params.now) time.now running_signature.now) }
 {
     let algorithm = b"AWS4-HMAC-SHA256-PAYLOAD";
     let mut text = begun_text(alloc, algorithm, time, running_signature, params)?;
@@ -165,7 +165,7 @@ fn sort_by_name(trailers: &mut Vec<(&str, &str)>) -> Mem<()>
 
 // The lines of the trailers in order.
 fn joined_lines(alloc: Global, trailers: &[(&str, &str)]) -> Mem<Vec<u8>>
-    ensures { IfOk result (λ lines. lines.items ≡ flat_map trailer_line (map borrowed_pair trailers.now)) }
+    ensures { IfOk result (λ lines. lines.items ≡ flat_map canonical_trailer_line (map borrowed_pair trailers.now)) }
 {
     let mut lines = Vec::new(alloc);
     for (name, value) in trailers {
@@ -176,7 +176,7 @@ fn joined_lines(alloc: Global, trailers: &[(&str, &str)]) -> Mem<Vec<u8>>
 
 // Appends the line of a trailer.
 fn push_trailer(lines: &mut Vec<u8>, name: &str, value: &str) -> Mem<()>
-    ensures { OnOk result (lines.new.items ≡ lines.old.items ++ trailer_line (name.now, value.now)) }
+    ensures { OnOk result (lines.new.items ≡ lines.old.items ++ canonical_trailer_line (name.now, value.now)) }
 {
     lines.extend_from_slice(name.as_bytes())?;
     lines.push(b':')?;

@@ -4,7 +4,7 @@ ghost use Rattle.sigv4.specs.EventStream.{IsKeyOf};
 ghost use Rattle.sigv4.specs.Params.{signer_of, v4_identity, v4_time};
 ghost use Rattle.sigv4.specs.Refusal.{unfit};
 ghost use Rattle.sigv4.specs.Request.{HasKeys, identity_of, request_case, v4_request_case};
-ghost use Rattle.sigv4.specs.RequestSigning.{IsRequestKey, Signs, SignsCase, TellsCanonical};
+ghost use Rattle.sigv4.specs.RequestSigning.{IsRequestKey, SignsUnlessRefused, SignsCase, TellsCanonical};
 
 use crate::credentials::credentials_of;
 use crate::error::SigningError;
@@ -140,7 +140,7 @@ fn sign_at(
     requires time { time.now ≡ v4_time params.now }
     requires keys { HasKeys (v4_identity params.now) credentials.now }
     requires key { key.now ≡ signing_key (signer_of params.now) (v4_time params.now) }
-    ensures { Signs (unfit (v4_request_case request.now params.now)) (v4_request_case request.now params.now) result }
+    ensures { SignsUnlessRefused (unfit (v4_request_case request.now params.now)) (v4_request_case request.now params.now) result }
 {
     let texts = SigningTexts::new(alloc, request, params, credentials, time)?;
     let signature = texts.signature(alloc, key.as_slice())?;

@@ -3,7 +3,7 @@ ghost use Rattle.std.specs.Int.{is_in_range};
 ghost use Rattle.std.specs.Str.{IsErrorLen, IsValidUpTo, error_len, valid_up_to};
 ghost use Rattle.std.specs.Str.Lossy.{utf8_error_len};
 ghost use Rattle.http_header.specs.Token.{is_value_byte};
-ghost use Rattle.aws_chunked.specs.TailRests.{IsSound, ReadsLine, ReadsLines, ReadsName, ReadsValue, is_name_byte};
+ghost use Rattle.aws_chunked.specs.TailRests.{IsLongestFront, ReadsLine, ReadsLines, ReadsName, ReadsValue, is_name_byte};
 
 use crate::decode::expecting::{begins_with, expect};
 use crate::decode::fault::{ReadFault, bad_at};
@@ -115,7 +115,7 @@ fn sound_length(value: &[u8], error: &Utf8Error) -> usize
     requires front { IsValidUpTo value.now (valid_up_to error.now) }
     requires part { IsErrorLen value.now (valid_up_to error.now) (error_len error.now) }
     requires fault { error_len error.now ≡ utf8_error_len (drop (valid_up_to error.now) value.now) }
-    ensures { IsSound value.now result }
+    ensures { IsLongestFront value.now result }
 {
     let whole = error.valid_up_to();
     if !begins_char(value[whole]) {

@@ -1,7 +1,7 @@
 ghost use Rattle.std.specs.Prelude.{◌≡◌, ◌<◌, ◌↔◌, ◌++◌, IfOk, IsTrue, OnOk, codes, length, map, option_copied};
 ghost use Rattle.smithy_core.specs.TextPairs.{lower_name};
 ghost use Rattle.aws_chunked.specs.Decoded.{IsSignature};
-ghost use Rattle.aws_chunked.specs.Rests.{ReadsTail, given, signature_texts};
+ghost use Rattle.aws_chunked.specs.Rests.{ReadsTail, one_or_none, signature_texts};
 ghost use Rattle.aws_chunked.specs.TailRests.{SplitsSignature};
 
 use crate::X_AMZ_TRAILER_SIGNATURE;
@@ -37,7 +37,7 @@ pub(crate) fn read_trailers(
 
 // Puts the signature of the trailers behind those of the chunks, where there is one.
 fn push_signature(alloc: Global, signatures: &mut Vec<String>, signature: Option<&str>) -> Mem<()>
-    ensures { OnOk result (signature_texts signatures.new.items ≡ signature_texts signatures.old.items ++ given (option_copied signature.entry)) }
+    ensures { OnOk result (signature_texts signatures.new.items ≡ signature_texts signatures.old.items ++ one_or_none (option_copied signature.entry)) }
 {
     if let Some(signature) = signature {
         signatures.push(String::from_str(alloc, signature)?)?;

@@ -1,7 +1,7 @@
 //! The words of `gen`.
 ghost use Rattle.std.specs.Prelude.{◌≡◌, map};
 ghost use Rattle.std.specs.String.{string_bytes};
-ghost use Rattle.signed_stream.specs.Command.{counted, generator_from, seeded};
+ghost use Rattle.signed_stream.specs.Command.{count_given, generator_from, seeded};
 ghost use Rattle.signed_stream.specs.Numbers.{natural_below};
 ghost use Rattle.signed_stream.specs.Options.{ReadsGenerator};
 

@@ -54,12 +54,12 @@ impl<'a> GivenOptions<'a> {
     ghost use Rattle.std.specs.Int.{w64};
     ghost use Rattle.signed_stream.specs.Command.{command_of, no_options, take_expiry, take_flag, take_moment, take_option, take_profile_option, take_skew, take_word};
     ghost use Rattle.signed_stream.specs.Numbers.{natural_below, number};
-    ghost use Rattle.signed_stream.specs.Options.{ReadsStream, Takes, options_of};
+    ghost use Rattle.signed_stream.specs.Options.{ReadsStream, TakesWord, given_options};
     ghost use Rattle.signed_stream.specs.ProfileOptions.{profile_option};
 
     /// No options.
     pub fn new(alloc: Global) -> Self
-        ensures { options_of result ≡ no_options }
+        ensures { given_options result ≡ no_options }
     {
         GivenOptions {
             name: None,
@@ -75,7 +75,7 @@ impl<'a> GivenOptions<'a> {
 
     /// Takes the word at a place.
     pub fn take(&mut self, place: usize, word: &'a str) -> Result<(), WordsFault>
-        ensures { let given = options_of self.old in Takes (take_word place given given.awaited word.now) self.new result }
+        ensures { let given = given_options self.old in TakesWord (take_word place given given.awaited word.now) self.new result }
     {
         match self.awaited.take() {
             Some(Valued::Name) => {
@@ -96,7 +96,7 @@ impl<'a> GivenOptions<'a> {
 
     // Takes the option at a place.
     fn take_option(&mut self, place: usize, word: &str) -> Result<(), WordsFault>
-        ensures { Takes (take_option place (options_of self.old) word.now) self.new result }
+        ensures { TakesWord (take_option place (given_options self.old) word.now) self.new result }
     {
         let (stood, option) = match word {
             "--name" => (self.name.is_some(), Valued::Name),
@@ -115,7 +115,7 @@ impl<'a> GivenOptions<'a> {
 
     // Takes the option of profiles at a place; files may repeat.
     fn take_profile_option(&mut self, place: usize, word: &str) -> Result<(), WordsFault>
-        ensures { Takes (take_profile_option place (options_of self.old) (profile_option word.now) word.now) self.new result }
+        ensures { TakesWord (take_profile_option place (given_options self.old) (profile_option word.now) word.now) self.new result }
     {
         let Some(option) = ProfileOption::named(word) else {
             return self.take_flag(place, word);
@@ -129,7 +129,7 @@ impl<'a> GivenOptions<'a> {
 
     // Takes the option without a value at a place.
     fn take_flag(&mut self, place: usize, word: &str) -> Result<(), WordsFault>
-        ensures { Takes (take_flag place (options_of self.old) word.now) self.new result }
+        ensures { TakesWord (take_flag place (given_options self.old) word.now) self.new result }
     {
         let signing = &mut self.signing;
         match word {
@@ -155,7 +155,7 @@ impl<'a> GivenOptions<'a> {
 
     // Takes the value of `--at` at a place.
     fn take_moment(&mut self, place: usize, word: &str) -> Result<(), WordsFault>
-        ensures { Takes (take_moment place (options_of self.old) (number w64 word.now)) self.new result }
+        ensures { TakesWord (take_moment place (given_options self.old) (number w64 word.now)) self.new result }
     {
         self.awaited = None;
         let Some(secs) = parse_i64(word) else {
@@ -167,7 +167,7 @@ impl<'a> GivenOptions<'a> {
 
     // Takes the value of `--expires` at a place.
     fn take_expiry(&mut self, place: usize, word: &str) -> Result<(), WordsFault>
-        ensures { Takes (take_expiry place (options_of self.old) (natural_below 18446744073709551616 word.now)) self.new result }
+        ensures { TakesWord (take_expiry place (given_options self.old) (natural_below 18446744073709551616 word.now)) self.new result }
     {
         self.awaited = None;
         let Some(seconds) = parse_u64(word) else {
@@ -179,7 +179,7 @@ impl<'a> GivenOptions<'a> {
 
     // Takes the value of `--skew` at a place.
     fn take_skew(&mut self, place: usize, word: &str) -> Result<(), WordsFault>
-        ensures { Takes (take_skew place (options_of self.old) (number w64 word.now)) self.new result }
+        ensures { TakesWord (take_skew place (given_options self.old) (number w64 word.now)) self.new result }
     {
         self.awaited = None;
         let Some(millis) = parse_i64(word) else {
@@ -191,7 +191,7 @@ impl<'a> GivenOptions<'a> {
 
     /// The command, where the place after the last word is reached.
     pub fn finish(self, place: usize) -> Result<StreamWords<'a>, WordsFault>
-        ensures { let given = options_of self.entry in ReadsStream (command_of place given given.name given.awaited) result }
+        ensures { let given = given_options self.entry in ReadsStream (command_of place given given.name given.awaited) result }
     {
         match (self.awaited, self.name) {
             (None, Some(name)) => Ok(StreamWords {

@@ -1,5 +1,5 @@
 ghost use Rattle.std.specs.Prelude.{◌≡◌, ◌<◌, ◌∷◌, length};
-ghost use Rattle.signed_stream.specs.Lines.{job_lines, header_pair, rest_of, word_of};
+ghost use Rattle.signed_stream.specs.Lines.{job_lines, header_of_line, after_word_of, word_of};
 ghost use Rattle.signed_stream.specs.Draft.{texts_of_pair};
 
 /// The first line, and what stands after it.
@@ -18,7 +18,7 @@ pub fn cut_line(text: &str) -> (&str, &str)
 /// What stands before the first space, or all, and what stands after it, or nothing.
 pub fn cut_word(line: &str) -> (&str, &str)
     ensures word { result.0.now ≡ word_of line.now }
-    ensures rest { result.1.now ≡ rest_of line.now }
+    ensures rest { result.1.now ≡ after_word_of line.now }
 {
     match line.split_once(' ') {
         Some(parts) => parts,
@@ -28,7 +28,7 @@ pub fn cut_word(line: &str) -> (&str, &str)
 
 /// What stands before the first `: `, and what stands after it.
 pub fn cut_pair(text: &str) -> Option<(&str, &str)>
-    ensures { texts_of_pair result ≡ header_pair text.now }
+    ensures { texts_of_pair result ≡ header_of_line text.now }
 {
     text.split_once(": ")
 }

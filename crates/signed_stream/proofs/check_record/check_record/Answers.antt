@@ -1,6 +1,6 @@
 use Rattle.signed_stream.specs.Options.{check_wanted}
 use Rattle.signed_stream.specs.Record.{record_parts}
-use Rattle.signed_stream.specs.Settings.{selected_of}
+use Rattle.signed_stream.specs.Settings.{selected_in}
 use Rattle.signed_stream.specs.Sources.{DiskGives}
 use Rattle.signed_stream.specs.Status.{ending_of}
 use Rattle.signed_stream.proofs.FitLemmas.{record_sealed, record_unselected}
@@ -12,7 +12,7 @@ returns-in-Ok-clause-planned g c =
     let gave = DiskGives g.D.Disk.answers g.D.Disk.faults (g.D.Disk.files c.args.disk.now) c.args.env.now c.args.disk.now c.select.new.disk in
     let found = c.in-Ok.ensures.selects in
     let goes = rw c.as_slice.ensures.value at c.show_checked.ensures.planned in
-    record_sealed gave c.args.env.now (check_wanted c.args.words) (record_parts c.args.draft) found.0 (selected_of c.in-Ok.settings) goes.0 (ending_of c.show_checked.result)
+    record_sealed gave c.args.env.now (check_wanted c.args.words) (record_parts c.args.draft) found.0 (selected_in c.in-Ok.settings) goes.0 (ending_of c.show_checked.result)
     (g.K.ByteSink.held c.args.out.now) (g.K.ByteSink.held c.show_checked.new.out) found.1 found.2 goes.1 goes.2
 
 pub returns-clause-planned : goal.returns-clause-planned

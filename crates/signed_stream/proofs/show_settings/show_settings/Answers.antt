@@ -2,7 +2,7 @@ use Rattle.std.proofs.Common.{ap, sym, ◌∙◌}
 use Rattle.signed_stream.specs.Halt.{ended}
 use Rattle.signed_stream.specs.ProfileOptions.{profile_wanted}
 use Rattle.signed_stream.specs.ProfileTexts.{texts_of}
-use Rattle.signed_stream.specs.Settings.{selected_of}
+use Rattle.signed_stream.specs.Settings.{selected_in}
 use Rattle.signed_stream.specs.Sources.{DiskGives}
 use Rattle.signed_stream.specs.Status.{ending_of}
 use Rattle.signed_stream.proofs.FitLemmas.{ended_after_texts, ended_failed, ended_unnamed, texts_shown, texts_unselected}
@@ -13,7 +13,7 @@ returns-in-Ok-clause-planned g c =
     let gave = DiskGives g.D.Disk.answers g.D.Disk.faults (g.D.Disk.files c.args.disk.now) c.args.env.now c.args.disk.now c.select.new.disk in
     let found = c.in-Ok.ensures.selects in
     rw c.status_of.ensures
-    (texts_shown gave c.args.env.now (profile_wanted c.args.options) (texts_of c.args.texts) found.0 (selected_of c.in-Ok.settings) c.write_settings.result
+    (texts_shown gave c.args.env.now (profile_wanted c.args.options) (texts_of c.args.texts) found.0 (selected_in c.in-Ok.settings) c.write_settings.result
     (g.K.ByteSink.held c.args.out.now) (g.K.ByteSink.held c.write_settings.new.out) found.1 found.2 c.write_settings.ensures.sends)
 
 pub returns-clause-planned : goal.returns-clause-planned

@@ -5,7 +5,7 @@ use Rattle.std.specs.Option.{option_copied}
 use Rattle.smithy_core.proofs.GivenLemmas.{each_given, given_none}
 use Rattle.env_config.specs.Source.{file_of}
 use Rattle.signed_stream.specs.Plan.{unread}
-use Rattle.signed_stream.specs.Settings.{GivesSettings, selected_of, settings}
+use Rattle.signed_stream.specs.Settings.{GivesSettings, selected_in, settings}
 use Rattle.signed_stream.specs.Streaming.{job_with, stream_wanted}
 use Rattle.signed_stream.proofs.HeadlineLemmas.{completes_sent, completes_stream, headline_sent}
 use Rattle.signed_stream.proofs.RunLemmas.{no_moment}
@@ -43,7 +43,7 @@ returns-clause-streams g c =
     let env = c.args.env.now in
     let wanted = stream_wanted c.args.options.now c.args.form in
     let j = job_with c.args.request.now c.args.events.now in
-    let read : settings files profile env (option_copied c.lent.result) ≡ Ok (selected_of c.in_ok-settings.settings) = c.in_ok-settings.ensures in
+    let read : settings files profile env (option_copied c.lent.result) ≡ Ok (selected_in c.in_ok-settings.settings) = c.in_ok-settings.ensures in
     let settled = rw c.lent.ensures at read in
     let sent = c.stream_selected.ensures.streams in
     record {
@@ -57,7 +57,7 @@ returns-clause-streams g c =
         needed = rw settled sent.needed;
       };
       headline =
-          headline_sent files profile env wanted c.args.request.now c.args.events.now sent.target (selected_of c.in_ok-settings.settings) _ _ sent.taken _ _ c.stream_selected.result settled sent.gained sent.spelled
+          headline_sent files profile env wanted c.args.request.now c.args.events.now sent.target (selected_in c.in_ok-settings.settings) _ _ sent.taken _ _ c.stream_selected.result settled sent.gained sent.spelled
           (rw settled sent.goes) c.stream_selected.ensures.signed;
       complete = λ target later spells valid.
           completes_sent c.stream_selected.result

@@ -1,7 +1,8 @@
 use Rattle.std.proofs.Common.{◌≡◌, ◌++◌, filter, map}
 use Rattle.std.specs.List.{join_with_byte}
 use Rattle.std.specs.String.{string_bytes}
-use Rattle.sigv4.specs.Trim.{is_word, space}
+use Rattle.smithy_core.specs.Text.{space}
+use Rattle.sigv4.specs.Trim.{is_word}
 use Rattle.sigv4.proofs.JoinLemmas.{is_none}
 use Rattle.sigv4.proofs.trim.push_trimmed.Given as goal
 
