@@ -22,9 +22,13 @@ use Rattle.request_check.specs.declared.check.CheckRequestFault.{CheckRequestFau
 use Rattle.request_check.specs.declared.check.CheckRequestFault.TheVariants.{NoMemory, NoSignature, Signing}
 use Rattle.request_check.specs.declared.check.Checked.{Checked}
 
+-- `;`
+abbrev pub semicolon : ℕ
+semicolon = 59
+
 -- the names of a seal, as they are carried: what stands between `;`
 abbrev pub carried_names : List ℕ → List (List ℕ)
-carried_names text = slice_split (λ b. b == 59) text
+carried_names text = slice_split (λ b. b == semicolon) text
 
 -- the keys of the pairs that aren't signed: none where the seal stands in headers, and else the signature's own, and the token's where it isn't signed
 abbrev pub unsigned_keys : SignatureLocation → Settings → List (List ℕ)

@@ -2,6 +2,7 @@
 use Rattle.std.specs.Prelude.{ℕ, ◌+◌, ◌==◌, ◌||◌, nat_lt, if◌then◌else◌, List, [], ◌∷◌, ◌++◌, length, codes, bytes_eq, Option, Some, None, is_some, is_none, option_map, unwrap_or, Result, Ok, Err}
 use Rattle.std.specs.Option.{option_to_list}
 use Rattle.std.specs.List.{list_any}
+use Rattle.smithy_core.specs.Text.{space}
 use Rattle.smithy_core.specs.TextPairs.{lower}
 use Rattle.smithy_core.specs.Message.{Parts}
 use Rattle.smithy_core.specs.Header.{Header}
@@ -42,7 +43,7 @@ events_of draft = draft.events ++ option_to_list (option_map event_message draft
 -- `method M`: once; M isn't empty and has no space
 unfoldable pub method_step : Draft → List ℕ → Option Draft
 method_step draft rest =
-    if is_some draft.method || length rest == 0 || list_any (λ b. b == 32) rest then None else Some (record draft { method = Some rest })
+    if is_some draft.method || length rest == 0 || list_any (λ b. b == space) rest then None else Some (record draft { method = Some rest })
 
 -- `target T`: once
 unfoldable pub target_step : Draft → List ℕ → Option Draft

@@ -4,6 +4,7 @@ use Rattle.std.specs.List.{before_first, after_first}
 use Rattle.std.specs.Str.Lossy.{utf8_valid_len}
 use Rattle.smithy_core.specs.Text.{line_feed, space}
 use Rattle.env_config.specs.Line.{onto_first_line}
+use Rattle.env_config.specs.ParseFault.{colon}
 
 -- a line ends at LF, and the last one may lack it
 unfoldable pub job_lines : List ℕ → List (List ℕ)
@@ -38,5 +39,5 @@ after_word_of line = after_first (λ b. b == space) line
 unfoldable pub header_of_line : List ℕ → Option (List ℕ × List ℕ)
 header_of_line [] = None
 header_of_line (b ∷ bytes) =
-    if b == 58 && slice_index bytes 0 == space then Some ([], drop 1 bytes)
+    if b == colon && slice_index bytes 0 == space then Some ([], drop 1 bytes)
     else option_map (λ pair. (b ∷ pair.0, pair.1)) (header_of_line bytes)

@@ -22,9 +22,13 @@ number_on n (digit ∷ digits) = number_on (10 * n + (digit - 48)) digits
 unfoldable pub natural_below : ℕ → List ℕ → Option ℕ
 natural_below bound text = if is_natural text && nat_lt (number_on 0 text) bound then Some (number_on 0 text) else None
 
+-- `-`
+abbrev pub minus_sign : ℕ
+minus_sign = 45
+
 -- `-`, and then decimal digits without a leading zero, whose first isn't zero
 abbrev pub is_negative : List ℕ → Bool
-is_negative text = slice_index text 0 == 45 && is_natural (drop 1 text) && not (slice_index text 1 == 48)
+is_negative text = slice_index text 0 == minus_sign && is_natural (drop 1 text) && not (slice_index text 1 == 48)
 
 -- the number that a text spells: with `-` where it is below 0
 unfoldable pub spelled : List ℕ → Option ℤ

@@ -2,13 +2,17 @@
 use Rattle.std.specs.Prelude.{◌≡◌, ℕ, codes, List, [], ◌∷◌, ◌++◌, map, bytes_eq, Option, Some, None, if◌then◌else◌}
 use Rattle.std.specs.Borrow.{Bor}
 use Rattle.smithy_core.specs.TextPairs.{named_values}
-use Rattle.smithy_core.specs.Text.{line}
+use Rattle.smithy_core.specs.Text.{line, line_feed}
 use Rattle.sigv4.specs.Canonical.{is_signed, joined_values, signed_names}
 use Rattle.sigv4.specs.Query.{Pair}
 use Rattle.sigv4.specs.Settings.{Settings}
 use Rattle.sigv4.specs.Trim.{trim_all}
 use Rattle.sigv4.specs.declared.canonical_headers.SignedValue.{SignedValue}
 use Rattle.sigv4.specs.declared.canonical_headers.SignedValue.TheVariants.{Given, Added}
+
+-- `,`
+abbrev pub comma : ℕ
+comma = 44
 
 -- the value as it is signed: a given one trimmed
 abbrev pub signed_value_text : SignedValue → List ℕ
@@ -25,7 +29,7 @@ header_pairs headers = map header_pair headers
 -- `,` and the value of the first pair, where that has the name
 abbrev pub value_behind : List ℕ → List Pair → List ℕ
 value_behind name [] = []
-value_behind name (pair ∷ pairs) = if bytes_eq name pair.0 then 44 ∷ pair.1 else []
+value_behind name (pair ∷ pairs) = if bytes_eq name pair.0 then comma ∷ pair.1 else []
 
 -- the pairs after the first, where that has the name, and else all
 abbrev pub pairs_behind : List ℕ → List Pair → List Pair
@@ -65,9 +69,9 @@ next_name (Some last) name = if bytes_eq last name then [] else codes ";" ++ nam
 -- what stands before the value of a name, behind the value of the last name
 abbrev pub before_value : Option (List ℕ) → List ℕ → List ℕ
 before_value None name = name ++ codes ":"
-before_value (Some last) name = if bytes_eq last name then codes "," else 10 ∷ name ++ codes ":"
+before_value (Some last) name = if bytes_eq last name then codes "," else line_feed ∷ name ++ codes ":"
 
 -- what stands behind the last value
 abbrev pub after_values : Option (List ℕ) → List ℕ
 after_values None = []
-after_values (Some last) = 10 ∷ []
+after_values (Some last) = line_feed ∷ []
