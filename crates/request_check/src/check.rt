@@ -6,11 +6,11 @@ ghost use Rattle.request_check.specs.Recomputation.{Recomputes};
 ghost use Rattle.request_check.specs.Recomputed.{ChecksRequest, ReadsSent, sent_text};
 
 use crate::header_lines::push_header_lines;
-use crate::header_tests::{added_host, test_headers, test_host};
-use crate::payload::payload_text;
+use crate::host::{added_host, test_host};
 use crate::seal::{Seal, seal_of};
-use crate::target::{canonical_path, signed_query};
+use crate::target::signed_query;
 use http_uri::Uri;
+use sigv4::parts::{canonical_path, payload_text, test_headers};
 use sigv4::v4::request_signature;
 use sigv4::{SignableBody, SigningError, SigningSettings};
 use smithy_core::{HttpRequest, Mem, push_text_line};
@@ -110,7 +110,12 @@ fn sent_text(
     ensures { IfOk result (λ text. string_bytes text
         ≡ sent_text (string_bytes sent.now.method) (target_of uri.now) sent.now.headers (settings_of settings.now) payload.now seal.now) }
 {
-    let path = canonical_path(alloc, settings, uri.path())?;
+    let path = canonical_path(
+        alloc,
+        settings.uri_path_normalization_mode,
+        settings.percent_encoding_mode,
+        uri.path(),
+    )?;
     let query = signed_query(alloc, uri, settings, seal.place())?;
     let host = added_host(uri, &sent.headers);
     let mut text = String::with_capacity(alloc, 512)?;

@@ -1,12 +1,13 @@
 //! The lines of the signed headers in a canonical text.
 ghost use Rattle.std.specs.Prelude.{◌≡◌, ◌++◌, codes, OnOk, option_copied, string_bytes};
-ghost use Rattle.std.specs.List.{flat_map, join_with_byte};
+ghost use Rattle.std.specs.List.{flat_map};
 ghost use Rattle.smithy_core.specs.TextPairs.{named_values};
 ghost use Rattle.sigv4.specs.Canonical.{given_headers, header_line, joined_values, with_optional};
-ghost use Rattle.sigv4.specs.Trim.{before_word, trim_all};
+ghost use Rattle.sigv4.specs.Trim.{trim_all};
 ghost use Rattle.request_check.specs.HeaderLines.{before_listed};
 ghost use Rattle.request_check.specs.Recomputed.{carried_names};
 
+use sigv4::parts::push_trimmed;
 use smithy_core::{Headers, Mem, is_lower_of};
 
 /// Appends the line of each of the names: its values of these headers, and of the host where one is added.
@@ -79,28 +80,4 @@ fn push_value(text: &mut String, is_first: bool, value: &str) -> Mem<()>
         text.push_str(",")?;
     }
     push_trimmed(text, value)
-}
-
-// Appends the text with the spaces at its ends cut and each run of spaces made one.
-fn push_trimmed(text: &mut String, value: &str) -> Mem<()>
-    ensures { OnOk result (string_bytes text.new ≡ string_bytes text.old ++ trim_all value.now) }
-{
-    let mut is_first = true;
-    for word in value.split(' ') {
-        if !word.is_empty() {
-            push_word(text, is_first, word)?;
-            is_first = false;
-        }
-    }
-    Ok(())
-}
-
-// Appends the word, after a space where it isn't the first.
-fn push_word(text: &mut String, is_first: bool, word: &str) -> Mem<()>
-    ensures { OnOk result (string_bytes text.new ≡ string_bytes text.old ++ (before_word is_first ++ word.now)) }
-{
-    if !is_first {
-        text.push_str(" ")?;
-    }
-    text.push_str(word)
 }

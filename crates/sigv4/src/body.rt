@@ -67,8 +67,8 @@ impl fmt::Debug for SignableBody<'_> {
     }
 }
 
-/// The payload's text of a body. Bytes are hashed.
-pub(crate) fn payload_text(alloc: Global, body: &SignableBody<'_>) -> Mem<String>
+/// The payload's text of a body: bytes are hashed.
+pub fn payload_text(alloc: Global, body: &SignableBody<'_>) -> Mem<String>
     ensures { IfOk result (λ text. string_bytes text ≡ payload_text body.now) }
 {
     match body {

@@ -99,9 +99,9 @@ pub(crate) fn signed_token<'a>(
     }
 }
 
-/// Pairs of a query, escaped.
+/// Pairs of a canonical query, escaped.
 #[derive(Drop)]
-struct EscapedPairs {
+pub struct EscapedPairs {
     pairs: Vec<(String, String)>,
 }
 
@@ -115,7 +115,8 @@ impl Model for EscapedPairs {
 }
 
 impl EscapedPairs {
-    fn new(alloc: Global) -> EscapedPairs
+    /// No pairs yet.
+    pub fn new(alloc: Global) -> EscapedPairs
         ensures { result ≡ [] }
     {
         EscapedPairs {
@@ -123,8 +124,8 @@ impl EscapedPairs {
         }
     }
 
-    // Adds a pair.
-    fn push(&mut self, key: &str, value: &str) -> Mem<()>
+    /// Adds a pair, escaped.
+    pub fn push(&mut self, key: &str, value: &str) -> Mem<()>
         ensures { OnOk result (self.new ≡ self.old ++ escaped_pair (key.now, value.now) ∷ []) }
     {
         let alloc = *self.pairs.allocator();
@@ -166,8 +167,8 @@ impl EscapedPairs {
         }
     }
 
-    // The pairs, sorted by key and then by value, as `key=value` with `&` between.
-    fn into_text(mut self) -> Mem<String>
+    /// The pairs, sorted by key and then by value, as `key=value` with `&` between.
+    pub fn into_text(mut self) -> Mem<String>
         ensures { IfOk result (λ text. string_bytes text ≡ joined_pairs (sorted self)) }
     {
         sort_pairs(&mut self.pairs);

@@ -7,7 +7,7 @@ use http_uri::{Authority, Uri};
 /// The text of a request's `host` header where it isn't given: the host alone where the port is the scheme's default, and
 /// else the whole authority, its user included.
 #[tactic(auto, unfolding(crate::specs::Host::host_text))]
-pub(crate) fn host_text(uri: &Uri) -> Option<&str>
+pub fn host_text(uri: &Uri) -> Option<&str>
     ensures { option_copied result ≡ host_text (target_of uri.now) }
 {
     let authority = uri.authority()?;

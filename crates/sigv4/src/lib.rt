@@ -13,6 +13,7 @@
 //! [`event_stream::sign_message_with_key`] and [`event_stream::sign_empty_message_with_key`] answer the same under it.
 //! An upload in chunks goes on from its request's signature: [`v4::sign_chunk`] and [`v4::sign_trailer`] answer the signatures of
 //! a chunk and of the trailers (`specs/Chunk.antt`), and a [`SignChunk`] makes one over the other (`specs/ChunkTold.antt`).
+//! What [`sign`] computes on its way stands in [`parts`].
 //! A builder gives back its parts or names the first that is missing (`specs/Params.antt`).
 #![tactic(auto)]
 
@@ -36,6 +37,7 @@ mod modes;
 mod output;
 mod parameters;
 mod params;
+pub mod parts;
 mod path;
 mod refusal;
 mod request;

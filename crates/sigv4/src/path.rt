@@ -68,7 +68,7 @@ fn push_segments(text: &mut String, segments: &[&str]) -> Mem<()>
 /// The path of a canonical request: in its normal form unless that is disabled, and escaped once more unless it is to be
 /// escaped a single time.
 #[tactic(auto, unfolding(crate::specs::Path::canonical_path))]
-pub(crate) fn canonical_path(
+pub fn canonical_path(
     alloc: Global,
     normalization: UriPathNormalizationMode,
     encoding: PercentEncodingMode,

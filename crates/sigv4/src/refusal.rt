@@ -41,8 +41,13 @@ fn test_target(settings: &SigningSettings, uri: &Uri) -> Result<(), SigningError
     }
 }
 
-// Tests the headers in order, each by its name and then by its value.
-fn test_headers(headers: &Headers) -> Result<(), SigningError>
+/// Tests the headers in order, each by its name and then by its value.
+///
+/// # Errors
+///
+/// [`SigningError::InvalidHeaderName`] or [`SigningError::InvalidHeaderValue`] with the place of the first that isn't one,
+/// counted from 1.
+pub fn test_headers(headers: &Headers) -> Result<(), SigningError>
     ensures { Tests (unfit_headers 1 headers.now) result }
 {
     let count = headers.len();
@@ -62,8 +67,12 @@ fn test_header(place: usize, name: &str, value: &str) -> Result<(), SigningError
     test_value(ValuePlace::Header(place), value)
 }
 
-// Tests the text at a place, which is to be a header's value.
-fn test_value(place: ValuePlace, value: &str) -> Result<(), SigningError>
+/// Tests the text at a place, which is to be a header's value.
+///
+/// # Errors
+///
+/// [`SigningError::InvalidHeaderValue`] with the place.
+pub fn test_value(place: ValuePlace, value: &str) -> Result<(), SigningError>
     ensures { Tests (unfit_value place value.now) result }
 {
     if is_value(value) {

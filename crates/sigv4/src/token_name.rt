@@ -34,7 +34,7 @@ pub(crate) fn token_header(settings: &SigningSettings) -> &str
 }
 
 /// The name of the session token's parameter.
-pub(crate) fn token_parameter(settings: &SigningSettings) -> &str
+pub fn token_parameter(settings: &SigningSettings) -> &str
     ensures { result.now ≡ token_parameter (settings_of settings.now) }
 {
     match &settings.session_token_name_override {

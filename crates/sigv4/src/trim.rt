@@ -5,7 +5,7 @@ ghost use Rattle.sigv4.specs.Trim.{before_word, trim_all};
 use smithy_core::Mem;
 
 /// Appends the text with the spaces at its ends cut and each run of spaces made one. Other blanks stay.
-pub(crate) fn push_trimmed(out: &mut String, text: &str) -> Mem<()>
+pub fn push_trimmed(out: &mut String, text: &str) -> Mem<()>
     ensures { OnOk result (string_bytes out.new ≡ string_bytes out.old ++ trim_all text.now) }
 {
     let mut is_first = true;

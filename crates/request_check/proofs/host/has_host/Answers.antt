@@ -1,7 +1,7 @@
 use Rattle.std.proofs.Common.{sym, ◌∙◌}
 use Rattle.std.specs.Prelude.{codes}
 use Rattle.sigv4.proofs.RefusalLemmas.{decides-some, first-given}
-use Rattle.request_check.proofs.header_tests.has_host.Goals as goal
+use Rattle.request_check.proofs.host.has_host.Goals as goal
 
 pub returns : goal.returns
 returns c =

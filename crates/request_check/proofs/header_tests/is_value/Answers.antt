@@ -1,5 +1,0 @@
-use Rattle.sigv4.proofs.RefusalLemmas.{decides-value}
-use Rattle.request_check.proofs.header_tests.is_value.Goals as goal
-
-pub returns : goal.returns
-returns c = decides-value c.args.text.now _ c.is_header_value.ensures
