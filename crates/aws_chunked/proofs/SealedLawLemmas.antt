@@ -1,19 +1,21 @@
 -- Frames make up the text, and signed texts are whole texts, and as long as their options tell.
-use Rattle.std.proofs.Common.{◌≡◌, ℕ, ◌*◌, ◌/◌, ◌%◌, ◌<◌, true, ◌&&◌, List, [], ◌∷◌, ◌++◌, length, map, slice_index, Some, refl, ap, ◌∙◌, arith, sym, subst, Option, None}
-use Rattle.std.specs.Prelude.{nat_lt, IsOk, Ok, Err, Result}
-use Rattle.std.specs.List.{AllByRecursion, list_all}
-use Rattle.std.proofs.lemmas.Bool.{agree_below_at, and_parts, ltb-true, false≢true}
+use Rattle.std.proofs.Common.{◌≡◌, ℕ, ◌*◌, true, List, [], ◌∷◌, ◌++◌, length, map, Some, refl, ap, ◌∙◌, arith, sym, subst, Option, None}
+use Rattle.std.specs.Prelude.{IsOk, Ok, Err, Result}
+use Rattle.std.specs.List.{AllByRecursion}
+use Rattle.std.proofs.lemmas.Bool.{false≢true}
 use Rattle.std.proofs.lemmas.List.Sums.{AllPass-from_list_all}
-use Rattle.hex.specs.Hex.{encode_lower, encode_with, lower_digits}
+use Rattle.hex.specs.Hex.{encode_lower, lower_digits}
 use Rattle.hex.proofs.HexLemmas.{length-encode_with}
 use Rattle.mac_core.specs.Mac.{mac, mac_of_block}
 use Rattle.smithy_core.specs.Moment.{Instant}
 use Rattle.eventstream.specs.Key.{Signer, signing_key}
 use Rattle.eventstream.proofs.LinkLemmas.{length-mac}
 use Rattle.sigv4.specs.Chunk.{chunk_signature, text_signature, trailer_signature}
+use Rattle.sigv4.proofs.DigitLemmas.{encoded_digits}
 use Rattle.sigv4.proofs.SignatureLemmas.{sha256-bytes}
 use Rattle.aws_chunked.specs.Body.{Trailer, actual_length, IsNothing}
-use Rattle.aws_chunked.specs.Decoded.{IsPiecesText, IsSignature, IsTextOf, IsTrailer, TakesSignature, is_signature_digit}
+use Rattle.sigv4.specs.Signature.{is_lower_digit}
+use Rattle.aws_chunked.specs.Decoded.{IsPiecesText, IsSignature, IsTextOf, IsTrailer, TakesSignature}
 use Rattle.aws_chunked.specs.Laws.{TakeDue, answered_bytes}
 use Rattle.aws_chunked.specs.Options.{IsChunkSize, Options, declared_length, encoded_length}
 use Rattle.aws_chunked.specs.Rests.{one_or_none}
@@ -27,23 +29,12 @@ use Rattle.aws_chunked.proofs.LawLemmas.{signed_long}
 
 -- ## Signatures
 
-digit_fine : (digit : ℕ) → digit < 16 → is_signature_digit (slice_index lower_digits digit) ≡ true
-digit_fine digit small = agree_below_at (λ d. is_signature_digit (slice_index lower_digits d)) (λ _. true) 16 digit refl small
-
-encoded_digits : (bytes : List ℕ) → list_all (λ b. nat_lt b 256) bytes ≡ true → list_all is_signature_digit (encode_lower bytes) ≡ true
-unfolding encode_with
-encoded_digits [] are = refl
-encoded_digits (b ∷ bytes) are =
-    let parts = and_parts (nat_lt b 256) (list_all (λ b. nat_lt b 256) bytes) are in
-    let small : b < 256 = ltb-true b 256 parts.0 in
-    λ i. digit_fine (b / 16) (omega (arith, small)) i && (digit_fine (b % 16) (omega arith) i && encoded_digits bytes parts.1 i)
-
 text_sealed : (signer : Signer) (t : Instant) (text : List ℕ) → IsSignature (text_signature signer t text)
 unfolding mac mac_of_block
 text_sealed signer t text =
     let code = mac (signing_key signer t) text in (
       length-encode_with lower_digits code ∙ ap (λ (n : ℕ). 2 * n) (length-mac (signing_key signer t) text),
-      AllPass-from_list_all is_signature_digit (encode_lower code) (encoded_digits code (sha256-bytes _)),
+      AllPass-from_list_all is_lower_digit (encode_lower code) (encoded_digits code (sha256-bytes _)),
     )
 
 chunk_sealed : (piece : List ℕ) (signer : Signer) (t : Instant) (before : List ℕ) → IsSignature (chunk_signature piece signer t before)

@@ -4,7 +4,9 @@ use Rattle.std.specs.Prelude.{All, IsTrue}
 use Rattle.std.proofs.lemmas.Bool.{false≢true}
 use Rattle.std.proofs.lemmas.List.{get_or_append_left, length-append, length-replicate}
 use Rattle.std.proofs.lemmas.List.Elements.{All-append, All-push, All-replicate}
-use Rattle.aws_chunked.specs.Decoded.{CanGoOn, IsSignature, is_signature_digit}
+use Rattle.sigv4.specs.Signature.{is_lower_digit}
+use Rattle.sigv4.proofs.DigitLemmas.{digit_low}
+use Rattle.aws_chunked.specs.Decoded.{CanGoOn, IsSignature}
 use Rattle.aws_chunked.specs.Reading.{Led, RefusesNext, TellsWhere}
 use Rattle.aws_chunked.specs.Rests.{IsSignedBy}
 use Rattle.aws_chunked.specs.declared.decode.fault.ReadFault.{ReadFault}
@@ -18,7 +20,7 @@ zeros = replicate 64 48
 
 pub zeros_sound : IsSignature zeros
 unfolding zeros
-zeros_sound = (length-replicate {A = ℕ} 64 48, All-replicate (λ byte. IsTrue (is_signature_digit byte)) 64 48 refl)
+zeros_sound = (length-replicate {A = ℕ} 64 48, All-replicate (λ byte. IsTrue (is_lower_digit byte)) 64 48 refl)
 
 -- a signature, where the text is signed
 pub some_signature : Bool → Option (List ℕ)
@@ -36,46 +38,43 @@ signed_some false signature is sound = absurd (false≢true is)
 
 -- ## Signatures that are read
 
-pub digit_low : (byte : ℕ) → is_signature_digit byte ≡ true → byte < 128
-digit_low byte is = grind arith
-
 -- a digit more
 pub digit_read : (byte : ℕ) (bytes text now more rest others : List ℕ) → bytes ≡ text ++ rest → rest ≡ byte ∷ others → now ≡ text ++ more → (byte < 128 → more ≡ byte ∷ [])
-    → is_signature_digit byte ≡ true → bytes ≡ now ++ others
+    → is_lower_digit byte ≡ true → bytes ≡ now ++ others
 digit_read byte bytes text now more rest others read first pushed ascii is =
     read ∙ ap (λ (r : List ℕ). text ++ r) first ∙ sym (append_assoc text (byte ∷ []) others)
     ∙ ap (λ (t : List ℕ). t ++ others) (ap (λ (m : List ℕ). text ++ m) (sym (ascii (digit_low byte is))) ∙ sym pushed)
 
-pub digit_long : (byte : ℕ) (text now more : List ℕ) (n : ℕ) → length text ≡ n → now ≡ text ++ more → (byte < 128 → more ≡ byte ∷ []) → is_signature_digit byte ≡ true → length now ≡ n + 1
+pub digit_long : (byte : ℕ) (text now more : List ℕ) (n : ℕ) → length text ≡ n → now ≡ text ++ more → (byte < 128 → more ≡ byte ∷ []) → is_lower_digit byte ≡ true → length now ≡ n + 1
 digit_long byte text now more n long pushed ascii is =
     omega (arith, long, ap length pushed, length-append text more, ap length (ascii (digit_low byte is)))
 
-pub digits_read : (byte : ℕ) (text now more : List ℕ) → All (λ byte. IsTrue (is_signature_digit byte)) text → now ≡ text ++ more → (byte < 128 → more ≡ byte ∷ [])
-    → is_signature_digit byte ≡ true → All (λ byte. IsTrue (is_signature_digit byte)) now
+pub digits_read : (byte : ℕ) (text now more : List ℕ) → All (λ byte. IsTrue (is_lower_digit byte)) text → now ≡ text ++ more → (byte < 128 → more ≡ byte ∷ [])
+    → is_lower_digit byte ≡ true → All (λ byte. IsTrue (is_lower_digit byte)) now
 digits_read byte text now more are pushed ascii is =
-    subst (λ (t : List ℕ). All (λ byte. IsTrue (is_signature_digit byte)) t) (sym (pushed ∙ ap (λ (m : List ℕ). text ++ m) (ascii (digit_low byte is))))
-    (All-push (λ byte. IsTrue (is_signature_digit byte)) text byte are is)
+    subst (λ (t : List ℕ). All (λ byte. IsTrue (is_lower_digit byte)) t) (sym (pushed ∙ ap (λ (m : List ℕ). text ++ m) (ascii (digit_low byte is))))
+    (All-push (λ byte. IsTrue (is_lower_digit byte)) text byte are is)
 
 -- the first digits of a signature
-pub begins_signature : (front : List ℕ) → length front ≤ 64 → All (λ byte. IsTrue (is_signature_digit byte)) front → CanGoOn IsSignature front
+pub begins_signature : (front : List ℕ) → length front ≤ 64 → All (λ byte. IsTrue (is_lower_digit byte)) front → CanGoOn IsSignature front
 begins_signature front low are = (
   replicate (64 - length front) 48,
   (
     omega (arith, low, length-append front (replicate (64 - length front) 48), length-replicate {A = ℕ} (64 - length front) 48),
-    All-append (λ byte. IsTrue (is_signature_digit byte)) front (replicate (64 - length front) 48) are
-        (All-replicate (λ byte. IsTrue (is_signature_digit byte)) (64 - length front) 48 refl),
+    All-append (λ byte. IsTrue (is_lower_digit byte)) front (replicate (64 - length front) 48) are
+        (All-replicate (λ byte. IsTrue (is_lower_digit byte)) (64 - length front) 48 refl),
   ),
 )
 
-pub signature_ends : (bytes front rest : List ℕ) (i : ℕ) (fault : ReadFault) → i < 64 → length front ≡ i → All (λ byte. IsTrue (is_signature_digit byte)) front
+pub signature_ends : (bytes front rest : List ℕ) (i : ℕ) (fault : ReadFault) → i < 64 → length front ≡ i → All (λ byte. IsTrue (is_lower_digit byte)) front
     → bytes ≡ front ++ rest → length rest ≡ 0 → fault ≡ Bad (length rest) → TellsWhere IsSignature (Led IsSignature) bytes fault
 signature_ends bytes front rest i fault low long are read none told =
     stops_behind IsSignature (Led IsSignature) bytes front rest fault told read (begins_signature front (omega (arith, low, long)) are)
     (subst (RefusesNext (Led IsSignature) front) (sym (empty_list rest none)) (λ led.
     omega (arith, low, long, ap length led.3, length-append led.0 led.1, led.2.0)))
 
-pub signature_differs : (bytes front rest others : List ℕ) (i byte : ℕ) (fault : ReadFault) → i < 64 → length front ≡ i → All (λ byte. IsTrue (is_signature_digit byte)) front
-    → bytes ≡ front ++ rest → rest ≡ byte ∷ others → is_signature_digit byte ≡ false → fault ≡ Bad (length rest) → TellsWhere IsSignature (Led IsSignature) bytes fault
+pub signature_differs : (bytes front rest others : List ℕ) (i byte : ℕ) (fault : ReadFault) → i < 64 → length front ≡ i → All (λ byte. IsTrue (is_lower_digit byte)) front
+    → bytes ≡ front ++ rest → rest ≡ byte ∷ others → is_lower_digit byte ≡ false → fault ≡ Bad (length rest) → TellsWhere IsSignature (Led IsSignature) bytes fault
 signature_differs bytes front rest others i byte fault low long are read first other told =
     stops_behind IsSignature (Led IsSignature) bytes front rest fault told read (begins_signature front (omega (arith, low, long)) are)
     (subst (RefusesNext (Led IsSignature) front) (sym first) (λ begins.
@@ -83,4 +82,4 @@ signature_differs bytes front rest others i byte fault low long are read first o
     let same : byte ≡ get_or led.0 i 0 =
     sym (byte_behind front byte begins.0 i long) ∙ ap (λ (xs : List ℕ). get_or xs i 0) led.3
     ∙ get_or_append_left led.0 led.1 0 i (omega (arith, low, led.2.0)) in
-    false≢true (sym other ∙ ap is_signature_digit same ∙ led.2.1 i 0 (omega (arith, low, led.2.0)))))
+    false≢true (sym other ∙ ap is_lower_digit same ∙ led.2.1 i 0 (omega (arith, low, led.2.0)))))

@@ -10,7 +10,8 @@ use Rattle.std.proofs.lemmas.Str.Ascii.{IsAscii-from_all}
 use Rattle.http_header.specs.Token.{is_token_byte, is_value_byte}
 use Rattle.http_header.proofs.TokenLemmas.{AllPass-from_test}
 use Rattle.aws_chunked.specs.Body.{Trailer}
-use Rattle.aws_chunked.specs.Decoded.{CanGoOn, IsSignature, IsTrailer, TakesSignature, is_signature_digit}
+use Rattle.sigv4.specs.Signature.{is_lower_digit}
+use Rattle.aws_chunked.specs.Decoded.{CanGoOn, IsSignature, IsTrailer, TakesSignature}
 use Rattle.aws_chunked.specs.Reading.{Led, RefusesNext, TellsWhere}
 use Rattle.aws_chunked.specs.Rests.{FollowsFront, IsSignedBy, IsTail, Said, TextSays, TailSays, begins_with, first_byte, one_or_none}
 use Rattle.aws_chunked.specs.Signing.{has_signature}
@@ -22,11 +23,12 @@ use Rattle.aws_chunked.proofs.FollowLemmas.{follows_as, follows_both, stops_part
 use Rattle.aws_chunked.proofs.LineLemmas.{a_name, cr_ends, name_bytes, same_line}
 use Rattle.aws_chunked.proofs.PieceLemmas.{takes_given, takes_is}
 use Rattle.aws_chunked.proofs.RunLemmas.{same_begin, same_word}
-use Rattle.aws_chunked.proofs.SignatureLemmas.{digit_low, some_signature, some_signed}
+use Rattle.sigv4.proofs.DigitLemmas.{digit_low}
+use Rattle.aws_chunked.proofs.SignatureLemmas.{some_signature, some_signed}
 
 -- ## The signature of trailers is one
 
-signature_value : (b : ℕ) → is_signature_digit b ≡ true → is_value_byte b ≡ true
+signature_value : (b : ℕ) → is_lower_digit b ≡ true → is_value_byte b ≡ true
 signature_value b is = grind arith
 
 signature_name : All (λ byte. IsTrue (is_token_byte byte)) (codes "x-amz-trailer-signature")
@@ -37,8 +39,8 @@ signature_trailer : (signature : List ℕ) → IsSignature signature → IsTrail
 signature_trailer signature is = (
   ((omega arith, signature_name), omega arith),
   refl,
-  IsUtf8-from_ascii signature (IsAscii-from_all signature (All-weaker (λ b. IsTrue (is_signature_digit b)) (λ b. b < 128) digit_low signature is.1)),
-  All-weaker (λ b. IsTrue (is_signature_digit b)) (λ b. IsTrue (is_value_byte b)) signature_value signature is.1,
+  IsUtf8-from_ascii signature (IsAscii-from_all signature (All-weaker (λ b. IsTrue (is_lower_digit b)) (λ b. b < 128) digit_low signature is.1)),
+  All-weaker (λ b. IsTrue (is_lower_digit b)) (λ b. IsTrue (is_value_byte b)) signature_value signature is.1,
 )
 
 -- ## Lines

@@ -1,9 +1,9 @@
 -- What a whole text says, and where bytes stop being one.
-use Rattle.std.specs.Prelude.{◌≡◌, ℕ, ◌+◌, ◌<◌, ◌⊎◌, Bool, true, false, ◌||◌, List, [], ◌∷◌, ◌++◌, length, take, map, All, IsTrue, Option, Some, None, Result, Ok, Err, string_bytes, IsUtf8}
-use Rattle.std.specs.Int.{is_in_range}
+use Rattle.std.specs.Prelude.{◌≡◌, ℕ, ◌+◌, ◌<◌, ◌⊎◌, Bool, true, false, List, [], ◌∷◌, ◌++◌, length, take, map, All, IsTrue, Option, Some, None, Result, Ok, Err, string_bytes, IsUtf8}
 use Rattle.std.specs.List.{AllByRecursion}
 use Rattle.smithy_core.specs.HeaderGrammar.{IsHeaderName, IsHeaderValue}
 use Rattle.smithy_core.specs.TextPairs.{lower}
+use Rattle.sigv4.specs.Signature.{is_lower_digit}
 use Rattle.aws_chunked.specs.Body.{Trailer}
 use Rattle.aws_chunked.specs.Options.{IsChunkSize}
 use Rattle.aws_chunked.specs.Signing.{has_signature}
@@ -14,13 +14,9 @@ use Rattle.aws_chunked.specs.declared.decode.Decoded.{Decoded}
 
 -- ## Whole texts
 
--- a hexadecimal digit in lower case
-abbrev pub is_signature_digit : ℕ → Bool
-is_signature_digit byte = is_in_range 48 57 byte || is_in_range 97 102 byte
-
 -- 64 hexadecimal digits in lower case
 abbrev pub IsSignature : List ℕ → Type 0
-IsSignature text = (length text ≡ 64) × All (λ byte. IsTrue (is_signature_digit byte)) text
+IsSignature text = (length text ≡ 64) × All (λ byte. IsTrue (is_lower_digit byte)) text
 
 -- a header with its name in lower case
 abbrev pub IsTrailer : Trailer → Type 0

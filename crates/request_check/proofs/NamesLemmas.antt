@@ -1,9 +1,8 @@
 -- The names of signed headers as one text, and signatures as texts.
-use Rattle.std.proofs.Common.{◌≡◌, ℕ, ◌+◌, ◌*◌, ◌/◌, ◌%◌, ◌<◌, ◌==◌, Bool, true, false, ◌&&◌, ◌||◌, List, [], ◌∷◌, ◌++◌, length, IsUtf8, slice_index, refl, sym, ap, ◌∙◌, true≢false, arith, ne_eqb, not}
+use Rattle.std.proofs.Common.{◌≡◌, ℕ, ◌+◌, ◌*◌, ◌/◌, ◌%◌, ◌<◌, ◌==◌, Bool, true, false, ◌&&◌, ◌||◌, List, [], ◌∷◌, ◌++◌, length, IsUtf8, refl, sym, ap, ◌∙◌, true≢false, arith, ne_eqb, not}
 use Rattle.std.specs.Prelude.{codes, nat_lt}
 use Rattle.std.specs.List.{AllByRecursion, join_with_byte, list_all, slice_split}
-use Rattle.std.proofs.lemmas.Bool.{agree_below_at, and_parts, eqb-true, ltb-true, or_right, false≢true}
-use Rattle.std.proofs.lemmas.Bool.Decides.{nat_tests}
+use Rattle.std.proofs.lemmas.Bool.{agree_below_at, and_parts, eqb-true, or_right, false≢true}
 use Rattle.std.proofs.lemmas.List.Elements.{All-cons, All-nil}
 use Rattle.std.proofs.lemmas.Str.{IsUtf8-append, IsUtf8-from_ascii, IsUtf8-nil}
 use Rattle.std.proofs.lemmas.Str.Ascii.{IsAscii-cons, IsAscii-nil}
@@ -13,7 +12,7 @@ use Rattle.std.specs.Ordering.{is_eq}
 use Rattle.std.specs.Cmp.{tied_itself}
 use Rattle.std.proofs.lemmas.Cmp.{nat_list_cmp_total}
 use Rattle.sha2.specs.Sha256.{sha256}
-use Rattle.hex.specs.Hex.{encode_lower, encode_with, lower_digits}
+use Rattle.hex.specs.Hex.{encode_lower, lower_digits}
 use Rattle.hex.proofs.HexLemmas.{length-encode_with}
 use Rattle.http_header.specs.Token.{token_test}
 use Rattle.eventstream.proofs.LinkLemmas.{length-mac}
@@ -25,16 +24,17 @@ use Rattle.smithy_core.specs.declared.civil_text.Civil.{Civil}
 use Rattle.sigv4.specs.Body.{payload_text}
 use Rattle.sigv4.specs.Refusal.{is_name}
 use Rattle.sigv4.specs.Request.{Case}
-use Rattle.sigv4.specs.Signature.{signature}
+use Rattle.sigv4.specs.Signature.{is_lower_digit, signature}
 use Rattle.sigv4.specs.Signed.{signature_of}
 use Rattle.sigv4.specs.Trim.{is_word, trim_all}
 use Rattle.sigv4.specs.declared.body.SignableBody.{SignableBody}
 use Rattle.sigv4.specs.declared.body.SignableBody.TheVariants.{Bytes, UnsignedPayload, Precomputed, StreamingUnsignedPayloadTrailer, StreamingSignedPayloadTrailer}
+use Rattle.sigv4.proofs.DigitLemmas.{digit_low, encoded_digits}
 use Rattle.sigv4.proofs.JoinLemmas.{AllLack, Lacks, split_joined}
 use Rattle.sigv4.proofs.SetLemmas.{is_among, order}
 use Rattle.sigv4.proofs.SignatureLemmas.{sha256-bytes}
 use Rattle.request_check.specs.Recomputation.{IsTrimmedBody}
-use Rattle.request_check.specs.SealTexts.{has_space, is_lower_digit, is_signature}
+use Rattle.request_check.specs.SealTexts.{has_space, is_signature}
 use Rattle.request_check.proofs.ReadingLemmas.{digit_is_no_space}
 
 -- ---- header names have neither `;` nor a space
@@ -82,17 +82,6 @@ joined_whole (first ∷ next ∷ names) lack =
 
 -- ---- a signature is 64 digits
 
-digit_fine : (digit : ℕ) → digit < 16 → is_lower_digit (slice_index lower_digits digit) ≡ true
-digit_fine digit h = agree_below_at (λ d. is_lower_digit (slice_index lower_digits d)) (λ _. true) 16 digit refl h
-
-encoded_digits : (bytes : List ℕ) → list_all (λ b. nat_lt b 256) bytes ≡ true → list_all is_lower_digit (encode_lower bytes) ≡ true
-unfolding encode_with
-encoded_digits [] h = refl
-encoded_digits (b ∷ bytes) h =
-    let parts = and_parts (nat_lt b 256) (list_all (λ b. nat_lt b 256) bytes) h in
-    let small : b < 256 = ltb-true b 256 parts.0 in
-    λ i. digit_fine (b / 16) (omega (arith, small)) i && (digit_fine (b % 16) (omega arith) i && encoded_digits bytes parts.1 i)
-
 code_signature : (key text : List ℕ) → is_signature (encode_lower (mac key text)) ≡ true
 unfolding is_signature mac mac_of_block
 code_signature key text =
@@ -110,9 +99,6 @@ digits_utf8 (b ∷ text) digits =
     let parts = and_parts (is_lower_digit b) (list_all is_lower_digit text) digits in
     let low : b < 128 = digit_low b parts.0 in
     IsUtf8-append (b ∷ []) text (IsUtf8-from_ascii (b ∷ []) (IsAscii-cons b [] low IsAscii-nil)) (digits_utf8 text parts.1)
-  where
-    digit_low : (d : ℕ) → is_lower_digit d ≡ true → d < 128
-    digit_low d digit = grind (arith, nat_tests)
 
 pub signature_utf8 : (c : Case) → IsUtf8 (signature_of c)
 unfolding signature_of signature mac mac_of_block

@@ -1,11 +1,8 @@
 -- What the texts of a seal may be.
-use Rattle.std.specs.Prelude.{ℕ, ◌==◌, Bool, ◌&&◌, ◌||◌, List, length, nat_le}
+use Rattle.std.specs.Prelude.{ℕ, ◌==◌, Bool, ◌&&◌, List, length}
 use Rattle.std.specs.List.{list_all, list_any}
 use Rattle.smithy_core.specs.Text.{space}
-
--- a hexadecimal digit in lower case
-abbrev pub is_lower_digit : ℕ → Bool
-is_lower_digit b = (nat_le 48 b && nat_le b 57) || (nat_le 97 b && nat_le b 102)
+use Rattle.sigv4.specs.Signature.{is_lower_digit}
 
 -- 64 hexadecimal digits in lower case
 unfoldable pub is_signature : List ℕ → Bool

@@ -1,6 +1,9 @@
 ghost use Rattle.std.specs.Prelude.{◌≡◌};
 ghost use Rattle.std.specs.List.{list_all};
-ghost use Rattle.request_check.specs.SealTexts.{has_space, is_lower_digit, is_signature};
+ghost use Rattle.sigv4.specs.Signature.{is_lower_digit};
+ghost use Rattle.request_check.specs.SealTexts.{has_space, is_signature};
+
+use sigv4::parts::is_lower_digit;
 
 /// Whether the text is a signature: 64 hexadecimal digits in lower case.
 #[tactic(auto, unfolding(crate::specs::SealTexts::is_signature))]
@@ -15,12 +18,6 @@ fn are_lower_digits(text: &[u8]) -> bool
     ensures { result ≡ list_all is_lower_digit text.now }
 {
     text.iter().all(|b| is_lower_digit(*b))
-}
-
-fn is_lower_digit(b: u8) -> bool
-    ensures { result ≡ is_lower_digit b }
-{
-    matches!(b, b'0'..=b'9' | b'a'..=b'f')
 }
 
 /// Whether the text holds a space.

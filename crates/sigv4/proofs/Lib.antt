@@ -3,6 +3,7 @@ pub mod ByNameLemmas
 pub mod CanonicalLemmas
 pub mod CopyLemmas
 pub mod DigestLemmas
+pub mod DigitLemmas
 pub mod FitLemmas
 pub mod GatheredLemmas
 pub mod HeaderLemmas

@@ -1,5 +1,6 @@
 -- The signature of a request of AWS Signature Version 4, over its canonical text.
-use Rattle.std.specs.Prelude.{ℕ, List, ◌++◌, codes}
+use Rattle.std.specs.Prelude.{ℕ, Bool, ◌||◌, List, ◌++◌, codes}
+use Rattle.std.specs.Int.{is_in_range}
 use Rattle.sha2.specs.Sha256.{sha256}
 use Rattle.hex.specs.Hex.{encode_lower}
 use Rattle.mac_core.specs.Mac.{mac}
@@ -20,3 +21,7 @@ string_to_sign t region name canonical = string_to_sign_of (stamp t) (scope t re
 -- the HMAC of the string to sign under the signing key, in lower-case hexadecimal
 unfoldable pub signature : Signer → Instant → List ℕ → List ℕ
 signature signer t canonical = encode_lower (mac (signing_key signer t) (string_to_sign t signer.region signer.name canonical))
+
+-- a hexadecimal digit in lower case
+abbrev pub is_lower_digit : ℕ → Bool
+is_lower_digit byte = is_in_range 48 57 byte || is_in_range 97 102 byte

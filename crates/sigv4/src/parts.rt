@@ -5,5 +5,6 @@ pub use crate::canonical_query::EscapedPairs;
 pub use crate::host::host_text;
 pub use crate::path::canonical_path;
 pub use crate::refusal::{test_headers, test_value};
+pub use crate::signature::is_lower_digit;
 pub use crate::token_name::token_parameter;
 pub use crate::trim::push_trimmed;

@@ -4,7 +4,7 @@ ghost use Rattle.hex.specs.Hex.{encode_lower};
 ghost use Rattle.mac_core.specs.Mac.{mac};
 ghost use Rattle.smithy_core.specs.Civil.{IsInYears};
 ghost use Rattle.smithy_core.specs.Text.{line};
-ghost use Rattle.sigv4.specs.Signature.{signature, string_to_sign_of};
+ghost use Rattle.sigv4.specs.Signature.{is_lower_digit, signature, string_to_sign_of};
 
 use crate::digest::sha256_digits;
 use crate::signing_scope::SigningScope;
@@ -73,4 +73,11 @@ pub(crate) fn begun_string_to_sign(
     push_line(&mut text, stamp)?;
     push_line(&mut text, scope)?;
     Ok(text)
+}
+
+/// Whether the byte is a hexadecimal digit in lower case, as those of a signature are.
+pub fn is_lower_digit(byte: u8) -> bool
+    ensures { result ≡ is_lower_digit byte }
+{
+    matches!(byte, b'0'..=b'9' | b'a'..=b'f')
 }

@@ -1,8 +1,10 @@
-ghost use Rattle.std.specs.Prelude.{◌≡◌, ◌↔◌, IsTrue};
-ghost use Rattle.aws_chunked.specs.Decoded.{IsSignature, is_signature_digit};
+ghost use Rattle.std.specs.Prelude.{◌↔◌, IsTrue};
+ghost use Rattle.sigv4.specs.Signature.{is_lower_digit};
+ghost use Rattle.aws_chunked.specs.Decoded.{IsSignature};
 ghost use Rattle.aws_chunked.specs.Reading.{ReadsSignature};
 
 use crate::decode::fault::{ReadFault, bad_at};
+use sigv4::parts::is_lower_digit;
 use std::alloc::Global;
 
 // How many digits a signature has.
@@ -16,7 +18,7 @@ pub(crate) fn read_signature(alloc: Global, bytes: &[u8]) -> Result<(String, &[u
     let mut rest = bytes;
     for _ in 0..SIGNATURE_DIGITS {
         match rest.split_first() {
-            Some((digit, others)) if is_signature_digit(*digit) => {
+            Some((digit, others)) if is_lower_digit(*digit) => {
                 signature.push(*digit as char)?;
                 rest = others;
             }
@@ -30,16 +32,5 @@ pub(crate) fn read_signature(alloc: Global, bytes: &[u8]) -> Result<(String, &[u
 pub(crate) fn is_signature(text: &str) -> bool
     ensures { IsTrue result ↔ IsSignature text.now }
 {
-    text.len() == SIGNATURE_DIGITS
-        && text
-            .as_bytes()
-            .iter()
-            .all(|digit| is_signature_digit(*digit))
-}
-
-// Whether the byte is a hexadecimal digit in lower case.
-fn is_signature_digit(byte: u8) -> bool
-    ensures { result ≡ is_signature_digit byte }
-{
-    matches!(byte, b'0'..=b'9' | b'a'..=b'f')
+    text.len() == SIGNATURE_DIGITS && text.as_bytes().iter().all(|digit| is_lower_digit(*digit))
 }

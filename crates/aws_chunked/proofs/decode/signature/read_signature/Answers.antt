@@ -1,14 +1,14 @@
 use Rattle.std.proofs.Common.{sym}
 use Rattle.aws_chunked.proofs.SignatureLemmas.{digit_long, digit_read, digits_read, signature_differs, signature_ends}
 use Rattle.aws_chunked.proofs.decode.signature.read_signature.Goals as goal
-use Rattle.aws_chunked.proofs.decode.signature.read_signature.Goals.{in_default-via-in-Some+else-is_signature_digit, in_default-via-in_default}
+use Rattle.aws_chunked.proofs.decode.signature.read_signature.Goals.{in_default-via-in-Some+else-is_lower_digit, in_default-via-in_default}
 
 pub returns-in_default : goal.returns-in_default
 returns-in_default c =
     let l = c.loop.invariant in
     elim c.in_default.branch [
-      | in_default-via-in-Some+else-is_signature_digit w ↦
-          signature_differs _ _ _ _ _ _ _ c.loop-test.true l.long l.digits l.read w.in-Some.ensures.cases.0 (sym w.if-is_signature_digit.ensures) c.bad_at.ensures
+      | in_default-via-in-Some+else-is_lower_digit w ↦
+          signature_differs _ _ _ _ _ _ _ c.loop-test.true l.long l.digits l.read w.in-Some.ensures.cases.0 (sym w.if-is_lower_digit.ensures) c.bad_at.ensures
       | in_default-via-in_default w ↦
           signature_ends _ _ _ _ _ c.loop-test.true l.long l.digits l.read w.in_default.ensures.cases c.bad_at.ensures
     ]
@@ -17,7 +17,7 @@ pub loop-preserved : goal.loop-preserved
 loop-preserved c =
     let l = c.loop.invariant in
     let e = c.in_ok-push-in-Some.ensures in
-    let t = sym c.if-is_signature_digit.ensures in record {
+    let t = sym c.if-is_lower_digit.ensures in record {
       read = digit_read _ _ _ _ _ _ _ l.read c.in-Some.ensures.cases.0 e.bytes e.ascii t;
       long = digit_long _ _ _ _ _ l.long e.bytes e.ascii t;
       digits = digits_read _ _ _ _ l.digits e.bytes e.ascii t;
