@@ -1,5 +1,6 @@
 ghost use Rattle.std.specs.Prelude.{◌≡◌, ◌==◌, ◌+◌, [], count_by, IfOk};
 ghost use Rattle.std.specs.String.{string_bytes};
+ghost use Rattle.smithy_core.specs.Text.{line_feed};
 ghost use Rattle.signed_stream.specs.Job.{job, lines_from, no_draft};
 ghost use Rattle.signed_stream.specs.Lines.{job_lines, text_lines};
 ghost use Rattle.signed_stream.specs.Draft.{ReadsJob, TellsText, draft_of, job_parts};
@@ -129,7 +130,7 @@ fn text_of(bytes: &[u8]) -> Result<&str, JobFault>
 }
 
 fn count_lf(bytes: &[u8]) -> usize
-    ensures { result ≡ count_by (λ b. b == 10) bytes.now }
+    ensures { result ≡ count_by (λ b. b == line_feed) bytes.now }
 {
     bytes.iter().filter(|b| **b == b'\n').count()
 }
