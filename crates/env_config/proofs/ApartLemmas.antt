@@ -52,17 +52,17 @@ has_put {X} values key value (name ∷ names) has =
     by false = has.0
 
 -- the names are apart, and each has a value
-record IsSound {X : Type 0} (named : Named X) : Type 0 where
+record IsNamedApart {X : Type 0} (named : Named X) : Type 0 where
   pub apart : IsApart named.names
   pub has : HasEach named.values named.names
 
-put_sound : {X : Type 0} (named : Named X) (name : List ℕ) (value : X) → IsSound named → IsSound (put_named named name value)
+put_sound : {X : Type 0} (named : Named X) (name : List ℕ) (value : X) → IsNamedApart named → IsNamedApart (put_named named name value)
 put_sound {X} named name value is = by (is_some (value_under named.values name)) refl
   where
     kept : HasEach (put named.values name value) named.names
     kept = has_put named.values name value named.names is.has
 
-    by : (b : Bool) → is_some (value_under named.values name) ≡ b → IsSound (record { names = cond b named.names (named.names ++ name ∷ []); values = put named.values name value })
+    by : (b : Bool) → is_some (value_under named.values name) ≡ b → IsNamedApart (record { names = cond b named.names (named.names ++ name ∷ []); values = put named.values name value })
     by true known = record { apart = is.apart; has = kept }
     by false known = record {
       apart = apart_more named.names name is.apart (none_of named.values named.names name is.has known);
@@ -71,11 +71,11 @@ put_sound {X} named name value is = by (is_some (value_under named.values name))
 
 -- ## Lines
 
-section_put_sound : (keeps : Keeps) (sections : Named (List (List ℕ × List ℕ))) (name : List ℕ) (properties : List (List ℕ × List ℕ)) → IsSound sections → IsSound (put_section keeps sections name properties)
-section_put_sound keeps sections name properties is = either IsSound (keeps.section name) (put_named sections name properties) sections (put_sound sections name properties is) is
+section_put_sound : (keeps : Keeps) (sections : Named (List (List ℕ × List ℕ))) (name : List ℕ) (properties : List (List ℕ × List ℕ)) → IsNamedApart sections → IsNamedApart (put_section keeps sections name properties)
+section_put_sound keeps sections name properties is = either IsNamedApart (keeps.section name) (put_named sections name properties) sections (put_sound sections name properties is) is
 
 abbrev IsSoundState : State → Type 0
-IsSoundState state = IsSound state.sections
+IsSoundState state = IsNamedApart state.sections
 
 section_sound : (keeps : Keeps) (state : State) (name : Option (List ℕ)) → IsSoundState state → OfOk IsSoundState (section_step keeps state name)
 section_sound keeps state None is = tt
@@ -104,7 +104,7 @@ line_sound keeps state line is =
     (within_sound keeps state state.open_section (λ _. begun_property (property_of line)) is)))
 
 abbrev IsSoundRead : Named (List (List ℕ × List ℕ)) → Type 0
-IsSoundRead read = IsSound read
+IsSoundRead read = IsNamedApart read
 
 lines_sound : (keeps : Keeps) (number : ℕ) (state : State) (lines : List (List ℕ)) → IsSoundState state → OfOk IsSoundRead (raw_from keeps number state lines)
 lines_sound keeps number state [] is = is
