@@ -1,5 +1,5 @@
 -- The names of raw sections are apart, so that each section may be taken from the others when its name comes.
-use Rattle.std.proofs.Common.{◌≡◌, ℕ, ◌+◌, ◌<◌, Bool, true, false, cond, List, [], ◌∷◌, ◌++◌, length, map, drop, get_or, is_eq, add-one, String, string_bytes, Global, refl, sym, ap, subst, ◌∙◌}
+use Rattle.std.proofs.Common.{◌≡◌, ℕ, ◌+◌, ◌<◌, Bool, true, false, cond, List, [], ◌∷◌, ◌++◌, length, map, drop, get_or, is_eq, add-one, Bor, refl, sym, ap, subst, ◌∙◌}
 use Rattle.std.proofs.Math.Seq.{drop-cons}
 use Rattle.std.specs.Prelude.{Option, Some, None, is_some, unwrap_or, Result, Ok, Err, nat_eq, slice_index}
 use Rattle.std.specs.BTreeMap.{is_at}
@@ -10,10 +10,10 @@ use Rattle.env_config.specs.declared.source.EnvConfigFileKind.{EnvConfigFileKind
 use Rattle.env_config.specs.Line.{is_blank, is_skipped, profile_lines, property_of, section_name}
 use Rattle.env_config.specs.Raw.{Keeps, Last, Open, State, after_line, begun_property, continued_or, last_step, profile_line_step, properties_of, put_property, put_section, raw, raw_from, section_step, start, within_section}
 use Rattle.env_config.specs.Sections.{Sections, heading_of, with_names, with_raw}
-use Rattle.env_config.specs.Texts.{IsApart, Named, by_text, put, put_named, text_cmp, value_under}
+use Rattle.env_config.specs.Texts.{IsApart, Named, put, put_named, text_cmp, value_under, words_of}
 use Rattle.env_config.proofs.LaterLemmas.{at_put}
 use Rattle.env_config.proofs.LowerLemmas.{OfOk, either, tied_same}
-use Rattle.env_config.proofs.TextsLemmas.{value_put}
+use Rattle.env_config.proofs.TextsLemmas.{value_put, word_of}
 
 -- ## Maps
 
@@ -52,17 +52,17 @@ has_put {X} values key value (name ∷ names) has =
     by false = has.0
 
 -- the names are apart, and each has a value
-record IsSound {X : Type 0} (named : Named X) : Type 0 where
+record IsNamedApart {X : Type 0} (named : Named X) : Type 0 where
   pub apart : IsApart named.names
   pub has : HasEach named.values named.names
 
-put_sound : {X : Type 0} (named : Named X) (name : List ℕ) (value : X) → IsSound named → IsSound (put_named named name value)
+put_sound : {X : Type 0} (named : Named X) (name : List ℕ) (value : X) → IsNamedApart named → IsNamedApart (put_named named name value)
 put_sound {X} named name value is = by (is_some (value_under named.values name)) refl
   where
     kept : HasEach (put named.values name value) named.names
     kept = has_put named.values name value named.names is.has
 
-    by : (b : Bool) → is_some (value_under named.values name) ≡ b → IsSound (record { names = cond b named.names (named.names ++ name ∷ []); values = put named.values name value })
+    by : (b : Bool) → is_some (value_under named.values name) ≡ b → IsNamedApart (record { names = cond b named.names (named.names ++ name ∷ []); values = put named.values name value })
     by true known = record { apart = is.apart; has = kept }
     by false known = record {
       apart = apart_more named.names name is.apart (none_of named.values named.names name is.has known);
@@ -71,11 +71,11 @@ put_sound {X} named name value is = by (is_some (value_under named.values name))
 
 -- ## Lines
 
-section_put_sound : (keeps : Keeps) (sections : Named (List (List ℕ × List ℕ))) (name : List ℕ) (properties : List (List ℕ × List ℕ)) → IsSound sections → IsSound (put_section keeps sections name properties)
-section_put_sound keeps sections name properties is = either IsSound (keeps.section name) (put_named sections name properties) sections (put_sound sections name properties is) is
+section_put_sound : (keeps : Keeps) (sections : Named (List (List ℕ × List ℕ))) (name : List ℕ) (properties : List (List ℕ × List ℕ)) → IsNamedApart sections → IsNamedApart (put_section keeps sections name properties)
+section_put_sound keeps sections name properties is = either IsNamedApart (keeps.section name) (put_named sections name properties) sections (put_sound sections name properties is) is
 
 abbrev IsSoundState : State → Type 0
-IsSoundState state = IsSound state.sections
+IsSoundState state = IsNamedApart state.sections
 
 section_sound : (keeps : Keeps) (state : State) (name : Option (List ℕ)) → IsSoundState state → OfOk IsSoundState (section_step keeps state name)
 section_sound keeps state None is = tt
@@ -104,7 +104,7 @@ line_sound keeps state line is =
     (within_sound keeps state state.open_section (λ _. begun_property (property_of line)) is)))
 
 abbrev IsSoundRead : Named (List (List ℕ × List ℕ)) → Type 0
-IsSoundRead read = IsSound read
+IsSoundRead read = IsNamedApart read
 
 lines_sound : (keeps : Keeps) (number : ℕ) (state : State) (lines : List (List ℕ)) → IsSoundState state → OfOk IsSoundRead (raw_from keeps number state lines)
 lines_sound keeps number state [] is = is
@@ -124,22 +124,22 @@ read_apart keeps text read is = (subst (OfOk IsSoundRead) is (raw_sound keeps te
 
 -- ## Taking
 
-abbrev without : {X : Type 0} → List ℕ → List (String Global × X) → List (String Global × X)
-without name es = remove_entry (is_at (λ (key : String Global). text_cmp name (string_bytes key))) es
+abbrev without : {X : Type 0} → List ℕ → List (Bor (List ℕ) × X) → List (Bor (List ℕ) × X)
+without name es = remove_entry (is_at (λ (key : Bor (List ℕ)). text_cmp name key.now)) es
 
-others_stay : {X : Type 0} (es : List (String Global × X)) (name other : List ℕ) → is_eq (text_cmp other name) ≡ false → value_under (by_text (without name es)) other ≡ value_under (by_text es) other
+others_stay : {X : Type 0} (es : List (Bor (List ℕ) × X)) (name other : List ℕ) → is_eq (text_cmp other name) ≡ false → value_under (words_of (without name es)) other ≡ value_under (words_of es) other
 others_stay [] name other apart = refl
-others_stay {X} (e ∷ es) name other apart = by (is_eq (text_cmp name (string_bytes e.0))) refl (others_stay es name other apart)
+others_stay {X} (e ∷ es) name other apart = by (is_eq (text_cmp name e.0.now)) refl (others_stay es name other apart)
   where
-    by : (b : Bool) → is_eq (text_cmp name (string_bytes e.0)) ≡ b → value_under (by_text (without name es)) other ≡ value_under (by_text es) other
-        → value_under (by_text (cond b es (e ∷ without name es))) other ≡ value_under (by_text (e ∷ es)) other
+    by : (b : Bool) → is_eq (text_cmp name e.0.now) ≡ b → value_under (words_of (without name es)) other ≡ value_under (words_of es) other
+        → value_under (words_of (cond b es (e ∷ without name es))) other ≡ value_under (words_of (e ∷ es)) other
     by true tied later =
-        sym (ap (λ (b : Bool). cond b (Some e.1) (value_under (by_text es) other)) (ap (λ (key : List ℕ). is_eq (text_cmp other key)) (sym (tied_same name (string_bytes e.0) tied)) ∙ apart))
-    by false tied later = ap (λ (found : Option X). cond (is_eq (text_cmp other (string_bytes e.0))) (Some e.1) found) later
+        sym (ap (λ (b : Bool). cond b (Some e.1) (value_under (words_of es) other)) (ap (λ (key : List ℕ). is_eq (text_cmp other key)) (sym (tied_same name e.0.now tied)) ∙ apart))
+    by false tied later = ap (λ (found : Option X). cond (is_eq (text_cmp other e.0.now)) (Some e.1) found) later
 
 -- a value that is taken leaves the others
-pub removed_others : {X : Type 0} (es now : List (String Global × X)) (name : List ℕ) → now ≡ without name es → (other : List ℕ) → is_eq (text_cmp other name) ≡ false → value_under (by_text now) other ≡ value_under (by_text es) other
-removed_others {X} es now name is other apart = ap (λ (ds : List (String Global × X)). value_under (by_text ds) other) is ∙ others_stay es name other apart
+pub removed_others : {X : Type 0} (es now : List (Bor (List ℕ) × X)) (name : List ℕ) → now ≡ without name es → (other : List ℕ) → is_eq (text_cmp other name) ≡ false → value_under (words_of now) other ≡ value_under (words_of es) other
+removed_others {X} es now name is other apart = ap (λ (ds : List (Bor (List ℕ) × X)). value_under (words_of ds) other) is ∙ others_stay es name other apart
 
 pub all_of : {X : Type 0} (P Q : X → Type 0) → ((x : X) → P x → Q x) → (xs : List X) → AllByRecursion P xs → AllByRecursion Q xs
 all_of P Q more [] all = tt
@@ -166,9 +166,12 @@ name_merged keeps before after kind overridden file now name names is stay apart
     ap (λ (sections : Sections). with_names keeps sections kind overridden now names) is
     ∙ names_alike keeps (with_raw keeps before kind overridden (heading_of name) (properties_of file name)) kind overridden file now names others
 
+-- what stands for a name beyond the end of a list
+abbrev pub no_word : Bor (List ℕ)
+no_word = record { ref_ptr = (0, 0); now = [] }
+
 -- the name at an index, and those after it
-pub names_front : (items : List (String Global)) (i : ℕ) (item : String Global) (name : List ℕ) → i < length items → item ≡ get_or items i item → name ≡ string_bytes item
-    → map string_bytes (drop i items) ≡ name ∷ map string_bytes (drop (i + 1) items)
-names_front items i item name within is name_is =
-    let front : drop i items ≡ item ∷ drop (i + 1) items = drop-cons items i item within ∙ rw (← is, add-one) refl in
-    ap (map string_bytes) front ∙ ap (λ (n : List ℕ). n ∷ map string_bytes (drop (i + 1) items)) (sym name_is)
+pub names_front : (items : List (Bor (List ℕ))) (i : ℕ) → i < length items → map word_of (drop i items) ≡ (get_or items i no_word).now ∷ map word_of (drop (i + 1) items)
+names_front items i within =
+    let front : drop i items ≡ get_or items i no_word ∷ drop (i + 1) items = drop-cons items i no_word within ∙ rw add-one refl in
+    ap (map word_of) front

@@ -11,7 +11,7 @@ use Rattle.std.proofs.lemmas.List.Folds.{list_any-append}
 use Rattle.std.proofs.Math.Bool.{or-false}
 use Rattle.env_config.specs.Latest.{Latest, group_of, is_beaten, put_latest, put_placed, values_in, with_place}
 use Rattle.env_config.specs.Order.{IsRising}
-use Rattle.env_config.specs.ProfileDraft.{IsInOrder, IsLatest, is_among, is_in, latest_of, place_in, value_in_group, with_last}
+use Rattle.env_config.specs.ProfileDraft.{IsInOrder, IsLatest, is_among, is_in, latest_of, place_in, value_in_group, latest_with_last}
 use Rattle.env_config.specs.Raw.{Keeps, Last, properties_of, put_property, put_section}
 use Rattle.env_config.specs.Sections.{has_profile_default, heading_of, is_profile_default}
 use Rattle.env_config.specs.Texts.{Named, put, put_named, text_cmp, value_under}
@@ -347,7 +347,7 @@ module _ (keeps : Keeps) (profile : List ℕ) (sections : Named (List (List ℕ 
   abbrev pub values_now : Option Bool → Bool → List (List ℕ × (ℕ × List ℕ))
   values_now at group = cond (hits group at) (put_placed (values_in latest group) place last.key last.value) (values_in latest group)
 
-  last_is : (at : Option Bool) → record latest { bare = values_now at false; prefixed = values_now at true } ≡ with_last keeps latest place at (Some last)
+  last_is : (at : Option Bool) → record latest { bare = values_now at false; prefixed = values_now at true } ≡ latest_with_last keeps latest place at (Some last)
   last_is None = refl
   last_is (Some true) = by (keeps.key last.key)
     where
@@ -441,7 +441,7 @@ module _ (keeps : Keeps) (profile : List ℕ) (sections : Named (List (List ℕ 
           (λ other. value_at group key other ∙ ap (λ (x : Option (List ℕ)). cond (is_eq (text_cmp other name)) x (value_in_group profile sections group key other)) own_is)
           ∙ ap₂ (λ (p : ℕ) (f : Option (ℕ × List ℕ)). beats p last.value f) (ap (λ (f : Option ℕ). unwrap_or f 0) at) before)
 
-  section_put : IsLatest profile sections latest → value_under latest.places name ≡ Some place → IsLatest profile (put_named sections name pairs_now) (with_last keeps latest place grouped (Some last))
+  section_put : IsLatest profile sections latest → value_under latest.places name ≡ Some place → IsLatest profile (put_named sections name pairs_now) (latest_with_last keeps latest place grouped (Some last))
   section_put is at =
       subst₂ (IsLatest profile) (ap sections_now (sym known_is)) (last_is grouped) (record {
         known = λ q. is.known q ∙ sym (ap is_some (at_put text_cmp nat_list_cmp_total sections.values name pairs_now q) ∙ known_at q (is_eq (text_cmp q name)) refl);
@@ -483,9 +483,9 @@ module _ (keeps : Keeps) (profile : List ℕ) (sections : Named (List (List ℕ 
       follow false key = values_follow is at false key
 
   pub latest_last : (group : Option Bool) → IsLatest profile sections latest → group ≡ cond (keeps.section name) grouped None → (keeps.section name ≡ true → value_under latest.places name ≡ Some place)
-      → IsLatest profile (put_section keeps sections name pairs_now) (with_last keeps latest place group (Some last))
+      → IsLatest profile (put_section keeps sections name pairs_now) (latest_with_last keeps latest place group (Some last))
   latest_last group is group_is at = by (keeps.section name) group_is at
     where
-      by : (b : Bool) → group ≡ cond b grouped None → (b ≡ true → value_under latest.places name ≡ Some place) → IsLatest profile (cond b (put_named sections name pairs_now) sections) (with_last keeps latest place group (Some last))
-      by false group_is at = subst (λ (g : Option Bool). IsLatest profile sections (with_last keeps latest place g (Some last))) (sym group_is) is
-      by true group_is at = subst (λ (g : Option Bool). IsLatest profile (put_named sections name pairs_now) (with_last keeps latest place g (Some last))) (sym group_is) (section_put is (at refl))
+      by : (b : Bool) → group ≡ cond b grouped None → (b ≡ true → value_under latest.places name ≡ Some place) → IsLatest profile (cond b (put_named sections name pairs_now) sections) (latest_with_last keeps latest place group (Some last))
+      by false group_is at = subst (λ (g : Option Bool). IsLatest profile sections (latest_with_last keeps latest place g (Some last))) (sym group_is) is
+      by true group_is at = subst (λ (g : Option Bool). IsLatest profile (put_named sections name pairs_now) (latest_with_last keeps latest place g (Some last))) (sym group_is) (section_put is (at refl))

@@ -1,13 +1,13 @@
 -- Places and values, as the code keeps them, are those of the definitions.
-use Rattle.std.proofs.Common.{◌≡◌, ◌∙◌, ℕ, Bool, cond, ◌||◌, List, [], ◌∷◌, length, String, string_bytes, string_cmp, Global, Ordering, Bor, suc, refl, sym, ap, ap₂}
+use Rattle.std.proofs.Common.{◌≡◌, ◌∙◌, ℕ, Bool, cond, ◌||◌, List, [], ◌∷◌, length, String, string_bytes, string_cmp, Global, Bor, suc, refl, sym, ap, ap₂}
 use Rattle.std.specs.Prelude.{Option, Some, None, is_some, option_map}
 use Rattle.std.specs.BTreeMap.{insert_entry, is_at}
 use Rattle.std.specs.Map.{lookup}
 use Rattle.env_config.specs.Latest.{Latest, with_place}
-use Rattle.env_config.specs.LatestView.{placed_of, words_of}
+use Rattle.env_config.specs.LatestView.{placed_of}
 use Rattle.env_config.specs.Sections.{heading_of, is_profile_default}
-use Rattle.env_config.specs.Texts.{put, text_cmp, value_under}
-use Rattle.env_config.proofs.TextsLemmas.{entries_at, entries_put, value_put}
+use Rattle.env_config.specs.Texts.{put, text_cmp, value_under, words_of}
+use Rattle.env_config.proofs.TextsLemmas.{entries_at, entries_put, value_put, word_cmp, words_put}
 
 abbrev pub placed_value : ℕ × String Global → ℕ × List ℕ
 placed_value value = (value.0, string_bytes value.1)
@@ -20,21 +20,6 @@ placed_put es now key value place puts =
     ap placed_of puts ∙ entries_put string_cmp text_cmp string_bytes (λ (v : ℕ × String Global). (v.0, string_bytes v.1)) (λ _ _. refl) es key (place, value)
 
 -- ## Places
-
-abbrev word_cmp : Bor (List ℕ) → Bor (List ℕ) → Ordering
-word_cmp a b = text_cmp a.now b.now
-
-option_same : (o : Option ℕ) → option_map (λ (x : ℕ). x) o ≡ o
-option_same None = refl
-option_same (Some x) = refl
-
-pub word_found : (es : List (Bor (List ℕ) × ℕ)) (name : List ℕ) → lookup (is_at (λ (k : Bor (List ℕ)). text_cmp name k.now)) es ≡ value_under (words_of es) name
-word_found es name =
-    sym (option_same (lookup (is_at (λ (k : Bor (List ℕ)). text_cmp name k.now)) es))
-    ∙ entries_at (λ (k : Bor (List ℕ)). text_cmp name k.now) text_cmp (λ (k : Bor (List ℕ)). k.now) (λ (x : ℕ). x) name (λ _. refl) es
-
-pub words_put : (es now : List (Bor (List ℕ) × ℕ)) (name : Bor (List ℕ)) (place : ℕ) → now ≡ insert_entry word_cmp es name place → words_of now ≡ put (words_of es) name.now place
-words_put es now name place puts = ap words_of puts ∙ entries_put word_cmp text_cmp (λ (k : Bor (List ℕ)). k.now) (λ (x : ℕ). x) (λ _ _. refl) es name place
 
 pub place_value : (es now : List (Bor (List ℕ) × ℕ)) (name : Bor (List ℕ)) (place : ℕ) → now ≡ insert_entry word_cmp es name place → value_under (words_of now) name.now ≡ Some place
 place_value es now name place puts = ap (λ (places : List (List ℕ × ℕ)). value_under places name.now) (words_put es now name place puts) ∙ value_put (words_of es) name.now place

@@ -5,6 +5,7 @@ pub mod RawLemmas
 pub mod SignLemmas
 pub mod TextsLemmas
 pub mod PlaceLemmas
+pub mod OnePairLemmas
 pub mod TrimLemmas
 pub mod LoadLemmas
 pub mod ServiceLemmas

@@ -5,7 +5,7 @@ use Rattle.std.specs.Global.{Vec}
 use Rattle.smithy_core.specs.declared.outside.disk.DiskError.{DiskError}
 use Rattle.smithy_core.proofs.TextLemmas.{is_text, no_text}
 use Rattle.env_config.specs.Files.{Place}
-use Rattle.env_config.specs.Loading.{Loaded, ReadsPlace, StopsAt, utf8_or_empty}
+use Rattle.env_config.specs.Loading.{Loaded, ReadsPlace, StopsAtFile, utf8_or_empty}
 use Rattle.env_config.specs.Sections.{FileText}
 
 -- ## Texts
@@ -22,7 +22,7 @@ module _ {D : Type 0} (answers : D → List ℕ → Result (Vec ℕ) DiskError �
   -- whatever the files to come give, all files give after the texts that were read
   pub record ReadSoFar (places : List Place) (between : D) (read : List FileText) : Type 0 where
     pub texts : (now : D) (others : List FileText) → Loaded answers faults files env places between now others → Loaded answers faults files env all before now (read ++ others)
-    pub unread : (now : D) (path : List ℕ) → StopsAt answers faults files env places between now path → StopsAt answers faults files env all before now path
+    pub unread : (now : D) (path : List ℕ) → StopsAtFile answers faults files env places between now path → StopsAtFile answers faults files env all before now path
 
   pub read_none : ReadSoFar all before []
   read_none = record { texts = λ now others loaded. loaded; unread = λ now path stops. stops }

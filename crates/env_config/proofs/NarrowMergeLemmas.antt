@@ -9,7 +9,7 @@ use Rattle.std.proofs.lemmas.Bool.{false≢true}
 use Rattle.std.proofs.lemmas.Map.Text.{is_eq-slice_cmp}
 use Rattle.std.proofs.lemmas.Map.Views.{any-filter_same}
 use Rattle.env_config.specs.declared.source.EnvConfigFileKind.{EnvConfigFileKind}
-use Rattle.env_config.specs.Kept.{has_heading, is_kept_key, keys_in}
+use Rattle.env_config.specs.Kept.{has_heading, is_kept_key, keys_in_profile}
 use Rattle.env_config.specs.Laws.{value_in}
 use Rattle.env_config.specs.Order.{IsRising}
 use Rattle.env_config.specs.Raw.{Keeps, everything, properties_of, raw}
@@ -96,10 +96,15 @@ profile_gives keeps s (Some prefix) called pairs name key rising = by (bytes_eq 
 
 -- ## Values that the kept sections determine
 
--- sections whose heading passes give the value, and these are kept
+-- the names of the sections that are kept
+abbrev pub with_kept_names : Keeps → Sections → EnvConfigFileKind → Bool → Named (List (List ℕ × List ℕ)) → List (List ℕ) → Sections
+with_kept_names keeps sections kind overridden file names = with_names keeps sections kind overridden file (filter keeps.section names)
+
+-- sections whose heading passes give the value, and these are kept; `[profile default]` is kept, or doesn't count
 pub record IsKeptValue (keeps : Keeps) (goes : Heading → Bool) (at : Sections → Option (List ℕ)) : Type 0 where
   pub kept : (text : List ℕ) → goes (heading_of text) ≡ true → keeps.section text ≡ true
-  pub default : (text : List ℕ) → is_profile_default (heading_of text).prefix (heading_of text).name ≡ true → keeps.section text ≡ true
+  pub overridden : (sections : Sections) (kind : EnvConfigFileKind) (file : Named (List (List ℕ × List ℕ))) (names : List (List ℕ))
+      → with_kept_names keeps sections kind (has_profile_default (filter keeps.section names)) file names ≡ with_kept_names keeps sections kind (has_profile_default names) file names
   pub same : (s t : Sections) (prefix : Option (List ℕ)) (name : List ℕ) (all some : List (List ℕ × List ℕ)) → AlikePairs keeps all some → at t ≡ at s
       → at (with_section keeps t prefix name some) ≡ at (with_section everything s prefix name all)
   pub other : (s : Sections) (prefix : Option (List ℕ)) (name : List ℕ) (pairs : List (List ℕ × List ℕ)) → goes (record { prefix = prefix; name = name }) ≡ false → at (with_section everything s prefix name pairs) ≡ at s
@@ -139,10 +144,9 @@ file_same : (keeps : Keeps) (goes : Heading → Bool) (at : Sections → Option 
     → (s t : Sections) → at t ≡ at s → at (with_file keeps t kind some) ≡ at (with_file everything s kind all)
 unfolding with_file
 file_same keeps goes at is kind all some alike s t e =
-    let test : List ℕ → Bool = λ name. is_profile_default (heading_of name).prefix (heading_of name).name in
     let P : List (List ℕ) → Type 0 = λ names. at (with_names keeps t kind (has_profile_default names) some names) ≡ at (with_names everything s kind (has_profile_default all.names) all all.names) in
     subst P alike.names
-    (ap (λ (overridden : Bool). at (with_names keeps t kind overridden some (filter keeps.section all.names))) (any-filter_same test keeps.section true is.default all.names)
+    (ap at (is.overridden t kind some all.names)
     ∙ names_same keeps goes at is kind (has_profile_default all.names) all some alike all.names s t e)
 
 -- equal faults, or equal values
@@ -166,14 +170,23 @@ files_same keeps goes at is (file ∷ files) s t e = by (raw everything file.con
 
 -- ## Values of the selected profile
 
-pub profile_kept : (name : List ℕ) (keys subs : List (List ℕ)) (key : List ℕ) → is_kept_key keys key ≡ true
-    → IsKeptValue (keys_in (codes "profile") name keys subs) (has_heading (codes "profile") name) (λ s. value_in s.profiles name key)
-profile_kept name keys subs key asked = record {
+-- where `[profile default]` is kept, it is known to be there
+default_known : (keeps : Keeps) → ((text : List ℕ) → is_profile_default (heading_of text).prefix (heading_of text).name ≡ true → keeps.section text ≡ true)
+    → (sections : Sections) (kind : EnvConfigFileKind) (file : Named (List (List ℕ × List ℕ))) (names : List (List ℕ))
+    → with_kept_names keeps sections kind (has_profile_default (filter keeps.section names)) file names ≡ with_kept_names keeps sections kind (has_profile_default names) file names
+default_known keeps kept sections kind file names =
+    let test : List ℕ → Bool = λ name. is_profile_default (heading_of name).prefix (heading_of name).name in
+    ap (λ (overridden : Bool). with_kept_names keeps sections kind overridden file names) (any-filter_same test keeps.section true kept names)
+
+pub profile_kept : (name : List ℕ) (keys : List (List ℕ)) (key : List ℕ) → is_kept_key keys key ≡ true
+    → IsKeptValue (keys_in_profile name keys) (has_heading (codes "profile") name) (λ s. value_in s.profiles name key)
+profile_kept name keys key asked = record {
   kept = λ text is. ap (λ (b : Bool). b || is_profile_default (heading_of text).prefix (heading_of text).name) is;
-  default = λ text is. ap (λ (b : Bool). has_heading (codes "profile") name (heading_of text) || b) is ∙ or-true (has_heading (codes "profile") name (heading_of text));
+  overridden = default_known (keys_in_profile name keys)
+      (λ text is. ap (λ (b : Bool). has_heading (codes "profile") name (heading_of text) || b) is ∙ or-true (has_heading (codes "profile") name (heading_of text)));
   same = λ s t prefix called all some alike e.
       let goes = has_heading (codes "profile") name (record { prefix = prefix; name = called }) in
-      profile_gives (keys_in (codes "profile") name keys subs) t prefix called some name key (λ _. alike.rising_some)
+      profile_gives (keys_in_profile name keys) t prefix called some name key (λ _. alike.rising_some)
       ∙ ap₂ (λ (found before : Option (List ℕ)). cond goes (over key found before) before) (alike.same key asked) e
       ∙ sym (profile_gives everything s prefix called all name key (λ _. alike.rising_all));
   other = λ s prefix called pairs apart.

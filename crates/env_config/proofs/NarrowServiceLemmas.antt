@@ -1,22 +1,23 @@
 -- What is kept of the texts gives the sub-properties of a services section that all of them give.
-use Rattle.std.proofs.Common.{◌≡◌, ℕ, Bool, true, false, cond, ◌&&◌, ◌||◌, List, [], ◌∷◌, Ordering, Less, Equal, Greater, is_eq, refl, sym, ap, ap₂, ◌∙◌}
+use Rattle.std.proofs.Common.{◌≡◌, ℕ, Bool, true, false, cond, ◌&&◌, List, [], ◌∷◌, Ordering, Less, Equal, Greater, is_eq, refl, sym, ap, ap₂, ◌∙◌}
 use Rattle.std.specs.Prelude.{Option, Some, None, bytes_eq, codes, length, nat_lt}
-use Rattle.std.specs.List.{after_first, before_first, position_or_len}
+use Rattle.std.specs.List.{after_first, before_first, filter, position_or_len}
 use Rattle.std.specs.Ordering.{ordering_then}
 use Rattle.std.specs.Option.{option_cmp}
-use Rattle.std.proofs.Math.Bool.{or-true}
 use Rattle.std.proofs.lemmas.Bool.{false≢true}
 use Rattle.std.proofs.lemmas.Slice.Eq.{bytes_eq-Decides}
-use Rattle.env_config.specs.Kept.{has_heading, is_kept_key, is_kept_sub, keys_in}
+use Rattle.env_config.specs.declared.source.EnvConfigFileKind.{EnvConfigFileKind}
+use Rattle.env_config.specs.declared.source.EnvConfigFileKind.TheVariants.{Config, Credentials}
+use Rattle.env_config.specs.Kept.{has_heading, is_kept_sub, subs_in_services}
 use Rattle.env_config.specs.Line.{is_equals, trimmed}
 use Rattle.env_config.specs.Order.{IsRising}
-use Rattle.env_config.specs.Raw.{Keeps, everything}
-use Rattle.env_config.specs.Sections.{Key, Sections, heading_of, is_identifier, is_profile_default, key_cmp, merged_into, put_at_key, put_others, put_sub, put_subs, value_at_key, value_pieces, with_section}
-use Rattle.env_config.specs.Texts.{text_cmp, value_under}
+use Rattle.env_config.specs.Raw.{Keeps, everything, properties_of}
+use Rattle.env_config.specs.Sections.{Heading, Key, Sections, has_profile_default, heading_of, is_identifier, is_taken_from, key_cmp, merged_into, put_at_key, put_others, put_sub, put_subs, value_at_key, value_pieces, with_names, with_raw, with_section}
+use Rattle.env_config.specs.Texts.{Named, text_cmp, value_under}
 use Rattle.env_config.proofs.LaterLemmas.{at_put, key_total}
 use Rattle.env_config.proofs.LowerLemmas.{tied_same}
 use Rattle.env_config.proofs.NarrowLemmas.{none_above}
-use Rattle.env_config.proofs.NarrowMergeLemmas.{IsKeptValue, tied_is}
+use Rattle.env_config.proofs.NarrowMergeLemmas.{IsKeptValue, tied_is, with_kept_names}
 
 -- ## Keys
 
@@ -240,30 +241,53 @@ service_gives keeps s (Some prefix) called pairs name key sub kept rising = by (
     by false false profile session = service_put keeps s.others prefix called pairs name key sub kept rising
 
 -- the sub-property is kept
-sub_kept : (name : List ℕ) (keys subs : List (List ℕ)) (key sub : List ℕ) → is_kept_sub subs sub ≡ true → IsKeptAt (keys_in (codes "services") name keys subs) (service_at name key (Some sub))
-sub_kept name keys subs key sub asked other tied = ap (is_kept_sub subs) (sym (tied_same sub other tied)) ∙ asked
+sub_kept : (name service : List ℕ) (subs : List (List ℕ)) (key sub : List ℕ) → is_kept_sub subs sub ≡ true → IsKeptAt (subs_in_services name service subs) (service_at name key (Some sub))
+sub_kept name service subs key sub asked other tied = ap (is_kept_sub subs) (sym (tied_same sub other tied)) ∙ asked
 
-pub service_kept : (name : List ℕ) (keys subs : List (List ℕ)) (key sub : List ℕ) → is_kept_key keys key ≡ true → is_kept_sub subs sub ≡ true
-    → IsKeptValue (keys_in (codes "services") name keys subs) (has_heading (codes "services") name) (λ s. value_at_key s.others (service_at name key (Some sub)))
-service_kept name keys subs key sub asked sub_asked = record {
-  kept = λ text is. ap (λ (b : Bool). b || is_profile_default (heading_of text).prefix (heading_of text).name) is;
-  default = λ text is. ap (λ (b : Bool). has_heading (codes "services") name (heading_of text) || b) is ∙ or-true (has_heading (codes "services") name (heading_of text));
+-- whether a section with a prefix counts has nothing to do with `[profile default]`
+default_passed : (name : List ℕ) (kind : EnvConfigFileKind) (o p : Bool) (heading : Heading) → has_heading (codes "services") name heading ≡ true → is_taken_from kind o heading.prefix heading.name ≡ is_taken_from kind p heading.prefix heading.name
+default_passed name kind o p heading is = by kind heading.prefix is
+  where
+    by : (kind : EnvConfigFileKind) (prefix : Option (List ℕ)) → has_heading (codes "services") name (record { prefix = prefix; name = heading.name }) ≡ true → is_taken_from kind o prefix heading.name ≡ is_taken_from kind p prefix heading.name
+    by Config None is = absurd (false≢true is)
+    by Config (Some prefix) is = refl
+    by Credentials None is = refl
+    by Credentials (Some prefix) is = refl
+
+names_pass : (keeps : Keeps) (name : List ℕ) → ((text : List ℕ) → keeps.section text ≡ true → has_heading (codes "services") name (heading_of text) ≡ true) → (kind : EnvConfigFileKind) (o p : Bool) (file : Named (List (List ℕ × List ℕ))) (names : List (List ℕ)) (sections : Sections)
+    → with_kept_names keeps sections kind o file names ≡ with_kept_names keeps sections kind p file names
+names_pass keeps name goes kind o p file [] sections = refl
+names_pass keeps name goes kind o p file (text ∷ names) sections = by (keeps.section text) refl (names_pass keeps name goes kind o p file names)
+  where
+    by : (b : Bool) → keeps.section text ≡ b → ((sections : Sections) → with_kept_names keeps sections kind o file names ≡ with_kept_names keeps sections kind p file names)
+        → with_names keeps sections kind o file (cond b (text ∷ filter keeps.section names) (filter keeps.section names)) ≡ with_names keeps sections kind p file (cond b (text ∷ filter keeps.section names) (filter keeps.section names))
+    by true is more =
+        more (with_raw keeps sections kind o (heading_of text) (properties_of file text))
+        ∙ ap (λ (taken : Bool). with_kept_names keeps (cond taken (with_section keeps sections (heading_of text).prefix (heading_of text).name (properties_of file text)) sections) kind p file names)
+        (default_passed name kind o p (heading_of text) (goes text is))
+    by false is more = more sections
+
+pub service_kept : (name service : List ℕ) (subs : List (List ℕ)) (sub : List ℕ) → is_kept_sub subs sub ≡ true
+    → IsKeptValue (subs_in_services name service subs) (has_heading (codes "services") name) (λ s. value_at_key s.others (service_at name service (Some sub)))
+service_kept name service subs sub asked = record {
+  kept = λ text is. is;
+  overridden = λ sections kind file names. names_pass (subs_in_services name service subs) name (λ text is. is) kind (has_profile_default (filter (subs_in_services name service subs).section names)) (has_profile_default names) file names sections;
   same = λ s t prefix called all some alike e.
       let goes = has_heading (codes "services") name (record { prefix = prefix; name = called }) in
-      service_gives (keys_in (codes "services") name keys subs) t prefix called some name key (Some sub) (sub_kept name keys subs key sub sub_asked) (λ _. alike.rising_some)
-      ∙ ap₂ (λ (found before : Option (List ℕ)). cond goes (given (service_at name key (Some sub)) found before) before) (alike.same key asked) e
-      ∙ sym (service_gives everything s prefix called all name key (Some sub) (λ other is. refl) (λ _. alike.rising_all));
+      service_gives (subs_in_services name service subs) t prefix called some name service (Some sub) (sub_kept name service subs service sub asked) (λ _. alike.rising_some)
+      ∙ ap₂ (λ (found before : Option (List ℕ)). cond goes (given (service_at name service (Some sub)) found before) before) (alike.same service ((bytes_eq-Decides service service).1 refl)) e
+      ∙ sym (service_gives everything s prefix called all name service (Some sub) (λ other is. refl) (λ _. alike.rising_all));
   other = λ s prefix called pairs apart.
-      let before = value_at_key s.others (service_at name key (Some sub)) in
-      service_gives everything s prefix called pairs name key (Some sub) (λ other is. refl) (λ is. absurd (false≢true (sym apart ∙ is)))
-      ∙ ap (λ (b : Bool). cond b (given (service_at name key (Some sub)) (value_under pairs key) before) before) apart;
+      let before = value_at_key s.others (service_at name service (Some sub)) in
+      service_gives everything s prefix called pairs name service (Some sub) (λ other is. refl) (λ is. absurd (false≢true (sym apart ∙ is)))
+      ∙ ap (λ (b : Bool). cond b (given (service_at name service (Some sub)) (value_under pairs service) before) before) apart;
 }
 
 -- where nothing is asked for, the kept sections refuse the lines that all do
-pub nothing_kept : (name : List ℕ) (keys subs : List (List ℕ)) → IsKeptValue (keys_in (codes "services") name keys subs) (has_heading (codes "services") name) (λ s. None)
-nothing_kept name keys subs = record {
-  kept = λ text is. ap (λ (b : Bool). b || is_profile_default (heading_of text).prefix (heading_of text).name) is;
-  default = λ text is. ap (λ (b : Bool). has_heading (codes "services") name (heading_of text) || b) is ∙ or-true (has_heading (codes "services") name (heading_of text));
+pub nothing_kept : (name service : List ℕ) (subs : List (List ℕ)) → IsKeptValue (subs_in_services name service subs) (has_heading (codes "services") name) (λ s. None)
+nothing_kept name service subs = record {
+  kept = λ text is. is;
+  overridden = λ sections kind file names. names_pass (subs_in_services name service subs) name (λ text is. is) kind (has_profile_default (filter (subs_in_services name service subs).section names)) (has_profile_default names) file names sections;
   same = λ s t prefix called all some alike e. refl;
   other = λ s prefix called pairs apart. refl;
 }

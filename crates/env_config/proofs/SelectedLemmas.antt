@@ -1,16 +1,13 @@
 -- Sections that are read for some keys and a service give what all sections give.
-use Rattle.std.proofs.Common.{◌≡◌, ℕ, Bool, true, ◌||◌, List, [], ◌∷◌, refl, sym, ap, subst, ◌∙◌}
-use Rattle.std.specs.Prelude.{Option, None, Result, Ok, Err, bytes_eq, codes}
-use Rattle.std.specs.List.{list_any}
-use Rattle.std.proofs.Math.Bool.{or-true}
-use Rattle.std.proofs.lemmas.Slice.Eq.{bytes_eq-Decides}
+use Rattle.std.proofs.Common.{◌≡◌, ℕ, true, List, refl, sym, ap, subst, ◌∙◌}
+use Rattle.std.specs.Prelude.{Option, None, Result, Ok, Err, codes}
 use Rattle.smithy_core.specs.TextPairs.{lower}
 use Rattle.env_config.specs.declared.parse_fault.ParseFault.{ParseFault}
 use Rattle.env_config.specs.declared.parse_fault.ParseFault.TheVariants.{Parse, NoMemory}
 use Rattle.env_config.specs.declared.properties.Properties.{Properties}
 use Rattle.env_config.specs.declared.sections.EnvConfigSections.{EnvConfigSections}
 use Rattle.env_config.specs.EnvConfigSections.{ParsesSections, sections_of, selected_of}
-use Rattle.env_config.specs.Kept.{has_heading, is_kept_key, is_kept_sub, keys_in}
+use Rattle.env_config.specs.Kept.{has_heading, is_kept_key, is_kept_sub, keys_in_profile, subs_in_services}
 use Rattle.env_config.specs.Laws.{value_in}
 use Rattle.env_config.specs.MergedProfile.{ParsesProfile}
 use Rattle.env_config.specs.ParseFault.{faulty_line_of}
@@ -18,8 +15,7 @@ use Rattle.env_config.specs.Properties.{others_of}
 use Rattle.env_config.specs.Raw.{Keeps, everything}
 use Rattle.env_config.specs.Sections.{FaultyLine, FileText, Sections, files_from, no_sections, sections, value_at_key}
 use Rattle.env_config.specs.Selected.{GivesSelected, GivesService, ParsesSelected, ParsesService}
-use Rattle.env_config.specs.Value.{id_in_sections, service_sub, with_spaces_as}
-use Rattle.env_config.proofs.LowerLemmas.{lower_lower}
+use Rattle.env_config.specs.Value.{id_in_sections, service_sub}
 use Rattle.env_config.proofs.NarrowMergeLemmas.{AlikeMerged, files_same, profile_kept}
 use Rattle.env_config.proofs.NarrowServiceLemmas.{nothing_kept, service_kept}
 
@@ -30,10 +26,10 @@ refused at (Err other) line alike = ap (λ (l : FaultyLine). Err l) (sym alike)
 
 -- ## Keys of the selected profile
 
-keys_alike : (files : List FileText) (name : List ℕ) (keys subs : List (List ℕ)) (key : List ℕ) → is_kept_key keys key ≡ true
-    → AlikeMerged (λ s. value_in s.profiles name key) (files_from everything no_sections files) (files_from (keys_in (codes "profile") name keys subs) no_sections files)
-keys_alike files name keys subs key asked =
-    files_same (keys_in (codes "profile") name keys subs) (has_heading (codes "profile") name) (λ s. value_in s.profiles name key) (profile_kept name keys subs key asked) files no_sections no_sections refl
+keys_alike : (files : List FileText) (name : List ℕ) (keys : List (List ℕ)) (key : List ℕ) → is_kept_key keys key ≡ true
+    → AlikeMerged (λ s. value_in s.profiles name key) (files_from everything no_sections files) (files_from (keys_in_profile name keys) no_sections files)
+keys_alike files name keys key asked =
+    files_same (keys_in_profile name keys) (has_heading (codes "profile") name) (λ s. value_in s.profiles name key) (profile_kept name keys key asked) files no_sections no_sections refl
 
 keys_given : (full : Result Sections FaultyLine) (profile : List ℕ) (keys : List (List ℕ)) (some : EnvConfigSections)
     → ((key : List ℕ) → is_kept_key keys key ≡ true → AlikeMerged (λ s. value_in s.profiles profile key) full (Ok (sections_of some))) → selected_of some ≡ profile → GivesSelected full profile keys None some
@@ -54,14 +50,14 @@ alike_values at full (Ok here) all some alike is same = by full alike
     by (Err line) alike = absurd alike
 alike_values at full (Err line) all some alike is same = absurd cc
 
-pub keys_parsed : (files : List FileText) (profile name : List ℕ) (keys subs : List (List ℕ)) (result : Result EnvConfigSections ParseFault) → name ≡ profile
-    → ParsesProfile (keys_in (codes "profile") name keys subs) (files_from (keys_in (codes "profile") name keys subs) no_sections files) profile result → ParsesSelected (sections files) profile keys None result
+pub keys_parsed : (files : List FileText) (profile name : List ℕ) (keys : List (List ℕ)) (result : Result EnvConfigSections ParseFault) → name ≡ profile
+    → ParsesProfile (keys_in_profile name keys) (files_from (keys_in_profile name keys) no_sections files) profile result → ParsesSelected (sections files) profile keys None result
 unfolding sections
-keys_parsed files profile name keys subs result named parses =
-    by result (subst (λ (n : List ℕ). ParsesProfile (keys_in (codes "profile") n keys subs) (files_from (keys_in (codes "profile") n keys subs) no_sections files) profile result) named parses)
+keys_parsed files profile name keys result named parses =
+    by result (subst (λ (n : List ℕ). ParsesProfile (keys_in_profile n keys) (files_from (keys_in_profile n keys) no_sections files) profile result) named parses)
   where
     keeps : Keeps
-    keeps = keys_in (codes "profile") profile keys subs
+    keeps = keys_in_profile profile keys
 
     full : Result Sections FaultyLine
     full = files_from everything no_sections files
@@ -72,7 +68,7 @@ keys_parsed files profile name keys subs result named parses =
     given : (some : EnvConfigSections) (kept : Result Sections FaultyLine) → files_from keeps no_sections files ≡ kept → ParsesProfile keeps kept profile (Ok some) → ParsesSelected full profile keys None (Ok some)
     given some (Ok all) is parses =
         keys_given full profile keys some
-        (λ key asked. alike_values (at key) full (files_from keeps no_sections files) all (sections_of some) (keys_alike files profile keys subs key asked) is (parses.0 key asked))
+        (λ key asked. alike_values (at key) full (files_from keeps no_sections files) all (sections_of some) (keys_alike files profile keys key asked) is (parses.0 key asked))
         parses.1
     given some (Err line) is parses = absurd parses
 
@@ -80,29 +76,22 @@ keys_parsed files profile name keys subs result named parses =
     by (Ok some) parses = given some (files_from keeps no_sections files) refl parses
     by (Err (Parse error)) parses =
         refused (at (codes "services")) full (faulty_line_of error)
-        (subst (λ (r : Result Sections FaultyLine). AlikeMerged (at (codes "services")) full r) parses (keys_alike files profile keys subs (codes "services") refl))
+        (subst (λ (r : Result Sections FaultyLine). AlikeMerged (at (codes "services")) full r) parses (keys_alike files profile keys (codes "services") refl))
     by (Err NoMemory) parses = tt
 
 -- ## A service
 
--- the service's key is kept
-asked_service : (id : List ℕ) → is_kept_key (id_in_sections id ∷ []) (id_in_sections id) ≡ true
-asked_service id =
-    let key = id_in_sections id in
-    ap (λ (b : Bool). bytes_eq key (codes "services") || (b || list_any (λ k. bytes_eq key (lower k)) [])) ((bytes_eq-Decides key (lower key)).1 (sym (lower_lower (with_spaces_as (codes "-") id))))
-    ∙ or-true (bytes_eq key (codes "services"))
-
 service_alike : (files : List FileText) (services id : List ℕ) (subs : List (List ℕ)) (key : List ℕ) → is_kept_sub subs key ≡ true
-    → AlikeMerged (λ s. value_at_key s.others (service_sub services id key)) (files_from everything no_sections files) (files_from (keys_in (codes "services") services (id_in_sections id ∷ []) subs) no_sections files)
+    → AlikeMerged (λ s. value_at_key s.others (service_sub services id key)) (files_from everything no_sections files) (files_from (subs_in_services services (id_in_sections id) subs) no_sections files)
 service_alike files services id subs key asked =
-    let keeps = keys_in (codes "services") services (id_in_sections id ∷ []) subs in
+    let keeps = subs_in_services services (id_in_sections id) subs in
     files_same keeps (has_heading (codes "services") services) (λ s. value_at_key s.others (service_sub services id key))
-    (service_kept services (id_in_sections id ∷ []) subs (id_in_sections id) key (asked_service id) asked) files no_sections no_sections refl
+    (service_kept services (id_in_sections id) subs key asked) files no_sections no_sections refl
 
 -- the same lines are refused
-lines_alike : (files : List FileText) (services key : List ℕ) (subs : List (List ℕ)) → AlikeMerged (λ s. None) (files_from everything no_sections files) (files_from (keys_in (codes "services") services (key ∷ []) subs) no_sections files)
+lines_alike : (files : List FileText) (services key : List ℕ) (subs : List (List ℕ)) → AlikeMerged (λ s. None) (files_from everything no_sections files) (files_from (subs_in_services services key subs) no_sections files)
 lines_alike files services key subs =
-    files_same (keys_in (codes "services") services (key ∷ []) subs) (has_heading (codes "services") services) (λ s. None) (nothing_kept services (key ∷ []) subs) files no_sections no_sections refl
+    files_same (subs_in_services services key subs) (has_heading (codes "services") services) (λ s. None) (nothing_kept services key subs) files no_sections no_sections refl
 
 service_given : (full : Result Sections FaultyLine) (services id : List ℕ) (subs : List (List ℕ)) (some : Sections) (others : Properties) → others_of others ≡ some.others → AlikeMerged (λ s. None) full (Ok some)
     → ((key : List ℕ) → is_kept_sub subs key ≡ true → AlikeMerged (λ s. value_at_key s.others (service_sub services id key)) full (Ok some)) → GivesService full services subs id others
@@ -111,11 +100,11 @@ service_given (Ok all) services id subs some others is taken alike = λ key aske
 
 -- the sub-properties of the sections that are kept
 pub service_parsed : (files : List FileText) (profile services id key : List ℕ) (subs : List (List ℕ)) (some : EnvConfigSections) → key ≡ id_in_sections id
-    → ParsesSections (files_from (keys_in (codes "services") services (key ∷ []) subs) no_sections files) profile (Ok some) → ParsesService (sections files) services subs id (Ok some.others)
+    → ParsesSections (files_from (subs_in_services services key subs) no_sections files) profile (Ok some) → ParsesService (sections files) services subs id (Ok some.others)
 unfolding sections
 service_parsed files profile services id key subs some key_is parses =
     let full = files_from everything no_sections files in
-    let kept : (key : List ℕ) → Result Sections FaultyLine = λ key. files_from (keys_in (codes "services") services (key ∷ []) subs) no_sections files in
+    let kept : (key : List ℕ) → Result Sections FaultyLine = λ key. files_from (subs_in_services services key subs) no_sections files in
     let read : kept (id_in_sections id) ≡ Ok (sections_of some) = ap kept (sym key_is) ∙ parses.0 in
     service_given full services id subs (sections_of some) some.others refl
     (subst (λ (r : Result Sections FaultyLine). AlikeMerged (λ s. None) full r) parses.0 (lines_alike files services key subs))
@@ -123,7 +112,7 @@ service_parsed files profile services id key subs some key_is parses =
 
 -- the line that is refused
 pub service_refused : (files : List FileText) (profile services id key : List ℕ) (subs : List (List ℕ)) (fault : ParseFault)
-    → ParsesSections (files_from (keys_in (codes "services") services (key ∷ []) subs) no_sections files) profile (Err fault) → ParsesService (sections files) services subs id (Err fault)
+    → ParsesSections (files_from (subs_in_services services key subs) no_sections files) profile (Err fault) → ParsesService (sections files) services subs id (Err fault)
 unfolding sections
 service_refused files profile services id key subs NoMemory parses = tt
 service_refused files profile services id key subs (Parse error) parses =

@@ -1,15 +1,16 @@
 -- A map of strings as a map of texts, and what it has after a value was put.
-use Rattle.std.proofs.Common.{◌≡◌, ℕ, Bool, true, false, cond, List, [], ◌∷◌, ◌++◌, map, String, string_bytes, string_cmp, Global, bytes_eq, refl, sym, ap, ap₂, ◌∙◌, Ordering, Less, Equal, Greater, is_eq}
+use Rattle.std.proofs.Common.{◌≡◌, ℕ, Bool, true, false, cond, List, [], ◌∷◌, ◌++◌, map, String, string_bytes, Global, bytes_eq, refl, sym, ap, ap₂, ◌∙◌, Ordering, Bor, Less, Equal, Greater, is_eq}
 use Rattle.std.specs.Prelude.{Option, Some, None, option_map, is_some, Result, Ok, Err, OnOk}
 use Rattle.std.specs.Ordering.{match_ordering}
 use Rattle.std.specs.BTreeMap.{insert_entry, is_at}
 use Rattle.std.specs.Cmp.{tied_itself}
 use Rattle.std.specs.Cmp.Lexicographic.{nat_list_cmp_total, nat_list_eq_equiv}
 use Rattle.std.specs.Map.{lookup}
+use Rattle.std.proofs.lemmas.Bool.{false≢true}
 use Rattle.std.proofs.lemmas.List.{map-append}
 use Rattle.std.proofs.lemmas.Map.Text.{is_eq-slice_cmp}
 use Rattle.env_config.specs.declared.property.Property.{Property}
-use Rattle.env_config.specs.Texts.{Named, named_as, put, put_named, text_cmp, value_under}
+use Rattle.env_config.specs.Texts.{Named, named_as, put, put_named, text_cmp, value_under, words_of}
 use Rattle.env_config.specs.Section.{values_of}
 
 module _ {K J X Y : Type 0} (test : K → K → Ordering) (R : J → J → Ordering) (g : K → J) (f : X → Y) (same : (a b : K) → test a b ≡ R (g a) (g b)) where
@@ -41,7 +42,7 @@ module _ {K J X Y : Type 0} (query : K → Ordering) (R : J → J → Ordering) 
       ]
 
 -- a text is tied with itself
-itself : (key : List ℕ) → text_cmp key key ≡ Equal
+pub itself : (key : List ℕ) → text_cmp key key ≡ Equal
 itself key = tied_itself nat_list_cmp_total key
 
 module _ {X : Type 0} where
@@ -80,38 +81,36 @@ module _ {X : Type 0} where
   replaced_later (Err e) named now name left is = is
 
 -- values by their names, as the code keeps them
-abbrev pub named_of : {Z X : Type 0} → List (String Z) → List (String Z × X) → Named X
-named_of names es = record { names = map string_bytes names; values = map (λ e. (string_bytes e.0, e.1)) es }
+abbrev pub named_of : {K X : Type 0} → (K → List ℕ) → List K → List (K × X) → Named X
+named_of text names es = record { names = map text names; values = map (λ e. (text e.0, e.1)) es }
 
-module _ {Z X : Type 0} (names : List (String Z)) (es now : List (String Z × X)) (key : String Z) (name : List ℕ) (value : X) (before : Option X)
-    (is : string_bytes key ≡ name) (puts : now ≡ insert_entry string_cmp es key value) (had : before ≡ lookup (is_at (string_cmp key)) es) where
+module _ {K X : Type 0} (cmp : K → K → Ordering) (text : K → List ℕ) (alike : (a b : K) → cmp a b ≡ text_cmp (text a) (text b)) (names : List K) (es now : List (K × X)) (key : K) (name : List ℕ) (value : X) (before : Option X)
+    (is : text key ≡ name) (puts : now ≡ insert_entry cmp es key value) (had : before ≡ lookup (is_at (cmp key)) es) where
   -- the value before
-  pub value_before : before ≡ value_under (named_of names es).values name
-  value_before = sym (same before) ∙ ap (option_map (λ (x : X). x)) had ∙ entries_at (string_cmp key) text_cmp string_bytes (λ (x : X). x) (string_bytes key) (λ _. refl) es ∙ ap (value_under (named_of names es).values) is
+  pub value_before : before ≡ value_under (named_of text names es).values name
+  value_before = sym (same before) ∙ ap (option_map (λ (x : X). x)) had ∙ entries_at (cmp key) text_cmp text (λ (x : X). x) (text key) (alike key) es ∙ ap (value_under (named_of text names es).values) is
     where
       same : (o : Option X) → option_map (λ (x : X). x) o ≡ o
       same None = refl
       same (Some x) = refl
 
-  values_now : (named_of names now).values ≡ put (named_of names es).values name value
-  values_now = ap (map (λ (e : String Z × X). (string_bytes e.0, e.1))) puts ∙ entries_put string_cmp text_cmp string_bytes (λ (x : X). x) (λ _ _. refl) es key value ∙ ap (λ (k : List ℕ). put (named_of names es).values k value) is
+  values_now : (named_of text names now).values ≡ put (named_of text names es).values name value
+  values_now = ap (map (λ (e : K × X). (text e.0, e.1))) puts ∙ entries_put cmp text_cmp text (λ (x : X). x) alike es key value ∙ ap (λ (k : List ℕ). put (named_of text names es).values k value) is
 
-  with_names : (kept : List (List ℕ)) → (known : Bool) → is_some before ≡ known → kept ≡ cond known (map string_bytes names) (map string_bytes names ++ name ∷ [])
-      → record { names = kept; values = (named_of names now).values } ≡ put_named (named_of names es) name value
+  with_names : (kept : List (List ℕ)) → (known : Bool) → is_some before ≡ known → kept ≡ cond known (map text names) (map text names ++ name ∷ [])
+      → record { names = kept; values = (named_of text names now).values } ≡ put_named (named_of text names es) name value
   with_names kept known known_is kept_is =
       let make : List (List ℕ) → List (List ℕ × X) → Named X = λ names values. record { names = names; values = values } in
-      ap₂ make (kept_is ∙ ap (λ (b : Bool). cond b (map string_bytes names) (map string_bytes names ++ name ∷ [])) (sym known_is ∙ ap is_some value_before)) values_now
+      ap₂ make (kept_is ∙ ap (λ (b : Bool). cond b (map text names) (map text names ++ name ∷ [])) (sym known_is ∙ ap is_some value_before)) values_now
 
   -- a name that was there stays where it is
-  pub named_known : is_some before ≡ true → named_of names now ≡ put_named (named_of names es) name value
-  named_known known = with_names (map string_bytes names) true known refl
+  pub named_known : is_some before ≡ true → named_of text names now ≡ put_named (named_of text names es) name value
+  named_known known = with_names (map text names) true known refl
 
   -- a new name comes last
-  pub named_new : (new : String Z) → string_bytes new ≡ name → is_some before ≡ false → named_of (names ++ new ∷ []) now ≡ put_named (named_of names es) name value
+  pub named_new : (new : K) → text new ≡ name → is_some before ≡ false → named_of text (names ++ new ∷ []) now ≡ put_named (named_of text names es) name value
   named_new new new_is known =
-      with_names (map string_bytes (names ++ new ∷ [])) false known (map-append string_bytes names (new ∷ []) ∙ ap (λ (n : List ℕ). map string_bytes names ++ n ∷ []) new_is)
-
--- ## Values as a function sees them
+      with_names (map text (names ++ new ∷ [])) false known (map-append text names (new ∷ []) ∙ ap (λ (n : List ℕ). map text names ++ n ∷ []) new_is)
 
 option_same : {X : Type 0} (o : Option X) → option_map (λ (x : X). x) o ≡ o
 option_same None = refl
@@ -122,6 +121,28 @@ pub text_found : {Z X : Type 0} (es : List (String Z × X)) (key : List ℕ) →
 text_found {Z} {X} es key =
     sym (option_same (lookup (is_at (λ k. text_cmp key (string_bytes k))) es))
     ∙ entries_at (λ k. text_cmp key (string_bytes k)) text_cmp string_bytes (λ (x : X). x) key (λ _. refl) es
+
+pub none_is : {X : Type 0} (o : Option X) → is_some o ≡ false → None ≡ o
+none_is None is = refl
+none_is (Some x) is = absurd (false≢true (sym is))
+
+-- ## Borrowed names
+
+abbrev pub word_of : Bor (List ℕ) → List ℕ
+word_of word = word.now
+
+abbrev pub word_cmp : Bor (List ℕ) → Bor (List ℕ) → Ordering
+word_cmp a b = text_cmp a.now b.now
+
+pub word_found : {X : Type 0} (es : List (Bor (List ℕ) × X)) (name : List ℕ) → lookup (is_at (λ (k : Bor (List ℕ)). text_cmp name k.now)) es ≡ value_under (words_of es) name
+word_found {X} es name =
+    sym (option_same (lookup (is_at (λ (k : Bor (List ℕ)). text_cmp name k.now)) es))
+    ∙ entries_at (λ (k : Bor (List ℕ)). text_cmp name k.now) text_cmp word_of (λ (x : X). x) name (λ _. refl) es
+
+pub words_put : {X : Type 0} (es now : List (Bor (List ℕ) × X)) (name : Bor (List ℕ)) (value : X) → now ≡ insert_entry word_cmp es name value → words_of now ≡ put (words_of es) name.now value
+words_put {X} es now name value puts = ap words_of puts ∙ entries_put word_cmp text_cmp word_of (λ (x : X). x) (λ _ _. refl) es name value
+
+-- ## Values as a function sees them
 
 module _ {X Y : Type 0} (f : X → Y) where
   pub seen_at : (named : Named X) (name : List ℕ) → option_map f (value_under named.values name) ≡ value_under (named_as f named).values name

@@ -13,7 +13,7 @@ abbrev pub last_of : LastProperty → Last
 last_of last = record { key = string_bytes last.key; value = string_bytes last.value; is_parent = last.is_parent }
 
 abbrev pub open_of : OpenSection → Open
-open_of at = record { name = string_bytes at.name; last = option_map last_of at.last }
+open_of at = record { name = at.name.now; last = option_map last_of at.last }
 
 -- the last property stands among the others
 abbrev pub with_open_last : Keeps → List (List ℕ × List ℕ) → Option Last → List (List ℕ × List ℕ)
@@ -27,7 +27,7 @@ all_properties keeps at = with_open_last keeps at.properties (option_map last_of
 -- the open section stands among the others
 abbrev pub with_open : Keeps → Named (List (List ℕ × List ℕ)) → Option OpenSection → Named (List (List ℕ × List ℕ))
 with_open keeps sections None = sections
-with_open keeps sections (Some at) = put_section keeps sections (string_bytes at.name) (all_properties keeps at)
+with_open keeps sections (Some at) = put_section keeps sections at.name.now (all_properties keeps at)
 
 unfoldable pub state_of : Keeps → Draft → State
 state_of keeps draft = record { sections = with_open keeps draft.sections draft.at; open_section = option_map open_of draft.at }

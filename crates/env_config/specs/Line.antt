@@ -4,22 +4,14 @@ use Rattle.std.specs.Borrow.{Bor}
 use Rattle.std.specs.Char.{is_whitespace, char_set_contains}
 use Rattle.std.specs.List.{position_or_len, before_first, after_first}
 use Rattle.std.specs.Str.{chars, encode_utf8_all}
+use Rattle.smithy_core.specs.Text.{line_feed, space, tab}
 use Rattle.env_config.specs.declared.line.PropertyFault.{PropertyFault}
 use Rattle.env_config.specs.declared.line.PropertyFault.TheVariants.{NoEquals, NoName}
 
 -- ## Signs
 
-abbrev pub line_feed : ℕ
-line_feed = 10
-
 abbrev pub carriage_return : ℕ
 carriage_return = 13
-
-abbrev pub tab : ℕ
-tab = 9
-
-abbrev pub space : ℕ
-space = 32
 
 -- `#`
 abbrev pub number_sign : ℕ

@@ -117,10 +117,10 @@ module _ {D : Type 0} (answers : D → List ℕ → Result (Vec ℕ) DiskError �
     IsUnreadAt (Given kind contents) before now unread = ⊥
 
     -- the files before it have their texts, and the one at this path is unread
-    abbrev pub StopsAt : List Place → D → D → List ℕ → Type 0
-    StopsAt [] before now path = ⊥
-    StopsAt (place ∷ places) before now path =
-        IsUnreadAt place before now path ⊎ ((between : D) × (file : FileText) × ReadsPlace place before between file × StopsAt places between now path)
+    abbrev pub StopsAtFile : List Place → D → D → List ℕ → Type 0
+    StopsAtFile [] before now path = ⊥
+    StopsAtFile (place ∷ places) before now path =
+        IsUnreadAt place before now path ⊎ ((between : D) × (file : FileText) × ReadsPlace place before between file × StopsAtFile places between now path)
 
     -- the text of one file, or the file is unread
     abbrev pub ReadsOne : Place → D → D → Result File EnvConfigFileLoadError → Type 0
@@ -132,6 +132,6 @@ module _ {D : Type 0} (answers : D → List ℕ → Result (Vec ℕ) DiskError �
     -- all texts and the name of the profile, or the first file that is unread
     abbrev pub Loads : List Place → D → D → Result Source EnvConfigFileLoadError → Type 0
     Loads places before now (Ok source) = Loaded places before now (map file_of source.files.items) × (string_bytes source.profile ≡ selected_profile env)
-    Loads places before now (Err (CouldNotReadFile fault)) = StopsAt places before now (string_bytes fault.path)
+    Loads places before now (Err (CouldNotReadFile fault)) = StopsAtFile places before now (string_bytes fault.path)
     Loads places before now (Err (ParseError error)) = ⊥
     Loads places before now (Err NoMemory) = Unit {0}

@@ -4,7 +4,7 @@ use Rattle.std.specs.Fmt.{decimal}
 use Rattle.env_config.specs.declared.parse_fault.EnvConfigParseError.{EnvConfigParseError}
 use Rattle.env_config.specs.declared.parse_fault.ParseFault.{ParseFault}
 use Rattle.env_config.specs.declared.parse_fault.ParseFault.TheVariants.{Parse, NoMemory}
-use Rattle.env_config.specs.Line.{line_feed, space}
+use Rattle.smithy_core.specs.Text.{line_feed, space}
 use Rattle.env_config.specs.Sections.{FaultyLine}
 
 abbrev pub faulty_line_of : EnvConfigParseError → FaultyLine

@@ -57,14 +57,14 @@ pub record IsLatest (profile : List ℕ) (sections : Named (List (List ℕ × Li
 
 -- ## The draft
 
-abbrev pub with_last : Keeps → Latest → ℕ → Option Bool → Option Last → Latest
-with_last keeps latest place None last = latest
-with_last keeps latest place (Some group) None = latest
-with_last keeps latest place (Some group) (Some last) = if keeps.key last.key then put_latest latest group place last.key last.value else latest
+abbrev pub latest_with_last : Keeps → Latest → ℕ → Option Bool → Option Last → Latest
+latest_with_last keeps latest place None last = latest
+latest_with_last keeps latest place (Some group) None = latest
+latest_with_last keeps latest place (Some group) (Some last) = if keeps.key last.key then put_latest latest group place last.key last.value else latest
 
-abbrev pub with_open : Keeps → Latest → Option OpenProfile → Latest
-with_open keeps latest None = latest
-with_open keeps latest (Some at) = with_last keeps latest at.place at.group (option_map last_of at.last)
+abbrev pub latest_with_open : Keeps → Latest → Option OpenProfile → Latest
+latest_with_open keeps latest None = latest
+latest_with_open keeps latest (Some at) = latest_with_last keeps latest at.place at.group (option_map last_of at.last)
 
 abbrev pub open_profile : OpenProfile → Open
 open_profile at = record { name = at.name.now; last = option_map last_of at.last }
@@ -83,7 +83,7 @@ HasPlace keeps profile latest (Some at) = IsOpenAt keeps profile latest at
 pub record Follows (keeps : Keeps) (profile : List ℕ) (all : State) (draft : ProfileDraft) : Type 0 where
   pub at : option_map open_profile draft.at ≡ all.open_section
   pub place : HasPlace keeps profile draft.latest draft.at
-  pub latest : IsLatest profile all.sections (with_open keeps draft.latest draft.at)
+  pub latest : IsLatest profile all.sections (latest_with_open keeps draft.latest draft.at)
 
 -- the draft stands for what the step gives, or the step refuses with the message; running out of memory says nothing
 abbrev pub FollowsStep : Keeps → List ℕ → Result State (List ℕ) → ProfileDraft → Result (Unit {0}) LineFault → Type 0

@@ -1,11 +1,12 @@
 -- The raw sections of a profile file, as far as they are kept: each line moves a state on, or is refused with a message.
 use Rattle.std.specs.Prelude.{◌≡◌, ℕ, ◌+◌, ◌==◌, Bool, true, List, [], ◌∷◌, ◌++◌, length, codes, slice_index, Option, Some, None, unwrap_or, Result, Ok, Err, if◌then◌else◌}
+use Rattle.smithy_core.specs.Text.{line_feed}
 use Rattle.smithy_core.specs.TextPairs.{lower}
 use Rattle.env_config.specs.declared.fault.RawFault.{RawFault}
 use Rattle.env_config.specs.declared.fault.RawFault.TheVariants as faults
 use Rattle.env_config.specs.declared.line.PropertyFault.{PropertyFault}
 use Rattle.env_config.specs.declared.line.PropertyFault.TheVariants.{NoEquals, NoName}
-use Rattle.env_config.specs.Line.{is_blank, is_skipped, line_feed, opening_bracket, profile_lines, property_of, section_name, trimmed}
+use Rattle.env_config.specs.Line.{is_blank, is_skipped, opening_bracket, profile_lines, property_of, section_name, trimmed}
 use Rattle.env_config.specs.Texts.{Named, nothing_named, put, put_named, value_under}
 
 -- the property that was begun last: its value so far, and whether its first value was empty

@@ -7,9 +7,10 @@ use Rattle.std.specs.Char.{is_ascii_alphanumeric}
 use Rattle.std.specs.List.{list_all, list_any, position_or_len, before_first, after_first, slice_split}
 use Rattle.std.specs.BTreeMap.{insert_entry, is_at}
 use Rattle.std.specs.Map.{lookup}
+use Rattle.smithy_core.specs.Text.{line_feed}
 use Rattle.env_config.specs.declared.source.EnvConfigFileKind.{EnvConfigFileKind}
 use Rattle.env_config.specs.declared.source.EnvConfigFileKind.TheVariants.{Config, Credentials}
-use Rattle.env_config.specs.Line.{is_blank, is_equals, line_feed, trimmed}
+use Rattle.env_config.specs.Line.{is_blank, is_equals, trimmed}
 use Rattle.env_config.specs.Raw.{Keeps, everything, properties_of, raw}
 use Rattle.env_config.specs.Texts.{Named, nothing_named, put, put_named, text_cmp, value_under}
 

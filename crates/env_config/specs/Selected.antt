@@ -14,8 +14,8 @@ use Rattle.env_config.specs.Sections.{FaultyLine, Sections, value_at_key}
 use Rattle.env_config.specs.Value.{Chosen, in_services, selected_value, service_sub}
 
 -- the selected profile has the value that it has among all sections, at each of these keys and at `services`
-abbrev pub HasKeys : List (List ℕ) → Chosen → Chosen → Type 0
-HasKeys keys all some = (key : List ℕ) → is_kept_key keys (lower key) ≡ true → selected_value some key ≡ selected_value all key
+abbrev pub HasSelectedKeys : List (List ℕ) → Chosen → Chosen → Type 0
+HasSelectedKeys keys all some = (key : List ℕ) → is_kept_key keys (lower key) ≡ true → selected_value some key ≡ selected_value all key
 
 -- the service, where there is one, has the values of its own that it has among all sections, at each of these keys as it is spelled
 abbrev pub HasService : List (List ℕ) → Option (List ℕ) → Chosen → Chosen → Type 0
@@ -27,7 +27,7 @@ HasService keys (Some id) all some = (key : List ℕ) → is_kept_sub keys key �
 abbrev pub GivesSelected : Result Sections FaultyLine → List ℕ → List (List ℕ) → Option (List ℕ) → EnvConfigSections → Type 0
 GivesSelected (Err line) profile keys id some = ⊥
 GivesSelected (Ok all) profile keys id some =
-    (selected_of some ≡ profile) × HasKeys keys (record { sections = all; selected = profile }) (chosen_of some) × HasService keys id (record { sections = all; selected = profile }) (chosen_of some)
+    (selected_of some ≡ profile) × HasSelectedKeys keys (record { sections = all; selected = profile }) (chosen_of some) × HasService keys id (record { sections = all; selected = profile }) (chosen_of some)
 
 -- sections that give what all sections give of the keys and the service, or the first faulty line
 abbrev pub ParsesSelected : Result Sections FaultyLine → List ℕ → List (List ℕ) → Option (List ℕ) → Result EnvConfigSections ParseFault → Type 0

@@ -1,14 +1,16 @@
 -- Finite maps from texts, and values by their names.
-use Rattle.std.specs.Prelude.{◌≡◌, ◌≤◌, ◌<◌, ◌+◌, ◌&&◌, ℕ, Bool, false, List, [], ◌∷◌, ◌++◌, length, take, drop, map, Option, Result, Ok, Err, is_some, if◌then◌else◌, bytes_eq, String, string_bytes}
+use Rattle.std.specs.Prelude.{◌≡◌, ◌≤◌, ◌<◌, ◌+◌, ◌&&◌, ℕ, nat_lt, Bool, false, List, [], ◌∷◌, ◌++◌, length, take, drop, map, Option, Result, Ok, Err, is_some, if◌then◌else◌, bytes_eq, String, string_bytes}
+use Rattle.std.specs.Borrow.{Bor}
 use Rattle.std.specs.declared.alloc.Global.{Global}
 use Rattle.std.specs.declared.cmp.Ordering.{Ordering}
 use Rattle.std.specs.Ordering.{is_eq, nat_cmp}
 use Rattle.std.specs.Cmp.Lexicographic.{pointwise, slice_cmp}
 use Rattle.std.specs.BTreeMap.{insert_entry, is_at}
-use Rattle.std.specs.List.{AllByRecursion}
+use Rattle.std.specs.List.{AllByRecursion, after_first, before_first, position_or_len}
 use Rattle.std.specs.Map.{lookup}
 use Rattle.env_config.specs.declared.texts.Pairs.{Pairs}
-use Rattle.env_config.specs.declared.texts.Pairs.TheVariants.{Few, Many}
+use Rattle.env_config.specs.declared.texts.Pairs.TheVariants.{One, Few, Many}
+use Rattle.env_config.specs.Line.{is_equals}
 
 -- texts are compared byte by byte
 abbrev pub text_cmp : List ℕ → List ℕ → Ordering
@@ -46,8 +48,13 @@ IsApart (name ∷ names) = AllByRecursion (λ other. is_eq (text_cmp other name)
 abbrev pub pairs_of : List (String Global × String Global) → List (List ℕ × List ℕ)
 pairs_of entries = map (λ e. (string_bytes e.0, string_bytes e.1)) entries
 
+-- the pair of a text: the key before the first `=`, and the value after it
+abbrev pub one_pair : List ℕ → List (List ℕ × List ℕ)
+one_pair text = if nat_lt (position_or_len is_equals text) (length text) then (before_first is_equals text, after_first is_equals text) ∷ [] else []
+
 -- the texts of the pairs, in whatever form they are kept
 abbrev pub pairs_in : Pairs → List (List ℕ × List ℕ)
+pairs_in (One text) = one_pair (string_bytes text)
 pairs_in (Few pairs) = pairs_of pairs.items
 pairs_in (Many pairs) = pairs_of pairs.entries
 
@@ -56,9 +63,9 @@ abbrev pub FindsPlace : List (List ℕ × List ℕ) → List ℕ → Result ℕ 
 FindsPlace pairs key (Ok at) = (at < length pairs) × ((value : List ℕ) → put pairs key value ≡ take at pairs ++ (key, value) ∷ drop (at + 1) pairs)
 FindsPlace pairs key (Err at) = (at ≤ length pairs) × ((value : List ℕ) → put pairs key value ≡ take at pairs ++ (key, value) ∷ drop at pairs)
 
--- the values under the texts of their keys
-abbrev pub by_text : {X : Type 0} → List (String Global × X) → List (List ℕ × X)
-by_text entries = map (λ e. (string_bytes e.0, e.1)) entries
+-- the values under their names, which are borrowed
+abbrev pub words_of : {X : Type 0} → List (Bor (List ℕ) × X) → List (List ℕ × X)
+words_of entries = map (λ e. (e.0.now, e.1)) entries
 
 -- the values under their names, as f sees them
 abbrev pub named_as : {X Y : Type 0} → (X → Y) → Named X → Named Y

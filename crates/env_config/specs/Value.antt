@@ -2,8 +2,8 @@
 use Rattle.std.specs.Prelude.{ℕ, ◌==◌, List, [], ◌∷◌, ◌++◌, map, codes, Option, Some, option_map, if◌then◌else◌}
 use Rattle.std.specs.Char.{to_ascii_lowercase, to_ascii_uppercase}
 use Rattle.std.specs.Option.{option_and_then, option_or}
+use Rattle.smithy_core.specs.Text.{space}
 use Rattle.smithy_core.specs.TextPairs.{last_value, lower}
-use Rattle.env_config.specs.Line.{space}
 use Rattle.env_config.specs.Sections.{Key, Sections, value_at_key}
 use Rattle.env_config.specs.Texts.{value_under}
 

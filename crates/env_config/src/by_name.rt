@@ -1,6 +1,6 @@
 ghost use Rattle.std.specs.Prelude.{◌≡◌, ◌==◌, IfOk, OnOk, length, map, option_copied};
 ghost use Rattle.std.specs.String.{string_bytes};
-ghost use Rattle.env_config.specs.Texts.{CopiedUnder, by_text, nothing_named, put_named, value_under};
+ghost use Rattle.env_config.specs.Texts.{CopiedUnder, nothing_named, put_named, value_under};
 ghost use Rattle.std.specs.List.{AllZip};
 
 use smithy_core::Mem;
@@ -96,14 +96,6 @@ impl<V: Drop> ByName<V> {
             return Ok(None);
         }
         self.replace(name, left)
-    }
-
-    /// The names in the order of their first appearance, and the values by them.
-    pub fn into_parts(self) -> (Vec<String>, BTreeMap<String, V>)
-        ensures names { map string_bytes result.0.items ≡ self.names }
-        ensures values { by_text result.1.entries ≡ self.values }
-    {
-        (self.names, self.values)
     }
 
     /// The names in the order of their first appearance.

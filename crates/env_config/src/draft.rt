@@ -5,25 +5,25 @@ ghost use Rattle.env_config.specs.Draft.{TakesStep, MakesLast, TestsSubProperty,
 ghost use Rattle.env_config.specs.Line.{property_of, section_name};
 ghost use Rattle.env_config.specs.Raw.{Keeps, begun_property, continued, continued_or, profile_line_step, opened, properties_of, put_property, put_section, section_step, start, within_section};
 
-use crate::by_name::ByName;
 use crate::fault::LineFault;
 use crate::kept::Kept;
 use crate::line::{PropertyFault, cut_property, is_skipped, section_name, trim};
+use crate::raw_sections::RawSections;
 use crate::texts::Texts;
 use smithy_core::Mem;
 use std::alloc::Global;
 
 /// What the lines of a text gave so far.
 #[derive(Drop)]
-pub struct Draft {
-    sections: ByName<Texts>,
-    at: Option<OpenSection>,
+pub struct Draft<'t> {
+    sections: RawSections<'t>,
+    at: Option<OpenSection<'t>>,
 }
 
 /// The section that is open.
 #[derive(Drop)]
-struct OpenSection {
-    name: String,
+struct OpenSection<'t> {
+    name: &'t str,
     properties: Texts,
     last: Option<LastProperty>,
 }
@@ -36,14 +36,14 @@ pub struct LastProperty {
     is_parent: bool,
 }
 
-impl Draft {
+impl<'t> Draft<'t> {
     /// No lines yet.
     #[tactic(auto, unfolding(crate::specs::Draft::state_of))]
-    pub fn new(alloc: Global) -> Draft
+    pub fn new(alloc: Global) -> Draft<'t>
         ensures { (keeps : Keeps) → state_of keeps result ≡ start }
     {
         Draft {
-            sections: ByName::new(alloc),
+            sections: RawSections::new(alloc),
             at: None,
         }
     }
@@ -54,7 +54,12 @@ impl Draft {
     ///
     /// [`LineFault::Bad`] where the line is outside the grammar. Nothing is said of the draft then.
     #[tactic(auto, unfolding(crate::specs::Raw::profile_line_step))]
-    pub fn take_line(&mut self, alloc: Global, kept: &Kept<'_>, line: &str) -> Result<(), LineFault>
+    pub fn take_line(
+        &mut self,
+        alloc: Global,
+        kept: &Kept<'_>,
+        line: &'t str,
+    ) -> Result<(), LineFault>
         ensures { TakesStep (profile_line_step (keeps_of kept.now) (state_of (keeps_of kept.now) self.old) line.now) (state_of (keeps_of kept.now) self.new) result }
     {
         if is_skipped(line) {
@@ -71,8 +76,8 @@ impl Draft {
 
     /// The sections, where the lines are over.
     #[tactic(auto, unfolding(crate::specs::Draft::state_of))]
-    pub fn into_sections(mut self, kept: &Kept<'_>) -> Mem<ByName<Texts>>
-        ensures { IfOk result (λ sections. sections ≡ (state_of (keeps_of kept.now) self).sections) }
+    pub fn into_sections(mut self, kept: &Kept<'_>) -> Mem<RawSections<'t>>
+        ensures { IfOk result (λ sections. sections ≡ (state_of (keeps_of kept.now) self.entry).sections) }
     {
         self.close(kept)?;
         Ok(self.sections)
@@ -90,19 +95,24 @@ impl Draft {
         }
     }
 
-    fn put_section(&mut self, kept: &Kept<'_>, at: OpenSection) -> Mem<()>
-        ensures sections { OnOk result (self.new.sections ≡ put_section (keeps_of kept.now) self.old.sections (string_bytes at.name) (all_properties (keeps_of kept.now) at)) }
+    fn put_section(&mut self, kept: &Kept<'_>, at: OpenSection<'t>) -> Mem<()>
+        ensures sections { OnOk result (self.new.sections ≡ put_section (keeps_of kept.now) self.old.sections at.entry.name.now (all_properties (keeps_of kept.now) at.entry)) }
         ensures at { self.new.at ≡ self.old.at }
     {
-        if !kept.has_section(at.name.as_str()) {
+        if !kept.has_section(at.name) {
             return Ok(());
         }
         let (name, properties) = at.into_parts(kept)?;
-        self.sections.replace(name.as_str(), properties)?;
+        self.sections.replace(name, properties)?;
         Ok(())
     }
 
-    fn open_section(&mut self, alloc: Global, kept: &Kept<'_>, line: &str) -> Result<(), LineFault>
+    fn open_section(
+        &mut self,
+        alloc: Global,
+        kept: &Kept<'_>,
+        line: &'t str,
+    ) -> Result<(), LineFault>
         ensures { TakesStep (section_step (keeps_of kept.now) (state_of (keeps_of kept.now) self.old) (section_name line.now)) (state_of (keeps_of kept.now) self.new) result }
     {
         match section_name(line) {
@@ -113,13 +123,13 @@ impl Draft {
 
     // The section is opened, or gone on with.
     #[tactic(auto, unfolding(crate::specs::Draft::state_of))]
-    fn open(&mut self, alloc: Global, kept: &Kept<'_>, name: &str) -> Mem<()>
+    fn open(&mut self, alloc: Global, kept: &Kept<'_>, name: &'t str) -> Mem<()>
         ensures { OnOk result (state_of (keeps_of kept.now) self.new ≡ opened (keeps_of kept.now) (state_of (keeps_of kept.now) self.old) name.now) }
     {
         self.close(kept)?;
         let properties = self.take_properties(alloc, kept, name)?;
         self.at = Some(OpenSection {
-            name: String::from_str(alloc, name)?,
+            name,
             properties,
             last: None,
         });
@@ -127,7 +137,7 @@ impl Draft {
     }
 
     // The properties of the section, to go on with; none where it isn't kept.
-    fn take_properties(&mut self, alloc: Global, kept: &Kept<'_>, name: &str) -> Mem<Texts>
+    fn take_properties(&mut self, alloc: Global, kept: &Kept<'_>, name: &'t str) -> Mem<Texts>
         ensures { IfOk result (λ properties. put_section (keeps_of kept.now) self.new.sections name.now properties ≡ put_section (keeps_of kept.now) self.old.sections name.now (properties_of self.old.sections name.now)) }
     {
         if !kept.has_section(name) {
@@ -163,12 +173,12 @@ impl Draft {
     }
 }
 
-impl OpenSection {
+impl<'t> OpenSection<'t> {
     // The last property stands among the others, if it is kept.
     fn put_last(&mut self, kept: &Kept<'_>) -> Mem<()>
         ensures properties { OnOk result (self.new.properties ≡ all_properties (keeps_of kept.now) self.old) }
         ensures none { OnOk result (self.new.last ≡ None) }
-        ensures name { string_bytes self.new.name ≡ string_bytes self.old.name }
+        ensures name { self.new.name.now ≡ self.old.name.now }
     {
         match self.last.take() {
             Some(last) => last.put_into(kept, &mut self.properties),
@@ -177,9 +187,9 @@ impl OpenSection {
     }
 
     // The name, and all properties.
-    fn into_parts(mut self, kept: &Kept<'_>) -> Mem<(String, Texts)>
-        ensures name { IfOk result (λ parts. string_bytes parts.0 ≡ string_bytes self.name) }
-        ensures properties { IfOk result (λ parts. parts.1 ≡ all_properties (keeps_of kept.now) self) }
+    fn into_parts(mut self, kept: &Kept<'_>) -> Mem<(&'t str, Texts)>
+        ensures name { IfOk result (λ parts. parts.0.now ≡ self.entry.name.now) }
+        ensures properties { IfOk result (λ parts. parts.1 ≡ all_properties (keeps_of kept.now) self.entry) }
     {
         self.put_last(kept)?;
         Ok((self.name, self.properties))
@@ -265,7 +275,7 @@ fn no_properties(alloc: Global, kept: &Kept<'_>) -> Texts
 {
     match kept {
         Kept::All => Texts::new(alloc),
-        Kept::Of { .. } => Texts::few(alloc),
+        Kept::Profile { .. } | Kept::Services { .. } => Texts::few(alloc),
     }
 }
 

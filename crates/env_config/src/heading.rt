@@ -57,11 +57,11 @@ impl<'a> Heading<'a> {
 }
 
 /// Whether some section is `[profile default]`.
-pub fn has_profile_default(names: &[String]) -> bool
-    ensures { result ≡ has_profile_default (map string_bytes names.now) }
+pub fn has_profile_default(names: &[&str]) -> bool
+    ensures { result ≡ has_profile_default (map (λ name. name.now) names.now) }
 {
     for name in names {
-        if Heading::of(name.as_str()).is_profile_default() {
+        if Heading::of(name).is_profile_default() {
             return true;
         }
     }

@@ -2,7 +2,7 @@ ghost use Rattle.std.specs.Prelude.{◌≡◌, ◌&&◌, codes, bytes_eq, map};
 ghost use Rattle.std.specs.List.{list_any};
 ghost use Rattle.smithy_core.specs.TextPairs.{lower};
 ghost use Rattle.env_config.specs.Heading.{heading_seen};
-ghost use Rattle.env_config.specs.Kept.{has_heading, is_kept_heading, is_kept_key, is_kept_sub, keeps_of};
+ghost use Rattle.env_config.specs.Kept.{has_heading, is_kept_key, is_kept_profile, is_kept_sub, keeps_of};
 
 use crate::heading::Heading;
 use smithy_core::is_lower_of;
@@ -12,12 +12,15 @@ use smithy_core::is_lower_of;
 pub enum Kept<'a> {
     /// All sections with all keys.
     All,
-    /// Of the sections with one prefix and one name these keys, whatever their case, and `services`; and the
-    /// sub-properties with these names.
-    Of {
-        prefix: &'a str,
+    /// Of the sections of one profile these keys, whatever their case, and `services`.
+    Profile {
         name: &'a str,
         keys: &'a [&'a str],
+    },
+    /// Of the services sections of one name the property of one service, and the sub-properties with these names.
+    Services {
+        name: &'a str,
+        service: &'a str,
         sub_properties: &'a [&'a str],
     },
 }
@@ -29,7 +32,8 @@ impl<'a> Kept<'a> {
     {
         match self {
             Kept::All => true,
-            Kept::Of { prefix, name, .. } => is_kept_heading(&Heading::of(text), prefix, name),
+            Kept::Profile { name, .. } => is_kept_profile(&Heading::of(text), name),
+            Kept::Services { name, .. } => has_heading(&Heading::of(text), "services", name),
         }
     }
 
@@ -39,7 +43,8 @@ impl<'a> Kept<'a> {
     {
         match self {
             Kept::All => true,
-            Kept::Of { keys, .. } => key == "services" || is_one_of(key, keys),
+            Kept::Profile { keys, .. } => key == "services" || is_one_of(key, keys),
+            Kept::Services { service, .. } => key == *service,
         }
     }
 
@@ -48,17 +53,17 @@ impl<'a> Kept<'a> {
         ensures { result ≡ (keeps_of self.now).sub name.now }
     {
         match self {
-            Kept::All => true,
-            Kept::Of { sub_properties, .. } => is_among(name, sub_properties),
+            Kept::All | Kept::Profile { .. } => true,
+            Kept::Services { sub_properties, .. } => is_among(name, sub_properties),
         }
     }
 }
 
 // `[profile default]` is kept too, since it tells whether `[default]` is taken.
-fn is_kept_heading(heading: &Heading<'_>, prefix: &str, name: &str) -> bool
-    ensures { result ≡ is_kept_heading prefix.now name.now (heading_seen heading.now) }
+fn is_kept_profile(heading: &Heading<'_>, name: &str) -> bool
+    ensures { result ≡ is_kept_profile name.now (heading_seen heading.now) }
 {
-    has_heading(heading, prefix, name) || heading.is_profile_default()
+    has_heading(heading, "profile", name) || heading.is_profile_default()
 }
 
 /// Whether the section has this prefix and this name. One without prefix is a profile.

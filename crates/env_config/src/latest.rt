@@ -28,7 +28,8 @@ pub struct Latest<'t> {
 
 impl<'t> Model for Latest<'t> {
     ghost use Rattle.env_config.specs.Latest.{Latest as Seen};
-    ghost use Rattle.env_config.specs.LatestView.{placed_of, words_of};
+    ghost use Rattle.env_config.specs.LatestView.{placed_of};
+    ghost use Rattle.env_config.specs.Texts.{words_of};
 
     ghost Value = { Seen };
 

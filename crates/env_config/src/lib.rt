@@ -22,6 +22,7 @@ mod properties;
 mod properties_key;
 mod property;
 mod raw;
+mod raw_sections;
 mod section;
 mod sections;
 mod service_config;

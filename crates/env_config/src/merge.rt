@@ -53,7 +53,7 @@ fn put_pairs(properties: &mut BTreeMap<String, Property>, mut pairs: Texts) -> M
     ensures keys { IsKeyed (contents_of properties.old.entries) → OnOk result (IsKeyed (contents_of properties.new.entries)) }
     ensures values { OnOk result (values_of properties.new.entries ≡ put_identifiers (values_of properties.old.entries) pairs) }
 {
-    while let Some((key, value)) = pairs.take_first() {
+    while let Some((key, value)) = pairs.take_first()? {
         put_pair(properties, key, value)?;
     }
     Ok(())
@@ -82,7 +82,7 @@ pub fn merge_others(
 ) -> Mem<()>
     ensures { OnOk result (others_of others.new ≡ put_others (keeps_of kept.now) (others_of others.old) prefix.now name.now pairs) }
 {
-    while let Some((key, value)) = pairs.take_first() {
+    while let Some((key, value)) = pairs.take_first()? {
         put_key(
             alloc,
             kept,

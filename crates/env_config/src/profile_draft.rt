@@ -4,7 +4,7 @@ ghost use Rattle.env_config.specs.Heading.{heading_seen};
 ghost use Rattle.env_config.specs.Kept.{keeps_of};
 ghost use Rattle.env_config.specs.Latest.{group_of};
 ghost use Rattle.env_config.specs.Line.{property_of, section_name};
-ghost use Rattle.env_config.specs.ProfileDraft.{Follows, FollowsStep, IsOpenAt, with_last, with_open};
+ghost use Rattle.env_config.specs.ProfileDraft.{Follows, FollowsStep, IsOpenAt, latest_with_last, latest_with_open};
 ghost use Rattle.env_config.specs.Raw.{Keeps, State, begun_property, continued_or, opened, profile_line_step, section_step, start, within_section};
 ghost use Rattle.env_config.specs.Sections.{heading_of};
 
@@ -73,7 +73,7 @@ impl<'t> ProfileDraft<'t> {
 
     /// The values, where the lines are over.
     pub fn into_latest(mut self, kept: &Kept<'_>) -> Mem<Latest<'t>>
-        ensures { IfOk result (λ latest. latest ≡ with_open (keeps_of kept.now) self.entry.latest self.entry.at) }
+        ensures { IfOk result (λ latest. latest ≡ latest_with_open (keeps_of kept.now) self.entry.latest self.entry.at) }
     {
         self.close(kept)?;
         Ok(self.latest)
@@ -81,7 +81,7 @@ impl<'t> ProfileDraft<'t> {
 
     // The last property of the section that is open stands among the values, if it is kept.
     fn close(&mut self, kept: &Kept<'_>) -> Mem<()>
-        ensures latest { OnOk result (self.new.latest ≡ with_open (keeps_of kept.now) self.old.latest self.old.at) }
+        ensures latest { OnOk result (self.new.latest ≡ latest_with_open (keeps_of kept.now) self.old.latest self.old.at) }
         ensures closed { OnOk result (self.new.at ≡ None) }
     {
         match self.at.take() {
@@ -98,7 +98,7 @@ impl<'t> ProfileDraft<'t> {
         group: Option<bool>,
         last: Option<LastProperty>,
     ) -> Mem<()>
-        ensures latest { OnOk result (self.new.latest ≡ with_last (keeps_of kept.now) self.old.latest place group (option_map last_of last)) }
+        ensures latest { OnOk result (self.new.latest ≡ latest_with_last (keeps_of kept.now) self.old.latest place group (option_map last_of last)) }
         ensures at { self.new.at ≡ self.old.at }
     {
         match (group, last) {

@@ -4,14 +4,13 @@ ghost use Rattle.env_config.specs.ProfileDraft.{ReadsLatest};
 ghost use Rattle.env_config.specs.Raw.{raw, ReadsRaw};
 ghost use Rattle.env_config.specs.Texts.{IsApart};
 
-use crate::by_name::ByName;
 use crate::draft::Draft;
 use crate::fault::RawFault;
 use crate::kept::Kept;
 use crate::latest::Latest;
 use crate::line::cut_line;
 use crate::profile_draft::ProfileDraft;
-use crate::texts::Texts;
+use crate::raw_sections::RawSections;
 use std::alloc::Global;
 
 /// The raw sections of a profile text that are kept: each a map from keys to values, under the text between its brackets.
@@ -20,7 +19,11 @@ use std::alloc::Global;
 ///
 /// [`RawFault::Line`] with the number of the first line outside the grammar, and the message.
 #[tactic(auto, unfolding(crate::specs::Raw::raw))]
-pub fn read_raw(alloc: Global, kept: &Kept<'_>, text: &str) -> Result<ByName<Texts>, RawFault>
+pub fn read_raw<'t>(
+    alloc: Global,
+    kept: &Kept<'_>,
+    text: &'t str,
+) -> Result<RawSections<'t>, RawFault>
     ensures reads { ReadsRaw (raw (keeps_of kept.now) text.now) result }
     ensures apart { IfOk result (λ sections. IsApart sections.names) }
 {

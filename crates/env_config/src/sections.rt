@@ -7,7 +7,7 @@ ghost use Rattle.env_config.specs.Latest.{taken_values};
 ghost use Rattle.env_config.specs.MergedProfile.{MergesProfile, ParsesProfile, with_taken};
 ghost use Rattle.env_config.specs.Raw.{raw};
 ghost use Rattle.env_config.specs.Sections.{files_from, heading_of, no_sections, sections, with_file, with_raw, with_section};
-ghost use Rattle.env_config.specs.Texts.{IsApart, by_text, text_cmp, value_under};
+ghost use Rattle.env_config.specs.Texts.{IsApart, text_cmp, value_under, words_of};
 ghost use Rattle.env_config.specs.Value.{selected_value};
 ghost use Rattle.env_config.specs.EnvConfigValue.{chosen_of};
 ghost use Rattle.env_config.specs.EnvConfigSections.{AreKeyed, HasCopies, MergesText, ParsesSections, TellsLine, profiles_in, sections_of, selected_of, sessions_in};
@@ -28,6 +28,7 @@ use crate::parse_fault::{EnvConfigParseError, ParseFault};
 use crate::profile::{Profile, SsoSession};
 use crate::properties::Properties;
 use crate::raw::{read_latest, read_raw};
+use crate::raw_sections::RawSections;
 use crate::service_id::id_in_sections;
 use crate::source::{EnvConfigFileKind, File, Source};
 use crate::texts::Texts;
@@ -127,11 +128,9 @@ impl EnvConfigSections {
     ) -> Result<EnvConfigSections, ParseFault>
         ensures { ParsesSelected (sections (map file_of source.now.files.items)) (string_bytes source.now.profile) (map (λ k. k.now) keys.now) None result }
     {
-        let kept = Kept::Of {
-            prefix: "profile",
+        let kept = Kept::Profile {
             name: source.profile.as_str(),
             keys,
-            sub_properties: keys,
         };
         EnvConfigSections::parse_profile(alloc, &kept, source)
     }
@@ -317,17 +316,17 @@ impl EnvConfigSections {
         alloc: Global,
         kept: &Kept<'_>,
         kind: EnvConfigFileKind,
-        raw: ByName<Texts>,
+        raw: RawSections<'_>,
     ) -> Mem<()>
         requires { IsApart raw.names }
-        ensures sections { OnOk result (sections_of self.new ≡ with_file (keeps_of kept.now) (sections_of self.old) kind raw) }
+        ensures sections { OnOk result (sections_of self.new ≡ with_file (keeps_of kept.now) (sections_of self.old) kind raw.entry) }
         ensures selected { selected_of self.new ≡ selected_of self.old }
         ensures keys { AreKeyed self.old → OnOk result (AreKeyed self.new) }
     {
-        let overridden = has_profile_default(raw.names());
         let (names, mut texts) = raw.into_parts();
+        let overridden = has_profile_default(names.as_slice());
         for name in &names {
-            self.merge_named(alloc, kept, kind, overridden, &mut texts, name.as_str())?;
+            self.merge_named(alloc, kept, kind, overridden, &mut texts, name)?;
         }
         Ok(())
     }
@@ -339,13 +338,13 @@ impl EnvConfigSections {
         kept: &Kept<'_>,
         kind: EnvConfigFileKind,
         overridden: bool,
-        texts: &mut BTreeMap<String, Texts>,
+        texts: &mut BTreeMap<&str, Texts>,
         name: &str,
     ) -> Mem<()>
-        ensures sections { OnOk result (sections_of self.new ≡ with_raw (keeps_of kept.now) (sections_of self.old) kind overridden (heading_of name.now) (unwrap_or (value_under (by_text texts.old.entries) name.now) [])) }
+        ensures sections { OnOk result (sections_of self.new ≡ with_raw (keeps_of kept.now) (sections_of self.old) kind overridden (heading_of name.now) (unwrap_or (value_under (words_of texts.old.entries) name.now) [])) }
         ensures selected { selected_of self.new ≡ selected_of self.old }
         ensures keys { AreKeyed self.old → OnOk result (AreKeyed self.new) }
-        ensures others { OnOk result ((other : List ℕ) → is_eq (text_cmp other name.now) ≡ false → value_under (by_text texts.new.entries) other ≡ value_under (by_text texts.old.entries) other) }
+        ensures others { OnOk result ((other : List ℕ) → is_eq (text_cmp other name.now) ≡ false → value_under (words_of texts.new.entries) other ≡ value_under (words_of texts.old.entries) other) }
     {
         let pairs = taken(alloc, texts, name);
         let heading = Heading::of(name);
@@ -394,11 +393,9 @@ fn service_properties(
     ensures { ParsesService (sections (map file_of source.now.files.items)) services.now (map (λ k. k.now) keys.now) id.now result }
 {
     let id = id_in_sections(alloc, id)?;
-    let services_keys = [id.as_str()];
-    let kept = Kept::Of {
-        prefix: "services",
+    let kept = Kept::Services {
         name: services,
-        keys: &services_keys,
+        service: id.as_str(),
         sub_properties: keys,
     };
     let sections = EnvConfigSections::parse_kept(alloc, &kept, source)?;
@@ -406,9 +403,9 @@ fn service_properties(
 }
 
 // The texts under the name, taken from the others.
-fn taken(alloc: Global, texts: &mut BTreeMap<String, Texts>, name: &str) -> Texts
-    ensures texts { result ≡ unwrap_or (value_under (by_text texts.old.entries) name.now) [] }
-    ensures others { (other : List ℕ) → is_eq (text_cmp other name.now) ≡ false → value_under (by_text texts.new.entries) other ≡ value_under (by_text texts.old.entries) other }
+fn taken(alloc: Global, texts: &mut BTreeMap<&str, Texts>, name: &str) -> Texts
+    ensures texts { result ≡ unwrap_or (value_under (words_of texts.old.entries) name.now) [] }
+    ensures others { (other : List ℕ) → is_eq (text_cmp other name.now) ≡ false → value_under (words_of texts.new.entries) other ≡ value_under (words_of texts.old.entries) other }
 {
     match texts.remove(name) {
         Some(pairs) => pairs,

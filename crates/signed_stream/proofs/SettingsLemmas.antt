@@ -4,7 +4,7 @@ use Rattle.std.specs.Prelude.{Option, Some, None, option_map, Result, Ok, Err, c
 use Rattle.std.specs.Option.{option_or}
 use Rattle.env_config.specs.EnvConfigValue.{chosen_of}
 use Rattle.env_config.specs.Sections.{FaultyLine, Sections}
-use Rattle.env_config.specs.Selected.{GivesSelected, HasKeys, HasService}
+use Rattle.env_config.specs.Selected.{GivesSelected, HasSelectedKeys, HasService}
 use Rattle.env_config.specs.Value.{Chosen, Found, InProfile, Own, Shared, found_as, in_profile, in_variables, selected_value, value}
 use Rattle.env_config.specs.declared.sections.EnvConfigSections.{EnvConfigSections}
 use Rattle.signed_stream.specs.Settings.{GivesSettings, Selected, selected_or_missing, settings_from, settings_in}
@@ -16,7 +16,7 @@ use Rattle.signed_stream.specs.declared.settings.SettingsFault.{SettingsFault}
 abbrev pub setting_keys : List (List ℕ)
 setting_keys = codes "aws_access_key_id" ∷ codes "aws_secret_access_key" ∷ codes "aws_session_token" ∷ codes "region" ∷ []
 
-region_found : (all some : Chosen) (id : Option (List ℕ)) → some.selected ≡ all.selected → HasKeys setting_keys all some → HasService setting_keys id all some → in_profile some id (codes "region") ≡ in_profile all id (codes "region")
+region_found : (all some : Chosen) (id : Option (List ℕ)) → some.selected ≡ all.selected → HasSelectedKeys setting_keys all some → HasService setting_keys id all some → in_profile some id (codes "region") ≡ in_profile all id (codes "region")
 region_found all some None selected keys service =
     ap₂ (λ (name : List ℕ) (own : Option (List ℕ)). found_as (codes "region") (InProfile name) Shared own) selected (keys (codes "region") refl)
 region_found all some (Some id) selected keys service =
@@ -24,7 +24,7 @@ region_found all some (Some id) selected keys service =
     (ap₂ (λ (name : List ℕ) (own : Option (List ℕ)). found_as (codes "region") (InProfile name) (Own id) own) selected (service (codes "region") refl))
     (ap₂ (λ (name : List ℕ) (own : Option (List ℕ)). found_as (codes "region") (InProfile name) Shared own) selected (keys (codes "region") refl))
 
-settings_alike : (all some : Chosen) (env : List (List ℕ × List ℕ)) (id : Option (List ℕ)) → some.selected ≡ all.selected → HasKeys setting_keys all some → HasService setting_keys id all some
+settings_alike : (all some : Chosen) (env : List (List ℕ × List ℕ)) (id : Option (List ℕ)) → some.selected ≡ all.selected → HasSelectedKeys setting_keys all some → HasService setting_keys id all some
     → settings_in some env id ≡ settings_in all env id
 unfolding value
 settings_alike all some env id selected keys service =

@@ -6,7 +6,7 @@ use Rattle.std.specs.Prelude.{Result, Ok, Err, string_bytes}
 use Rattle.std.specs.Global.{Vec}
 use Rattle.smithy_core.specs.declared.outside.disk.DiskError.{DiskError}
 use Rattle.env_config.specs.Files.{Place, Usual, added_places, chosen_places, defaults_of, usual_if}
-use Rattle.env_config.specs.Loading.{Loads, StopsAt}
+use Rattle.env_config.specs.Loading.{Loads, StopsAtFile}
 use Rattle.env_config.specs.Source.{file_of}
 use Rattle.env_config.specs.declared.files.Builder.{Builder}
 use Rattle.env_config.specs.declared.load_fault.EnvConfigFileLoadError.{EnvConfigFileLoadError}
@@ -51,12 +51,12 @@ module _ {D : Type 0} (answers : D → List ℕ → Result (Vec ℕ) DiskError �
 
   -- no text that is given
   given_is_read : (kind : EnvConfigFileKind) (text : Option (List ℕ)) (places : List Place) (before now : D) (path : List ℕ)
-      → ((before now : D) → StopsAt answers reads tells env places before now path → ⊥) → StopsAt answers reads tells env (given_place kind text ++ places) before now path → ⊥
+      → ((before now : D) → StopsAtFile answers reads tells env places before now path → ⊥) → StopsAtFile answers reads tells env (given_place kind text ++ places) before now path → ⊥
   given_is_read kind None places before now path others stops = others before now stops
   given_is_read kind (Some text) places before now path others (inl is) = is
   given_is_read kind (Some text) places before now path others (inr later) = others later.0 now later.3
 
-  givens_are_read : (texts : ProfileTexts) (before now : D) (path : List ℕ) → StopsAt answers reads tells env (given_places texts) before now path → ⊥
+  givens_are_read : (texts : ProfileTexts) (before now : D) (path : List ℕ) → StopsAtFile answers reads tells env (given_places texts) before now path → ⊥
   givens_are_read texts before now path stops =
       given_is_read Config texts.config (given_place Credentials texts.credentials) before now path
       (λ b n last. given_is_read Credentials texts.credentials [] b n path (λ b n none. none) (rw (append_nil (given_place Credentials texts.credentials)) last)) stops
@@ -66,31 +66,31 @@ module _ {D : Type 0} (answers : D → List ℕ → Result (Vec ℕ) DiskError �
       append_nil (place ∷ places) = ap (λ rest. place ∷ rest) (append_nil places)
 
   -- no default file
-  usual_is_read : (before now : D) (path : List ℕ) → StopsAt answers reads tells env (Usual Config ∷ Usual Credentials ∷ []) before now path → ⊥
+  usual_is_read : (before now : D) (path : List ℕ) → StopsAtFile answers reads tells env (Usual Config ∷ Usual Credentials ∷ []) before now path → ⊥
   usual_is_read before now path (inl is) = is
   usual_is_read before now path (inr later) = by_second later.3
     where
-      by_second : StopsAt answers reads tells env (Usual Credentials ∷ []) later.0 now path → ⊥
+      by_second : StopsAtFile answers reads tells env (Usual Credentials ∷ []) later.0 now path → ⊥
       by_second (inl is) = is
       by_second (inr last) = last.3
 
-  stops_in_front : (named others : List Place) (before now : D) (path : List ℕ) → ((before now : D) → StopsAt answers reads tells env others before now path → ⊥)
-      → StopsAt answers reads tells env (named ++ others) before now path → StopsAt answers reads tells env named before now path
+  stops_in_front : (named others : List Place) (before now : D) (path : List ℕ) → ((before now : D) → StopsAtFile answers reads tells env others before now path → ⊥)
+      → StopsAtFile answers reads tells env (named ++ others) before now path → StopsAtFile answers reads tells env named before now path
   stops_in_front [] others before now path read stops = read before now stops
   stops_in_front (place ∷ named) others before now path read (inl is) = inl is
   stops_in_front (place ∷ named) others before now path read (inr later) = inr (later.0, later.1, later.2, stops_in_front named others later.0 now path read later.3)
 
   -- it is one that is named
-  pub stops_named : (named : List Place) (texts : ProfileTexts) (before now : D) (path : List ℕ) → StopsAt answers reads tells env (source_places named texts) before now path → StopsAt answers reads tells env named before now path
+  pub stops_named : (named : List Place) (texts : ProfileTexts) (before now : D) (path : List ℕ) → StopsAtFile answers reads tells env (source_places named texts) before now path → StopsAtFile answers reads tells env named before now path
   stops_named [] texts before now path stops = by_texts (given_places texts) (λ b n given. givens_are_read texts b n path given) stops
     where
-      by_texts : (places : List Place) → ((before now : D) → StopsAt answers reads tells env places before now path → ⊥) → StopsAt answers reads tells env (or_usual places) before now path → ⊥
+      by_texts : (places : List Place) → ((before now : D) → StopsAtFile answers reads tells env places before now path → ⊥) → StopsAtFile answers reads tells env (or_usual places) before now path → ⊥
       by_texts [] read stops = usual_is_read before now path stops
       by_texts (place ∷ places) read stops = read before now stops
   stops_named (place ∷ named) texts before now path stops = stops_in_front (place ∷ named) (given_places texts) before now path (λ b n given. givens_are_read texts b n path given) stops
 
   pub load_names : (named : List Place) (texts : ProfileTexts) (before now : D) (fault : EnvConfigFileLoadError) (status : Status) (path : List ℕ)
-      → Loads answers reads tells env (source_places named texts) before now (Err fault) → ending_of status ≡ load_ending fault → ending_of status ≡ could_not_read_file path → StopsAt answers reads tells env named before now path
+      → Loads answers reads tells env (source_places named texts) before now (Err fault) → ending_of status ≡ load_ending fault → ending_of status ≡ could_not_read_file path → StopsAtFile answers reads tells env named before now path
   load_names named texts before now (loads.ParseError error) status path found ends is = absurd found
   load_names named texts before now (loads.CouldNotReadFile fault) status path found ends is =
       let same : string_bytes fault.path ≡ path = (let e = sym ends ∙ is in cc) in stops_named named texts before now path (rw same at found)

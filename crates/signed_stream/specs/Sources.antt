@@ -5,7 +5,7 @@ use Rattle.std.specs.Global.{Vec}
 use Rattle.std.specs.Option.{option_to_list}
 use Rattle.smithy_core.specs.declared.outside.disk.DiskError.{DiskError}
 use Rattle.env_config.specs.Files.{Given, Place, Usual}
-use Rattle.env_config.specs.Loading.{Loaded, StopsAt, selected_profile}
+use Rattle.env_config.specs.Loading.{Loaded, StopsAtFile, selected_profile}
 use Rattle.env_config.specs.declared.source.EnvConfigFileKind.{EnvConfigFileKind}
 use Rattle.env_config.specs.declared.source.EnvConfigFileKind.TheVariants.{Config, Credentials}
 use Rattle.signed_stream.specs.Plan.{FilesRead, Plan, loaded, stops, unloaded, unreadable}
@@ -39,7 +39,7 @@ source_places named texts = or_usual (named ++ given_places texts)
 abbrev pub DiskGives : {D : Type 0} → (D → List ℕ → Result (Vec ℕ) DiskError → D → Type 0) → (D → ℕ) → Option (List (List ℕ × List ℕ)) → List (List ℕ × List ℕ) → D → D → List Place → FilesRead → Type 0
 DiskGives answers faults files env before now places unloaded = Unit {0}
 DiskGives answers faults files env before now places (loaded texts) = Loaded answers faults files env places before now texts
-DiskGives answers faults files env before now places (unreadable path) = StopsAt answers faults files env places before now path
+DiskGives answers faults files env before now places (unreadable path) = StopsAtFile answers faults files env places before now path
 
 -- ## What is selected
 

@@ -1,7 +1,8 @@
 use Rattle.std.proofs.Common.{◌∙◌, ap, sym}
 use Rattle.env_config.specs.Latest.{Latest}
 use Rattle.env_config.specs.Texts.{value_under}
-use Rattle.env_config.proofs.LatestViewLemmas.{new_place, place_known, place_value, word_found}
+use Rattle.env_config.proofs.LatestViewLemmas.{new_place, place_known, place_value}
+use Rattle.env_config.proofs.TextsLemmas.{word_found}
 use Rattle.env_config.proofs.latest.Latest.place_of.Goals as goal
 
 pub returns-in-Some-clause-now : goal.returns-in-Some-clause-now
