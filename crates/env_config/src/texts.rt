@@ -74,10 +74,15 @@ impl Texts {
     pub fn put(&mut self, key: String, value: String) -> Mem<()>
         ensures { OnOk result (self.new ≡ put self.old (string_bytes key) (string_bytes value)) }
     {
-        let none = Pairs::One(String::new(*key.allocator()));
-        let pairs = mem::replace(&mut self.pairs, none);
-        self.pairs = pairs.with(key, value)?;
-        Ok(())
+        match &mut self.pairs {
+            Pairs::One(text) => {
+                let text = mem::replace(text, String::new(*key.allocator()));
+                self.pairs = with_one(text, key, value)?;
+                Ok(())
+            }
+            Pairs::Few(pairs) => put_among_few(pairs, key, value),
+            Pairs::Many(pairs) => put_among_many(pairs, key, value),
+        }
     }
 
     /// Takes the first key and its value.
@@ -89,25 +94,6 @@ impl Texts {
             Pairs::One(text) => take_one(text),
             Pairs::Few(pairs) => Ok(take_first(pairs)),
             Pairs::Many(pairs) => Ok(pairs.pop_first()),
-        }
-    }
-}
-
-impl Pairs {
-    // The pairs with this value at the key.
-    fn with(self, key: String, value: String) -> Mem<Pairs>
-        ensures { IfOk result (λ pairs. pairs_in pairs ≡ put (pairs_in self) (string_bytes key) (string_bytes value)) }
-    {
-        match self {
-            Pairs::One(text) => with_one(text, key, value),
-            Pairs::Few(mut pairs) => {
-                put_among_few(&mut pairs, key, value)?;
-                Ok(Pairs::Few(pairs))
-            }
-            Pairs::Many(mut pairs) => {
-                put_among_many(&mut pairs, key, value)?;
-                Ok(Pairs::Many(pairs))
-            }
         }
     }
 }
