@@ -165,6 +165,7 @@ found=$? case='a line that has no room' status=7
 : > found.err
 judge
 ends 'no name' 2 'bad word 3' stream --raw < nothing
+"$program" --help | awk 'length > 80 { print "--help: a line is over 80 wide: " $0; wide = 1 } END { exit wide }' || failed=1
 # The frames of a job are the same bytes, raw and as lines of hexadecimal.
 "$program" stream --name a --at 0 --config first < job | sed '1,/^$/d' | tr -d '\n' > frames.hex
 "$program" stream --name a --at 0 --config first --raw < job | od -An -v -tx1 | tr -d ' \n' > raw.hex

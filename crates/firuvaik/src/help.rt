@@ -74,15 +74,3 @@ fn text_of(word: &str) -> Option<&'static str>
         _ => None,
     }
 }
-
-#[cfg(test)]
-mod tests {
-    use super::HELP;
-    use std::test::Fail;
-
-    #[test]
-    fn help_is_at_most_eighty_wide(rt: HostRuntime) -> Result<(), Fail> {
-        assert!(rt; HELP.lines().all(|line| line.len() <= 80));
-        Ok(())
-    }
-}
