@@ -8,12 +8,7 @@ use std::alloc::Global;
 use std::fmt;
 
 // The skews, once an interceptor saw an attempt with a bag of these entries.
-pub fn answer(alloc: Global, call: &str, words: &[&str]) -> Mem<String> {
-    let mut bag = ConfigBag::new(alloc);
-    answer_with(alloc, &mut bag, call, words)
-}
-
-fn answer_with(alloc: Global, bag: &mut ConfigBag, call: &str, words: &[&str]) -> Mem<String> {
+pub fn answer(alloc: Global, bag: &mut ConfigBag, call: &str, words: &[&str]) -> Mem<String> {
     match call {
         "measure" => measure(alloc, bag, words),
         "begin" => begin(alloc, bag, words),
