@@ -1,10 +1,10 @@
-use crate::metadata::{api_of, build_of};
+use crate::metadata::{api_of, build_of, build_with};
 use crate::metrics::metric_named;
 use crate::parts::{additional_of, app_of, config_of, feature_of, framework_of};
-use crate::texts::env_of;
+use crate::texts::{env_of, text};
 use aws_intercept::{
-    AdditionalMetadata, AwsUserAgent, BusinessMetric, ConfigMetadata, FeatureMetadata,
-    FrameworkMetadata,
+    AdditionalMetadata, AwsUserAgent, BuildMetadata, BusinessMetric, ConfigMetadata,
+    FeatureMetadata, FrameworkMetadata,
 };
 use case_lines::{halves, unknown};
 use smithy_core::{AppName, Env, Mem};
@@ -61,9 +61,18 @@ fn told_copy(alloc: Global, agent: &AwsUserAgent) -> Mem<String> {
 // What both headers tell.
 fn told(alloc: Global, agent: &AwsUserAgent) -> Mem<String> {
     let header = agent.ua_header()?;
+    with_aws_header(alloc, header.as_str(), agent)
+}
+
+fn with_aws_header(alloc: Global, header: &str, agent: &AwsUserAgent) -> Mem<String> {
     let aws_header = agent.aws_ua_header()?;
+    both(alloc, header, aws_header.as_str())
+}
+
+// One header, where both are the same.
+fn both(alloc: Global, header: &str, aws_header: &str) -> Mem<String> {
     if header == aws_header {
-        return Ok(header);
+        return text(alloc, header);
     }
     format!(in alloc; "{header} | {aws_header}")
 }
@@ -71,22 +80,15 @@ fn told(alloc: Global, agent: &AwsUserAgent) -> Mem<String> {
 // The agent for tests, or the one of the build that tells `build MORE`, or of the build in an environment.
 pub fn agent_of(alloc: Global, base: &str) -> Mem<AwsUserAgent> {
     match halves(base) {
-        ("build", more) => built(alloc, more),
+        ("build", more) => in_environment(alloc, &Env::new(alloc), build_with(alloc, more)),
         ("tests", _) => AwsUserAgent::for_tests(alloc),
-        _ => in_environment(alloc, &env_of(alloc, base)?),
+        _ => in_environment(alloc, &env_of(alloc, base)?, build_of(alloc)),
     }
 }
 
-fn in_environment(alloc: Global, env: &Env) -> Mem<AwsUserAgent> {
-    let build = build_of(alloc)?;
-    AwsUserAgent::new_from_environment(alloc, env, api_of(alloc, "dynamodb", "123")?, build)
-}
-
-fn built(alloc: Global, more: &str) -> Mem<AwsUserAgent> {
-    let mut build = build_of(alloc)?;
-    build.extra = additional_of(alloc, more).ok();
+fn in_environment(alloc: Global, env: &Env, build: Mem<BuildMetadata>) -> Mem<AwsUserAgent> {
     let api = api_of(alloc, "dynamodb", "123")?;
-    AwsUserAgent::new_from_environment(alloc, &Env::new(alloc), api, build)
+    AwsUserAgent::new_from_environment(alloc, env, api, build?)
 }
 
 fn agent_with(alloc: Global, base: &str, parts: &[&str]) -> Mem<AwsUserAgent> {

@@ -27,11 +27,17 @@ fn classified(alloc: Global, classifier: &AwsErrorCodeClassifier, words: &[&str]
         return unknown(alloc);
     };
     let error = error_of(alloc, code)?;
+    classified_error(alloc, classifier, error.as_ref(), headers)
+}
+
+fn classified_error(
+    alloc: Global,
+    classifier: &AwsErrorCodeClassifier,
+    error: Option<&ErrorMetadata>,
+    headers: &[&str],
+) -> Mem<String> {
     let response = answered(alloc, headers)?;
-    told(
-        alloc,
-        classifier.classify_retry(response.as_ref(), error.as_ref()),
-    )
+    told(alloc, classifier.classify_retry(response.as_ref(), error))
 }
 
 // By a copy of the classifier that a copy of the builder makes of these codes, with commas between.
@@ -62,11 +68,20 @@ fn again(alloc: Global, words: &[&str]) -> Mem<String> {
         return unknown(alloc);
     };
     let error = error_of(alloc, code)?;
+    classified_again(alloc, action_of(previous), error.as_ref(), headers)
+}
+
+fn classified_again(
+    alloc: Global,
+    previous: RetryAction,
+    error: Option<&ErrorMetadata>,
+    headers: &[&str],
+) -> Mem<String> {
     let response = answered(alloc, headers)?;
-    let (classifier, previous) = (AwsErrorCodeClassifier::new(), action_of(previous));
+    let classifier = AwsErrorCodeClassifier::new();
     told(
         alloc,
-        classifier.classify_retry_v2(response.as_ref(), error.as_ref(), &previous),
+        classifier.classify_retry_v2(response.as_ref(), error, &previous),
     )
 }
 
@@ -76,16 +91,16 @@ fn skew_class(alloc: Global, words: &[&str]) -> Mem<String> {
         return unknown(alloc);
     };
     let error = error_of(alloc, code)?;
+    told(alloc, action_by_skew(alloc, skew, error.as_ref()))
+}
+
+fn action_by_skew(alloc: Global, skew: &str, error: Option<&ErrorMetadata>) -> RetryAction {
     let response = HttpResponse {
         status: 200,
         headers: Headers::new(alloc),
         skew: skew.parse().ok(),
     };
-    let classifier = ServiceClockSkewClassifier::new();
-    told(
-        alloc,
-        classifier.classify_retry(Some(&response), error.as_ref()),
-    )
+    ServiceClockSkewClassifier::new().classify_retry(Some(&response), error)
 }
 
 // The error with this code, and none where the word is `no error`.

@@ -1,5 +1,6 @@
 use crate::files::sections_of;
 use crate::texts::{text, visible};
+use crate::values::copy_printed;
 use aws_intercept::{IdFault, InvalidInvocationId, InvalidMetadataValue, UserAgentFault};
 use case_lines::unknown;
 use env_config::{
@@ -8,6 +9,7 @@ use env_config::{
 };
 use smithy_core::Mem;
 use std::alloc::Global;
+use std::fmt::Display;
 
 // What the faults print. A fault of files or values that can be copied is copied before.
 pub fn answer(alloc: Global, call: &str, words: &[&str]) -> Mem<String> {
@@ -57,7 +59,11 @@ fn parse(alloc: Global, file: &str) -> Mem<String> {
 
 fn text_of_parse_fault(alloc: Global, fault: &ParseFault) -> Mem<String> {
     let copy = fault.try_clone()?;
-    let text = format!(in alloc; "{copy}")?;
+    printed(alloc, &copy)
+}
+
+fn printed<F: Display>(alloc: Global, fault: &F) -> Mem<String> {
+    let text = format!(in alloc; "{fault}")?;
     visible(alloc, text.as_str())
 }
 
@@ -69,8 +75,7 @@ fn line(alloc: Global, words: &[&str]) -> Mem<String> {
 
 fn line_printed(alloc: Global, error: &EnvConfigParseError) -> Mem<String> {
     let copy = error.try_clone()?;
-    let text = format!(in alloc; "{copy}")?;
-    visible(alloc, text.as_str())
+    printed(alloc, &copy)
 }
 
 // The error of PATH, LINE and MESSAGE.
@@ -97,12 +102,7 @@ fn load_of(alloc: Global, words: &[&str]) -> Mem<String> {
 
 fn load(alloc: Global, fault: EnvConfigFileLoadError) -> Mem<String> {
     let copy = fault.try_clone()?;
-    load_printed(alloc, &copy)
-}
-
-fn load_printed(alloc: Global, fault: &EnvConfigFileLoadError) -> Mem<String> {
-    let text = format!(in alloc; "{fault}")?;
-    visible(alloc, text.as_str())
+    printed(alloc, &copy)
 }
 
 fn unread(alloc: Global, path: &str) -> Mem<EnvConfigFileLoadError> {
@@ -125,14 +125,9 @@ fn unread_file(alloc: Global, path: &str) -> Mem<String> {
 fn no_memory(alloc: Global, name: &str) -> Mem<String> {
     match name {
         "parse" => text_of_parse_fault(alloc, &ParseFault::NoMemory),
-        "value" => no_memory_for_value(alloc, &ValidateFault::NoMemory),
+        "value" => copy_printed(alloc, &ValidateFault::NoMemory),
         _ => unknown(alloc),
     }
-}
-
-fn no_memory_for_value(alloc: Global, fault: &ValidateFault<&'static str>) -> Mem<String> {
-    let copy = fault.try_clone()?;
-    format!(in alloc; "{copy}")
 }
 
 fn build_fault(alloc: Global, name: &str) -> Mem<String> {

@@ -143,12 +143,15 @@ fn next_of_copy(alloc: Global, generator: &DefaultInvocationIdGenerator<Pcg32>) 
 
 // Whether the ids of two texts are equal.
 fn equal(alloc: Global, id: &str, other: &str) -> Mem<String> {
-    let (id, other) = (
-        InvocationId::new(text(alloc, id)?),
-        InvocationId::new(text(alloc, other)?),
-    );
-    match (&id, &other) {
-        (Ok(id), Ok(other)) => text(alloc, if id == other { "yes" } else { "no" }),
-        _ => text(alloc, "no ids"),
+    match &InvocationId::new(text(alloc, id)?) {
+        Ok(id) => equal_to(alloc, id, other),
+        Err(_) => text(alloc, "no ids"),
+    }
+}
+
+fn equal_to(alloc: Global, id: &InvocationId, other: &str) -> Mem<String> {
+    match &InvocationId::new(text(alloc, other)?) {
+        Ok(other) => text(alloc, if id == other { "yes" } else { "no" }),
+        Err(_) => text(alloc, "no ids"),
     }
 }

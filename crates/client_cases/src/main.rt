@@ -25,6 +25,7 @@ mod texts;
 mod traces;
 mod values;
 
+use aws_intercept::ConfigBag;
 use case_lines::{Answers, run_cases, unknown};
 use std::alloc::{AllocError, Global};
 use std::io;
@@ -69,11 +70,24 @@ fn client_answer(
         "metadata" => metadata::answer(alloc, call, words),
         "metrics" => metrics::answer(alloc, call, words),
         "agents" => agents::answer(alloc, call, words),
-        "bags" => sending::answer(alloc, call, words),
         "ids" => ids::answer(alloc, call, words),
-        "traces" => traces::answer(alloc, call, words),
-        "skews" => skews::answer(alloc, call, words),
         "classes" => classes::answer(alloc, call, words),
+        _ => bag_answer(alloc, &mut ConfigBag::new(alloc), subject, call, words),
+    }
+}
+
+// What interceptors do with a bag, which is empty before.
+fn bag_answer(
+    alloc: Global,
+    bag: &mut ConfigBag,
+    subject: &str,
+    call: &str,
+    words: &[&str],
+) -> Result<String, AllocError> {
+    match subject {
+        "bags" => sending::answer(alloc, bag, call, words),
+        "traces" => traces::answer(alloc, bag, call, words),
+        "skews" => skews::answer(alloc, bag, call, words),
         _ => unknown(alloc),
     }
 }

@@ -50,6 +50,10 @@ fn framework_printed(alloc: Global, word: &str) -> Result<String, PartFault> {
 // What a copy prints, and its name and its version.
 fn framework_copy(alloc: Global, framework: &FrameworkMetadata) -> Mem<String> {
     let copy = framework.try_clone()?;
+    framework_told(alloc, &copy)
+}
+
+fn framework_told(alloc: Global, copy: &FrameworkMetadata) -> Mem<String> {
     let (name, version) = (copy.name(), copy.version().unwrap_or("-"));
     format!(in alloc; "{copy} {name} {version}")
 }
@@ -124,11 +128,21 @@ fn family_of(word: &str) -> OsFamily {
 
 // The build that the agents of these cases tell of.
 pub fn build_of(alloc: Global) -> Mem<BuildMetadata> {
+    build_telling(alloc, None)
+}
+
+// That build, telling more.
+pub fn build_with(alloc: Global, more: &str) -> Mem<BuildMetadata> {
+    build_telling(alloc, additional_of(alloc, more).ok())
+}
+
+fn build_telling(alloc: Global, extra: Option<AdditionalMetadata>) -> Mem<BuildMetadata> {
+    let core_version = text(alloc, "0.1")?;
     Ok(BuildMetadata {
-        core_version: text(alloc, "0.1")?,
+        core_version,
         rust_version: text(alloc, "1.50.0")?,
         os_family: OsFamily::Macos,
-        extra: None,
+        extra,
     })
 }
 

@@ -56,7 +56,10 @@ fn parse(alloc: Global, words: &[&str]) -> Mem<String> {
     let [keys, files @ ..] = words else {
         return unknown(alloc);
     };
-    told(alloc, &sections_of(alloc, "default", files), keys)
+    match &sections_of(alloc, "default", files) {
+        Ok(sections) => sections_told(alloc, sections, keys),
+        Err(fault) => fault_told(alloc, fault),
+    }
 }
 
 // What a copy of the sections tells of the keys.
@@ -64,19 +67,15 @@ fn copy(alloc: Global, words: &[&str]) -> Mem<String> {
     let [keys, files @ ..] = words else {
         return unknown(alloc);
     };
-    told(alloc, &copied(alloc, files), keys)
-}
-
-fn copied(alloc: Global, files: &[&str]) -> Result<EnvConfigSections, ParseFault> {
-    let sections = sections_of(alloc, "default", files)?;
-    Ok(sections.try_clone()?)
-}
-
-fn told(alloc: Global, parsed: &Result<EnvConfigSections, ParseFault>, keys: &str) -> Mem<String> {
-    match parsed {
-        Ok(sections) => sections_told(alloc, sections, keys),
+    match &sections_of(alloc, "default", files) {
+        Ok(sections) => copied_sections(alloc, sections, keys),
         Err(fault) => fault_told(alloc, fault),
     }
+}
+
+fn copied_sections(alloc: Global, sections: &EnvConfigSections, keys: &str) -> Mem<String> {
+    let copy = sections.try_clone()?;
+    sections_told(alloc, &copy, keys)
 }
 
 fn sections_told(alloc: Global, sections: &EnvConfigSections, keys: &str) -> Mem<String> {

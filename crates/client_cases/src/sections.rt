@@ -101,11 +101,15 @@ fn push_session_values(
 ) -> Mem<()> {
     for key in keys.split(' ') {
         if let Some(value) = session.get(key) {
-            push_pair(told, key, value)?;
-            write!(written, "{key} = {value}\n")?;
+            push_session_value(told, written, key, value)?;
         }
     }
     Ok(())
+}
+
+fn push_session_value(told: &mut String, written: &mut String, key: &str, value: &str) -> Mem<()> {
+    push_pair(told, key, value)?;
+    write!(written, "{key} = {value}\n")
 }
 
 // Whether a file gives an equal session of this name.

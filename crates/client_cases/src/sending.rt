@@ -11,12 +11,7 @@ use smithy_core::{Env, HttpRequest, Mem};
 use std::alloc::Global;
 
 // The headers of a request that had none, once an interceptor saw it with a bag of these entries.
-pub fn answer(alloc: Global, call: &str, words: &[&str]) -> Mem<String> {
-    let mut bag = ConfigBag::new(alloc);
-    answer_with(alloc, &mut bag, call, words)
-}
-
-fn answer_with(alloc: Global, bag: &mut ConfigBag, call: &str, words: &[&str]) -> Mem<String> {
+pub fn answer(alloc: Global, bag: &mut ConfigBag, call: &str, words: &[&str]) -> Mem<String> {
     match call {
         "agent" => shown(alloc, agent_sent(alloc, bag, words)),
         "agent_alone" => shown(alloc, agent_signed(alloc, bag, words)),

@@ -8,12 +8,7 @@ use std::alloc::Global;
 use std::fmt;
 
 // The skews, once an interceptor saw an attempt with a bag of these entries.
-pub fn answer(alloc: Global, call: &str, words: &[&str]) -> Mem<String> {
-    let mut bag = ConfigBag::new(alloc);
-    answer_with(alloc, &mut bag, call, words)
-}
-
-fn answer_with(alloc: Global, bag: &mut ConfigBag, call: &str, words: &[&str]) -> Mem<String> {
+pub fn answer(alloc: Global, bag: &mut ConfigBag, call: &str, words: &[&str]) -> Mem<String> {
     match call {
         "measure" => measure(alloc, bag, words),
         "begin" => begin(alloc, bag, words),
@@ -37,8 +32,17 @@ fn measure(alloc: Global, bag: &mut ConfigBag, words: &[&str]) -> Mem<String> {
     };
     fill(alloc, bag, entries)?;
     let mut response = response_of(alloc, headers)?;
-    let next = Skew(measured(alloc, bag, sent, received, &mut response));
-    let (in_response, in_bag) = (Skew(response.skew), Skew(bag.attempt_skew));
+    let next = measured(alloc, bag, sent, received, &mut response);
+    skews_told(alloc, response.skew, bag.attempt_skew, next)
+}
+
+fn skews_told(
+    alloc: Global,
+    in_response: Option<i64>,
+    in_bag: Option<i64>,
+    next: Option<i64>,
+) -> Mem<String> {
+    let (in_response, in_bag, next) = (Skew(in_response), Skew(in_bag), Skew(next));
     format!(in alloc; "response {in_response}, bag {in_bag}, next {next}")
 }
 

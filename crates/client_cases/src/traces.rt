@@ -3,28 +3,29 @@ use crate::sending::sent_told;
 use crate::texts::given;
 use aws_intercept::{ConfigBag, RecursionDetectionInterceptor};
 use case_lines::unknown;
-use smithy_core::{Env, HttpRequest, Mem};
+use smithy_core::{Env, Mem};
 use std::alloc::Global;
 
 // The headers of a request, once the interceptor saw it with these values of the two variables.
-pub fn answer(alloc: Global, call: &str, words: &[&str]) -> Mem<String> {
+pub fn answer(alloc: Global, bag: &mut ConfigBag, call: &str, words: &[&str]) -> Mem<String> {
     let [function, trace, headers @ ..] = words else {
         return unknown(alloc);
     };
     let env = env_of(alloc, function, trace)?;
     let mut interceptor = RecursionDetectionInterceptor::new(env);
-    answer_by(alloc, &mut interceptor, call, headers)
+    answer_by(alloc, &mut interceptor, bag, call, headers)
 }
 
 fn answer_by(
     alloc: Global,
     interceptor: &mut RecursionDetectionInterceptor,
+    bag: &mut ConfigBag,
     call: &str,
     headers: &[&str],
 ) -> Mem<String> {
     match call {
-        "send" => sent(alloc, interceptor, headers),
-        "copy" => sent_by_copy(alloc, interceptor, headers),
+        "send" => sent(alloc, interceptor, bag, headers),
+        "copy" => sent_by_copy(alloc, interceptor, bag, headers),
         _ => unknown(alloc),
     }
 }
@@ -32,10 +33,11 @@ fn answer_by(
 fn sent_by_copy(
     alloc: Global,
     interceptor: &RecursionDetectionInterceptor,
+    bag: &mut ConfigBag,
     headers: &[&str],
 ) -> Mem<String> {
     let mut copy = interceptor.try_clone()?;
-    sent(alloc, &mut copy, headers)
+    sent(alloc, &mut copy, bag, headers)
 }
 
 // The function's name and the trace, where they are given.
@@ -53,18 +55,10 @@ fn env_of(alloc: Global, function: &str, trace: &str) -> Mem<Env> {
 fn sent(
     alloc: Global,
     interceptor: &mut RecursionDetectionInterceptor,
+    bag: &mut ConfigBag,
     headers: &[&str],
 ) -> Mem<String> {
     let mut request = request_of(alloc, headers)?;
-    let sent = modify(alloc, interceptor, &mut request);
+    let sent = interceptor.modify_before_signing(&mut request, bag);
     sent_told(alloc, sent, &request)
-}
-
-fn modify(
-    alloc: Global,
-    interceptor: &mut RecursionDetectionInterceptor,
-    request: &mut HttpRequest,
-) -> Mem<()> {
-    let mut bag = ConfigBag::new(alloc);
-    interceptor.modify_before_signing(request, &mut bag)
 }

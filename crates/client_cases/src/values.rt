@@ -107,9 +107,14 @@ fn load(
     sections: Option<&EnvConfigSections>,
 ) -> Mem<String> {
     match value.load(alloc, env, sections)? {
-        Some((value, source)) => place_told(alloc, value.as_str(), &source.try_clone()?),
+        Some((value, source)) => place_copied(alloc, value.as_str(), &source),
         None => text(alloc, "-"),
     }
+}
+
+fn place_copied(alloc: Global, value: &str, source: &EnvConfigSource) -> Mem<String> {
+    let copy = source.try_clone()?;
+    place_told(alloc, value, &copy)
 }
 
 fn place_told(alloc: Global, value: &str, source: &EnvConfigSource) -> Mem<String> {
@@ -139,7 +144,7 @@ fn checked(
     }
 }
 
-fn copy_printed(alloc: Global, fault: &ValidateFault<&'static str>) -> Mem<String> {
+pub fn copy_printed(alloc: Global, fault: &ValidateFault<&'static str>) -> Mem<String> {
     let copy = fault.try_clone()?;
     format!(in alloc; "{copy}")
 }
@@ -168,9 +173,15 @@ fn origin(
     sections: Option<&EnvConfigSections>,
 ) -> Mem<String> {
     match value.validate_and_return_origin(alloc, env, sections, accepts) {
-        Ok((Some(length), origin)) => format!(in alloc; "{length} ({origin:?})"),
-        Ok((None, origin)) => format!(in alloc; "- ({origin:?})"),
-        Err(fault) => format!(in alloc; "{fault}"),
+        Ok((length, origin)) => origin_told(alloc, length, &origin),
+        Err(fault) => fault.to_string(alloc),
+    }
+}
+
+fn origin_told(alloc: Global, length: Option<usize>, origin: &Origin) -> Mem<String> {
+    match length {
+        Some(length) => format!(in alloc; "{length} ({origin:?})"),
+        None => format!(in alloc; "- ({origin:?})"),
     }
 }
 

@@ -1,4 +1,5 @@
-use crate::shown::{digits, push_given};
+use crate::shown::digits;
+use crate::steps::{Steps, answers_of};
 use crate::words::bytes_of;
 use case_lines::unknown;
 use mac_core::{Crc, HmacSha256, crc32, hmac_sha256, sha256_hex};
@@ -23,7 +24,7 @@ fn of_bytes(alloc: Global, call: &str, bytes: &str) -> Result<String, AllocError
 
 fn of_pieces(alloc: Global, call: &str, words: &[&str]) -> Result<String, AllocError> {
     match call {
-        "crc32_pieces" => crc32_of_pieces(alloc, words),
+        "crc32_pieces" => answers_of(alloc, &mut Crc::new(), words),
         "hmac" => hmac(alloc, words),
         "hmac_pieces" => hmac_of_pieces(alloc, words),
         _ => unknown(alloc),
@@ -31,8 +32,7 @@ fn of_pieces(alloc: Global, call: &str, words: &[&str]) -> Result<String, AllocE
 }
 
 fn crc32_of(alloc: Global, bytes: &str) -> Result<String, AllocError> {
-    let checksum = crc32(bytes_of(alloc, bytes)?.as_slice());
-    format!(in alloc; "{checksum:08x}")
+    checksum_told(alloc, crc32(bytes_of(alloc, bytes)?.as_slice()))
 }
 
 // The bytes and their checksum.
@@ -43,19 +43,15 @@ fn crc32_appended(alloc: Global, bytes: &str) -> Result<String, AllocError> {
     digits(alloc, bytes.as_slice())
 }
 
-// The checksum after each piece.
-fn crc32_of_pieces(alloc: Global, pieces: &[&str]) -> Result<String, AllocError> {
-    let mut crc = Crc::new();
-    let mut answers = String::new(alloc);
-    for piece in pieces {
-        push_given(&mut answers, crc32_after(alloc, &mut crc, piece))?;
+impl Steps for Crc {
+    // The checksum after a piece.
+    fn after(&mut self, alloc: Global, piece: &str) -> Result<String, AllocError> {
+        self.update(bytes_of(alloc, piece)?.as_slice());
+        checksum_told(alloc, self.value())
     }
-    Ok(answers)
 }
 
-fn crc32_after(alloc: Global, crc: &mut Crc, piece: &str) -> Result<String, AllocError> {
-    crc.update(bytes_of(alloc, piece)?.as_slice());
-    let checksum = crc.value();
+fn checksum_told(alloc: Global, checksum: u32) -> Result<String, AllocError> {
     format!(in alloc; "{checksum:08x}")
 }
 

@@ -1,7 +1,8 @@
 use crate::outside::{
-    Outside, answers_of, faulty_disk_of, faulty_source_of, files_of, given, moments_of,
+    Outside, faulty_disk_of, faulty_source_of, files_of, given, moments_of, told_after,
 };
 use crate::shown::push_answer;
+use crate::steps::Steps;
 use crate::words::{bytes_of, numbers_of, size_of};
 use case_lines::unknown;
 use smithy_core::{CalmDisk, CalmSink, CalmSource, FaultySink, ListClock, Mem};
@@ -32,7 +33,7 @@ fn of_copy<O: Outside + Drop>(alloc: Global, object: &mut O, words: &[&str]) -> 
     let [first, steps @ ..] = words else {
         return unknown(alloc);
     };
-    let first = object.answer(alloc, first)?;
+    let first = object.after(alloc, first)?;
     with_copy(alloc, first, object, steps)
 }
 
@@ -48,7 +49,7 @@ fn with_copy<O: Outside + Drop>(
 
 fn answers_of_copy<O: Outside + Drop>(alloc: Global, object: &O, steps: &[&str]) -> Mem<String> {
     let mut copy = object.copied()?;
-    answers_of(alloc, &mut copy, steps)
+    told_after(alloc, &mut copy, steps)
 }
 
 fn joined(first: String, others: &str) -> Mem<String> {

@@ -2,6 +2,7 @@ ghost use Rattle.std.specs.Prelude.{◌<◌};
 
 use crate::segments::{left, push};
 use crate::shown::{digits, message, push_given};
+use crate::steps::{Steps, answers_of};
 use crate::words::{bytes_of, shared};
 use bytes::Bytes;
 use case_lines::halves;
@@ -21,17 +22,8 @@ struct Stream {
 pub fn answer(alloc: Global, steps: &[&str]) -> Mem<String> {
     match steps {
         ["in_pieces", bytes] => in_pieces(alloc, bytes_of(alloc, bytes)?.as_slice()),
-        _ => answers_of(alloc, steps),
+        _ => answers_of(alloc, &mut new_stream(alloc), steps),
     }
-}
-
-fn answers_of(alloc: Global, steps: &[&str]) -> Mem<String> {
-    let mut stream = new_stream(alloc);
-    let mut answers = String::new(alloc);
-    for step in steps {
-        push_given(&mut answers, after(alloc, &mut stream, step))?;
-    }
-    Ok(answers)
 }
 
 fn new_stream(alloc: Global) -> Stream {
@@ -41,11 +33,13 @@ fn new_stream(alloc: Global) -> Stream {
     }
 }
 
-fn after(alloc: Global, stream: &mut Stream, step: &str) -> Mem<String> {
-    match halves(step) {
-        ("push", bytes) => push(alloc, &mut stream.buffer, shared(alloc, bytes)?),
-        ("push_each", bytes) => push_each(alloc, stream, bytes_of(alloc, bytes)?.as_slice()),
-        (step, _) => after_bare(alloc, stream, step),
+impl Steps for Stream {
+    fn after(&mut self, alloc: Global, step: &str) -> Mem<String> {
+        match halves(step) {
+            ("push", bytes) => push(alloc, &mut self.buffer, shared(alloc, bytes)?),
+            ("push_each", bytes) => push_each(alloc, self, bytes_of(alloc, bytes)?.as_slice()),
+            (step, _) => after_bare(alloc, self, step),
+        }
     }
 }
 

@@ -10,7 +10,7 @@ use std::alloc::Global;
 
 pub fn answer(alloc: Global, call: &[&str]) -> Mem<String> {
     match call {
-        ["read", bytes] => read(alloc, shared(alloc, bytes)?),
+        ["read", bytes] => read(alloc, &shared(alloc, bytes)?),
         ["write_headers", list, headers @ ..] => write_headers(alloc, list, headers),
         ["write", list, headers @ .., payload] => {
             write(alloc, list, &message_of(alloc, headers, payload)?)
@@ -33,10 +33,14 @@ fn of_message(alloc: Global, call: &str, message: &Message) -> Mem<String> {
 }
 
 // The message or the fault, and what is left of the bytes.
-fn read(alloc: Global, bytes: Bytes) -> Mem<String> {
+fn read(alloc: Global, bytes: &Bytes) -> Mem<String> {
     let mut rest = bytes.clone()?;
-    let read = read_from(alloc, &mut rest)?;
-    if rest.as_slice() == bytes.as_slice() {
+    read_part(alloc, bytes.as_slice(), &mut rest)
+}
+
+fn read_part(alloc: Global, bytes: &[u8], rest: &mut Bytes) -> Mem<String> {
+    let read = read_from(alloc, rest)?;
+    if rest.as_slice() == bytes {
         return format!(in alloc; "{read} | all left");
     }
     format!(in alloc; "{read} | {} left", rest.len())
@@ -79,7 +83,8 @@ fn refused(alloc: Global, error: &Error, list: Mem<String>) -> Mem<String> {
 
 // The frame by the call that takes only a message that has one.
 fn whole(alloc: Global, message: &Message) -> Mem<String> {
-    match write_message_to(alloc, message, &mut Vec::new(alloc)) {
+    let written = write_message_to(alloc, message, &mut Vec::new(alloc));
+    match written {
         Ok(()) => digits(alloc, frame_of(alloc, message)?.as_slice()),
         Err(error) => error.to_string(alloc),
     }
@@ -89,7 +94,7 @@ fn whole(alloc: Global, message: &Message) -> Mem<String> {
 fn read_back(alloc: Global, message: &Message) -> Mem<String> {
     let mut frame = Vec::new(alloc);
     match write_message_to(alloc, message, &mut frame) {
-        Ok(()) => read(alloc, Bytes::from_vec(frame)?),
+        Ok(()) => read(alloc, &Bytes::from_vec(frame)?),
         Err(error) => error.to_string(alloc),
     }
 }
@@ -98,7 +103,12 @@ fn read_back(alloc: Global, message: &Message) -> Mem<String> {
 fn write_hinted(alloc: Global, message: &Message) -> Mem<String> {
     let mut list = Vec::with_capacity(alloc, message.size_hint())?;
     let room = list.capacity();
-    match write_message_to(alloc, message, &mut list) {
+    let written = write_message_to(alloc, message, &mut list);
+    rooms(alloc, room, written, &list)
+}
+
+fn rooms(alloc: Global, room: usize, written: Result<(), Error>, list: &Vec<u8>) -> Mem<String> {
+    match written {
         Ok(()) => format!(in alloc; "{room} | {} | {}", list.capacity(), list.len()),
         Err(error) => error.to_string(alloc),
     }

@@ -1,7 +1,7 @@
 ghost use Rattle.std.specs.Prelude.{◌≤◌, length, IfOk};
 
-use crate::outside::read_paths;
 use crate::shown::{quoted, truth};
+use crate::steps::answers_of;
 use crate::words::{bytes_of, size_of};
 use case_lines::{number, unknown};
 use smithy_core::{Clock, Disk, Env, HostDisk, Mem, SystemClock};
@@ -20,7 +20,7 @@ pub fn answer<R: Runtime>(
     words: &[&str],
 ) -> Mem<String> {
     match call {
-        "disk" => read_paths(alloc, &mut HostDisk::new(alloc, runtime), words),
+        "disk" => answers_of(alloc, &mut HostDisk::new(alloc, runtime), words),
         "listed_variable" => listed_variable(alloc, words),
         "new_file" => new_file(runtime, process, alloc, words),
         _ => of_word(runtime, alloc, call, words),
@@ -45,8 +45,18 @@ fn new_file<R: Runtime>(runtime: &R, process: u32, alloc: Global, words: &[&str]
     };
     let content = bytes_of(alloc, content)?;
     let path = format!(in alloc; "/tmp/frame_cases-{process}")?;
-    match make(runtime, path.as_str(), content.as_slice(), size_of(len)) {
-        Ok(()) => read_new(runtime, alloc, path.as_str()),
+    let made = make(runtime, path.as_str(), content.as_slice(), size_of(len));
+    made_and_read(runtime, alloc, path.as_str(), made)
+}
+
+fn made_and_read<R: Runtime>(
+    runtime: &R,
+    alloc: Global,
+    path: &str,
+    made: io::Result<()>,
+) -> Mem<String> {
+    match made {
+        Ok(()) => read_new(runtime, alloc, path),
         Err(_) => String::from_str(alloc, "no new file"),
     }
 }
@@ -60,11 +70,15 @@ fn make<R: Files>(runtime: &R, path: &str, content: &[u8], len: usize) -> io::Re
 
 // What is read of a file, which then goes. Of a long one only the length is told.
 fn read_new<R: Runtime>(runtime: &R, alloc: Global, path: &str) -> Mem<String> {
-    let read = HostDisk::new(alloc, runtime).read(path);
-    if fs::remove_file(runtime, path).is_err() {
-        return String::from_str(alloc, "the file stays");
+    let read = read_file(runtime, alloc, path);
+    match fs::remove_file(runtime, path) {
+        Ok(()) => read,
+        Err(_) => String::from_str(alloc, "the file stays"),
     }
-    match read {
+}
+
+fn read_file<R: Runtime>(runtime: &R, alloc: Global, path: &str) -> Mem<String> {
+    match HostDisk::new(alloc, runtime).read(path) {
         Ok(bytes) => shown(alloc, bytes.as_slice()),
         Err(fault) => format!(in alloc; "{fault:?}"),
     }
@@ -128,7 +142,11 @@ fn listed_variable(alloc: Global, words: &[&str]) -> Mem<String> {
         return unknown(alloc);
     };
     let listed = listed_of(alloc, entries)?;
-    let env = Env::real(alloc, &listed)?;
+    variable_of(alloc, &listed, name)
+}
+
+fn variable_of(alloc: Global, listed: &Listed, name: &str) -> Mem<String> {
+    let env = Env::real(alloc, listed)?;
     match env.get(name) {
         Some(value) => quoted(alloc, value.as_bytes()),
         None => String::from_str(alloc, "none"),

@@ -28,6 +28,7 @@ mod responses;
 mod segments;
 mod shown;
 mod sources;
+mod steps;
 mod texts;
 mod values;
 mod words;

@@ -1,17 +1,18 @@
 use crate::shown::{moment, nothing, push_given, quoted, told};
+use crate::steps::{Steps, answers_of};
 use crate::words::{bytes_of, moment_of, numbers_of, size_of};
 use case_lines::{halves, unknown};
 use smithy_core::{
     ByteSink, ByteSource, CalmDisk, CalmSink, CalmSource, Clock, DateTime, Disk, FaultyDisk,
-    FaultySink, FaultySource, FixedClock, ListClock, Mem, StdSink, StdSource, read_all, write_all,
+    FaultySink, FaultySource, FixedClock, HostDisk, ListClock, Mem, StdSink, StdSource, read_all,
+    write_all,
 };
 use std::alloc::Global;
+use std::io::{Read, Write};
+use std::rt::Files;
 
 // An I/O object: a source, a sink or a disk.
-pub trait Outside: Sized {
-    // What it answers to a step.
-    fn answer(&mut self, alloc: Global, step: &str) -> Mem<String>;
-
+pub trait Outside: Steps + Sized {
     // What it tells after the steps.
     fn rest(&self, alloc: Global) -> Mem<String>;
 
@@ -19,11 +20,13 @@ pub trait Outside: Sized {
     fn copied(&self) -> Mem<Self>;
 }
 
-impl Outside for FaultySource {
-    fn answer(&mut self, alloc: Global, step: &str) -> Mem<String> {
+impl Steps for FaultySource {
+    fn after(&mut self, alloc: Global, step: &str) -> Mem<String> {
         read_by(alloc, self, step)
     }
+}
 
+impl Outside for FaultySource {
     fn rest(&self, alloc: Global) -> Mem<String> {
         told(alloc, "left", quoted(alloc, self.left()))
     }
@@ -33,11 +36,13 @@ impl Outside for FaultySource {
     }
 }
 
-impl Outside for CalmSource {
-    fn answer(&mut self, alloc: Global, step: &str) -> Mem<String> {
+impl Steps for CalmSource {
+    fn after(&mut self, alloc: Global, step: &str) -> Mem<String> {
         read_by(alloc, self, step)
     }
+}
 
+impl Outside for CalmSource {
     fn rest(&self, alloc: Global) -> Mem<String> {
         told(alloc, "left", quoted(alloc, self.left()))
     }
@@ -47,11 +52,13 @@ impl Outside for CalmSource {
     }
 }
 
-impl Outside for FaultySink {
-    fn answer(&mut self, alloc: Global, step: &str) -> Mem<String> {
+impl Steps for FaultySink {
+    fn after(&mut self, alloc: Global, step: &str) -> Mem<String> {
         write_by(alloc, self, step)
     }
+}
 
+impl Outside for FaultySink {
     fn rest(&self, alloc: Global) -> Mem<String> {
         quoted(alloc, self.held())
     }
@@ -61,11 +68,13 @@ impl Outside for FaultySink {
     }
 }
 
-impl Outside for CalmSink {
-    fn answer(&mut self, alloc: Global, step: &str) -> Mem<String> {
+impl Steps for CalmSink {
+    fn after(&mut self, alloc: Global, step: &str) -> Mem<String> {
         write_by(alloc, self, step)
     }
+}
 
+impl Outside for CalmSink {
     fn rest(&self, alloc: Global) -> Mem<String> {
         quoted(alloc, self.held())
     }
@@ -75,11 +84,13 @@ impl Outside for CalmSink {
     }
 }
 
-impl Outside for FaultyDisk {
-    fn answer(&mut self, alloc: Global, step: &str) -> Mem<String> {
+impl Steps for FaultyDisk {
+    fn after(&mut self, alloc: Global, step: &str) -> Mem<String> {
         read_path(alloc, self, step)
     }
+}
 
+impl Outside for FaultyDisk {
     fn rest(&self, alloc: Global) -> Mem<String> {
         nothing(alloc)
     }
@@ -89,11 +100,13 @@ impl Outside for FaultyDisk {
     }
 }
 
-impl Outside for CalmDisk {
-    fn answer(&mut self, alloc: Global, step: &str) -> Mem<String> {
+impl Steps for CalmDisk {
+    fn after(&mut self, alloc: Global, step: &str) -> Mem<String> {
         read_path(alloc, self, step)
     }
+}
 
+impl Outside for CalmDisk {
     fn rest(&self, alloc: Global) -> Mem<String> {
         nothing(alloc)
     }
@@ -103,12 +116,27 @@ impl Outside for CalmDisk {
     }
 }
 
-// What an object answers to the steps, and what it then tells.
-pub fn answers_of<O: Outside>(alloc: Global, object: &mut O, steps: &[&str]) -> Mem<String> {
-    let mut answers = String::new(alloc);
-    for step in steps {
-        push_given(&mut answers, object.answer(alloc, step))?;
+impl<R: Read> Steps for StdSource<R> {
+    fn after(&mut self, alloc: Global, step: &str) -> Mem<String> {
+        read_by(alloc, self, step)
     }
+}
+
+impl<W: Write> Steps for StdSink<W> {
+    fn after(&mut self, alloc: Global, step: &str) -> Mem<String> {
+        write_by(alloc, self, step)
+    }
+}
+
+impl<R: Files> Steps for HostDisk<R> {
+    fn after(&mut self, alloc: Global, path: &str) -> Mem<String> {
+        read_path(alloc, self, path)
+    }
+}
+
+// What an object answers to the steps, and what it then tells.
+pub fn told_after<O: Outside>(alloc: Global, object: &mut O, steps: &[&str]) -> Mem<String> {
+    let mut answers = answers_of(alloc, object, steps)?;
     push_given(&mut answers, object.rest(alloc))?;
     Ok(answers)
 }
@@ -123,7 +151,7 @@ pub fn answer(alloc: Global, call: &[&str]) -> Mem<String> {
 fn of_calm(alloc: Global, call: &str, words: &[&str]) -> Mem<String> {
     match call {
         "calm_source" => calm_source(alloc, words),
-        "calm_sink" => answers_of(alloc, &mut CalmSink::new(alloc), words),
+        "calm_sink" => told_after(alloc, &mut CalmSink::new(alloc), words),
         "calm_disk" => calm_disk(alloc, words),
         "list_clock" => list_clock(alloc, words),
         "fixed_clock" => fixed_clock(alloc, words),
@@ -148,7 +176,7 @@ fn calm_source(alloc: Global, words: &[&str]) -> Mem<String> {
         return unknown(alloc);
     };
     let mut source = CalmSource::new(bytes_of(alloc, content)?);
-    answers_of(alloc, &mut source, steps)
+    told_after(alloc, &mut source, steps)
 }
 
 fn faulty_source(alloc: Global, words: &[&str]) -> Mem<String> {
@@ -156,7 +184,7 @@ fn faulty_source(alloc: Global, words: &[&str]) -> Mem<String> {
         return unknown(alloc);
     };
     let mut source = faulty_source_of(alloc, content, fails)?;
-    answers_of(alloc, &mut source, steps)
+    told_after(alloc, &mut source, steps)
 }
 
 pub fn faulty_source_of(alloc: Global, content: &str, fails: &str) -> Mem<FaultySource> {
@@ -169,7 +197,7 @@ fn faulty_sink(alloc: Global, words: &[&str]) -> Mem<String> {
         return unknown(alloc);
     };
     let mut sink = FaultySink::new(alloc, numbers_of(alloc, fails)?);
-    answers_of(alloc, &mut sink, steps)
+    told_after(alloc, &mut sink, steps)
 }
 
 fn calm_disk(alloc: Global, words: &[&str]) -> Mem<String> {
@@ -177,7 +205,7 @@ fn calm_disk(alloc: Global, words: &[&str]) -> Mem<String> {
         return unknown(alloc);
     };
     let mut disk = CalmDisk::new(files_of(alloc, files)?);
-    answers_of(alloc, &mut disk, paths)
+    told_after(alloc, &mut disk, paths)
 }
 
 fn faulty_disk(alloc: Global, words: &[&str]) -> Mem<String> {
@@ -185,7 +213,7 @@ fn faulty_disk(alloc: Global, words: &[&str]) -> Mem<String> {
         return unknown(alloc);
     };
     let mut disk = faulty_disk_of(alloc, files, fails)?;
-    answers_of(alloc, &mut disk, paths)
+    told_after(alloc, &mut disk, paths)
 }
 
 pub fn faulty_disk_of(alloc: Global, files: &str, fails: &str) -> Mem<FaultyDisk> {
@@ -198,18 +226,10 @@ fn std_source(alloc: Global, words: &[&str]) -> Mem<String> {
         return unknown(alloc);
     };
     let content = bytes_of(alloc, content)?;
-    reads(alloc, &mut StdSource::new(content.as_slice()), steps)
+    answers_of(alloc, &mut StdSource::new(content.as_slice()), steps)
 }
 
-// Each step reads once into so much room or into a buffer, or all up to a limit.
-fn reads<S: ByteSource>(alloc: Global, source: &mut S, steps: &[&str]) -> Mem<String> {
-    let mut answers = String::new(alloc);
-    for step in steps {
-        push_given(&mut answers, read_by(alloc, source, step))?;
-    }
-    Ok(answers)
-}
-
+// A step reads once into so much room or into a buffer, or all up to a limit.
 fn read_by<S: ByteSource>(alloc: Global, source: &mut S, step: &str) -> Mem<String> {
     match halves(step) {
         ("all", limit) => read_whole(alloc, source, size_of(limit)),
@@ -243,7 +263,7 @@ fn read_whole<S: ByteSource>(alloc: Global, source: &mut S, limit: usize) -> Mem
 
 fn std_sink(alloc: Global, steps: &[&str]) -> Mem<String> {
     let mut written = Vec::new(alloc);
-    let answers = writes(alloc, &mut StdSink::new(&mut written), steps)?;
+    let answers = answers_of(alloc, &mut StdSink::new(&mut written), steps)?;
     with_written(alloc, answers, written.as_slice())
 }
 
@@ -253,7 +273,7 @@ fn full_sink(alloc: Global, words: &[&str]) -> Mem<String> {
         return unknown(alloc);
     };
     let mut slice = vec![in alloc; b'.'; size_of(room)]?;
-    let answers = writes(alloc, &mut StdSink::new(slice.as_mut_slice()), steps)?;
+    let answers = answers_of(alloc, &mut StdSink::new(slice.as_mut_slice()), steps)?;
     with_written(alloc, answers, slice.as_slice())
 }
 
@@ -263,15 +283,7 @@ fn with_written(alloc: Global, answers: String, written: &[u8]) -> Mem<String> {
     Ok(answers)
 }
 
-// Each step writes a piece once, or the whole of it.
-fn writes<K: ByteSink>(alloc: Global, sink: &mut K, steps: &[&str]) -> Mem<String> {
-    let mut answers = String::new(alloc);
-    for step in steps {
-        push_given(&mut answers, write_by(alloc, sink, step))?;
-    }
-    Ok(answers)
-}
-
+// A step writes a piece once, or the whole of it.
 fn write_by<K: ByteSink>(alloc: Global, sink: &mut K, step: &str) -> Mem<String> {
     match halves(step) {
         ("all", piece) => write_whole(alloc, sink, piece),
@@ -304,14 +316,6 @@ fn file_of(alloc: Global, word: &str) -> Mem<(String, Vec<u8>)> {
     let (path, bytes) = halves(word);
     let bytes = bytes_of(alloc, bytes)?;
     Ok((String::from_str(alloc, path)?, bytes))
-}
-
-pub fn read_paths<D: Disk>(alloc: Global, disk: &mut D, paths: &[&str]) -> Mem<String> {
-    let mut answers = String::new(alloc);
-    for path in paths {
-        push_given(&mut answers, read_path(alloc, disk, path))?;
-    }
-    Ok(answers)
 }
 
 fn read_path<D: Disk>(alloc: Global, disk: &mut D, path: &str) -> Mem<String> {

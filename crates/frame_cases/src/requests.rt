@@ -1,4 +1,5 @@
 use crate::shown::{nothing, push_answer, push_given, quoted, truth};
+use crate::steps::{Steps, answers_of};
 use crate::texts::unless_empty;
 use crate::words::{moment_of, shared};
 use case_lines::{halves, unknown};
@@ -24,7 +25,7 @@ fn of_word(alloc: Global, call: &str, word: &str) -> Mem<String> {
 
 fn of_words(alloc: Global, call: &str, words: &[&str]) -> Mem<String> {
     match call {
-        "headers" => headers(alloc, words),
+        "headers" => answers_of(alloc, &mut Headers::new(alloc), words),
         "collected" => collected(alloc, words),
         "new" => new_request(alloc, words),
         "copied_request" => copied_request(alloc, words),
@@ -37,26 +38,18 @@ fn of_words(alloc: Global, call: &str, words: &[&str]) -> Mem<String> {
     }
 }
 
-// The answers of these steps on one list of headers.
-fn headers(alloc: Global, steps: &[&str]) -> Mem<String> {
-    let mut headers = Headers::new(alloc);
-    let mut answers = String::new(alloc);
-    for step in steps {
-        push_given(&mut answers, after(alloc, &mut headers, step))?;
-    }
-    Ok(answers)
-}
-
-fn after(alloc: Global, headers: &mut Headers, step: &str) -> Mem<String> {
-    let (step, word) = halves(step);
-    match step {
-        "insert" | "append" => put_in(alloc, headers, step, word),
-        "len" => format!(in alloc; "{}", headers.len()),
-        "is_empty" => truth(alloc, headers.is_empty()),
-        "iter" => pairs(alloc, headers),
-        "for" => looped(alloc, headers),
-        "copy" => pairs(alloc, &headers.try_clone()?),
-        _ => of_name(alloc, headers, step, word),
+impl Steps for Headers {
+    fn after(&mut self, alloc: Global, step: &str) -> Mem<String> {
+        let (step, word) = halves(step);
+        match step {
+            "insert" | "append" => put_in(alloc, self, step, word),
+            "len" => self.len().to_string(alloc),
+            "is_empty" => truth(alloc, self.is_empty()),
+            "iter" => pairs(alloc, self),
+            "for" => looped(alloc, self),
+            "copy" => pairs(alloc, &self.try_clone()?),
+            _ => of_name(alloc, self, step, word),
+        }
     }
 }
 
@@ -137,9 +130,18 @@ fn copied_request(alloc: Global, words: &[&str]) -> Mem<String> {
         return unknown(alloc);
     };
     let mut request = HttpRequest::new(alloc, method, target)?;
+    copied_with(alloc, &mut request, body, steps)
+}
+
+fn copied_with(
+    alloc: Global,
+    request: &mut HttpRequest,
+    body: &str,
+    steps: &[&str],
+) -> Mem<String> {
     put_all(&mut request.headers, steps)?;
     request.body = shared(alloc, body)?;
-    whole_copy(alloc, &request)
+    whole_copy(alloc, request)
 }
 
 fn whole_copy(alloc: Global, request: &HttpRequest) -> Mem<String> {

@@ -1,4 +1,5 @@
-use crate::shown::{digits, nothing, push_given};
+use crate::shown::{digits, nothing};
+use crate::steps::{Steps, answers_of};
 use crate::words::{shared, size_of};
 use bytes::Bytes;
 use case_lines::halves;
@@ -7,24 +8,21 @@ use std::alloc::{AllocError, Global};
 
 // The answers of these steps on one buffer.
 pub fn answer(alloc: Global, steps: &[&str]) -> Result<String, AllocError> {
-    let mut buffer = SegBuf::new(alloc);
-    let mut answers = String::new(alloc);
-    for step in steps {
-        push_given(&mut answers, after(alloc, &mut buffer, step))?;
-    }
-    Ok(answers)
+    answers_of(alloc, &mut SegBuf::new(alloc), steps)
 }
 
-fn after(alloc: Global, buffer: &mut SegBuf, step: &str) -> Result<String, AllocError> {
-    let (step, word) = halves(step);
-    match step {
-        "push" => push(alloc, buffer, shared(alloc, word)?),
-        "push_slice" => push_slice(alloc, buffer, shared(alloc, word)?.as_slice()),
-        "peek" => peek(alloc, buffer, size_of(word)),
-        "advance" => advance(alloc, buffer, size_of(word)),
-        "front" => front(alloc, buffer, size_of(word)),
-        "take" => take(alloc, buffer, size_of(word)),
-        _ => after_bare(alloc, buffer, step),
+impl Steps for SegBuf {
+    fn after(&mut self, alloc: Global, step: &str) -> Result<String, AllocError> {
+        let (step, word) = halves(step);
+        match step {
+            "push" => push(alloc, self, shared(alloc, word)?),
+            "push_slice" => push_slice(alloc, self, shared(alloc, word)?.as_slice()),
+            "peek" => peek(alloc, self, size_of(word)),
+            "advance" => advance(alloc, self, size_of(word)),
+            "front" => front(alloc, self, size_of(word)),
+            "take" => take(alloc, self, size_of(word)),
+            _ => after_bare(alloc, self, step),
+        }
     }
 }
 

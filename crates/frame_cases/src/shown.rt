@@ -1,6 +1,7 @@
 use mac_core::sha256_hex;
 use smithy_core::{DateTime, Header, HeaderValue, Message};
 use std::alloc::{AllocError, Global};
+use std::fmt::Display;
 use std::str;
 
 // The most bytes that are told one by one.
@@ -53,13 +54,17 @@ pub fn value(alloc: Global, value: &HeaderValue) -> Result<String, AllocError> {
 
 fn plain_value(alloc: Global, value: &HeaderValue) -> Result<String, AllocError> {
     match value {
-        HeaderValue::Bool(value) => format!(in alloc; "bool {value}"),
-        HeaderValue::Byte(value) => format!(in alloc; "i8 {value}"),
-        HeaderValue::Int16(value) => format!(in alloc; "i16 {value}"),
-        HeaderValue::Int32(value) => format!(in alloc; "i32 {value}"),
-        HeaderValue::Int64(value) => format!(in alloc; "i64 {value}"),
+        HeaderValue::Bool(value) => of_kind(alloc, "bool", value),
+        HeaderValue::Byte(value) => of_kind(alloc, "i8", value),
+        HeaderValue::Int16(value) => of_kind(alloc, "i16", value),
+        HeaderValue::Int32(value) => of_kind(alloc, "i32", value),
+        HeaderValue::Int64(value) => of_kind(alloc, "i64", value),
         _ => nothing(alloc),
     }
+}
+
+fn of_kind<T: Display>(alloc: Global, kind: &str, value: &T) -> Result<String, AllocError> {
+    format!(in alloc; "{kind} {value}")
 }
 
 // What it is, before what it shows.

@@ -42,9 +42,9 @@ fn faulty(alloc: Global, words: &[&str]) -> Mem<String> {
     let [data, pair, fails, waits, first, count] = words else {
         return unknown(alloc);
     };
-    let frames = data_and_trailers(alloc, data, pair)?;
     let fails = numbers_of(alloc, fails)?;
-    let mut source = FaultyFrames::new(frames, fails, numbers_of(alloc, waits)?);
+    let waits = numbers_of(alloc, waits)?;
+    let mut source = FaultyFrames::new(data_and_trailers(alloc, data, pair)?, fails, waits);
     polled_faulty(alloc, &mut source, size_of(first), size_of(count))
 }
 

@@ -71,13 +71,21 @@ fn static_text(alloc: Global) -> Mem<String> {
 }
 
 fn copied_header(alloc: Global, word: &str) -> Mem<String> {
-    let header_given = header_of(alloc, word)?;
-    let copy = header_given.try_clone()?;
+    let given = header_of(alloc, word)?;
+    header_copy(alloc, &given)
+}
+
+fn header_copy(alloc: Global, given: &Header) -> Mem<String> {
+    let copy = given.try_clone()?;
     header(alloc, &copy)
 }
 
 fn copied_text(alloc: Global, text: &str) -> Mem<String> {
     let text = StrBytes::copy_from_str(alloc, text)?;
+    text_copy(alloc, &text)
+}
+
+fn text_copy(alloc: Global, text: &StrBytes) -> Mem<String> {
     let copy = text.try_clone()?;
     String::from_str(alloc, copy.as_str())
 }
@@ -197,6 +205,10 @@ fn variable(alloc: Global, words: &[&str]) -> Mem<String> {
         return unknown(alloc);
     };
     let env = variables_of(alloc, sets)?;
+    variable_of_copy(alloc, &env, name)
+}
+
+fn variable_of_copy(alloc: Global, env: &Env, name: &str) -> Mem<String> {
     let copy = env.try_clone()?;
     format!(in alloc; "{:?}", copy.get(name))
 }
@@ -209,10 +221,15 @@ fn shown_variables(alloc: Global, sets: &[&str]) -> Mem<String> {
 fn variables_of(alloc: Global, sets: &[&str]) -> Mem<Env> {
     let mut env = Env::new(alloc);
     for set in sets {
-        let (key, value) = set.split_once('=').unwrap_or((set, ""));
-        env.set(key, value)?;
+        set_variable(&mut env, set)?;
     }
     Ok(env)
+}
+
+// Sets the variable of `NAME=VALUE`.
+fn set_variable(env: &mut Env, set: &str) -> Mem<()> {
+    let (key, value) = set.split_once('=').unwrap_or((set, ""));
+    env.set(key, value)
 }
 
 fn lines(alloc: Global, front: &str, line: &str) -> Mem<String> {

@@ -22,8 +22,11 @@ fn of_header(alloc: Global, call: &str, header: &Header) -> Mem<String> {
 
 // A text of a literal, and the value of one.
 fn from_static(alloc: Global) -> Mem<String> {
-    let value = of_kind(alloc, "as_string", &HeaderValue::from("ab"))?;
-    let text = StrBytes::from("ab");
+    told_both(alloc, &StrBytes::from("ab"), &HeaderValue::from("ab"))
+}
+
+fn told_both(alloc: Global, text: &StrBytes, value: &HeaderValue) -> Mem<String> {
+    let value = of_kind(alloc, "as_string", value)?;
     format!(in alloc; "{text} {value}")
 }
 
