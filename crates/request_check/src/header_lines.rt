@@ -7,7 +7,7 @@ ghost use Rattle.sigv4.specs.Trim.{trim_all};
 ghost use Rattle.request_check.specs.HeaderLines.{before_listed};
 ghost use Rattle.request_check.specs.Recomputed.{carried_names};
 
-use sigv4::parts::push_trimmed;
+use sigv4::parts::trimmed;
 use smithy_core::{Headers, Mem, is_lower_of};
 
 /// Appends the line of each of the names: its values of these headers, and of the host where one is added.
@@ -79,5 +79,6 @@ fn push_value(text: &mut String, is_first: bool, value: &str) -> Mem<()>
     if !is_first {
         text.push_str(",")?;
     }
-    push_trimmed(text, value)
+    let value = trimmed(*text.allocator(), value)?;
+    text.push_str(value.as_str())
 }

@@ -1,4 +1,4 @@
-ghost use Rattle.std.specs.Prelude.{◌≡◌, ◌++◌, [], ◌∷◌, map, None, if◌then◌else◌, option_copied, IfOk, OnOk};
+ghost use Rattle.std.specs.Prelude.{◌≡◌, ◌++◌, [], ◌∷◌, map, None, if◌then◌else◌, option_copied, IfOk, OnErr, OnOk};
 ghost use Rattle.std.specs.String.{string_bytes};
 ghost use Rattle.smithy_core.specs.TextPairs.{text_pairs};
 ghost use Rattle.smithy_http.specs.QueryWriter.{escaped_pair};
@@ -124,9 +124,10 @@ impl EscapedPairs {
         }
     }
 
-    /// Adds a pair, escaped.
+    /// Adds a pair, escaped. Where memory ran out, nothing is added.
     pub fn push(&mut self, key: &str, value: &str) -> Mem<()>
-        ensures { OnOk result (self.new ≡ self.old ++ escaped_pair (key.now, value.now) ∷ []) }
+        ensures ok { OnOk result (self.new ≡ self.old ++ escaped_pair (key.now, value.now) ∷ []) }
+        ensures err { OnErr result (self.new ≡ self.old) }
     {
         let alloc = *self.pairs.allocator();
         let key = query::fmt_string(alloc, key)?;

@@ -7,4 +7,4 @@ pub use crate::path::canonical_path;
 pub use crate::refusal::{test_headers, test_value};
 pub use crate::signature::is_lower_digit;
 pub use crate::token_name::token_parameter;
-pub use crate::trim::push_trimmed;
+pub use crate::trim::trimmed;
