@@ -1,24 +1,13 @@
-//! Answers cases on requests, signatures and signed messages: `stdin` says what each line means.
+//! Answers cases on the signing of requests, of chunks and of messages, and on what sends and receives the events of a
+//! stream: `stdin` says what each line means.
 #![tactic(auto)]
 
-mod builders;
-mod chains;
-mod checks;
-mod copies;
-mod endpoints;
-mod escapes;
-mod faults;
-mod headers;
-mod instructions;
-mod keys;
-mod merges;
-mod messages;
-mod moments;
+mod chunks;
+mod operations;
 mod parts;
-mod queries;
-mod requests;
-mod signatures;
-mod texts;
+mod receiving;
+mod sending;
+mod signing;
 
 use case_lines::{Answers, run_cases, unknown};
 use smithy_core::Mem;
@@ -30,45 +19,25 @@ fn main(rt: HostRuntime) -> io::Result<ExitCode> {
     run_cases(rt, &Calls)
 }
 
-// The calls of the cases, each by the first word of its line.
+// The calls of the cases, each by its group and its name, the first two words of its line.
 struct Calls;
 
 impl Answers for Calls {
     fn answer(&self, alloc: Global, words: &[&str]) -> Mem<String> {
         match words {
-            [call, rest @ ..] => answer(alloc, call, rest),
-            [] => unknown(alloc),
+            [group, call, rest @ ..] => answer(alloc, group, call, rest),
+            _ => unknown(alloc),
         }
     }
 }
 
-// What requests are made of, and else what signs them.
-fn answer(alloc: Global, call: &str, words: &[&str]) -> Mem<String> {
-    match call {
-        "label" | "label_time" | "query" | "query_time" => escapes::answer(alloc, call, words),
-        "write" | "target" | "target_length" | "target_query" | "target_text" => {
-            queries::answer(alloc, call, words)
-        }
-        "endpoint" | "endpoint_length" | "resolve_error" => endpoints::answer(alloc, call, words),
-        "request_header" | "response_header" => headers::answer(alloc, call, words),
-        "merge" | "merge_into" => merges::answer(alloc, call, words),
-        _ => signing_answer(alloc, call, words),
-    }
-}
-
-fn signing_answer(alloc: Global, call: &str, words: &[&str]) -> Mem<String> {
-    match call {
-        "path" | "stamp" | "scope" | "key" | "code" | "request_code" => {
-            keys::answer(alloc, call, words)
-        }
-        "canonical" | "signature" | "s3" | "bytes" => signatures::answer(alloc, call, words),
-        "instructions" | "apply" | "apply_length" => instructions::answer(alloc, call, words),
-        "build" | "change" | "whole" => builders::answer(alloc, call, words),
-        "check" => checks::answer(alloc, words),
-        "chain" => chains::answer(alloc, words),
-        "link" | "link_headers" | "closing" => messages::answer(alloc, call, words),
-        "copy" => copies::answer(alloc, words),
-        "fault" => faults::answer(alloc, words),
+fn answer(alloc: Global, group: &str, call: &str, words: &[&str]) -> Mem<String> {
+    match group {
+        "signing" => signing::answer(alloc, call, words),
+        "operations" => operations::answer(alloc, call, words),
+        "chunks" => chunks::answer(alloc, call, words),
+        "receiving" => receiving::answer(alloc, call, words),
+        "sending" => sending::answer(alloc, call, words),
         _ => unknown(alloc),
     }
 }

@@ -1,0 +1,134 @@
+//! Calls of receivers.
+use crate::parts::push;
+use crate::receiving::preprocessing::{beginning, marking, refusing};
+use crate::receiving::shown::{Shown, message_type, received, tried};
+use crate::receiving::sources::source_of;
+use crate::receiving::unmarshalling::{Payloads, Texts};
+use case_lines::{halves, unknown};
+use event_io::Receiver;
+use eventstream::{IdentityUnmarshaller, UnmarshallMessage};
+use smithy_core::{FaultyFrames, Mem};
+use std::alloc::Global;
+use std::fmt;
+
+/// What a receiver answers to the calls among the words, which tell its source too: of `identity` messages as they are, of
+/// `text` their payloads as texts, and of `payload` these in hexadecimal digits.
+pub fn answer(alloc: Global, words: &[&str]) -> Mem<String> {
+    match words {
+        ["identity", words @ ..] => answers(alloc, IdentityUnmarshaller, words),
+        ["text", words @ ..] => answers(alloc, Texts::of(alloc, words)?, words),
+        ["payload", words @ ..] => answers(alloc, Payloads::new(alloc), words),
+        _ => unknown(alloc),
+    }
+}
+
+fn answers<U: UnmarshallMessage>(alloc: Global, unmarshaller: U, words: &[&str]) -> Mem<String>
+where
+    U::Output: Shown + fmt::Debug + Drop,
+    U::Error: fmt::Debug + Drop,
+    U: Drop,
+{
+    let mut receiver = Receiver::new(alloc, unmarshaller, source_of(alloc, words)?);
+    answers_of(alloc, &mut receiver, words)
+}
+
+fn answers_of<U: UnmarshallMessage>(
+    alloc: Global,
+    receiver: &mut Receiver<FaultyFrames, U>,
+    words: &[&str],
+) -> Mem<String>
+where
+    U::Output: Shown + fmt::Debug + Drop,
+    U::Error: fmt::Debug + Drop,
+{
+    let mut answers = String::new(alloc);
+    for word in words {
+        push_called(alloc, &mut answers, receiver, word)?;
+    }
+    Ok(answers)
+}
+
+// Adds the answer to a call. Other words are none.
+fn push_called<U: UnmarshallMessage>(
+    alloc: Global,
+    answers: &mut String,
+    receiver: &mut Receiver<FaultyFrames, U>,
+    word: &str,
+) -> Mem<()>
+where
+    U::Output: Shown + fmt::Debug + Drop,
+    U::Error: fmt::Debug + Drop,
+{
+    match halves(word) {
+        ("recv", _) => push(answers, next(alloc, receiver)),
+        ("initial", kind) => push(answers, initial(alloc, receiver, kind)),
+        ("refusing", kind) => push(answers, initial_refusing(alloc, receiver, kind)),
+        ("beginning", kind) => push(answers, initial_beginning(alloc, receiver, kind)),
+        ("marking", kind) => push(answers, initial_marking(alloc, receiver, kind)),
+        _ => Ok(()),
+    }
+}
+
+fn next<U: UnmarshallMessage>(
+    alloc: Global,
+    receiver: &mut Receiver<FaultyFrames, U>,
+) -> Mem<String>
+where
+    U::Output: Shown + fmt::Debug + Drop,
+    U::Error: fmt::Debug + Drop,
+{
+    received(alloc, &receiver.recv())
+}
+
+fn initial<U: UnmarshallMessage>(
+    alloc: Global,
+    receiver: &mut Receiver<FaultyFrames, U>,
+    kind: &str,
+) -> Mem<String>
+where
+    U::Error: fmt::Debug + Drop,
+{
+    tried(alloc, &receiver.try_recv_initial(message_type(kind)))
+}
+
+fn initial_refusing<U: UnmarshallMessage>(
+    alloc: Global,
+    receiver: &mut Receiver<FaultyFrames, U>,
+    kind: &str,
+) -> Mem<String>
+where
+    U::Error: fmt::Debug + Drop,
+{
+    tried(
+        alloc,
+        &receiver.try_recv_initial_with_preprocessor(message_type(kind), refusing),
+    )
+}
+
+fn initial_beginning<U: UnmarshallMessage>(
+    alloc: Global,
+    receiver: &mut Receiver<FaultyFrames, U>,
+    kind: &str,
+) -> Mem<String>
+where
+    U::Error: fmt::Debug + Drop,
+{
+    tried(
+        alloc,
+        &receiver.try_recv_initial_with_preprocessor(message_type(kind), beginning),
+    )
+}
+
+fn initial_marking<U: UnmarshallMessage>(
+    alloc: Global,
+    receiver: &mut Receiver<FaultyFrames, U>,
+    kind: &str,
+) -> Mem<String>
+where
+    U::Error: fmt::Debug + Drop,
+{
+    tried(
+        alloc,
+        &receiver.try_recv_initial_with_preprocessor(message_type(kind), marking),
+    )
+}
