@@ -1,11 +1,11 @@
 -- Copies, place by place.
-use Rattle.std.proofs.Common.{◌≡◌, ◌∙◌, ℕ, Bool, ◌&&◌, List, [], ◌∷◌, map, String, Global, string_bytes, bytes_eq, refl, sym, ap, ap₂}
+use Rattle.std.proofs.Common.{◌≡◌, ℕ, Bool, ◌&&◌, List, [], ◌∷◌, map, String, Global, string_bytes, bytes_eq, refl, ap, ap₂}
 use Rattle.std.specs.Cmp.Lexicographic.{pointwise}
 use Rattle.std.specs.List.{AllZip}
 use Rattle.env_config.specs.Sections as sections
 use Rattle.env_config.specs.Texts.{CopiedUnder, Named, named_as, same_values}
-use Rattle.env_config.specs.Section.{IsSameSection, contents_of, section_of, values_of}
-use Rattle.env_config.specs.declared.property.Property.{Property}
+use Rattle.env_config.specs.Section.{IsSameSection, section_of}
+use Rattle.env_config.specs.SectionProperties.{property_values}
 use Rattle.env_config.specs.declared.section.Section.{Section}
 
 -- what a function sees of copies, where it sees no difference
@@ -36,17 +36,9 @@ named_alike {X} {Y} R f same named copy names values =
     let make : List (List ℕ) → List (List ℕ × Y) → Named Y = λ names values. record { names = names; values = values } in
     ap₂ make names (map_alike (CopiedUnder R) (λ (e : List ℕ × X). (e.0, f e.1)) (λ x y at. ap₂ (λ (name : List ℕ) (value : Y). (name, value)) at.0 (same x.1 y.1 at.1)) named.values copy.values values)
 
--- the value of each key is among all that the properties hold
-values_held : (es : List (String Global × Property)) → values_of es ≡ map (λ e. (e.0, e.1.1)) (contents_of es)
-values_held [] = refl
-values_held (e ∷ es) = ap (λ (vs : List (List ℕ × List ℕ)). (string_bytes e.0, string_bytes e.1.value) ∷ vs) (values_held es)
-
-alike_values : (es ds : List (String Global × Property)) → contents_of ds ≡ contents_of es → values_of ds ≡ values_of es
-alike_values es ds same = values_held ds ∙ ap (map (λ (e : List ℕ × (List ℕ × List ℕ)). (e.0, e.1.1))) same ∙ sym (values_held es)
-
 make_section : List ℕ → List (List ℕ × List ℕ) → sections.Section
 make_section name properties = record { name = name; properties = properties }
 
 pub section_alike : (held copy : Section) → IsSameSection held copy → section_of copy ≡ section_of held
 unfolding make_section
-section_alike held copy same = ap₂ make_section same.0 (alike_values held.properties.entries copy.properties.entries same.1)
+section_alike held copy same = ap₂ make_section same.0 (ap property_values same.1)

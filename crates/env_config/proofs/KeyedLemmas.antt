@@ -1,16 +1,13 @@
 -- Each property of merged sections stands under its own key.
-use Rattle.std.proofs.Common.{◌≡◌, ℕ, List, [], ◌∷◌, Ordering, Less, Equal, Greater, is_eq, String, string_bytes, string_cmp, Global, refl, sym, ap, subst, ◌∙◌}
+use Rattle.std.proofs.Common.{◌≡◌, ℕ, List, [], ◌∷◌, Ordering, Less, Equal, Greater, is_eq, refl, sym, ap, subst, ◌∙◌}
 use Rattle.std.specs.Prelude.{Option, Some, None, IfSome}
 use Rattle.std.specs.Ordering.{match_ordering}
-use Rattle.std.specs.BTreeMap.{insert_entry}
-use Rattle.env_config.specs.declared.property.Property.{Property}
 use Rattle.env_config.specs.Texts.{EachValue, Named, put, put_named, text_cmp, value_under}
-use Rattle.env_config.specs.Property.{property_pair}
-use Rattle.env_config.specs.Section.{IsKeyed, contents_of}
+use Rattle.env_config.specs.Section.{IsKeyed}
 use Rattle.env_config.proofs.LowerLemmas.{OfSome, put_each, tied_same, value_each}
-use Rattle.env_config.proofs.TextsLemmas.{entries_put}
 
-put_keyed : (contents : List (List ℕ × (List ℕ × List ℕ))) (key value : List ℕ) → IsKeyed contents → IsKeyed (put contents key (key, value))
+-- a value that is put under its own key
+pub put_keyed : (contents : List (List ℕ × (List ℕ × List ℕ))) (key value : List ℕ) → IsKeyed contents → IsKeyed (put contents key (key, value))
 put_keyed [] key value keyed = (refl, tt)
 put_keyed (e ∷ es) key value keyed = by (text_cmp key e.0) refl (put_keyed es key value keyed.1)
   where
@@ -18,15 +15,6 @@ put_keyed (e ∷ es) key value keyed = by (text_cmp key e.0) refl (put_keyed es 
     by Less is more = (refl, keyed)
     by Equal is more = (tied_same key e.0 (ap is_eq is), keyed.1)
     by Greater is more = (keyed.0, more)
-
--- a property that is put under its own key
-pub property_keyed : (es now : List (String Global × Property)) (key : String Global) (property : Property) → now ≡ insert_entry string_cmp es key property → string_bytes property.key ≡ string_bytes key
-    → IsKeyed (contents_of es) → IsKeyed (contents_of now)
-property_keyed es now key property puts own keyed =
-    let at = string_bytes key in
-    let held : contents_of now ≡ put (contents_of es) at (at, string_bytes property.value) = ap contents_of puts ∙ entries_put string_cmp text_cmp string_bytes property_pair (λ _ _. refl) es key property
-    ∙ ap (λ (own : List ℕ). put (contents_of es) at (own, string_bytes property.value)) own in
-    subst IsKeyed (sym held) (put_keyed (contents_of es) at (string_bytes property.value) keyed)
 
 if_some : {X : Type 0} (P : X → Type 0) (o : Option X) → OfSome P o → IfSome o P
 if_some P None is = tt

@@ -23,3 +23,4 @@ pub mod LatestViewLemmas
 pub mod ProfileLemmas
 pub mod MergedProfileLemmas
 pub mod SelectedLemmas
+pub mod SectionLemmas

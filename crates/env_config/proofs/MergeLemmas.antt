@@ -1,5 +1,5 @@
 -- Sections that are filled and put back, and the pieces of values.
-use Rattle.std.proofs.Common.{◌≡◌, ◌≢◌, ℕ, suc, ◌<◌, Bool, cond, eqb, List, [], ◌∷◌, length, get_or, map, String, string_bytes, string_cmp, Global, Ordering, refl, ap, ap₂, ◌∙◌, arith, ne_eqb}
+use Rattle.std.proofs.Common.{◌≡◌, ◌≢◌, ℕ, suc, ◌<◌, Bool, cond, eqb, List, [], ◌∷◌, length, get_or, map, String, string_bytes, string_cmp, Global, Ordering, refl, ap, ◌∙◌, arith, ne_eqb}
 use Rattle.std.specs.Prelude.{Option, Some, None, option_map}
 use Rattle.std.specs.Ordering.{ordering_then}
 use Rattle.std.specs.Option.{option_cmp}
@@ -8,27 +8,24 @@ use Rattle.std.specs.List as std_list
 use Rattle.std.specs.BTreeMap.{insert_entry, is_at}
 use Rattle.std.specs.Map.{lookup}
 use Rattle.env_config.specs.declared.properties_key.PropertiesKey.{PropertiesKey}
-use Rattle.env_config.specs.declared.property.Property.{Property}
 use Rattle.env_config.specs.Sections.{Key, Section, key_cmp, merged_into, put_at_key, put_identifiers, section_properties, value_at_key}
 use Rattle.env_config.specs.Texts.{Named, named_as, put, put_named, text_cmp, value_under}
 use Rattle.env_config.specs.PropertiesKey.{key_of}
-use Rattle.env_config.specs.Section.{values_of}
+use Rattle.env_config.specs.SectionProperties.{property_values}
 use Rattle.env_config.proofs.TextsLemmas.{entries_at, entries_put, seen_at, seen_put}
 
-pub merged : {X : Type 0} (f : X → Section) (old between now : Named X) (name : List ℕ) (pairs before properties : List (List ℕ × List ℕ)) (filled : X) (had : Option X)
-    → ((value : X) → put_named between name value ≡ put_named old name value) → had ≡ value_under old.values name → before ≡ section_properties (option_map f had) → properties ≡ put_identifiers before pairs
+pub merged : {X : Type 0} (f : X → Section) (old between now : Named X) (name : List ℕ) (pairs properties : List (List ℕ × List ℕ)) (filled : X) (had : Option X)
+    → ((value : X) → put_named between name value ≡ put_named old name value) → had ≡ value_under old.values name → properties ≡ put_identifiers (section_properties (option_map f had)) pairs
     → f filled ≡ record { name = name; properties = properties } → now ≡ put_named between name filled → named_as f now ≡ merged_into (named_as f old) name pairs
-merged f old between now name pairs before properties filled had later had_is before_is properties_is filled_is now_is =
+merged f old between now name pairs properties filled had later had_is properties_is filled_is now_is =
     let section : List (List ℕ × List ℕ) → Section = λ pairs. record { name = name; properties = pairs } in
     ap (named_as f) (now_is ∙ later filled)
     ∙ seen_put f old name filled
-    ∙ ap (put_named (named_as f old) name) (filled_is ∙ ap section (properties_is ∙ ap (λ xs. put_identifiers xs pairs) (before_is ∙ ap section_properties (ap (option_map f) had_is ∙ seen_at f old name))))
+    ∙ ap (put_named (named_as f old) name) (filled_is ∙ ap section (properties_is ∙ ap (λ (o : Option Section). put_identifiers (section_properties o) pairs) (ap (option_map f) had_is ∙ seen_at f old name)))
 
--- a property that is put
-pub property_put : (es now : List (String Global × Property)) (key : String Global) (property : Property) (k v : List ℕ) → now ≡ insert_entry string_cmp es key property → string_bytes key ≡ k → string_bytes property.value ≡ v
-    → values_of now ≡ put (values_of es) k v
-property_put es now key property k v puts key_is value_is =
-    ap values_of puts ∙ entries_put string_cmp text_cmp string_bytes (λ (p : Property). string_bytes p.value) (λ _ _. refl) es key property ∙ ap₂ (put (values_of es)) key_is value_is
+-- the value of each key, after one was put under its own key
+pub values_put : (contents : List (List ℕ × (List ℕ × List ℕ))) (key value : List ℕ) → property_values (put contents key (key, value)) ≡ put (property_values contents) key value
+values_put contents key value = entries_put text_cmp text_cmp (λ (k : List ℕ). k) (λ (c : List ℕ × List ℕ). c.1) (λ _ _. refl) contents key (key, value)
 
 -- ## Keys
 

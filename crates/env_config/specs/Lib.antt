@@ -23,6 +23,7 @@ pub mod PropertiesKey
 pub mod Property
 pub mod Raw
 pub mod Section
+pub mod SectionProperties
 pub mod Sections
 pub mod Selected
 pub mod Source

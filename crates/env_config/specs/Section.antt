@@ -1,27 +1,17 @@
 -- What a section holds, whether it is a profile or a session.
-use Rattle.std.specs.Prelude.{◌≡◌, ℕ, List, map, String, string_bytes}
-use Rattle.std.specs.declared.alloc.Global.{Global}
+use Rattle.std.specs.Prelude.{◌≡◌, ℕ, List, string_bytes}
 use Rattle.std.specs.List.{AllByRecursion}
-use Rattle.env_config.specs.declared.property.Property.{Property}
 use Rattle.env_config.specs.declared.section.Section.{Section}
-use Rattle.env_config.specs.Property.{property_pair}
+use Rattle.env_config.specs.SectionProperties.{property_values}
 use Rattle.env_config.specs.Sections as sections
-
--- all that the properties hold, under their keys
-abbrev pub contents_of : List (String Global × Property) → List (List ℕ × (List ℕ × List ℕ))
-contents_of entries = map (λ e. (string_bytes e.0, property_pair e.1)) entries
-
--- the value of each key
-abbrev pub values_of : List (String Global × Property) → List (List ℕ × List ℕ)
-values_of entries = map (λ e. (string_bytes e.0, string_bytes e.1.value)) entries
 
 -- the name and the value of each key
 abbrev pub section_of : Section → sections.Section
-section_of section = record { name = string_bytes section.name; properties = values_of section.properties.entries }
+section_of section = record { name = string_bytes section.name; properties = property_values section.properties }
 
 -- all that the properties of a section hold
 abbrev pub section_contents : Section → List (List ℕ × (List ℕ × List ℕ))
-section_contents section = contents_of section.properties.entries
+section_contents section = section.properties
 
 -- each property stands under its own key
 abbrev pub IsKeyed : List (List ℕ × (List ℕ × List ℕ)) → Type 0

@@ -24,6 +24,7 @@ mod property;
 mod raw;
 mod raw_sections;
 mod section;
+mod section_properties;
 mod sections;
 mod service_config;
 mod service_id;

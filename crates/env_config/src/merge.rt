@@ -1,10 +1,11 @@
-ghost use Rattle.std.specs.Prelude.{◌≡◌, ◌≤◌, ◌∷◌, length, option_map, OnOk, IfOk, IfSome, map, if◌then◌else◌};
+ghost use Rattle.std.specs.Prelude.{◌≡◌, ◌≤◌, [], ◌∷◌, length, option_map, OnOk, IfOk, IfSome, map, if◌then◌else◌};
 ghost use Rattle.std.specs.String.{string_bytes};
 ghost use Rattle.env_config.specs.Kept.{keeps_of};
 ghost use Rattle.env_config.specs.Texts.{EachValue, named_as, put};
 ghost use Rattle.env_config.specs.Sections.{is_identifier, merged_into, put_identifiers, put_others, put_sub, put_subs, section_properties, value_pieces};
 ghost use Rattle.env_config.specs.Properties.{others_of};
-ghost use Rattle.env_config.specs.Section.{IsKeyed, IsKeyedSection, contents_of, section_of, values_of};
+ghost use Rattle.env_config.specs.Section.{IsKeyed, IsKeyedSection, section_of};
+ghost use Rattle.env_config.specs.SectionProperties.{property_values};
 ghost use Rattle.env_config.specs.Merge.{pieces_left, length_left};
 
 use crate::by_name::ByName;
@@ -13,12 +14,11 @@ use crate::kept::Kept;
 use crate::line::trim;
 use crate::properties::Properties;
 use crate::properties_key::PropertiesKey;
-use crate::property::Property;
 use crate::section::{Section, SectionKind};
+use crate::section_properties::SectionProperties;
 use crate::texts::Texts;
 use smithy_core::Mem;
 use std::alloc::Global;
-use std::collections::BTreeMap;
 
 /// Merges a raw section into the profile or the session of this name.
 pub fn merge_into<S: SectionKind>(
@@ -30,28 +30,51 @@ pub fn merge_into<S: SectionKind>(
     ensures merged { OnOk result (named_as (λ s. section_of (S.held s)) sections.new ≡ merged_into (named_as (λ s. section_of (S.held s)) sections.old) name.now pairs) }
     ensures keys { EachValue (λ s. IsKeyedSection (S.held s)) sections.old.values → OnOk result (EachValue (λ s. IsKeyedSection (S.held s)) sections.new.values) }
 {
-    let empty = S::of_section(Section::new(String::new(alloc), BTreeMap::new(alloc)));
-    let mut properties = properties_before(alloc, sections.take(name, empty)?);
-    put_pairs(&mut properties, pairs)?;
+    let empty = S::of_section(Section::new(String::new(alloc), SectionProperties::new(alloc)));
+    let before = sections.take(name, empty)?;
+    let properties = merged_properties(alloc, before, pairs)?;
     let section = Section::new(String::from_str(alloc, name)?, properties);
     sections.replace(name, S::of_section(section))?;
     Ok(())
 }
 
-fn properties_before<S: SectionKind>(alloc: Global, before: Option<S>) -> BTreeMap<String, Property>
-    ensures values { values_of result.entries ≡ section_properties (option_map (λ s. section_of (S.held s)) before) }
-    ensures keys { IfSome before (λ s. IsKeyedSection (S.held s)) → IsKeyed (contents_of result.entries) }
+// The properties of the section before with those of the raw section.
+fn merged_properties<S: SectionKind>(
+    alloc: Global,
+    before: Option<S>,
+    pairs: Texts,
+) -> Mem<SectionProperties>
+    ensures values { IfOk result (λ properties. property_values properties ≡ put_identifiers (section_properties (option_map (λ s. section_of (S.held s)) before)) pairs) }
+    ensures keys { IfSome before (λ s. IsKeyedSection (S.held s)) → IfOk result IsKeyed }
 {
-    match before {
-        Some(before) => before.into_section().into_properties(),
-        None => BTreeMap::new(alloc),
+    let Some(before) = before else {
+        return new_properties(alloc, pairs);
+    };
+    let mut properties = before.into_section().into_properties();
+    put_pairs(&mut properties, pairs)?;
+    Ok(properties)
+}
+
+// The properties of a raw section. For the most part all its keys are identifiers, and it is taken as it is.
+#[tactic(auto, using(crate::proofs::SectionLemmas::values_own, crate::proofs::SectionLemmas::keyed_own))]
+fn new_properties(alloc: Global, pairs: Texts) -> Mem<SectionProperties>
+    ensures values { IfOk result (λ properties. property_values properties ≡ put_identifiers [] pairs) }
+    ensures keys { IfOk result IsKeyed }
+{
+    match pairs.into_identified() {
+        Ok(values) => Ok(SectionProperties::read(values)),
+        Err(pairs) => {
+            let mut properties = SectionProperties::new(alloc);
+            put_pairs(&mut properties, pairs)?;
+            Ok(properties)
+        }
     }
 }
 
 // Puts the pairs whose keys are identifiers.
-fn put_pairs(properties: &mut BTreeMap<String, Property>, mut pairs: Texts) -> Mem<()>
-    ensures keys { IsKeyed (contents_of properties.old.entries) → OnOk result (IsKeyed (contents_of properties.new.entries)) }
-    ensures values { OnOk result (values_of properties.new.entries ≡ put_identifiers (values_of properties.old.entries) pairs) }
+fn put_pairs(properties: &mut SectionProperties, mut pairs: Texts) -> Mem<()>
+    ensures keys { IsKeyed properties.old → OnOk result (IsKeyed properties.new) }
+    ensures values { OnOk result (property_values properties.new ≡ put_identifiers (property_values properties.old) pairs) }
 {
     while let Some((key, value)) = pairs.take_first()? {
         put_pair(properties, key, value)?;
@@ -59,15 +82,13 @@ fn put_pairs(properties: &mut BTreeMap<String, Property>, mut pairs: Texts) -> M
     Ok(())
 }
 
-fn put_pair(properties: &mut BTreeMap<String, Property>, key: String, value: String) -> Mem<()>
-    ensures keys { IsKeyed (contents_of properties.old.entries) → OnOk result (IsKeyed (contents_of properties.new.entries)) }
-    ensures values { OnOk result (values_of properties.new.entries ≡ (if is_identifier (string_bytes key) then put (values_of properties.old.entries) (string_bytes key) (string_bytes value) else values_of properties.old.entries)) }
+fn put_pair(properties: &mut SectionProperties, key: String, value: String) -> Mem<()>
+    ensures keys { IsKeyed properties.old → OnOk result (IsKeyed properties.new) }
+    ensures values { OnOk result (property_values properties.new ≡ (if is_identifier (string_bytes key) then put (property_values properties.old) (string_bytes key) (string_bytes value) else property_values properties.old)) }
 {
-    if !is_identifier(key.as_str()) {
-        return Ok(());
+    if is_identifier(key.as_str()) {
+        properties.put(key, value)?;
     }
-    let property = Property::new(key.clone()?, value);
-    properties.insert(key, property)?;
     Ok(())
 }
 

@@ -2,11 +2,13 @@ ghost use Rattle.std.specs.Prelude.{◌≡◌, IfOk, option_copied};
 ghost use Rattle.std.specs.String.{string_bytes};
 ghost use Rattle.smithy_core.specs.TextPairs.{lower};
 ghost use Rattle.env_config.specs.Profile.{profile_section, session_section};
-ghost use Rattle.env_config.specs.Section.{IsSameSection, contents_of, section_contents, section_of, values_of};
+ghost use Rattle.env_config.specs.Section.{IsSameSection, section_contents, section_of};
+ghost use Rattle.env_config.specs.SectionProperties.{contents_of, values_of};
 ghost use Rattle.env_config.specs.Texts.{value_under};
 
 use crate::property::Property;
 use crate::section::{Section, SectionKind};
+use crate::section_properties::SectionProperties;
 use smithy_core::Mem;
 use std::collections::BTreeMap;
 
@@ -23,7 +25,7 @@ impl Profile {
         ensures contents { section_contents (profile_section result) ≡ contents_of properties.entries }
     {
         Profile {
-            section: Section::new(name, properties),
+            section: Section::new(name, SectionProperties::given(properties)),
         }
     }
 

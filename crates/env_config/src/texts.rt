@@ -1,9 +1,11 @@
-ghost use Rattle.std.specs.Prelude.{◌≡◌, ℕ, List, [], ◌∷◌, ◌++◌, length, true, IfOk, IfSome, IfNone, OnOk};
+ghost use Rattle.std.specs.Prelude.{◌≡◌, ℕ, List, [], ◌∷◌, ◌++◌, length, true, IfErr, IfOk, IfSome, IfNone, OnOk};
 ghost use Rattle.std.specs.String.{string_bytes};
 ghost use Rattle.std.specs.List.{position_or_len};
 ghost use Rattle.env_config.specs.Line.{equals_sign, is_equals};
+ghost use Rattle.env_config.specs.Sections.{put_identifiers};
 ghost use Rattle.env_config.specs.Texts.{FindsPlace, one_pair, pairs_in, pairs_of, put};
 
+use crate::heading::is_identifier;
 use smithy_core::Mem;
 use std::alloc::Global;
 use std::cmp::Ordering;
@@ -70,6 +72,18 @@ impl Texts {
         }
     }
 
+    /// The pairs as a map, where they are kept as one and all keys are identifiers.
+    pub fn into_identified(self) -> Result<BTreeMap<String, String>, Texts>
+        ensures map { IfOk result (λ map. pairs_of map.entries ≡ self) }
+        ensures identified { OnOk result (put_identifiers [] self ≡ self) }
+        ensures others { IfErr result (λ texts. texts ≡ self) }
+    {
+        match self.pairs {
+            Pairs::Many(pairs) => identified(pairs),
+            pairs => Err(Texts { pairs }),
+        }
+    }
+
     /// The value stands at the key, in place of the one before. Nothing is said of the pairs where memory runs out.
     pub fn put(&mut self, key: String, value: String) -> Mem<()>
         ensures { OnOk result (self.new ≡ put self.old (string_bytes key) (string_bytes value)) }
@@ -96,6 +110,33 @@ impl Texts {
             Pairs::Many(pairs) => Ok(pairs.pop_first()),
         }
     }
+}
+
+// The map itself, where all its keys are identifiers.
+fn identified(pairs: BTreeMap<String, String>) -> Result<BTreeMap<String, String>, Texts>
+    ensures map { IfOk result (λ map. map ≡ pairs) }
+    ensures identified { OnOk result (put_identifiers [] (pairs_of pairs.entries) ≡ pairs_of pairs.entries) }
+    ensures others { IfErr result (λ texts. texts ≡ pairs_of pairs.entries) }
+{
+    if has_identifiers(&pairs) {
+        Ok(pairs)
+    } else {
+        Err(Texts {
+            pairs: Pairs::Many(pairs),
+        })
+    }
+}
+
+// Whether all keys are identifiers.
+fn has_identifiers(pairs: &BTreeMap<String, String>) -> bool
+    ensures { result ≡ true → put_identifiers [] (pairs_of pairs.now.entries) ≡ pairs_of pairs.now.entries }
+{
+    for key in pairs.keys() {
+        if !is_identifier(key.as_str()) {
+            return false;
+        }
+    }
+    true
 }
 
 // The pair of the text, if it has one, with this value at the key.

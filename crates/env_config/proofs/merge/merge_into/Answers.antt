@@ -1,5 +1,6 @@
 use Rattle.std.proofs.Common.{◌∙◌, sym, subst, ap, List, ℕ}
-use Rattle.env_config.specs.Section.{IsKeyed, IsKeyedSection, section_of, values_of}
+use Rattle.env_config.specs.Section.{IsKeyed, IsKeyedSection, section_of}
+use Rattle.env_config.specs.SectionProperties.{property_values}
 use Rattle.env_config.specs.Sections.{Section}
 use Rattle.env_config.proofs.KeyedLemmas.{put_passes, value_passes}
 use Rattle.env_config.proofs.MergeLemmas.{merged}
@@ -7,18 +8,17 @@ use Rattle.env_config.proofs.merge.merge_into.Goals as goal
 
 pub returns-clause-merged : goal.returns-clause-merged
 returns-clause-merged g c =
-    let before = values_of c.properties_before-properties.result.entries in
-    let properties = values_of c.put_pairs.new.properties.entries in
+    let properties = property_values c.in_ok-properties.properties in
     let make : List ℕ → List (List ℕ × List ℕ) → Section = λ name properties. record { name = name; properties = properties } in
-    merged (λ s. section_of (g.S.SectionKind.held s)) c.args.sections.now c.take.new.self c.replace.new.self c.args.name.now c.args.pairs before properties c.of_section.result c.in_ok-take.field-0
-    c.in_ok-take.ensures.later c.in_ok-take.ensures.before c.properties_before-properties.ensures.values c.in_ok-put_pairs.ensures.values
+    merged (λ s. section_of (g.S.SectionKind.held s)) c.args.sections.now c.take.new.self c.replace.new.self c.args.name.now c.args.pairs properties c.of_section.result c.in_ok-before.before
+    c.in_ok-before.ensures.later c.in_ok-before.ensures.before c.in_ok-properties.ensures.values
     (ap section_of c.of_section.ensures ∙ c.new-section.ensures.section ∙ ap (λ (name : List ℕ). make name properties) c.in_ok-from_str.ensures.ok)
     c.in_ok-replace.ensures.now
 
 pub returns-clause-keys : goal.returns-clause-keys
 returns-clause-keys g c each =
     let Keyed : g.row.S.Denot → Type 0 = λ s. IsKeyedSection (g.S.SectionKind.held s) in
-    let before = value_passes Keyed c.args.sections.now c.args.name.now c.in_ok-take.field-0 c.in_ok-take.ensures.before each in
-    let keyed = c.in_ok-put_pairs.ensures.keys (c.properties_before-properties.ensures.keys before) in
-    put_passes Keyed c.args.sections.now c.take.new.self c.replace.new.self c.args.name.now c.of_section.result c.in_ok-take.ensures.later c.in_ok-replace.ensures.now each
+    let before = value_passes Keyed c.args.sections.now c.args.name.now c.in_ok-before.before c.in_ok-before.ensures.before each in
+    let keyed = c.in_ok-properties.ensures.keys before in
+    put_passes Keyed c.args.sections.now c.take.new.self c.replace.new.self c.args.name.now c.of_section.result c.in_ok-before.ensures.later c.in_ok-replace.ensures.now each
     (subst IsKeyedSection (sym c.of_section.ensures) (subst IsKeyed (sym c.new-section.ensures.contents) keyed))

@@ -2,7 +2,7 @@ use Rattle.std.proofs.Common.{ap₂, List, ℕ, String, Global, string_bytes}
 use Rattle.env_config.specs.Property.{property_pair}
 use Rattle.env_config.specs.declared.property.Property.{Property}
 use Rattle.env_config.proofs.CloneLemmas.{map_alike}
-use Rattle.env_config.proofs.section.copied_properties.Goals as goal
+use Rattle.env_config.proofs.section_properties.copied_properties.Goals as goal
 
 pub returns : goal.returns
 returns c =
