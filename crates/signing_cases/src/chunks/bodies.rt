@@ -5,7 +5,6 @@ use crate::chunks::signers::published_signer;
 use crate::parts::{push, push_text};
 use aws_auth::{ChunkDeferredSigner, SigV4MessageSigner};
 use aws_chunked::{AwsChunkedBody, AwsChunkedBodyError, AwsChunkedBodyOptions, ChunkNext};
-use bytes::Bytes;
 use case_lines::part;
 use mac_core::sha256_hex;
 use sigv4::{SignChunk, SigningSettings};

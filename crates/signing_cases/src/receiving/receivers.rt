@@ -6,8 +6,8 @@ use crate::receiving::sources::source_of;
 use crate::receiving::unmarshalling::{Payloads, Texts};
 use case_lines::{halves, unknown};
 use event_io::Receiver;
-use eventstream::{IdentityUnmarshaller, UnmarshallMessage};
-use smithy_core::{FaultyFrames, Mem};
+use eventstream::{Error, IdentityUnmarshaller, UnmarshallMessage};
+use smithy_core::{FaultyFrames, Mem, Message};
 use std::alloc::Global;
 use std::fmt;
 
@@ -62,9 +62,9 @@ where
     match halves(word) {
         ("recv", _) => push(answers, next(alloc, receiver)),
         ("initial", kind) => push(answers, initial(alloc, receiver, kind)),
-        ("refusing", kind) => push(answers, initial_refusing(alloc, receiver, kind)),
-        ("beginning", kind) => push(answers, initial_beginning(alloc, receiver, kind)),
-        ("marking", kind) => push(answers, initial_marking(alloc, receiver, kind)),
+        ("refusing", kind) => push(answers, initial_by(alloc, receiver, kind, refusing)),
+        ("beginning", kind) => push(answers, initial_by(alloc, receiver, kind, beginning)),
+        ("marking", kind) => push(answers, initial_by(alloc, receiver, kind, marking)),
         _ => Ok(()),
     }
 }
@@ -91,44 +91,20 @@ where
     tried(alloc, &receiver.try_recv_initial(message_type(kind)))
 }
 
-fn initial_refusing<U: UnmarshallMessage>(
+// As above, by a preprocessor.
+fn initial_by<U: UnmarshallMessage, P>(
     alloc: Global,
     receiver: &mut Receiver<FaultyFrames, U>,
     kind: &str,
+    preprocessor: P,
 ) -> Mem<String>
 where
     U::Error: fmt::Debug + Drop,
+    P: FnOnce(Message) -> Result<(Message, u8), Error>,
+    requires { P.IsAlwaysCallable preprocessor }
 {
     tried(
         alloc,
-        &receiver.try_recv_initial_with_preprocessor(message_type(kind), refusing),
-    )
-}
-
-fn initial_beginning<U: UnmarshallMessage>(
-    alloc: Global,
-    receiver: &mut Receiver<FaultyFrames, U>,
-    kind: &str,
-) -> Mem<String>
-where
-    U::Error: fmt::Debug + Drop,
-{
-    tried(
-        alloc,
-        &receiver.try_recv_initial_with_preprocessor(message_type(kind), beginning),
-    )
-}
-
-fn initial_marking<U: UnmarshallMessage>(
-    alloc: Global,
-    receiver: &mut Receiver<FaultyFrames, U>,
-    kind: &str,
-) -> Mem<String>
-where
-    U::Error: fmt::Debug + Drop,
-{
-    tried(
-        alloc,
-        &receiver.try_recv_initial_with_preprocessor(message_type(kind), marking),
+        &receiver.try_recv_initial_with_preprocessor(message_type(kind), preprocessor),
     )
 }

@@ -2,7 +2,7 @@
 use crate::parts::{both_shown, identity_of};
 use crate::signing::faults::endpoint_error_of;
 use crate::signing::instructions::{push_header, told};
-use crate::signing::parts::first;
+use crate::signing::parts::{first, source_of};
 use crate::signing::requests::{params_of, payload_of, request_of, settings_of, signable_of};
 use crate::signing::signatures::{refusal, signed};
 use case_lines::{compared, shown, unknown};
@@ -10,7 +10,7 @@ use sigv4::{
     Header, SignableRequest, SigningError, SigningInstructions, SigningOutput, SigningParams,
     canonical_text,
 };
-use smithy_core::{ErrorMetadata, HttpRequest, Identity, Mem};
+use smithy_core::{HttpRequest, Identity, Mem};
 use smithy_http::{EndpointPrefix, InvalidEndpointError, QueryWriter, ResolveEndpointError};
 use std::alloc::Global;
 
@@ -73,10 +73,7 @@ fn resolve_error(alloc: Global, words: &[&str]) -> Mem<String> {
     let [message, why] = words else {
         return unknown(alloc);
     };
-    let source = ErrorMetadata {
-        code: None,
-        message: Some(String::from_str(alloc, why)?),
-    };
+    let source = source_of(alloc, why)?;
     let error = ResolveEndpointError::message(String::from_str(alloc, message)?);
     let error = error.with_source(Some(source));
     both_shown(alloc, &error, error.try_clone())

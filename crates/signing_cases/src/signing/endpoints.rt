@@ -1,7 +1,8 @@
+use crate::signing::parts::source_of;
 use crate::signing::texts::length;
 use case_lines::{unknown, with_repeats};
 use http_uri::Uri;
-use smithy_core::{ErrorMetadata, Mem};
+use smithy_core::Mem;
 use smithy_http::{
     EndpointPrefix, InvalidEndpointError, ResolveEndpointError, UriFault, apply_endpoint,
 };
@@ -99,10 +100,7 @@ fn resolve_error(alloc: Global, words: &[&str]) -> Mem<String> {
     let [message, why] = words else {
         return unknown(alloc);
     };
-    let source = ErrorMetadata {
-        code: None,
-        message: Some(String::from_str(alloc, why)?),
-    };
+    let source = source_of(alloc, why)?;
     let error = ResolveEndpointError::from_source(String::from_str(alloc, message)?, source);
     with_bare(alloc, error)
 }
