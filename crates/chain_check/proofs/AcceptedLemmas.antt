@@ -24,7 +24,7 @@ use Rattle.eventstream.specs.Link.{chain, date_header, link_code, link_message, 
 use Rattle.eventstream.specs.Read.{read}
 use Rattle.eventstream.specs.Reading.{First, begins, fault, first_of, leftover, nothing, reading, reading_within}
 use Rattle.eventstream.specs.declared.error.ErrorKind.{ErrorKind}
-use Rattle.eventstream.proofs.LinkLemmas.{date_spelled, length-link_code}
+use Rattle.eventstream.proofs.LinkLemmas.{code_header, length-link, link_framed}
 use Rattle.eventstream.proofs.ReadingLemmas.{goes_on, shorter}
 use Rattle.chain_check.specs.Chain.{IsByte, IsChainOf, TellsChain, carried_moments}
 use Rattle.chain_check.specs.Walk.{AnswersChain, Passed, after_closing, before, carried, carried_code, carried_date, chain_events, compared, frame_test, framed_message, if_framed, inner_event, signed_moment, walk, walk_on, walk_outcome, walk_tested}
@@ -57,10 +57,6 @@ compared_split place code recomputed event passed is = by_test (bytes_eq code re
         → (code ≡ recomputed) × (passed ≡ record { event = event; signature = encode_lower recomputed })
     by_test true test is = ((bytes_eq-Decides code recomputed).0 test, sym (passed_same _ _ is))
     by_test false test is = cc
-
--- the header with a code
-abbrev code_header : List ℕ → Header
-code_header code = record { name = codes ":chunk-signature"; value = ByteArray code }
 
 code_split : (name : List ℕ) (value : HeaderValue) (code : List ℕ) → carried_code (record { name = name; value = value }) ≡ Some code
     → (record { name = name; value = value } ≡ code_header code) × (length code ≡ 32)
@@ -212,28 +208,10 @@ inner_some (byte ∷ payload) event is small =
 
 -- ## Links
 
-code_spelled : (code : List ℕ) → length code ≡ 32 → unspelled (code_header code) ≡ None
-unfolding unspelled_value
-code_spelled code long = let test : nat_lt 32767 (length code) ≡ false = grind (arith, nat_tests) in rw test refl
-
-unfit-none : (headers payload : ℕ) → 16 + headers + payload < 2 ^ 32 → unfit_lengths headers payload ≡ None
-unfit-none headers payload short =
-    let h : nat_lt 4294967295 headers ≡ false = grind (arith, nat_tests) in
-    let p : nat_lt 4294967295 payload ≡ false = grind (arith, nat_tests) in
-    let all : nat_lt 4294967295 (16 + headers + payload) ≡ false = grind (arith, nat_tests) in
-    rw (h, p, all) refl
-
 -- a link that isn't too long has a frame
-link_framed : (signer : Signer) (signature bytes : List ℕ) (t : Instant) → IsInYears t → frame_len (link_message signer signature bytes t) < 2 ^ 32
+link_whole : (signer : Signer) (signature bytes : List ℕ) (t : Instant) → IsInYears t → frame_len (link_message signer signature bytes t) ≤ 16777216
     → unframed (link_message signer signature bytes t) ≡ None
-unfolding link_message unframed
-link_framed signer signature bytes t years short =
-    let code = code_spelled (link_code signer signature bytes t) (length-link_code signer signature bytes t) in
-    let date = date_spelled t years in
-    let headers = code_header (link_code signer signature bytes t) ∷ date_header (floor_secs t) ∷ [] in
-    let spelled : first_unspelled headers ≡ None =
-    ap (λ (o : Option ErrorKind). option_or o (option_or (unspelled (date_header (floor_secs t))) None)) code ∙ ap (λ (o : Option ErrorKind). option_or o None) date in
-    ap (λ (o : Option ErrorKind). option_or o (unfit_lengths (length (block headers)) (length bytes))) spelled ∙ unfit-none (length (block headers)) (length bytes) short
+link_whole signer signature bytes t years short = link_framed signer signature bytes t years (omega (arith, short, length-link signer signature bytes t))
 
 -- ## The moments that the frames carry
 
@@ -260,10 +238,10 @@ closing_chain signer signature bytes message at tested first small link none =
     let empty : message.payload ≡ [] = inner_none message.payload (link.inner ∙ ap Some none) in
     let message_is : message ≡ link_message signer signature [] at = link.link ∙ ap (λ (payload : List ℕ). link_message signer signature payload at) empty in
     let moments : carried_moments bytes ≡ at ∷ [] = moments_cons bytes message [] link.carries.0 at first link.carries.1 ∙ ap (λ (others : List Instant). at ∷ others) no_moments in
-    let short : frame_len (link_message signer signature [] at) < 2 ^ 32 = subst (λ (m : Parts). frame_len m < 2 ^ 32) message_is is.short in
+    let short : frame_len (link_message signer signature [] at) ≤ 16777216 = subst (λ (m : Parts). frame_len m ≤ 16777216) message_is is.short in
     record {
       spelled = rw moments (is.spelled ∙ ap (λ (m : Parts). frame m ++ []) message_is);
-      chained = rw moments (link.years, link_framed signer signature [] at link.years short);
+      chained = rw moments (link.years, link_whole signer signature [] at link.years short);
       whole = refl;
     }
 
@@ -276,13 +254,13 @@ event_chain signer signature bytes rest message event at tested events first sma
     let message_is : message ≡ link_message signer signature (frame event) at = link.link ∙ ap (λ (payload : List ℕ). link_message signer signature payload at) held.spelled in
     let next : tested.signature ≡ link_signature signer signature (frame event) at = link.next ∙ ap (λ (payload : List ℕ). link_signature signer signature payload at) held.spelled in
     let moments = moments_cons bytes message rest link.carries.0 at first link.carries.1 in
-    let short : frame_len (link_message signer signature (frame event) at) < 2 ^ 32 = subst (λ (m : Parts). frame_len m < 2 ^ 32) message_is is.short in
+    let short : frame_len (link_message signer signature (frame event) at) ≤ 16777216 = subst (λ (m : Parts). frame_len m ≤ 16777216) message_is is.short in
     record {
       spelled =
           rw moments (is.spelled ∙ ap (λ (m : Parts). frame m ++ rest) message_is
           ∙ ap (λ (more : List ℕ). frame (link_message signer signature (frame event) at) ++ more) (others.spelled
           ∙ ap (λ (from : List ℕ). concat (chain signer events (carried_moments rest) from)) next));
-      chained = rw moments (held.framed, link.years, link_framed signer signature (frame event) at link.years short, rw next at others.chained);
+      chained = rw moments (held.framed, link.years, link_whole signer signature (frame event) at link.years short, rw next at others.chained);
       whole = rw (held.whole, others.whole) refl;
     }
 

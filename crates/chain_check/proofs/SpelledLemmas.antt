@@ -18,37 +18,16 @@ use Rattle.eventstream.specs.Bind.{◌>>=◌}
 use Rattle.eventstream.specs.Frame.{be32, block, frame, frame_len, frame_lengths, spelling, summed, value_spelling}
 use Rattle.eventstream.specs.Kind.{byte_array_kind, byte_kind, false_kind, int16_kind, int32_kind, int64_kind, string_kind, timestamp_kind, true_kind, uuid_kind}
 use Rattle.eventstream.specs.Laws.{floored_header, floored_message, floored_value}
-use Rattle.eventstream.specs.Read.{announced, array_of, big_endian, checked_message, counted_of, front_of, header_name_of, header_of, header_within, headers_within, lengths_of, number_of, read, read_after, text_value_of, u32_at, value_of}
-use Rattle.eventstream.specs.Reading.{as_first, begins, fault, first_of, leftover, nothing}
+use Rattle.eventstream.specs.Read.{AreFit, announced, array_of, big_endian, checked_message, counted_of, front_of, header_name_of, header_of, header_within, headers_within, number_of, read, read_after, read_frame, read_prelude, text_value_of, u32_at, value_of}
+use Rattle.eventstream.specs.Reading.{begins, first_of}
 use Rattle.eventstream.specs.declared.error.ErrorKind.{ErrorKind}
-use Rattle.eventstream.specs.declared.error.ErrorKind.TheVariants.{InvalidHeaderNameLength, InvalidHeaderValue, InvalidHeadersLength, InvalidMessageLength, InvalidUtf8String, PreludeChecksumMismatch}
+use Rattle.eventstream.specs.declared.error.ErrorKind.TheVariants.{InvalidHeaderNameLength, InvalidHeaderValue, InvalidHeadersLength, InvalidMessageLength, InvalidUtf8String}
 use Rattle.eventstream.specs.declared.read.lengths.Lengths.{Lengths}
-use Rattle.eventstream.proofs.FrontLemmas.{announced_prelude}
+use Rattle.eventstream.proofs.FrontLemmas.{IsPrelude, announced_prelude, prelude_told}
+use Rattle.eventstream.proofs.ReadingLemmas.{begins_whole}
+use Rattle.eventstream.proofs.TestLemmas.{admitted, bound, ok_same, refused_or}
 use Rattle.chain_check.specs.Chain.{IsByte}
 use Rattle.chain_check.proofs.NumberLemmas.{bytes_spelled, ms_again, number_fits}
-
--- ## Answers
-
-abbrev reads : {A : Type 0} → A → Result A ErrorKind
-reads x = Ok x
-
-ok_same : {A : Type 0} (x y : A) → reads x ≡ reads y → x ≡ y
-ok_same x y is = cc
-
--- an answer behind a test that refuses
-refused_or : {A : Type 0} (test : Bool) (kind : ErrorKind) (others : Result A ErrorKind) (x : A) → (if test then Err kind else others) ≡ Ok x → (test ≡ false) × (others ≡ Ok x)
-refused_or true kind others x is = cc
-refused_or false kind others x is = (refl, is)
-
--- an answer behind a test that admits
-admitted : {A : Type 0} (test : Bool) (kind : ErrorKind) (others : Result A ErrorKind) (x : A) → (if test then others else Err kind) ≡ Ok x → (test ≡ true) × (others ≡ Ok x)
-admitted true kind others x is = (refl, is)
-admitted false kind others x is = cc
-
--- the two answers of which an answer is made
-bound : {A B : Type 0} (first : Result A ErrorKind) (others : A → Result B ErrorKind) (y : B) → (first >>= others) ≡ Ok y → (x : A) × (first ≡ Ok x) × (others x ≡ Ok y)
-bound (Ok x) others y is = (x, refl, is)
-bound (Err kind) others y is = cc
 
 -- ## Parts of bytes
 
@@ -274,47 +253,14 @@ u32_spelled place bytes long small =
     bytes_spelled w32 (take 4 (drop place bytes)) (length-take-le 4 (drop place bytes) (omega (arith, length-drop place bytes)))
     (All-take IsByte 4 (drop place bytes) (All-drop IsByte place bytes small))
 
-u32_below : (place : ℕ) (bytes : List ℕ) → place + 4 ≤ length bytes → All IsByte bytes → u32_at place bytes < 2 ^ 32
-u32_below place bytes long small =
-    number_fits w32 (take 4 (drop place bytes)) (length-take-le 4 (drop place bytes) (omega (arith, length-drop place bytes)))
-    (All-take IsByte 4 (drop place bytes) (All-drop IsByte place bytes small))
-
--- a prelude tells these lengths, where so many bytes are there
-record IsPrelude (there : ℕ) (prelude : List ℕ) (lengths : Lengths) : Type 0 where
-  spelled : prelude ≡ summed (frame_lengths lengths.total lengths.headers)
-  total : lengths.total ≡ u32_at 0 prelude
-  short : lengths.total < 2 ^ 32
-  enough : lengths.total ≤ there
-  least : 16 ≤ lengths.total
-  room : lengths.headers ≤ lengths.total - 16
-
-prelude_split : (there : ℕ) (prelude : List ℕ) (lengths : Lengths) → lengths_of there prelude ≡ Ok lengths → length prelude ≡ 12 → All IsByte prelude → IsPrelude there prelude lengths
-unfolding lengths_of
-prelude_split there prelude lengths is twelve small =
-    let total = u32_at 0 prelude in
-    let headers = u32_at 4 prelude in
-    let enough = refused_or (nat_lt there total) InvalidMessageLength _ lengths is in
-    let sum = refused_or (not (remainder (take 8 prelude) == u32_at 8 prelude)) (PreludeChecksumMismatch (remainder (take 8 prelude)) (u32_at 8 prelude)) _ lengths enough.1 in
-    let one = refused_or (headers == 1) InvalidHeadersLength _ lengths sum.1 in
-    let least = refused_or (nat_lt total 16) InvalidMessageLength _ lengths one.1 in
-    let room = refused_or (nat_lt (total - 16) headers) InvalidHeadersLength (Ok (record { total = total; headers = headers })) lengths least.1 in
-    let carried : remainder (take 8 prelude) ≡ u32_at 8 prelude = summed_same _ _ sum.0 in
-    let eight : take 8 prelude ≡ frame_lengths total headers =
-    take-add 4 4 prelude ∙ rw (u32_spelled 0 prelude (omega arith) small, u32_spelled 4 prelude (omega arith) small) refl in
+-- a prelude is spelled of the lengths that it tells
+prelude_spelled : (prelude : List ℕ) (lengths : Lengths) → IsPrelude prelude lengths → length prelude ≡ 12 → All IsByte prelude → prelude ≡ summed (frame_lengths lengths.total lengths.headers)
+prelude_spelled prelude lengths is twelve small =
+    let eight : take 8 prelude ≡ frame_lengths lengths.total lengths.headers =
+    take-add 4 4 prelude ∙ rw (is.total, is.headers, u32_spelled 0 prelude (omega arith) small, u32_spelled 4 prelude (omega arith) small) refl in
     let last : drop 8 prelude ≡ be32 (remainder (take 8 prelude)) =
-    sym (take_all 4 (drop 8 prelude) (omega (arith, length-drop 8 prelude))) ∙ sym (u32_spelled 8 prelude (omega arith) small) ∙ ap be32 (sym carried) in
-    rw (← ok_same _ _ room.1)
-    (record {
-      spelled = sym (take-append-drop 8 prelude) ∙ ap (λ (sum : List ℕ). take 8 prelude ++ sum) last ∙ ap summed eight;
-      total = refl;
-      short = u32_below 0 prelude (omega arith) small;
-      enough = ltb-false _ _ enough.0;
-      least = ltb-false _ _ least.0;
-      room = ltb-false _ _ room.0;
-    })
-  where
-    summed_same : (a b : ℕ) → not (a == b) ≡ false → a ≡ b
-    summed_same a b test = grind (arith, nat_tests)
+    sym (take_all 4 (drop 8 prelude) (omega (arith, length-drop 8 prelude))) ∙ sym (u32_spelled 8 prelude (omega arith) small) ∙ ap be32 (sym is.sum) in
+    sym (take-append-drop 8 prelude) ∙ ap (λ (sum : List ℕ). take 8 prelude ++ sum) last ∙ ap summed eight
 
 -- ## Frames
 
@@ -329,27 +275,27 @@ take_behind : (front rest : List ℕ) (n k : ℕ) → length front ≡ n → tak
 take_behind front rest n k len = take-add n k (front ++ rest) ∙ rw (take_at front rest n len, drop_at front rest n len) refl
 
 message_split : (lengths : Lengths) (prelude rest : List ℕ) (headers : List Header) (m : Parts) → checked_message lengths prelude rest headers ≡ Ok m
-    → length prelude ≡ 12 → All IsByte rest → IsPrelude (12 + length rest) prelude lengths → IsBlock lengths.headers rest headers
-    → IsSummed lengths.total (prelude ++ rest) m
+    → length prelude ≡ 12 → All IsByte rest → AreFit lengths → prelude ≡ summed (frame_lengths lengths.total lengths.headers) → lengths.total ≤ 12 + length rest
+    → IsBlock lengths.headers rest headers → IsSummed lengths.total (prelude ++ rest) m
 unfolding checked_message frame
-message_split lengths prelude rest headers m is twelve small prelude_is block_is =
+message_split lengths prelude rest headers m is twelve small fit spelled enough block_is =
     let n = lengths.total - 16 in
     let h = lengths.headers in
     let payload = take (n - h) (drop h rest) in
     let test = admitted (remainder (prelude ++ take n rest) == u32_at n rest) _ (Ok (record { headers = headers; payload = payload })) m is in
-    let there : n + 4 ≤ length rest = omega (arith, prelude_is.enough, prelude_is.least) in
+    let there : n + 4 ≤ length rest = omega (arith, enough, fit.least) in
     let front : take h rest ≡ block headers = ap (take h) block_is.spelled ∙ take_at (block headers) block_is.rest h block_is.long in
     let body : take n rest ≡ block headers ++ payload =
-    ap (λ (k : ℕ). take k rest) (omega (arith, prelude_is.room)) ∙ take-add h (n - h) rest ∙ ap (λ (bytes : List ℕ). bytes ++ payload) front in
-    let len : length payload ≡ n - h = length-take-le (n - h) (drop h rest) (omega (arith, length-drop h rest, prelude_is.room, there)) in
-    let total : 16 + length (block headers) + length payload ≡ lengths.total = omega (arith, block_is.long, len, prelude_is.room, prelude_is.least) in
+    ap (λ (k : ℕ). take k rest) (omega (arith, fit.room)) ∙ take-add h (n - h) rest ∙ ap (λ (bytes : List ℕ). bytes ++ payload) front in
+    let len : length payload ≡ n - h = length-take-le (n - h) (drop h rest) (omega (arith, length-drop h rest, fit.room, there)) in
+    let total : 16 + length (block headers) + length payload ≡ lengths.total = omega (arith, block_is.long, len, fit.room, fit.least) in
     let sum : be32 (remainder (prelude ++ take n rest)) ≡ take 4 (drop n rest) = ap be32 (eqb-true _ _ test.0) ∙ u32_spelled n rest there small in
     let start : summed (frame_lengths (16 + length (block headers) + length payload) (length (block headers))) ≡ prelude =
-    rw (total, block_is.long) (sym prelude_is.spelled) in
+    rw (total, block_is.long) (sym spelled) in
     let inside : summed (frame_lengths (16 + length (block headers) + length payload) (length (block headers))) ++ block headers ++ payload ≡ prelude ++ take n rest =
     rw start (append_assoc prelude (block headers) payload ∙ ap (λ (bytes : List ℕ). prelude ++ bytes) (sym body)) in
     let all : take lengths.total (prelude ++ rest) ≡ (prelude ++ take n rest) ++ take 4 (drop n rest) =
-    ap (λ (k : ℕ). take k (prelude ++ rest)) (omega (arith, prelude_is.least)) ∙ take_behind prelude rest 12 (n + 4) twelve
+    ap (λ (k : ℕ). take k (prelude ++ rest)) (omega (arith, fit.least)) ∙ take_behind prelude rest 12 (n + 4) twelve
     ∙ ap (λ (bytes : List ℕ). prelude ++ bytes) (take-add n 4 rest) ∙ sym (append_assoc prelude (take n rest) (take 4 (drop n rest))) in
     rw (← ok_same _ _ test.1)
     (record {
@@ -363,12 +309,12 @@ message_split lengths prelude rest headers m is twelve small prelude_is block_is
 pub record IsFramed (bytes : List ℕ) (m : Parts) : Type 0 where
   pub spelled : take (announced bytes) bytes ≡ frame m
   pub there : announced bytes ≤ length bytes
-  pub short : frame_len m < 2 ^ 32
+  pub short : frame_len m ≤ 16777216
   pub whole : floored_message m ≡ m
   pub payload : All IsByte m.payload
 
 framed_whole : (total : ℕ) (bytes : List ℕ) (m : Parts) → IsSummed total (take 12 bytes ++ drop 12 bytes) m → total ≡ announced bytes
-    → total ≤ 12 + length (drop 12 bytes) → total < 2 ^ 32 → 12 ≤ length bytes → IsFramed bytes m
+    → total ≤ 12 + length (drop 12 bytes) → total ≤ 16777216 → 12 ≤ length bytes → IsFramed bytes m
 framed_whole total bytes m is all enough short long = record {
   spelled = ap (λ (n : ℕ). take n bytes) (sym all) ∙ ap (take total) (sym (take-append-drop 12 bytes)) ∙ is.spelled;
   there = omega (arith, all, enough, length-drop 12 bytes, long);
@@ -378,57 +324,43 @@ framed_whole total bytes m is all enough short long = record {
 }
 
 pub read_split : (bytes : List ℕ) (found : Parts × ℕ) → read bytes ≡ Ok found → All IsByte bytes → IsFramed bytes found.0
-unfolding read read_after
+unfolding read read_after read_frame
 read_split bytes found is small =
     let prelude = take 12 bytes in
     let rest = drop 12 bytes in
     let some = refused_or (nat_lt (length bytes) 12) InvalidMessageLength (read_after prelude rest) found is in
     let twelve : length prelude ≡ 12 = length-take-le 12 bytes (ltb-false _ _ some.0) in
-    let told = bound (lengths_of (12 + length rest) prelude) (λ lengths. headers_within lengths.headers lengths.headers rest >>= λ headers. checked_message lengths prelude rest headers >>= λ message. Ok (message, lengths.total)) found some.1 in
-    let headed = bound (headers_within told.0.headers told.0.headers rest) (λ headers. checked_message told.0 prelude rest headers >>= λ message. Ok (message, told.0.total)) found told.2 in
+    let told = bound (read_prelude prelude) (λ lengths. read_frame lengths prelude rest) found some.1 in
+    let whole = refused_or (nat_lt (12 + length rest) told.0.total) InvalidMessageLength _ found told.2 in
+    let headed = bound (headers_within told.0.headers told.0.headers rest) (λ headers. checked_message told.0 prelude rest headers >>= λ message. Ok (message, told.0.total)) found whole.1 in
     let checked = bound (checked_message told.0 prelude rest headed.0) (λ message. Ok (message, told.0.total)) found headed.2 in
-    let lengths = prelude_split (12 + length rest) prelude told.0 told.1 twelve (All-take IsByte 12 bytes small) in
+    let lengths = prelude_told prelude told.0 told.1 in
+    let enough : told.0.total ≤ 12 + length rest = ltb-false _ _ whole.0 in
+    let spelled = prelude_spelled prelude told.0 lengths twelve (All-take IsByte 12 bytes small) in
     let headers = headers_split told.0.headers told.0.headers rest headed.0 headed.1 (omega arith) (All-drop IsByte 12 bytes small) in
-    let message = message_split told.0 prelude rest headed.0 checked.0 checked.1 twelve (All-drop IsByte 12 bytes small) lengths headers in
+    let message = message_split told.0 prelude rest headed.0 checked.0 checked.1 twelve (All-drop IsByte 12 bytes small) lengths.fit spelled enough headers in
     rw (← ok_same (checked.0, told.0.total) found checked.2)
-    (framed_whole told.0.total bytes checked.0 message (lengths.total ∙ announced_prelude bytes) lengths.enough lengths.short (ltb-false (length bytes) 12 some.0))
+    (framed_whole told.0.total bytes checked.0 message (lengths.total ∙ announced_prelude bytes) enough lengths.fit.most (ltb-false (length bytes) 12 some.0))
 
 -- bytes that begin with a message: they are its frame and what follows
 pub record IsFirst (bytes : List ℕ) (m : Parts) (rest : List ℕ) : Type 0 where
   pub spelled : bytes ≡ frame m ++ rest
-  pub short : frame_len m < 2 ^ 32
+  pub short : frame_len m ≤ 16777216
   pub payload : All IsByte m.payload
   pub behind : All IsByte rest
 
 pub first_split : (bytes : List ℕ) (m : Parts) (rest : List ℕ) → first_of bytes ≡ begins m rest → All IsByte bytes → IsFirst bytes m rest
-unfolding first_of
 first_split bytes m rest first small =
-    by_tests (length bytes == 0) (nat_lt (length bytes) 12) (nat_lt (announced bytes) 12) (nat_lt (length bytes) (announced bytes)) refl refl first
-  where
-    by_read : (answer : Result (Parts × ℕ) ErrorKind) → read (take (announced bytes) bytes) ≡ answer → 12 ≤ announced bytes → announced bytes ≤ length bytes
-        → as_first bytes answer ≡ begins m rest → IsFirst bytes m rest
-    by_read (Err kind) read_is high whole is = cc
-    by_read (Ok found) read_is high whole is =
-        let n = announced bytes in
-        let message : found.0 ≡ m = cc in
-        let left : drop n bytes ≡ rest = cc in
-        let framed = read_split (take n bytes) found read_is (All-take IsByte n bytes small) in
-        let same : announced (take n bytes) ≡ n = ap (big_endian w32) (take-take 4 n bytes (omega arith)) in
-        let front : take n bytes ≡ frame found.0 =
-        sym (take-take n n bytes (omega arith)) ∙ ap (λ (k : ℕ). take k (take n bytes)) (sym same) ∙ framed.spelled in
-        rw (← message, ← left)
-        (record {
-          spelled = sym (take-append-drop n bytes) ∙ ap (λ (start : List ℕ). start ++ drop n bytes) front;
-          short = framed.short;
-          payload = framed.payload;
-          behind = All-drop IsByte n bytes small;
-        })
-
-    by_tests : (none few low partial : Bool) → nat_lt (announced bytes) 12 ≡ low → nat_lt (length bytes) (announced bytes) ≡ partial
-        → (if none then nothing else if few then leftover bytes else if low then fault InvalidMessageLength else if partial then leftover bytes else as_first bytes (read (take (announced bytes) bytes))) ≡ begins m rest
-        → IsFirst bytes m rest
-    by_tests true few low partial high whole is = cc
-    by_tests false true low partial high whole is = cc
-    by_tests false false true partial high whole is = cc
-    by_tests false false false true high whole is = cc
-    by_tests false false false false high whole is = by_read (read (take (announced bytes) bytes)) refl (ltb-false _ _ high) (ltb-false _ _ whole) is
+    let is = begins_whole bytes m rest first in
+    let n = is.lengths.total in
+    let told = prelude_told (take 12 bytes) is.lengths is.told in
+    let framed = read_split (take n bytes) (m, is.frame_length) is.message_read (All-take IsByte n bytes small) in
+    let same : announced (take n bytes) ≡ n = ap (big_endian w32) (take-take 4 n bytes (omega (arith, told.fit.least))) ∙ sym (announced_prelude bytes) ∙ sym told.total in
+    let front : take n bytes ≡ frame m = sym (take-take n n bytes (omega arith)) ∙ ap (λ (k : ℕ). take k (take n bytes)) (sym same) ∙ framed.spelled in
+    rw (← is.left)
+    (record {
+      spelled = sym (take-append-drop n bytes) ∙ ap (λ (start : List ℕ). start ++ drop n bytes) front;
+      short = framed.short;
+      payload = framed.payload;
+      behind = All-drop IsByte n bytes small;
+    })

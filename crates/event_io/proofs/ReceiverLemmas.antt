@@ -10,7 +10,8 @@ use Rattle.smithy_core.specs.declared.outside.frame_part.FramePart.{FramePart}
 use Rattle.smithy_core.specs.declared.outside.frame_source.FrameSource as FrameSource
 use Rattle.eventstream.specs.Decode.{IsUnfinished, PeeksMessage}
 use Rattle.eventstream.specs.Error.{error_kind}
-use Rattle.eventstream.specs.Read.{announced, read}
+use Rattle.eventstream.specs.Read.{read, read_prelude}
+use Rattle.eventstream.specs.declared.read.lengths.Lengths.{Lengths}
 use Rattle.eventstream.specs.Reading.{First, leftover, begins, as_first, first_of, reading}
 use Rattle.eventstream.specs.declared.error.Error.{Error}
 use Rattle.eventstream.specs.declared.error.ErrorKind.{ErrorKind}
@@ -88,23 +89,25 @@ idle_is frame = by (length (data_in frame) == 0) refl
       by_some (suc n) some = omega arith
 
 -- a frame that is there whole is a message or a fault
-read_is : (bytes : List ℕ) (answer : Result (Parts × ℕ) ErrorKind) → IsUnfinished (as_first bytes answer) → ⊥
-read_is bytes (Ok message) less = less
-read_is bytes (Err kind) less = less
+read_is : (n : ℕ) (bytes : List ℕ) (answer : Result (Parts × ℕ) ErrorKind) → IsUnfinished (as_first n bytes answer) → ⊥
+read_is n bytes (Ok message) less = less
+read_is n bytes (Err kind) less = less
 
 -- some bytes that are less than a frame
 unfinished_is : (bytes : List ℕ) → 0 < length bytes → IsUnfinished (first_of bytes) → first_of bytes ≡ leftover bytes
 unfinished_is bytes some less =
     elim (cases_lt (length bytes) 12) [
       | inl short ↦ let test : (length bytes == 0) ≡ false = ne_eqb _ _ (λ none. absurd (omega arith)) in short_is bytes short ∙ rw test refl
-      | inr long ↦ elim (cases_lt (length bytes) (announced bytes)) [
-        | inl partial ↦ first_more bytes long partial
-        | inr there ↦ elim (cases_lt (announced bytes) 12) [
-          | inl low ↦ absurd (subst IsUnfinished (first_bad bytes long low) less)
-          | inr high ↦ absurd (read_is bytes (read (take (announced bytes) bytes)) (subst IsUnfinished (first_whole bytes high there) less))
-        ]
-      ]
+      | inr long ↦ by_prelude long (read_prelude (take 12 bytes)) refl
     ]
+  where
+    by_prelude : 12 ≤ length bytes → (r : Result Lengths ErrorKind) → read_prelude (take 12 bytes) ≡ r → first_of bytes ≡ leftover bytes
+    by_prelude long (Err kind) told = absurd (subst IsUnfinished (first_bad bytes kind long told) less)
+    by_prelude long (Ok lengths) told =
+        elim (cases_lt (length bytes) lengths.total) [
+          | inl partial ↦ first_more bytes lengths long told partial
+          | inr there ↦ absurd (read_is lengths.total bytes (read (take lengths.total bytes)) (subst IsUnfinished (first_whole bytes lengths told there) less))
+        ]
 
 -- no frame comes after less than one, for the reason that is told
 lacks_is : (bytes : List ℕ) (why : Stop) → LacksFrame bytes why → IsUnfinished (first_of bytes) → StopsAt why bytes × TellsStop why × TakesTurnsLess why

@@ -1,6 +1,7 @@
-ghost use Rattle.std.specs.Prelude.{◌≡◌, ℕ, ◌^◌, ◌<◌, ◌||◌, length, Option, Result, None, Some};
+ghost use Rattle.std.specs.Prelude.{◌≡◌, ℕ, ◌<◌, ◌||◌, length, Option, Result, None, Some};
 ghost use Rattle.smithy_core.specs.Message.{Parts};
 ghost use Rattle.smithy_core.specs.declared.outside.frame_part.FramePart.TheVariants.{Data};
+ghost use Rattle.eventstream.specs.Frame.{most_frame};
 ghost use Rattle.event_io.specs.Frames.{one_if_idle};
 ghost use Rattle.event_io.specs.Receiver.{Cuts, Hands, IsNew, KeepsOthers, LacksFrame, PullsFront, PullsOne, Reads, Receives, ReceivesKept, TellsWantOfMemory, Unmarshals, ends_reading, is_terminated, kept_message, recv_stop, rest_of, taken_bytes, terminates, unmarshaller_of};
 ghost use Rattle.event_io.specs.Stop.{IsEnd};
@@ -153,7 +154,7 @@ impl<F: FrameSource, U: UnmarshallMessage> Receiver<F, U> {
 
     // Takes a frame of the source, once there is room for it, and tells how many frames without data it took: one or none.
     fn pull(&mut self) -> Result<u32, Stop>
-        requires { length (taken_bytes self.old) < 2 ^ 32 }
+        requires { length (taken_bytes self.old) < most_frame }
         ensures { PullsOne F.FrameSource self.old self.new result }
     {
         self.buffer.reserve_one()?;

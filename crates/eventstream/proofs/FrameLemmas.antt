@@ -17,7 +17,8 @@ use Rattle.eventstream.specs.declared.error.ErrorKind.{ErrorKind}
 use Rattle.eventstream.specs.declared.error.ErrorKind.TheVariants.{HeadersTooLong, MessageTooLong, PayloadTooLong}
 use Rattle.eventstream.specs.Frame.{be32, block, first_unspelled, frame, frame_len, over, frame_lengths, spelling, summed, unfit_lengths, unframed, value_spelling}
 use Rattle.eventstream.specs.Laws.{IsProper, IsProperHeader, floored_header, floored_message}
-use Rattle.eventstream.specs.Read.{big_endian, lengths_of, checked_message, read, read_after, u32_at}
+use Rattle.eventstream.specs.Read.{big_endian, checked_message, read, read_after, read_frame, read_prelude, u32_at}
+use Rattle.eventstream.specs.declared.read.lengths.Lengths.{Lengths}
 use Rattle.eventstream.proofs.RoundLemmas.{both_none, headers_again, wide32}
 
 -- ## Lengths
@@ -34,21 +35,22 @@ length-frame m = simp (length-append, length-be32) (omega arith)
 -- a message that has a frame
 pub record IsFramed (m : Parts) : Type 0 where
   pub spelled : first_unspelled m.headers ≡ None
-  pub short : frame_len m < 2 ^ 32
+  pub block_short : length (block m.headers) ≤ 131072
+  pub short : frame_len m ≤ 16777216
 
-not_over : (n : ℕ) (fault : ErrorKind) → over n fault ≡ None → n < 2 ^ 32
-not_over n fault none = grind (arith, nat_tests)
+not_over : (most n : ℕ) (fault : ErrorKind) → over most n fault ≡ None → n ≤ most
+not_over most n fault none = grind (arith, nat_tests)
 
 pub framed : (m : Parts) → unframed m ≡ None → IsFramed m
 unfolding unframed
 framed m none =
     let headers = length (block m.headers) in
     let payload = length m.payload in
-    let total = over (16 + headers + payload) MessageTooLong in
+    let total = over 16777216 (16 + headers + payload) MessageTooLong in
     let parts = both_none (first_unspelled m.headers) (unfit_lengths headers payload) none in
-    let fit = both_none (over headers HeadersTooLong) (option_or (over payload PayloadTooLong) total) parts.1 in
-    let whole = both_none (over payload PayloadTooLong) total fit.1 in
-    record { spelled = parts.0; short = not_over (16 + headers + payload) MessageTooLong whole.1 }
+    let fit = both_none (over 131072 headers HeadersTooLong) (option_or (over 16777200 payload PayloadTooLong) total) parts.1 in
+    let whole = both_none (over 16777200 payload PayloadTooLong) total fit.1 in
+    record { spelled = parts.0; block_short = not_over 131072 headers HeadersTooLong fit.0; short = not_over 16777216 (16 + headers + payload) MessageTooLong whole.1 }
 
 -- ## Numbers
 
@@ -82,24 +84,26 @@ block_long [] one = absurd (omega arith)
 block_long (h ∷ hs) one =
     absurd (omega (arith, length-append (spelling h) (block hs), length-append h.name (value_spelling h.value), spelled_long h.value))
 
-lengths_again : (there total headers : ℕ) → total ≤ there → 16 + headers ≤ total → total < 2 ^ 32 → (headers ≡ 1 → ⊥)
-    → lengths_of there (summed (frame_lengths total headers)) ≡ Ok (record { total = total; headers = headers })
-unfolding lengths_of
-lengths_again there total headers enough room short more =
+-- the lengths of a frame are told again by its prelude
+prelude_again : (total headers : ℕ) → 16 + headers ≤ total → total ≤ 16777216 → headers ≤ 131072 → (headers ≡ 1 → ⊥)
+    → read_prelude (summed (frame_lengths total headers)) ≡ Ok (record { total = total; headers = headers })
+unfolding read_prelude
+prelude_again total headers room short block_short more =
     let two = frame_lengths total headers in
     let sum = be32 (remainder two) in
     let split = append_assoc (be32 total) (be32 headers) sum in
-    let first : u32_at 0 (summed two) ≡ total = ap (u32_at 0) split ∙ u32_behind [] (be32 headers ++ sum) 0 total refl short in
-    let second : u32_at 4 (summed two) ≡ headers = ap (u32_at 4) split ∙ u32_behind (be32 total) sum 4 headers (length-be32 total) (omega arith) in
+    let first : u32_at 0 (summed two) ≡ total = ap (u32_at 0) split ∙ u32_behind [] (be32 headers ++ sum) 0 total refl (omega (arith, short)) in
+    let second : u32_at 4 (summed two) ≡ headers = ap (u32_at 4) split ∙ u32_behind (be32 total) sum 4 headers (length-be32 total) (omega (arith, block_short)) in
     let eight : length two ≡ 8 = omega (arith, length-append (be32 total) (be32 headers), length-be32 total, length-be32 headers) in
     let third : u32_at 8 (summed two) ≡ remainder two =
     ap (λ (end : List ℕ). u32_at 8 (two ++ end)) (sym (append-nil sum)) ∙ u32_behind two [] 8 (remainder two) eight (remainder-below two) in
-    let there_is : nat_lt there total ≡ false = le-ltb _ _ enough in
-    let same : (remainder two == remainder two) ≡ true = eq-eqb _ _ refl in
+    let least : nat_lt total 16 ≡ false = le-ltb _ _ (omega (arith, room)) in
+    let most : nat_lt 16777216 total ≡ false = le-ltb _ _ short in
     let not_one : (headers == 1) ≡ false = ne_eqb _ _ more in
-    let least : nat_lt total 16 ≡ false = le-ltb _ _ (omega arith) in
-    let fit : nat_lt (total - 16) headers ≡ false = le-ltb _ _ (omega arith) in
-    rw (first, second, third, take_at two sum 8 eight, there_is, same, not_one, least, fit) refl
+    let small : nat_lt 131072 headers ≡ false = le-ltb _ _ block_short in
+    let fit : nat_lt (total - 16) headers ≡ false = le-ltb _ _ (omega (arith, room)) in
+    let same : (remainder two == remainder two) ≡ true = eq-eqb _ _ refl in
+    rw (first, second, third, take_at two sum 8 eight, least, most, not_one, small, fit, same) refl
 
 -- ## Whole frames
 
@@ -151,19 +155,31 @@ message_again m more headers =
       take_at m.payload (closing m ++ more) (length m.payload) refl,
     ) refl
 
+-- the lengths of a message's frame
+abbrev lengths_in : Parts → Lengths
+lengths_in m = record { total = frame_len m; headers = length (block m.headers) }
+
+prelude_in : (m : Parts) → IsFramed m → read_prelude (prelude m) ≡ Ok (lengths_in m)
+prelude_in m is = prelude_again (frame_len m) (length (block m.headers)) (omega arith) is.short is.block_short (block_long m.headers)
+
 after_again : (m : Parts) (more : List ℕ) → AllByRecursion IsProperHeader m.headers → IsFramed m
     → read_after (prelude m) (block m.headers ++ (m.payload ++ (closing m ++ more))) ≡ Ok (floored_message m, frame_len m)
-unfolding read_after
+unfolding read_after read_frame
 after_again m more proper is =
     let headers = length (block m.headers) in
     let tail = m.payload ++ (closing m ++ more) in
-    let long : frame_len m ≤ 12 + length (block m.headers ++ tail) =
-    omega (arith, length-append (block m.headers) tail, length-append m.payload (closing m ++ more), length-append (closing m) more, length-be32 (remainder (prelude m ++ body m))) in
+    let long : nat_lt (12 + length (block m.headers ++ tail)) (frame_len m) ≡ false =
+    le-ltb _ _ (omega (arith, length-append (block m.headers) tail, length-append m.payload (closing m ++ more), length-append (closing m) more, length-be32 (remainder (prelude m ++ body m)))) in
     let more_than : 1 ≤ length tail =
     omega (arith, length-append m.payload (closing m ++ more), length-append (closing m) more, length-be32 (remainder (prelude m ++ body m))) in
-    let lengths = lengths_again (12 + length (block m.headers ++ tail)) (frame_len m) headers long (omega arith) is.short (block_long m.headers) in
     let read_headers = headers_again headers m.headers tail proper is.spelled more_than (omega arith) in
-    rw (lengths, read_headers, message_again m more (map floored_header m.headers)) refl
+    rw (prelude_in m is, long, read_headers, message_again m more (map floored_header m.headers)) refl
+
+-- a frame begins with a prelude that tells its lengths, whatever follows it
+pub frame_prelude : (m : Parts) (more : List ℕ) → unframed m ≡ None → read_prelude (take 12 (frame m ++ more)) ≡ Ok (lengths_in m)
+frame_prelude m more none =
+    let rest = block m.headers ++ (m.payload ++ (closing m ++ more)) in
+    ap (λ (bytes : List ℕ). read_prelude (take 12 bytes)) (frame_rest m more) ∙ ap read_prelude (take_at (prelude m) rest 12 (length-prelude m)) ∙ prelude_in m (framed m none)
 
 -- a frame is read back, whatever follows it
 pub frame_again : (m : Parts) (more : List ℕ) → IsProper m → unframed m ≡ None
@@ -186,7 +202,7 @@ u32-frame m more none =
     let sum = be32 (remainder (frame_lengths (frame_len m) headers)) in
     let rest = block m.headers ++ (m.payload ++ (closing m ++ more)) in
     ap (u32_at 0) (frame_rest m more ∙ append_assoc (frame_lengths (frame_len m) headers) sum rest ∙ append_assoc (be32 (frame_len m)) (be32 headers) (sum ++ rest))
-    ∙ u32_behind [] (be32 headers ++ (sum ++ rest)) 0 (frame_len m) refl short ∙ sym (length-frame m)
+    ∙ u32_behind [] (be32 headers ++ (sum ++ rest)) 0 (frame_len m) refl (omega (arith, short)) ∙ sym (length-frame m)
 
 -- a frame that begins another is the other
 pub frame_alone : (a b : Parts) (more : List ℕ) → unframed a ≡ None → unframed b ≡ None → frame a ++ more ≡ frame b → more ≡ []

@@ -9,4 +9,5 @@ pub mod LinkLemmas
 pub mod ReadingLemmas
 pub mod RoundLemmas
 pub mod SizeHintLemmas
+pub mod TestLemmas
 pub mod UnframedLemmas

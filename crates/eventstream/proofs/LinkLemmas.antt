@@ -10,7 +10,7 @@ use Rattle.smithy_core.specs.Moment.{Instant, floor_secs}
 use Rattle.smithy_core.specs.Header.{Header}
 use Rattle.smithy_core.specs.declared.header.HeaderValue.TheVariants.{ByteArray}
 use Rattle.eventstream.specs.declared.error.ErrorKind.{ErrorKind}
-use Rattle.eventstream.specs.Frame.{block, spelling, unfit_lengths, unframed, unspelled, unspelled_value, value_spelling}
+use Rattle.eventstream.specs.Frame.{block, frame_len, spelling, unfit_lengths, unframed, unspelled, unspelled_value, value_spelling}
 use Rattle.eventstream.specs.Key.{Signer}
 use Rattle.eventstream.specs.Link.{date_header, link_code, link_message}
 
@@ -32,7 +32,7 @@ unfolding unspelled_value
 date_spelled t within = rw (fits t.secs within.0 within.1) (grind arith)
 
 -- the header with a code
-abbrev code_header : List ℕ → Header
+abbrev pub code_header : List ℕ → Header
 code_header code = record { name = codes ":chunk-signature"; value = ByteArray code }
 
 code_spelled : (code : List ℕ) → length code ≡ 32 → unspelled (code_header code) ≡ None
@@ -47,30 +47,39 @@ length-date_header : (t : Instant) → length (spelling (date_header t)) ≡ 15
 unfolding value_spelling
 length-date_header t = refl
 
-unfit-none : (headers payload : ℕ) → 16 + headers + payload ≤ 4294967295 → unfit_lengths headers payload ≡ None
-unfit-none headers payload short =
-    let h : nat_lt 4294967295 headers ≡ false = grind (arith, nat_tests) in
-    let p : nat_lt 4294967295 payload ≡ false = grind (arith, nat_tests) in
-    let all : nat_lt 4294967295 (16 + headers + payload) ≡ false = grind (arith, nat_tests) in
+-- a block and a payload that aren't too long fit a frame
+pub unfit-none : (headers payload : ℕ) → headers ≤ 131072 → 16 + headers + payload ≤ 16777216 → unfit_lengths headers payload ≡ None
+unfit-none headers payload small short =
+    let h : nat_lt 131072 headers ≡ false = grind (arith, nat_tests) in
+    let p : nat_lt 16777200 payload ≡ false = grind (arith, nat_tests) in
+    let all : nat_lt 16777216 (16 + headers + payload) ≡ false = grind (arith, nat_tests) in
     rw (h, p, all) refl
 
 -- two headers with spellings and a payload have a frame, where they aren't too long
 two_framed : (first second : Header) (payload : List ℕ) → unspelled first ≡ None → unspelled second ≡ None
-    → 16 + (length (spelling first) + length (spelling second)) + length payload ≤ 4294967295
+    → length (spelling first) + length (spelling second) ≤ 131072 → 16 + (length (spelling first) + length (spelling second)) + length payload ≤ 16777216
     → unframed (record { headers = first ∷ second ∷ []; payload = payload }) ≡ None
 unfolding unframed
-two_framed first second payload one two short =
+two_framed first second payload one two small short =
     let whole : length (block (first ∷ second ∷ [])) ≡ length (spelling first) + length (spelling second) =
     length-append (spelling first) (spelling second ++ []) ∙ ap (λ (bytes : List ℕ). length (spelling first) + length bytes) (append-nil (spelling second)) in
     let fit : unfit_lengths (length (block (first ∷ second ∷ []))) (length payload) ≡ None =
-    unfit-none (length (block (first ∷ second ∷ []))) (length payload) (omega arith) in
+    unfit-none (length (block (first ∷ second ∷ []))) (length payload) (omega arith) (omega arith) in
     ap (λ (o : Option ErrorKind). option_or (option_or o (option_or (unspelled second) None)) (unfit_lengths (length (block (first ∷ second ∷ []))) (length payload))) one
     ∙ ap (λ (o : Option ErrorKind). option_or (option_or o None) (unfit_lengths (length (block (first ∷ second ∷ []))) (length payload))) two ∙ fit
 
 -- a signed message of bytes that aren't too long has a frame
-pub link_framed : (signer : Signer) (signature bytes : List ℕ) (t : Instant) → IsInYears t → length bytes ≤ 67108880 → unframed (link_message signer signature bytes t) ≡ None
+pub link_framed : (signer : Signer) (signature bytes : List ℕ) (t : Instant) → IsInYears t → length bytes ≤ 16777133 → unframed (link_message signer signature bytes t) ≡ None
 unfolding link_message
 link_framed signer signature bytes t within short =
     let code = length-link_code signer signature bytes t in
     two_framed (code_header (link_code signer signature bytes t)) (date_header (floor_secs t)) bytes (code_spelled _ code) (date_spelled t within)
-    (omega (arith, length-code_header _ code, length-date_header (floor_secs t)))
+    (omega (arith, length-code_header _ code, length-date_header (floor_secs t))) (omega (arith, short, length-code_header _ code, length-date_header (floor_secs t)))
+
+-- the frame of a signed message has 83 bytes beside the bytes that are signed
+pub length-link : (signer : Signer) (signature bytes : List ℕ) (t : Instant) → frame_len (link_message signer signature bytes t) ≡ 83 + length bytes
+unfolding link_message
+length-link signer signature bytes t =
+    let code = length-link_code signer signature bytes t in
+    omega (arith, length-append (spelling (code_header (link_code signer signature bytes t))) (spelling (date_header (floor_secs t)) ++ []), length-append (spelling (date_header (floor_secs t))) [],
+    length-code_header _ code, length-date_header (floor_secs t))

@@ -1,20 +1,20 @@
 -- The first message of a stream, and the reading that goes on after it.
 use Rattle.std.proofs.Common.{◌≡◌, ℕ, zero, suc, ◌<◌, ◌≤◌, Bool, true, false, if◌then◌else◌, nat_lt, ◌==◌, List, [], ◌∷◌, ◌++◌, length, take, drop, map, flat_map, All, Result, Ok, Err, None, inl, inr, refl, sym, ap, subst, ◌∙◌, append-nil, arith, length-append, length-drop}
-use Rattle.std.specs.Int.{w32}
 use Rattle.std.specs.List.{AllByRecursion}
-use Rattle.std.proofs.lemmas.Bool.{cases_lt, le-ltb, ltb-false}
+use Rattle.std.specs.Prelude.{◌⊎◌}
+use Rattle.std.proofs.lemmas.Bool.{cases_lt, le-ltb}
 use Rattle.std.proofs.lemmas.List.Elements.{recursion_from_All}
 use Rattle.std.proofs.lemmas.List.{take_at, drop_at, take-append-le, drop-append-le}
 use Rattle.smithy_core.specs.Message.{Parts}
 use Rattle.eventstream.specs.declared.error.ErrorKind.{ErrorKind}
-use Rattle.eventstream.specs.declared.error.ErrorKind.TheVariants.{InvalidMessageLength}
-use Rattle.eventstream.specs.Frame.{frame, unframed}
+use Rattle.eventstream.specs.declared.read.lengths.Lengths.{Lengths}
+use Rattle.eventstream.specs.Frame.{frame, frame_len, unframed}
 use Rattle.eventstream.specs.Laws.{IsProper, floored_message}
-use Rattle.eventstream.specs.Read.{big_endian, read, announced}
-use Rattle.eventstream.specs.Reading.{First, nothing, leftover, fault, begins, as_first, first_of, Begin, Read, onto, read_on, reading, reading_within}
+use Rattle.eventstream.specs.Read.{read, read_prelude}
+use Rattle.eventstream.specs.Reading.{First, nothing, leftover, fault, begins, as_first, first_behind, first_of, Begin, Read, onto, read_on, reading, reading_within}
 use Rattle.eventstream.specs.Decode.{IsUnfinished}
-use Rattle.eventstream.proofs.FrameLemmas.{frame_again, length-frame, u32-frame}
-use Rattle.eventstream.proofs.FrontLemmas.{IsTold, first_more, short_is, told, told_is}
+use Rattle.eventstream.proofs.FrameLemmas.{frame_again, frame_prelude, length-frame}
+use Rattle.eventstream.proofs.FrontLemmas.{behind_is, first_more, first_whole, prelude_told, short_is}
 
 -- ## The first message
 
@@ -25,19 +25,26 @@ IsDecided (leftover bytes) = ⊥
 IsDecided (fault kind) = Unit {0}
 IsDecided (begins message rest) = Unit {0}
 
+-- the bytes tell a first message, or a fault in its place: their prelude is there, and the frame that it announces
+record IsTold (bytes : List ℕ) : Type 0 where
+  long : 12 ≤ length bytes
+  there : (lengths : Lengths) → read_prelude (take 12 bytes) ≡ Ok lengths → lengths.total ≤ length bytes
+
 told_from : (bytes : List ℕ) → IsDecided (first_of bytes) → IsTold bytes
 told_from bytes decided =
     elim (cases_lt (length bytes) 12) [
       | inl short ↦ absurd (undecided (length bytes == 0) (subst IsDecided (short_is bytes short) decided))
-      | inr long ↦ elim (cases_lt (length bytes) (announced bytes)) [
-        | inl partial ↦ absurd (subst IsDecided (first_more bytes long partial) decided)
-        | inr there ↦ record { long = long; there = there }
-      ]
+      | inr long ↦ record { long = long; there = λ lengths told. whole lengths long told (cases_lt (length bytes) lengths.total) }
     ]
   where
     undecided : (b : Bool) → IsDecided (if b then nothing else leftover bytes) → ⊥
     undecided true decided = decided
     undecided false decided = decided
+
+    whole : (lengths : Lengths) → 12 ≤ length bytes → read_prelude (take 12 bytes) ≡ Ok lengths → (length bytes < lengths.total) ⊎ (lengths.total ≤ length bytes)
+        → lengths.total ≤ length bytes
+    whole lengths long told (inl partial) = absurd (subst IsDecided (first_more bytes lengths long told partial) decided)
+    whole lengths long told (inr there) = there
 
 -- more bytes behind
 abbrev followed : List ℕ → First → First
@@ -46,30 +53,24 @@ followed more (leftover bytes) = leftover bytes
 followed more (fault kind) = fault kind
 followed more (begins message rest) = begins message (rest ++ more)
 
-announced-append : (bytes more : List ℕ) → 12 ≤ length bytes → announced (bytes ++ more) ≡ announced bytes
-announced-append bytes more long =
-    let enough : 4 ≤ length bytes = omega arith in
-    ap (λ (four : List ℕ). big_endian w32 four) (take-append-le 4 bytes more enough)
-
 -- what is told stays, whatever follows
 told_followed : (bytes more : List ℕ) → IsTold bytes → first_of (bytes ++ more) ≡ followed more (first_of bytes)
 told_followed bytes more is =
-    let same = announced-append bytes more is.long in
-    let still : IsTold (bytes ++ more) = record { long = omega (arith, length-append bytes more); there = omega (arith, length-append bytes more, same, is.there) } in
-    told_is (bytes ++ more) still ∙ ap (λ (n : ℕ). told n (bytes ++ more)) same
-    ∙ by_least (nat_lt (announced bytes) 12) ∙ ap (followed more) (sym (told_is bytes is))
+    behind_is (bytes ++ more) (omega (arith, length-append bytes more, is.long))
+    ∙ ap (λ (prelude : List ℕ). first_behind (bytes ++ more) (read_prelude prelude)) (take-append-le 12 bytes more is.long)
+    ∙ by_prelude (read_prelude (take 12 bytes)) refl ∙ ap (followed more) (sym (behind_is bytes is.long))
   where
-    by_read : (r : Result (Parts × ℕ) ErrorKind) → drop (announced (bytes ++ more)) (bytes ++ more) ≡ drop (announced bytes) bytes ++ more
-        → as_first (bytes ++ more) r ≡ followed more (as_first bytes r)
-    by_read (Ok message) rest = ap (begins message.0) rest
-    by_read (Err kind) rest = refl
+    by_read : (n : ℕ) (r : Result (Parts × ℕ) ErrorKind) → drop n (bytes ++ more) ≡ drop n bytes ++ more → as_first n (bytes ++ more) r ≡ followed more (as_first n bytes r)
+    by_read n (Ok message) rest = ap (begins message.0) rest
+    by_read n (Err kind) rest = refl
 
-    by_least : (b : Bool) → (if b then fault InvalidMessageLength else as_first (bytes ++ more) (read (take (announced bytes) (bytes ++ more))))
-        ≡ followed more (if b then fault InvalidMessageLength else as_first bytes (read (take (announced bytes) bytes)))
-    by_least true = refl
-    by_least false =
-        rw (take-append-le (announced bytes) bytes more is.there)
-        (by_read (read (take (announced bytes) bytes)) (ap (λ (n : ℕ). drop n (bytes ++ more)) (announced-append bytes more is.long) ∙ drop-append-le (announced bytes) bytes more is.there))
+    by_prelude : (r : Result Lengths ErrorKind) → read_prelude (take 12 bytes) ≡ r → first_behind (bytes ++ more) r ≡ followed more (first_behind bytes r)
+    by_prelude (Err kind) told = refl
+    by_prelude (Ok lengths) told =
+        let whole = is.there lengths told in
+        let there : nat_lt (length bytes) lengths.total ≡ false = le-ltb _ _ whole in
+        let still : nat_lt (length (bytes ++ more)) lengths.total ≡ false = le-ltb _ _ (omega (arith, length-append bytes more, whole)) in
+        rw (there, still, take-append-le lengths.total bytes more whole) (by_read lengths.total (read (take lengths.total bytes)) (drop-append-le lengths.total bytes more whole))
 
 -- the first message of a stream stays the first, and so does a fault
 pub first_stays : (bytes : List ℕ) (message : Parts) (rest more : List ℕ) → first_of bytes ≡ begins message rest → first_of (bytes ++ more) ≡ begins message (rest ++ more)
@@ -80,22 +81,39 @@ fault_stays bytes kind more first = told_followed bytes more (told_from bytes (s
 
 -- ## What goes on after a message
 
+-- bytes that begin with a message: its frame is there
+pub record BeginsWhole (bytes : List ℕ) (message : Parts) (rest : List ℕ) : Type 0 where
+  pub lengths : Lengths
+  pub told : read_prelude (take 12 bytes) ≡ Ok lengths
+  pub there : lengths.total ≤ length bytes
+  pub frame_length : ℕ
+  pub message_read : read (take lengths.total bytes) ≡ Ok (message, frame_length)
+  pub left : drop lengths.total bytes ≡ rest
+
+pub begins_whole : (bytes : List ℕ) (message : Parts) (rest : List ℕ) → first_of bytes ≡ begins message rest → BeginsWhole bytes message rest
+begins_whole bytes message rest first =
+    let is = told_from bytes (subst IsDecided (sym first) tt) in
+    by_prelude is (read_prelude (take 12 bytes)) refl (sym (behind_is bytes is.long) ∙ first)
+  where
+    by_read : (lengths : Lengths) → read_prelude (take 12 bytes) ≡ Ok lengths → lengths.total ≤ length bytes → (r : Result (Parts × ℕ) ErrorKind)
+        → read (take lengths.total bytes) ≡ r → as_first lengths.total bytes r ≡ begins message rest → BeginsWhole bytes message rest
+    by_read lengths told there (Ok found) read_is e =
+        let same : found.0 ≡ message = cc in
+        let left : drop lengths.total bytes ≡ rest = cc in
+        record { lengths = lengths; told = told; there = there; frame_length = found.1; message_read = read_is ∙ ap (λ (m : Parts). Ok (m, found.1)) same; left = left }
+    by_read lengths told there (Err kind) read_is e = cc
+
+    by_prelude : IsTold bytes → (r : Result Lengths ErrorKind) → read_prelude (take 12 bytes) ≡ r → first_behind bytes r ≡ begins message rest → BeginsWhole bytes message rest
+    by_prelude is (Err kind) told e = cc
+    by_prelude is (Ok lengths) told e =
+        let whole = is.there lengths told in
+        by_read lengths told whole (read (take lengths.total bytes)) refl (sym (first_whole bytes lengths told whole) ∙ first)
+
 -- a message takes some bytes
 pub shorter : (bytes : List ℕ) (message : Parts) (rest : List ℕ) → first_of bytes ≡ begins message rest → length rest < length bytes
 shorter bytes message rest first =
-    let is = told_from bytes (subst IsDecided (sym first) tt) in
-    by_least is (nat_lt (announced bytes) 12) refl (sym (told_is bytes is) ∙ first)
-  where
-    by_read : (r : Result (Parts × ℕ) ErrorKind) → 12 ≤ announced bytes → IsTold bytes → as_first bytes r ≡ begins message rest → length rest < length bytes
-    by_read (Ok read_first) least is e =
-        let left : drop (announced bytes) bytes ≡ rest = cc in
-        rw (← left) (omega (arith, length-drop (announced bytes) bytes, least, is.there))
-    by_read (Err kind) least is e = cc
-
-    by_least : IsTold bytes → (b : Bool) → nat_lt (announced bytes) 12 ≡ b
-        → (if b then fault InvalidMessageLength else as_first bytes (read (take (announced bytes) bytes))) ≡ begins message rest → length rest < length bytes
-    by_least is true test e = cc
-    by_least is false test e = by_read (read (take (announced bytes) bytes)) (ltb-false _ _ test) is e
+    let is = begins_whole bytes message rest first in
+    rw (← is.left) (omega (arith, length-drop is.lengths.total bytes, (prelude_told (take 12 bytes) is.lengths is.told).fit.least, is.there))
 
 -- two readings go on alike after a first message, where they read less alike
 same_after : (k m : ℕ) (bytes : List ℕ) (first : First) → first_of bytes ≡ first
@@ -133,12 +151,9 @@ goes_on (byte ∷ bytes) message rest first =
 -- the message of a frame comes first, whatever follows the frame
 pub frame_first : (m : Parts) (more : List ℕ) → IsProper m → unframed m ≡ None → first_of (frame m ++ more) ≡ begins (floored_message m) more
 frame_first m more proper none =
-    let whole : announced (frame m ++ more) ≡ length (frame m) = u32-frame m more none in
-    let is : IsTold (frame m ++ more) = record { long = omega (arith, length-append (frame m) more, length-frame m); there = omega (arith, length-append (frame m) more, whole) } in
-    let least : nat_lt (length (frame m)) 12 ≡ false = le-ltb _ _ (omega (arith, length-frame m)) in
     let message : read (frame m) ≡ Ok (floored_message m, length (frame m)) = ap read (sym (append-nil (frame m))) ∙ frame_again m [] proper none in
-    told_is (frame m ++ more) is
-    ∙ rw (whole, least, take_at (frame m) more (length (frame m)) refl, message, whole, drop_at (frame m) more (length (frame m)) refl) refl
+    first_whole (frame m ++ more) _ (frame_prelude m more none) (omega (arith, length-append (frame m) more, length-frame m))
+    ∙ rw (take_at (frame m) more (frame_len m) (length-frame m), message, drop_at (frame m) more (frame_len m) (length-frame m)) refl
 
 -- and the others after it
 pub frame_read : (m : Parts) (more : List ℕ) → IsProper m → unframed m ≡ None → reading (frame m ++ more) ≡ onto (floored_message m) (reading more)

@@ -41,13 +41,13 @@ of_headers (h ∷ headers) =
     let header = first_counts _ (unspelled_value h.value) name (of_value h.value) in
     first_counts (unspelled h) (first_unspelled headers) header (of_headers headers)
 
-of_length : (n : ℕ) (kind : ErrorKind) → IsFrameFault kind → IfSome (over n kind) IsFrameFault
-of_length n kind is = where_true (nat_lt 4294967295 n) kind is
+of_length : (most n : ℕ) (kind : ErrorKind) → IsFrameFault kind → IfSome (over most n kind) IsFrameFault
+of_length most n kind is = where_true (nat_lt most n) kind is
 
 of_lengths : (headers payload : ℕ) → IfSome (unfit_lengths headers payload) IsFrameFault
 of_lengths headers payload =
-    first_counts (over headers HeadersTooLong) _ (of_length headers HeadersTooLong tt)
-    (first_counts (over payload PayloadTooLong) _ (of_length payload PayloadTooLong tt) (of_length _ MessageTooLong tt))
+    first_counts (over 131072 headers HeadersTooLong) _ (of_length 131072 headers HeadersTooLong tt)
+    (first_counts (over 16777200 payload PayloadTooLong) _ (of_length 16777200 payload PayloadTooLong tt) (of_length 16777216 _ MessageTooLong tt))
 
 of_message : (m : Parts) → IfSome (unframed m) IsFrameFault
 unfolding unframed

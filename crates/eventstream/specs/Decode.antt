@@ -9,7 +9,9 @@ use Rattle.eventstream.specs.declared.decode.StreamEnd.TheVariants.{Clean, Lefto
 use Rattle.eventstream.specs.declared.error.ErrorKind.TheVariants.{NoMemory}
 use Rattle.eventstream.specs.declared.error.Error.{Error}
 use Rattle.eventstream.specs.Error.{error_kind}
-use Rattle.eventstream.specs.Read.{announced}
+use Rattle.eventstream.specs.declared.error.ErrorKind.{ErrorKind}
+use Rattle.eventstream.specs.declared.read.lengths.Lengths.{Lengths}
+use Rattle.eventstream.specs.Read.{read_prelude}
 use Rattle.eventstream.specs.Reading.{First, nothing, leftover, fault, begins, first_of, Begin}
 
 -- the prelude that is kept, and then the bytes of the buffer
@@ -38,11 +40,14 @@ PeeksMessage bytes (Ok None) = IsUnfinished (first_of bytes)
 PeeksMessage bytes (Ok (Some found)) = (found.1 ≤ length bytes) × (first_of bytes ≡ begins found.0 (drop found.1 bytes))
 PeeksMessage bytes (Err e) = (first_of bytes ≡ fault (error_kind e)) ⊎ (error_kind e ≡ NoMemory)
 
--- after a fault the frame is gone, and its prelude forgotten; a prelude that announces less than its own bytes stays
+-- after a fault of its prelude every byte stays; after another fault the frame that it announces is gone, and the prelude forgotten
+abbrev pub LeavesBehind : Result Lengths ErrorKind → List ℕ → Option (List ℕ) → List ℕ → Type 0
+LeavesBehind (Err kind) bytes prelude buffer = KeepsBytes bytes prelude buffer
+LeavesBehind (Ok lengths) bytes prelude buffer = (prelude ≡ None) × (buffer ≡ drop lengths.total bytes)
+
+-- what is left after a fault
 abbrev pub LeavesFault : List ℕ → Option (List ℕ) → List ℕ → Type 0
-LeavesFault bytes prelude buffer =
-    ((announced bytes < prelude_len) × KeepsBytes bytes prelude buffer)
-    ⊎ ((prelude_len ≤ announced bytes) × (prelude ≡ None) × (buffer ≡ drop (announced bytes) bytes))
+LeavesFault bytes = LeavesBehind (read_prelude (take prelude_len bytes)) bytes
 
 -- so many bytes are taken, unless memory ran out
 abbrev pub Finishes : ℕ → Result Parts Error → Option (List ℕ) → Segments → Option (List ℕ) → Segments → Result DecodedFrame Error → Type 0
@@ -84,7 +89,3 @@ abbrev pub end_of : First → StreamEnd
 end_of nothing = Clean
 end_of (leftover bytes) = Leftover (length bytes)
 end_of first = Undecoded
-
--- how many bytes the frame at the front has at least: what it announces, and a prelude before that is there
-abbrev pub least_len : List ℕ → ℕ
-least_len bytes = if nat_lt (length bytes) prelude_len then prelude_len else announced bytes

@@ -22,9 +22,17 @@ most_name = 255
 abbrev pub most_value : ℕ
 most_value = 32767
 
--- the most bytes of a header block, of a payload and of a frame
+-- the most bytes of a frame: 16 MiB, as the services have it
 abbrev pub most_frame : ℕ
-most_frame = 4294967295
+most_frame = 16777216
+
+-- the most bytes of a header block: 128 KiB, as the services have it
+abbrev pub most_block : ℕ
+most_block = 131072
+
+-- the most bytes of a payload: those of the largest frame without headers
+abbrev pub most_payload : ℕ
+most_payload = 16777200
 
 -- the bytes of the smallest frame: a prelude and the closing checksum
 abbrev pub least_frame : ℕ
@@ -92,13 +100,15 @@ frame_len m = least_frame + length (block m.headers) + length m.payload
 unfoldable pub frame : Parts → List ℕ
 frame m = summed (summed (frame_lengths (frame_len m) (length (block m.headers))) ++ block m.headers ++ m.payload)
 
--- the fault, where the number passes the most that 32 bits tell
-abbrev pub over : ℕ → ErrorKind → Option ErrorKind
-over n fault = if nat_lt most_frame n then Some fault else None
+-- the fault, where the number passes the most
+abbrev pub over : ℕ → ℕ → ErrorKind → Option ErrorKind
+over most n fault = if nat_lt most n then Some fault else None
 
 -- why a header block and a payload of these lengths have no frame
 abbrev pub unfit_lengths : ℕ → ℕ → Option ErrorKind
-unfit_lengths headers payload = option_or (over headers HeadersTooLong) (option_or (over payload PayloadTooLong) (over (least_frame + headers + payload) MessageTooLong))
+unfit_lengths headers payload =
+    option_or (over most_block headers HeadersTooLong)
+    (option_or (over most_payload payload PayloadTooLong) (over most_frame (least_frame + headers + payload) MessageTooLong))
 
 -- why a message has no frame: for its headers one by one, and then for the lengths
 unfoldable pub unframed : Parts → Option ErrorKind

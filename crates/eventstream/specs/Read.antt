@@ -11,7 +11,7 @@ use Rattle.smithy_core.specs.declared.header.HeaderValue.{HeaderValue}
 use Rattle.smithy_core.specs.declared.header.HeaderValue.TheVariants.{Bool as Truth, Byte, Int16, Int32, Int64, ByteArray, String as Text, Timestamp, Uuid}
 use Rattle.eventstream.specs.Bind.{◌>>=◌}
 use Rattle.seg_buf.specs.Segments.{prelude_len}
-use Rattle.eventstream.specs.Frame.{least_frame}
+use Rattle.eventstream.specs.Frame.{least_frame, most_block, most_frame}
 use Rattle.eventstream.specs.Kind.{true_kind, false_kind, byte_kind, int16_kind, int32_kind, int64_kind, byte_array_kind, string_kind, timestamp_kind, uuid_kind}
 use Rattle.eventstream.specs.declared.read.lengths.Lengths.{Lengths}
 use Rattle.eventstream.specs.declared.error.Error.{Error}
@@ -114,19 +114,27 @@ headers_of left bytes = headers_within left left bytes
 
 -- ## Frames
 
--- the lengths that the bytes of a prelude tell, where so many bytes are there
-unfoldable pub lengths_of : ℕ → List ℕ → Result Lengths ErrorKind
-lengths_of there prelude =
+-- the lengths that a prelude of twelve bytes tells, or its first fault
+unfoldable pub read_prelude : List ℕ → Result Lengths ErrorKind
+read_prelude prelude =
     let total = u32_at 0 prelude in
     let headers = u32_at 4 prelude in
     let computed = remainder (take 8 prelude) in
     let carried = u32_at 8 prelude in
-    if nat_lt there total then Err InvalidMessageLength
-    else if not (computed == carried) then Err (PreludeChecksumMismatch computed carried)
+    if nat_lt total least_frame then Err InvalidMessageLength
+    else if nat_lt most_frame total then Err InvalidMessageLength
     else if headers == 1 then Err InvalidHeadersLength
-    else if nat_lt total least_frame then Err InvalidMessageLength
+    else if nat_lt most_block headers then Err InvalidHeadersLength
     else if nat_lt (total - least_frame) headers then Err InvalidHeadersLength
-    else Ok (record { total = total; headers = headers })
+    else if computed == carried then Ok (record { total = total; headers = headers })
+    else Err (PreludeChecksumMismatch computed carried)
+
+-- lengths that a frame can have
+pub record AreFit (lengths : Lengths) : Type 0 where
+  pub least : least_frame ≤ lengths.total
+  pub most : lengths.total ≤ most_frame
+  pub block : lengths.headers ≤ most_block
+  pub room : lengths.headers + least_frame ≤ lengths.total
 
 -- the payload behind these headers, where the closing checksum is that of all bytes before it
 unfoldable pub checked_message : Lengths → List ℕ → List ℕ → List Header → Result Parts ErrorKind
@@ -136,13 +144,20 @@ checked_message lengths prelude rest headers =
     if computed == carried then Ok (record { headers = headers; payload = take (lengths.total - least_frame - lengths.headers) (drop lengths.headers rest) })
     else Err (MessageChecksumMismatch computed carried)
 
+-- the message and the length of the frame of these lengths, with its prelude and the bytes after it
+unfoldable pub read_frame : Lengths → List ℕ → List ℕ → Result (Parts × ℕ) ErrorKind
+read_frame lengths prelude rest =
+    if nat_lt (prelude_len + length rest) lengths.total then Err InvalidMessageLength
+    else do
+      headers ← headers_of lengths.headers rest
+      message ← checked_message lengths prelude rest headers
+      Ok (message, lengths.total)
+
 -- the message and the length of the frame with a prelude and the bytes after it
 unfoldable pub read_after : List ℕ → List ℕ → Result (Parts × ℕ) ErrorKind
 read_after prelude rest = do
-  lengths ← lengths_of (prelude_len + length rest) prelude
-  headers ← headers_of lengths.headers rest
-  message ← checked_message lengths prelude rest headers
-  Ok (message, lengths.total)
+  lengths ← read_prelude prelude
+  read_frame lengths prelude rest
 
 -- the message that the bytes begin with, and the length of its frame
 unfoldable pub read : List ℕ → Result (Parts × ℕ) ErrorKind

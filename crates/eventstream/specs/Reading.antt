@@ -2,9 +2,9 @@
 use Rattle.std.specs.Prelude.{◌≡◌, ℕ, zero, suc, ◌==◌, nat_lt, if◌then◌else◌, List, [], ◌∷◌, length, take, drop, Result, Ok, Err}
 use Rattle.smithy_core.specs.Message.{Parts}
 use Rattle.eventstream.specs.declared.error.ErrorKind.{ErrorKind}
-use Rattle.eventstream.specs.declared.error.ErrorKind.TheVariants.{InvalidMessageLength}
+use Rattle.eventstream.specs.declared.read.lengths.Lengths.{Lengths}
 use Rattle.seg_buf.specs.Segments.{prelude_len}
-use Rattle.eventstream.specs.Read.{announced, read}
+use Rattle.eventstream.specs.Read.{read, read_prelude}
 
 -- what a stream begins with
 pub data First : Type 0 where
@@ -15,19 +15,23 @@ pub data First : Type 0 where
   -- a message, and the bytes after its frame
   begins : Parts → List ℕ → First
 
--- the bytes begin with what was read, or with a fault
-abbrev pub as_first : List ℕ → Result (Parts × ℕ) ErrorKind → First
-as_first bytes (Ok message) = begins message.0 (drop (announced bytes) bytes)
-as_first bytes (Err kind) = fault kind
+-- the bytes begin with what was read of the frame of so many bytes, or with a fault
+abbrev pub as_first : ℕ → List ℕ → Result (Parts × ℕ) ErrorKind → First
+as_first total bytes (Ok message) = begins message.0 (drop total bytes)
+as_first total bytes (Err kind) = fault kind
 
--- what the bytes begin with
+-- what the bytes begin with, whose prelude tells this: less than the frame that it announces, or what that frame is read as
+abbrev pub first_behind : List ℕ → Result Lengths ErrorKind → First
+first_behind bytes (Err kind) = fault kind
+first_behind bytes (Ok lengths) =
+    if nat_lt (length bytes) lengths.total then leftover bytes else as_first lengths.total bytes (read (take lengths.total bytes))
+
+-- what the bytes begin with; a prelude is read as soon as it is there
 unfoldable pub first_of : List ℕ → First
 first_of bytes =
     if length bytes == 0 then nothing
     else if nat_lt (length bytes) prelude_len then leftover bytes
-    else if nat_lt (announced bytes) prelude_len then fault InvalidMessageLength
-    else if nat_lt (length bytes) (announced bytes) then leftover bytes
-    else as_first bytes (read (take (announced bytes) bytes))
+    else first_behind bytes (read_prelude (take prelude_len bytes))
 
 -- the bytes begin with these messages, one after another, and then these bytes follow
 abbrev pub Begin : List Parts → List ℕ → List ℕ → Type 0

@@ -1,11 +1,13 @@
-ghost use Rattle.std.specs.Prelude.{◌≡◌, ℕ, List, ◌+◌, ◌-◌, ◌^◌, ◌≤◌, ◌<◌, ◌++◌, length, take, drop, None, Some, IfOk, IfSome};
-ghost use Rattle.eventstream.specs.Decode.{DecodesAll, Finishes, DecodesFrame, appended_messages, end_of, undecoded_bytes, least_len};
+ghost use Rattle.std.specs.Prelude.{◌≡◌, ℕ, List, ◌+◌, ◌≤◌, ◌<◌, ◌++◌, length, take, drop, None, Some, Ok, IfOk};
 ghost use Rattle.seg_buf.specs.Segments.{prelude_len};
-ghost use Rattle.eventstream.specs.Read.{announced};
+ghost use Rattle.eventstream.specs.Decode.{DecodesAll, Finishes, DecodesFrame, appended_messages, end_of, undecoded_bytes};
+ghost use Rattle.eventstream.specs.Frame.{most_frame};
 ghost use Rattle.eventstream.specs.Reading.{first_of};
+ghost use Rattle.eventstream.specs.declared.decode.DecodedFrame.TheVariants.{Incomplete};
 
 use crate::error::{Error, ErrorKind};
-use crate::read::{announced, read_after, read_message_from};
+use crate::peek::read_front;
+use crate::read::{read_frame, read_prelude};
 use seg_buf::{PRELUDE, SegBuf};
 use smithy_core::{Mem, Message};
 use std::alloc::Global;
@@ -87,14 +89,15 @@ impl MessageFrameDecoder {
     /// # Errors
     ///
     /// Those of [`read_message_from`](crate::read_message_from) for the bytes of the frame, which is taken
-    /// whole. A prelude that announces fewer bytes than its own is [`ErrorKind::InvalidMessageLength`], now
-    /// and at each later call. After [`ErrorKind::NoMemory`] nothing has changed.
+    /// whole. A fault of the prelude is answered as soon as its twelve bytes are there, now and at each later call,
+    /// and nothing more is taken. After [`ErrorKind::NoMemory`] nothing has changed.
     pub fn decode_frame(
         &mut self,
         alloc: Global,
         buffer: &mut SegBuf,
     ) -> Result<DecodedFrame, Error>
         ensures step { DecodesFrame self.old buffer.old self.new buffer.new result }
+        ensures short { result ≡ Ok Incomplete → length (undecoded_bytes self.new buffer.new.bytes) < most_frame }
         ensures spare { buffer.old.spare ≤ buffer.new.spare }
     {
         match self.prelude {
@@ -142,14 +145,16 @@ impl MessageFrameDecoder {
     }
 
     /// How the stream ends, where no byte follows those of the buffer.
+    #[tactic(auto, using(crate::proofs::FrontLemmas::short_is, crate::proofs::DecodeLemmas::kept_first))]
     pub fn end(&self, buffer: &SegBuf) -> StreamEnd
         ensures { result ≡ end_of (first_of (undecoded_bytes self.now buffer.now.bytes)) }
     {
         let left = buffer.remaining();
         match self.prelude {
-            Some(prelude) => end_within(announced(&prelude), PRELUDE, left),
-            None if left < PRELUDE => end_within(PRELUDE, 0, left),
-            None => end_within(front_announced(buffer), 0, left),
+            Some(prelude) => end_behind(&prelude, PRELUDE, left),
+            None if left == 0 => StreamEnd::Clean,
+            None if left < PRELUDE => StreamEnd::Leftover(left),
+            None => end_behind(&buffer.peek_prelude(), 0, left),
         }
     }
 
@@ -162,18 +167,16 @@ impl MessageFrameDecoder {
     ) -> Result<DecodedFrame, Error>
         requires { self.old ≡ Some prelude }
         ensures step { DecodesFrame self.old buffer.old self.new buffer.new result }
+        ensures short { result ≡ Ok Incomplete → length (undecoded_bytes self.new buffer.new.bytes) < most_frame }
         ensures spare { buffer.old.spare ≤ buffer.new.spare }
     {
-        let total = announced(&prelude);
-        if total < PRELUDE {
-            return Err(Error::from(ErrorKind::InvalidMessageLength));
-        }
-        let left = total - PRELUDE;
+        let lengths = read_prelude(&prelude)?;
+        let left = lengths.total - PRELUDE;
         if buffer.remaining() < left {
             return Ok(DecodedFrame::Incomplete);
         }
         let rest = buffer.copy_front(left)?;
-        let read = read_after(alloc, prelude, &rest);
+        let read = read_frame(alloc, lengths, prelude, &rest);
         self.finish(buffer, left, read)
     }
 
@@ -181,23 +184,28 @@ impl MessageFrameDecoder {
     fn decode_whole(&mut self, alloc: Global, buffer: &mut SegBuf) -> Result<DecodedFrame, Error>
         requires { self.old ≡ None }
         ensures step { DecodesFrame self.old buffer.old self.new buffer.new result }
+        ensures short { result ≡ Ok Incomplete → length (undecoded_bytes self.new buffer.new.bytes) < most_frame }
         ensures spare { buffer.old.spare ≤ buffer.new.spare }
     {
-        if buffer.remaining() < PRELUDE {
+        let there = buffer.remaining();
+        if there < PRELUDE {
             return Ok(DecodedFrame::Incomplete);
         }
-        let total = front_announced(buffer);
-        if total < PRELUDE {
-            self.prelude = Some(buffer.take_prelude());
-            return Err(Error::from(ErrorKind::InvalidMessageLength));
+        let prelude = buffer.peek_prelude();
+        match read_prelude(&prelude) {
+            Ok(lengths) if lengths.total <= there => {
+                let read = read_front(alloc, lengths, prelude, buffer);
+                self.finish(buffer, lengths.total, read)
+            }
+            Ok(_) => {
+                self.prelude = Some(buffer.take_prelude());
+                Ok(DecodedFrame::Incomplete)
+            }
+            Err(kind) => {
+                self.prelude = Some(buffer.take_prelude());
+                Err(Error::from(kind))
+            }
         }
-        if buffer.remaining() < total {
-            self.prelude = Some(buffer.take_prelude());
-            return Ok(DecodedFrame::Incomplete);
-        }
-        let mut frame = buffer.copy_front(total)?;
-        let read = read_message_from(alloc, &mut frame);
-        self.finish(buffer, total, read)
     }
 
     // Takes the bytes of a frame that was read, whatever came of it, unless memory ran out.
@@ -237,44 +245,18 @@ impl MessageFrameDecoder {
     }
 }
 
-/// The length that the first four bytes announce.
-#[tactic(auto, unfolding(crate::specs::Read::big_endian))]
-pub fn front_announced(buffer: &SegBuf) -> usize
-    requires { 4 ≤ length buffer.now.bytes }
-    ensures is { result ≡ announced buffer.now.bytes }
-    ensures bound { result < 2 ^ 32 }
-{
-    if let Some(front) = four_of_first(buffer) {
-        return u32::from_be_bytes(front) as usize;
-    }
-    let front = [
-        buffer.peek(0),
-        buffer.peek(1),
-        buffer.peek(2),
-        buffer.peek(3),
-    ];
-    u32::from_be_bytes(front) as usize
-}
-
-// The first four bytes, where they lie in the first segment, as they mostly do.
-#[tactic(auto, using(crate::proofs::FrontLemmas::four_in_first))]
-fn four_of_first(buffer: &SegBuf) -> Option<[u8; 4]>
-    ensures { IfSome result (λ front. front ≡ take 4 buffer.now.bytes) }
-{
-    let (front, _) = buffer.first()?.split_first_chunk::<4>()?;
-    Some(*front)
-}
-
-// How a stream ends with `kept` and then `left` bytes of a frame that has at least `least` bytes.
-fn end_within(least: usize, kept: usize, left: usize) -> StreamEnd
+// How a stream ends with `kept` and then `left` bytes, of which the first are this prelude.
+#[tactic(auto, using(crate::proofs::EndLemmas::end_bad, crate::proofs::EndLemmas::end_whole, crate::proofs::EndLemmas::end_leftover))]
+fn end_behind(prelude: &[u8; PRELUDE], kept: usize, left: usize) -> StreamEnd
     requires { kept ≤ prelude_len }
-    ensures { (bytes : List ℕ) → length bytes ≡ kept + left → least ≡ least_len bytes → result ≡ end_of (first_of bytes) }
+    ensures end { (bytes : List ℕ) → length bytes ≡ kept + left → prelude_len ≤ length bytes → take prelude_len bytes ≡ prelude.now → result ≡ end_of (first_of bytes) }
+    ensures len { length prelude.now ≡ prelude_len }
 {
-    if least < PRELUDE || least - kept <= left {
+    let Ok(lengths) = read_prelude(prelude) else {
+        return StreamEnd::Undecoded;
+    };
+    if lengths.total - kept <= left {
         return StreamEnd::Undecoded;
     }
-    match kept + left {
-        0 => StreamEnd::Clean,
-        there => StreamEnd::Leftover(there),
-    }
+    StreamEnd::Leftover(kept + left)
 }

@@ -1,9 +1,11 @@
-ghost use Rattle.std.specs.Prelude.{◌≡◌, ◌<◌, ◌^◌, length, Ok, None};
+ghost use Rattle.std.specs.Prelude.{◌≡◌, ◌<◌, ◌≤◌, length, take, Ok, None};
+ghost use Rattle.seg_buf.specs.Segments.{prelude_len};
 ghost use Rattle.eventstream.specs.Decode.{PeeksMessage};
+ghost use Rattle.eventstream.specs.Frame.{most_frame};
+ghost use Rattle.eventstream.specs.Read.{AreFit, GivesMessage, read, read_prelude};
 
-use crate::decode::front_announced;
-use crate::error::{Error, ErrorKind};
-use crate::read::read_message_from;
+use crate::error::Error;
+use crate::read::{Lengths, read_frame, read_prelude};
 use seg_buf::{PRELUDE, SegBuf};
 use smithy_core::Message;
 use std::alloc::Global;
@@ -13,24 +15,44 @@ use std::alloc::Global;
 ///
 /// # Errors
 ///
-/// Those of [`read_message_from`] for the bytes of the frame. A prelude that announces fewer bytes than its own is
-/// [`ErrorKind::InvalidMessageLength`].
-#[tactic(auto, using(crate::proofs::FrontLemmas::first_short, crate::proofs::FrontLemmas::first_bad, crate::proofs::DecodeLemmas::more_unfinished))]
+/// Those of [`read_message_from`](crate::read_message_from) for the bytes of the frame; those of a prelude as soon as its
+/// twelve bytes are there.
+#[tactic(auto, using(crate::proofs::FrontLemmas::first_short, crate::proofs::FrontLemmas::first_bad, crate::proofs::FrontLemmas::more_unfinished, crate::proofs::DecodeLemmas::reads_first, crate::proofs::DecodeLemmas::peeks_fault))]
 pub fn peek_message(alloc: Global, buffer: &SegBuf) -> Result<Option<(Message, usize)>, Error>
     ensures first { PeeksMessage buffer.now.bytes result }
-    ensures short { result ≡ Ok None → length buffer.now.bytes < 2 ^ 32 }
+    ensures short { result ≡ Ok None → length buffer.now.bytes < most_frame }
 {
     if buffer.remaining() < PRELUDE {
         return Ok(None);
     }
-    let len = front_announced(buffer);
-    if len < PRELUDE {
-        return Err(Error::from(ErrorKind::InvalidMessageLength));
-    }
-    if buffer.remaining() < len {
+    let prelude = buffer.peek_prelude();
+    let lengths = read_prelude(&prelude)?;
+    if buffer.remaining() < lengths.total {
         return Ok(None);
     }
-    let mut frame = buffer.copy_front(len)?;
-    let message = read_message_from(alloc, &mut frame)?;
-    Ok(Some((message, len)))
+    let message = read_front(alloc, lengths, prelude, buffer)?;
+    Ok(Some((message, lengths.total)))
+}
+
+/// The message of the frame at the front of the buffer, whose prelude was read. The buffer keeps it.
+///
+/// # Errors
+///
+/// Those of [`read_frame`].
+#[tactic(auto, using(crate::proofs::FrontLemmas::read_front))]
+pub(crate) fn read_front(
+    alloc: Global,
+    lengths: Lengths,
+    prelude: [u8; PRELUDE],
+    buffer: &SegBuf,
+) -> Result<Message, Error>
+    requires fit { AreFit lengths }
+    requires told { read_prelude (take prelude_len buffer.now.bytes) ≡ Ok lengths }
+    requires front { prelude ≡ take prelude_len buffer.now.bytes }
+    requires there { lengths.total ≤ length buffer.now.bytes }
+    ensures { GivesMessage (read (take lengths.total buffer.now.bytes)) lengths.total result }
+{
+    let mut frame = buffer.copy_front(lengths.total)?;
+    frame.advance(PRELUDE);
+    read_frame(alloc, lengths, prelude, &frame)
 }

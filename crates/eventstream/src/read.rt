@@ -1,8 +1,7 @@
 ghost use Rattle.std.specs.Prelude.{◌≡◌, ℕ, ◌+◌, ◌-◌, ◌≤◌, ◌<◌, ◌^◌, ◌++◌, length, take, drop, OnOk};
 ghost use Rattle.mac_core.specs.Crc.{remainder};
 ghost use Rattle.seg_buf.specs.Segments.{prelude_len};
-ghost use Rattle.eventstream.specs.Frame.{least_frame};
-ghost use Rattle.eventstream.specs.Read.{headers_of, lengths_of, checked_message, read, read_after, u32_at, announced, GivesRead, GivesMessage, TakesMessage};
+ghost use Rattle.eventstream.specs.Read.{AreFit, headers_of, checked_message, read, read_frame, u32_at, GivesRead, GivesMessage, TakesMessage};
 
 mod header;
 mod headers;
@@ -10,7 +9,8 @@ mod lengths;
 
 use crate::error::{Error, ErrorKind};
 use crate::read::headers::read_headers;
-use crate::read::lengths::{Lengths, read_lengths, u32_at};
+use crate::read::lengths::u32_at;
+pub(crate) use crate::read::lengths::{Lengths, read_prelude};
 use crate::write::LEAST_FRAME;
 use bytes::Bytes;
 use mac_core::Crc;
@@ -22,12 +22,12 @@ use std::alloc::Global;
 ///
 /// # Errors
 ///
-/// The first fault decides, in this order: fewer bytes than a prelude or than the frame announces,
-/// [`ErrorKind::InvalidMessageLength`]; [`ErrorKind::PreludeChecksumMismatch`]; a header block of one byte,
-/// [`ErrorKind::InvalidHeadersLength`]; a frame under 16 bytes, [`ErrorKind::InvalidMessageLength`]; a header block
-/// longer than the frame, [`ErrorKind::InvalidHeadersLength`]; the headers in order, each read from all bytes that are
-/// there; [`ErrorKind::MessageChecksumMismatch`]. A refused call takes nothing.
-#[tactic(auto, using(crate::proofs::FrontLemmas::announced_prelude), unfolding(crate::specs::Read::read))]
+/// The first fault decides, in this order: fewer bytes than a prelude, [`ErrorKind::InvalidMessageLength`]; a frame under 16
+/// or over 16,777,216 bytes, [`ErrorKind::InvalidMessageLength`]; a header block of one byte, of over 131,072 bytes, or longer
+/// than the frame, [`ErrorKind::InvalidHeadersLength`]; [`ErrorKind::PreludeChecksumMismatch`]; fewer bytes than the frame
+/// announces, [`ErrorKind::InvalidMessageLength`]; the headers in order, each read from all bytes that are there;
+/// [`ErrorKind::MessageChecksumMismatch`]. A refused call takes nothing.
+#[tactic(auto, using(crate::proofs::FrontLemmas::announced_prelude), unfolding(crate::specs::Read::read, crate::specs::Read::read_after))]
 pub fn read_message_from(alloc: Global, buffer: &mut Bytes) -> Result<Message, Error>
     ensures { TakesMessage (read buffer.old) buffer.old buffer.new result }
 {
@@ -35,33 +35,34 @@ pub fn read_message_from(alloc: Global, buffer: &mut Bytes) -> Result<Message, E
         return Err(Error::from(ErrorKind::InvalidMessageLength));
     };
     let prelude = *prelude;
+    let lengths = read_prelude(&prelude)?;
     let rest = buffer.slice(PRELUDE..)?;
-    let message = read_after(alloc, prelude, &rest)?;
-    buffer.advance(announced(&prelude));
+    let message = read_frame(alloc, lengths, prelude, &rest)?;
+    buffer.advance(lengths.total);
     Ok(message)
 }
 
-/// The message of the frame with this prelude and the bytes after it.
+/// The message of the frame of these lengths, with its prelude and the bytes after it.
 ///
 /// # Errors
 ///
-/// As [`read_message_from`].
-#[tactic(auto, unfolding(crate::specs::Read::read_after))]
-pub fn read_after(alloc: Global, prelude: [u8; PRELUDE], rest: &Bytes) -> Result<Message, Error>
-    ensures read { GivesMessage (read_after prelude rest.now) (announced prelude) result }
-    ensures there { OnOk result (announced prelude ≤ prelude_len + length rest.now) }
+/// Those of [`read_message_from`] behind the prelude's own.
+#[tactic(auto, unfolding(crate::specs::Read::read_frame))]
+pub fn read_frame(
+    alloc: Global,
+    lengths: Lengths,
+    prelude: [u8; PRELUDE],
+    rest: &Bytes,
+) -> Result<Message, Error>
+    requires fit { AreFit lengths }
+    ensures read { GivesMessage (read_frame lengths prelude rest.now) lengths.total result }
+    ensures there { OnOk result (lengths.total ≤ prelude_len + length rest.now) }
 {
-    let lengths = read_lengths(PRELUDE + rest.len(), prelude)?;
+    if PRELUDE + rest.len() < lengths.total {
+        return Err(Error::from(ErrorKind::InvalidMessageLength));
+    }
     let headers = read_headers(alloc, lengths.headers, rest.clone()?)?;
     read_message(lengths, prelude, rest, headers)
-}
-
-/// The length of the frame that a prelude announces.
-pub fn announced(prelude: &[u8; PRELUDE]) -> usize
-    ensures value { result ≡ announced prelude.now }
-    ensures len { length prelude.now ≡ prelude_len }
-{
-    u32_at(prelude.as_slice(), 0) as usize
 }
 
 // The message of these headers and the payload behind them, where the closing checksum is right.
@@ -72,7 +73,8 @@ fn read_message(
     rest: &Bytes,
     headers: Vec<Header>,
 ) -> Result<Message, Error>
-    requires { (least_frame ≤ lengths.total) × (lengths.total ≤ prelude_len + length rest.now) × (lengths.headers + least_frame ≤ lengths.total) }
+    requires fit { AreFit lengths }
+    requires there { lengths.total ≤ prelude_len + length rest.now }
     ensures { GivesRead (checked_message lengths prelude rest.now headers.items) result }
 {
     let end = lengths.total - LEAST_FRAME;

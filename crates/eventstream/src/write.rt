@@ -21,8 +21,14 @@ const MOST_VALUE: usize = 32_767;
 /// The bytes that the headers of a usual message take, those of a signed one among them.
 const HEADERS_ROOM: usize = 128;
 
-/// The most bytes of a header block, of a payload and of a frame.
-const MOST_FRAME: usize = 4_294_967_295;
+/// The most bytes of a frame: 16 MiB, as the services have it.
+pub(crate) const MOST_FRAME: usize = 16_777_216;
+
+/// The most bytes of a header block: 128 KiB, as the services have it.
+pub(crate) const MOST_BLOCK: usize = 131_072;
+
+/// The most bytes of a payload: those of the largest frame without headers.
+const MOST_PAYLOAD: usize = MOST_FRAME - LEAST_FRAME;
 
 /// The bytes of the smallest frame, which has neither headers nor a payload: a prelude and the closing checksum.
 pub(crate) const LEAST_FRAME: usize = 16;
@@ -54,8 +60,9 @@ pub fn write_headers_to(
 ///
 /// # Errors
 ///
-/// As [`write_headers_to`], and then [`ErrorKind::HeadersTooLong`], [`ErrorKind::PayloadTooLong`] and
-/// [`ErrorKind::MessageTooLong`], in this order. A refused call appends nothing.
+/// As [`write_headers_to`], and then, in this order, [`ErrorKind::HeadersTooLong`] for a header block of over 131,072 bytes,
+/// [`ErrorKind::PayloadTooLong`] for a payload of over 16,777,200 and [`ErrorKind::MessageTooLong`] for a frame of over
+/// 16,777,216. A refused call appends nothing.
 #[tactic(auto, unfolding(crate::specs::Frame::frame, crate::specs::Frame::unframed))]
 pub fn write_message_to(alloc: Global, message: &Message, buffer: &mut Vec<u8>) -> Result<(), Error>
     ensures { Writes (unframed message.now) (frame message.now) buffer.old.items buffer.new.items result }
@@ -141,10 +148,10 @@ fn test_lengths(headers: usize, payload: usize) -> Result<(), ErrorKind>
         (λ _. (least_frame + headers + payload ≤ most_frame) × (unfit_lengths headers payload ≡ None))
         (λ kind. unfit_lengths headers payload ≡ Some kind) }
 {
-    if headers > MOST_FRAME {
+    if headers > MOST_BLOCK {
         return Err(ErrorKind::HeadersTooLong);
     }
-    if payload > MOST_FRAME {
+    if payload > MOST_PAYLOAD {
         return Err(ErrorKind::PayloadTooLong);
     }
     if LEAST_FRAME + headers + payload > MOST_FRAME {

@@ -197,6 +197,16 @@ impl SegBuf {
         }
     }
 
+    /// The bytes of a prelude, which come first, and stay. It takes no memory.
+    pub fn peek_prelude(&self) -> [u8; PRELUDE]
+        requires { prelude_len ≤ length self.now.bytes }
+        ensures { result ≡ take prelude_len self.now.bytes }
+    {
+        let mut prelude = [0; PRELUDE];
+        self.copy_into(&mut prelude);
+        prelude
+    }
+
     /// Takes the bytes of a prelude, which come first. It takes no memory.
     pub fn take_prelude(&mut self) -> [u8; PRELUDE]
         requires { prelude_len ≤ length self.old.bytes }
@@ -206,9 +216,8 @@ impl SegBuf {
         ensures segments { self.new.segments ≡ cut prelude_len self.old.segments }
         ensures spare { self.old.spare ≤ self.new.spare }
     {
-        let mut prelude = [0; PRELUDE];
-        self.copy_into(&mut prelude);
-        self.advance(prelude.len());
+        let prelude = self.peek_prelude();
+        self.advance(PRELUDE);
         prelude
     }
 

@@ -24,7 +24,7 @@ use Rattle.eventstream.specs.Kind.{byte_array_kind}
 use Rattle.eventstream.specs.Laws.{IsProper, IsProperHeader, floored_message}
 use Rattle.eventstream.specs.Link.{chain, date_header, link_code, link_message, link_signature}
 use Rattle.eventstream.proofs.FrameLemmas.{length-be32, length-frame}
-use Rattle.eventstream.proofs.LinkLemmas.{length-link_code, link_framed}
+use Rattle.eventstream.proofs.LinkLemmas.{length-link_code, link_framed, unfit-none}
 use Rattle.aws_auth.specs.MessageSigner.{SignerState, signer_in}
 use Rattle.chain_check.specs.Chain.{IsWholeChain}
 use Rattle.chain_check.specs.Walk.{chain_events}
@@ -60,19 +60,12 @@ drawn_short : (draw : ℕ) → drawn_len (next_draw draw) < 64
 unfolding drawn_len
 drawn_short draw = omega (arith, draw_fits draw)
 
-unfit-none : (headers payload : ℕ) → 16 + headers + payload ≤ 4294967295 → unfit_lengths headers payload ≡ None
-unfit-none headers payload short =
-    let h : nat_lt 4294967295 headers ≡ false = grind (arith, nat_tests) in
-    let p : nat_lt 4294967295 payload ≡ false = grind (arith, nat_tests) in
-    let all : nat_lt 4294967295 (16 + headers + payload) ≡ false = grind (arith, nat_tests) in
-    rw (h, p, all) refl
-
 -- the event of a draw has a frame
 event_framed : (draw : ℕ) → drawn_len draw < 64 → unframed (drawn_event draw) ≡ None
 unfolding drawn_event unframed unspelled_value value_spelling
 event_framed draw short =
     let payload : length (drawn_bytes (drawn_len draw) draw) ≡ drawn_len draw = length-drawn_bytes (drawn_len draw) draw in
-    rw payload (unfit-none 11 (drawn_len draw) (omega arith))
+    rw payload (unfit-none 11 (drawn_len draw) (omega arith) (omega arith))
 
 event_len : (draw : ℕ) → drawn_len draw < 64 → length (frame (drawn_event draw)) ≤ 90
 unfolding drawn_event value_spelling

@@ -1,14 +1,14 @@
 ghost use Rattle.std.specs.Prelude.{◌≡◌, ℕ, ◌+◌, ◌≤◌, length, IfOk};
 ghost use Rattle.std.specs.Int.{w32};
-ghost use Rattle.eventstream.specs.Frame.{least_frame};
-ghost use Rattle.eventstream.specs.Read.{big_endian, lengths_of, u32_at, announced};
+ghost use Rattle.seg_buf.specs.Segments.{prelude_len};
+ghost use Rattle.eventstream.specs.Read.{AreFit, big_endian, read_prelude, u32_at, announced};
 
 use crate::error::ErrorKind;
-use crate::write::LEAST_FRAME;
+use crate::write::{LEAST_FRAME, MOST_BLOCK, MOST_FRAME};
 use mac_core::crc32;
 use seg_buf::PRELUDE;
 
-/// The bytes of a frame, and of its header block.
+/// The bytes of a frame, and of its header block, as its prelude tells them.
 #[derive(Clone, Copy, Debug)]
 pub struct Lengths {
     /// The bytes of the whole frame.
@@ -17,30 +17,33 @@ pub struct Lengths {
     pub headers: usize,
 }
 
-/// The lengths that a prelude tells, where so many bytes are there.
-#[tactic(auto, unfolding(crate::specs::Read::lengths_of))]
-pub fn read_lengths(there: usize, prelude: [u8; PRELUDE]) -> Result<Lengths, ErrorKind>
-    ensures lengths { result ≡ lengths_of there prelude }
-    ensures fit { IfOk result (λ lengths. (lengths.total ≡ announced prelude) × (least_frame ≤ lengths.total) × (lengths.total ≤ there) × (lengths.headers + least_frame ≤ lengths.total)) }
+/// The lengths that a prelude tells. They are tested before anything else is read, so that nobody waits for, or makes room
+/// for, a frame that no service sends.
+///
+/// # Errors
+///
+/// The first fault decides: a frame under 16 or over 16,777,216 bytes, [`ErrorKind::InvalidMessageLength`]; a header block of
+/// one byte, of over 131,072 bytes, or longer than the frame, [`ErrorKind::InvalidHeadersLength`];
+/// [`ErrorKind::PreludeChecksumMismatch`].
+#[tactic(auto, unfolding(crate::specs::Read::read_prelude))]
+pub fn read_prelude(prelude: &[u8; PRELUDE]) -> Result<Lengths, ErrorKind>
+    ensures lengths { result ≡ read_prelude prelude.now }
+    ensures total { IfOk result (λ lengths. lengths.total ≡ announced prelude.now) }
+    ensures fit { IfOk result AreFit }
+    ensures len { length prelude.now ≡ prelude_len }
 {
     let total = u32_at(prelude.as_slice(), 0) as usize;
     let headers = u32_at(prelude.as_slice(), 4) as usize;
+    if total < LEAST_FRAME || total > MOST_FRAME {
+        return Err(ErrorKind::InvalidMessageLength);
+    }
+    if headers == 1 || headers > MOST_BLOCK || headers > total - LEAST_FRAME {
+        return Err(ErrorKind::InvalidHeadersLength);
+    }
     let computed = crc32(&prelude[..8]);
     let carried = u32_at(prelude.as_slice(), 8);
-    if there < total {
-        return Err(ErrorKind::InvalidMessageLength);
-    }
     if computed != carried {
         return Err(ErrorKind::PreludeChecksumMismatch(computed, carried));
-    }
-    if headers == 1 {
-        return Err(ErrorKind::InvalidHeadersLength);
-    }
-    if total < LEAST_FRAME {
-        return Err(ErrorKind::InvalidMessageLength);
-    }
-    if total - LEAST_FRAME < headers {
-        return Err(ErrorKind::InvalidHeadersLength);
     }
     Ok(Lengths { total, headers })
 }

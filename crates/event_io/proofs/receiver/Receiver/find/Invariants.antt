@@ -8,6 +8,6 @@ use Rattle.event_io.proofs.receiver.Receiver.find.Given as goal
 abbrev pub invariant-frames : goal.invariant-frames
 invariant-frames g l = Turned g.F.FrameSource l.fn.self l.self l.idle
 
--- a frame without data counts, and another brings bytes, of which a frame has less than 2^32
+-- a frame without data counts, and another brings bytes, of which there are less than a frame before it
 abbrev pub decreases-frames : goal.decreases-frames
 decreases-frames g l = (most_idle - l.idle) + (8589934592 - length (taken_bytes l.self))
