@@ -28,11 +28,12 @@ pub trait FrameSource {
     /// The next frame.
     ///
     /// [`Polled::NotYet`] comes only where the count of waits rose, or is saturated, and
-    /// [`Polled::Failed`] only where the count of faults did. After [`Polled::End`] each call answers it again. A piece of data
-    /// has at most 4,294,967,295 bytes.
+    /// [`Polled::Failed`] only where the count of faults did. Any answer but the last leaves the count of faults. After
+    /// [`Polled::End`] each call answers it again. A piece of data has at most 4,294,967,295 bytes.
     fn poll_frame(&mut self) -> Polled
         ensures count { faults self.old ≤ faults self.new }
         ensures cause { result ≡ polled.Failed → RoseOrStands (faults self.old) (faults self.new) }
+        ensures steady { (result ≡ polled.Failed → ⊥) → faults self.new ≡ faults self.old }
         ensures waits { waits self.old ≤ waits self.new }
         ensures waited { result ≡ polled.NotYet → RoseOrStands (waits self.old) (waits self.new) }
         ensures gives { GivesFrame (left self.old) (left self.new) result }
