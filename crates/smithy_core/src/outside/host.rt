@@ -1,4 +1,4 @@
-ghost use Rattle.std.specs.Prelude.{◌≡◌, None};
+ghost use Rattle.std.specs.Prelude.{◌≡◌, ◌≤◌, None, length, IfOk};
 ghost use Rattle.smithy_core.specs.Host.{failed_files, failed_reads, failed_writes};
 
 use crate::moment::Moment;
@@ -10,10 +10,12 @@ use crate::outside::source::{ByteSource, Failed};
 use std::alloc::Global;
 use std::fs::{File, Files};
 use std::io::{ErrorKind, Read, Write};
+use std::num::TryFromIntError;
 use std::rt;
 use std::time::{SystemTime, UNIX_EPOCH};
 
-/// Standard input. Contracts aren't told what it has left.
+/// Standard input. Contracts aren't told what it has left. A read that a signal interrupted is made again, up to
+/// 18,446,744,073,709,551,615 times.
 #[derive(Drop)]
 pub struct StdSource<R> {
     reader: R,
@@ -36,17 +38,30 @@ impl<R: Read> ByteSource for StdSource<R> {
     ghost faults = { failed_reads };
 
     fn read(&mut self, into: &mut [u8]) -> Result<usize, Failed> {
-        match self.reader.read(into) {
-            Ok(n) => Ok(n),
-            Err(_) => {
-                self.faults = self.faults.saturating_add(1);
-                Err(Failed)
-            }
+        let read = read_uninterrupted(&mut self.reader, into);
+        if read.is_err() {
+            self.faults = self.faults.saturating_add(1);
         }
+        read
     }
 }
 
-/// Standard output or error. Contracts aren't told what it holds. Each write is flushed.
+// Reads, and again where a signal interrupted the read.
+fn read_uninterrupted<R: Read>(reader: &mut R, into: &mut [u8]) -> Result<usize, Failed>
+    ensures { IfOk result (λ n. n ≤ length into.old) }
+{
+    for _ in 0..u64::MAX {
+        match reader.read(into) {
+            Ok(n) => return Ok(n),
+            Err(e) if e.kind() == ErrorKind::Interrupted => (),
+            Err(_) => return Err(Failed),
+        }
+    }
+    Err(Failed)
+}
+
+/// Standard output or error. Contracts aren't told what it holds. Each write is flushed. A write and a flush that a signal
+/// interrupted are made again, up to 18,446,744,073,709,551,615 times each.
 #[derive(Drop)]
 pub struct StdSink<W> {
     writer: W,
@@ -69,8 +84,8 @@ impl<W: Write> ByteSink for StdSink<W> {
     ghost faults = { failed_writes };
 
     fn write(&mut self, piece: &[u8]) -> Result<usize, SinkError> {
-        let written = self.writer.write(piece);
-        let flushed = self.writer.flush();
+        let written = write_uninterrupted(&mut self.writer, piece);
+        let flushed = flush_uninterrupted(&mut self.writer);
         match (written, flushed) {
             (Ok(n), Ok(())) if n > 0 || piece.is_empty() => Ok(n),
             _ => {
@@ -79,6 +94,32 @@ impl<W: Write> ByteSink for StdSink<W> {
             }
         }
     }
+}
+
+// Writes, and again where a signal interrupted the write.
+fn write_uninterrupted<W: Write>(writer: &mut W, piece: &[u8]) -> Result<usize, Failed>
+    ensures { IfOk result (λ n. n ≤ length piece.now) }
+{
+    for _ in 0..u64::MAX {
+        match writer.write(piece) {
+            Ok(n) => return Ok(n),
+            Err(e) if e.kind() == ErrorKind::Interrupted => (),
+            Err(_) => return Err(Failed),
+        }
+    }
+    Err(Failed)
+}
+
+// Flushes, and again where a signal interrupted the flush.
+fn flush_uninterrupted<W: Write>(writer: &mut W) -> Result<(), Failed> {
+    for _ in 0..u64::MAX {
+        match writer.flush() {
+            Ok(()) => return Ok(()),
+            Err(e) if e.kind() == ErrorKind::Interrupted => (),
+            Err(_) => return Err(Failed),
+        }
+    }
+    Err(Failed)
 }
 
 /// The most bytes of a file that a [`HostDisk`] reads.
@@ -134,7 +175,8 @@ fn read_file<R: Files>(alloc: Global, runtime: &R, path: &str) -> Result<Vec<u8>
     }
 }
 
-/// The clock of the operating system. Contracts aren't told what it gave. Where the runtime gives no time it answers second 0.
+/// The clock of the operating system. Contracts aren't told what it gave. Where the runtime gives no time it answers second 0,
+/// and the runtime gives none while the system's clock is set before 1970, since it counts from there without a sign.
 #[derive(Drop)]
 pub struct SystemClock<R> {
     runtime: R,
@@ -160,12 +202,18 @@ impl<R: rt::Clock> Clock for SystemClock<R> {
     }
 }
 
+// The moment, its seconds rounded down; before 1970 too, where a runtime tells such a time.
 fn moment_of(time: SystemTime) -> Moment {
-    match time.duration_since(UNIX_EPOCH) {
-        Ok(since) => match i64::try_from(since.as_secs()) {
-            Ok(secs) => Moment::new(secs, since.subsec_nanos()),
-            Err(_) => Moment::new(0, 0),
-        },
+    match nanos_of(time) {
+        Ok(nanos) => Moment::from_nanos(nanos).unwrap_or(Moment::new(0, 0)),
         Err(_) => Moment::new(0, 0),
+    }
+}
+
+// The nanoseconds since 1970, or the negated ones before it.
+fn nanos_of(time: SystemTime) -> Result<i128, TryFromIntError> {
+    match time.duration_since(UNIX_EPOCH) {
+        Ok(since) => i128::try_from(since.as_nanos()),
+        Err(before) => Ok(-i128::try_from(before.duration().as_nanos())?),
     }
 }

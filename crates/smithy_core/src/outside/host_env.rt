@@ -5,8 +5,11 @@ use std::env::{Env as Variables, FillError};
 use std::str;
 
 impl Env {
-    /// The environment variables of the process. Contracts aren't told what they hold. Those that aren't UTF-8 are left out,
-    /// and of equal names the first one counts, as it does for the operating system.
+    /// The environment variables of the process. Contracts aren't told what they hold.
+    ///
+    /// Left out are a variable whose name or value isn't UTF-8, one whose name is empty, an entry without `=`, and, of equal
+    /// names, each but the first, which is the one that counts for the operating system. A variable that is set to an empty
+    /// value is kept.
     pub fn real<R: Variables>(alloc: Global, runtime: &R) -> Mem<Env> {
         let mut env = Env::new(alloc);
         for at in 0..usize::MAX {
