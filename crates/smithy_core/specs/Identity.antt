@@ -1,6 +1,7 @@
 -- What contracts see of credentials and identities.
-use Rattle.std.specs.Prelude.{◌≡◌, ℕ, List, Option, option_map, String, string_bytes}
+use Rattle.std.specs.Prelude.{◌≡◌, ℕ, List, [], Option, Some, None, option_map, if◌then◌else◌, String, string_bytes}
 use Rattle.std.specs.declared.alloc.Global.{Global}
+use Rattle.smithy_core.specs.Civil.{is_in_years}
 use Rattle.smithy_core.specs.Moment.{Instant}
 use Rattle.smithy_core.specs.declared.identity.Credentials.{Credentials}
 use Rattle.smithy_core.specs.declared.identity.Identity.{Identity}
@@ -43,3 +44,13 @@ IsSameIdentity _ _ = ⊥
 abbrev pub IsCredentials : Identity → Type 0
 IsCredentials (OfCredentials credentials) = Unit {0}
 IsCredentials (Token token) = ⊥
+
+-- the secret of credentials, and nothing of a token
+abbrev pub secret_of : Identity → List ℕ
+secret_of (OfCredentials credentials) = secret_access_key credentials
+secret_of (Token token) = []
+
+-- why an identity signs nothing at a moment, in the words of an error: it has no secret, or the moment lies outside the years 0 to 9999
+abbrev pub unsigned_for : {E : Type 0} → E → (Instant → E) → Identity → Instant → Option E
+unsigned_for no_secret out_of_years (Token token) t = Some no_secret
+unsigned_for no_secret out_of_years (OfCredentials credentials) t = if is_in_years t then None else Some (out_of_years t)

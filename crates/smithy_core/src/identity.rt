@@ -1,5 +1,5 @@
 ghost use Rattle.std.specs.Prelude.{◌≡◌, IfOk, option_copied};
-ghost use Rattle.smithy_core.specs.Identity.{IsSameCredentials, IsSameIdentity, access_key_id, credentials_expiry, credentials_of, secret_access_key, session_token};
+ghost use Rattle.smithy_core.specs.Identity.{IsSameCredentials, IsSameIdentity, access_key_id, credentials_expiry, credentials_of, secret_access_key, secret_of, session_token};
 
 use crate::memory::Mem;
 use crate::moment::Moment;
@@ -98,6 +98,16 @@ impl From<Credentials> for Identity {
 }
 
 impl Identity {
+    /// The secret access key of credentials, and an empty text of a token.
+    pub fn secret(&self) -> &str
+        ensures { result.now ≡ secret_of self.now }
+    {
+        match self {
+            Identity::Credentials(credentials) => credentials.secret_access_key(),
+            Identity::Token(_) => "",
+        }
+    }
+
     /// An equal identity.
     pub fn try_clone(&self) -> Mem<Identity>
         ensures { IfOk result (IsSameIdentity self.now) }
