@@ -84,9 +84,9 @@ day_after_is (suc n) =
     let step = next_is (day_after n) before.is_day in
     record { is_day = step.is_day; number_is = omega (arith, signed_arith, before.number_is, step.number_is) }
 
-count_is : day_count (pos 0) 1 1 ≡ 3652425
+pub first_count : day_count (pos 0) 1 1 ≡ 3652425
 unfolding day_count days_of_years days_of_months
-count_is = refl
+first_count = refl
 
 last_is : day_count (pos 9999) 12 31 ≡ 7304849
 unfolding day_count days_of_years days_of_months
@@ -103,7 +103,7 @@ year_bound n small =
       | inr (inl lt) ↦ omega arith
       | inr (inr gt) ↦ absurd (let late = day_count-lt_year (pos 9999) 12 31 (pos (day_after n).year) (day_after n).month (day_after n).day
           ((omega (arith, signed_arith), omega (arith, signed_arith)), (omega arith, omega arith), (omega arith, omega arith)) after.is_day.day_low (omega (arith, signed_arith, gt)) in
-          omega (arith, signed_arith, counted, begun, count_is, last_is, late, after.number_is))
+          omega (arith, signed_arith, counted, begun, first_count, last_is, late, after.number_is))
     ]
 
 -- the day as a date of the calendar
@@ -128,19 +128,22 @@ date_is n small d e =
     let after = day_after_is n in
     let begun = days_from_civil-day_count (pos 0) 1 1 in
     let same : epoch_day (date_of n small) ≡ number (day_after n) = refl in
-    epoch_day_injective d (date_of n small) (omega (arith, signed_arith, e, after.number_is, begun, count_is, same))
+    epoch_day_injective d (date_of n small) (omega (arith, signed_arith, e, after.number_is, begun, first_count, same))
 
 natural : (z : ℤ) → pos 0 ≤ℤ z → pos (unsigned_abs z) ≡ z
 natural (pos n) low = refl
 natural (negsuc n) low = absurd (omega (arith, signed_arith, low))
+
+-- the seconds of a moment in the years, counted from their start
+pub since_first : (t : Instant) → IsInYears t → pos (year_seconds t) ≡ t.secs +ℤ pos 62167219200
+since_first t is = natural (t.secs +ℤ pos 62167219200) (omega (arith, signed_arith, is.0))
 
 -- the numbers of a moment in the years
 pub civil_fits : (t : Instant) → IsInYears t → FitsDigits (civil_of t)
 unfolding civil_of civil_after
 civil_fits t is =
     let days = year_seconds t / 86400 in
-    let since : pos (year_seconds t) ≡ t.secs +ℤ pos 62167219200 = natural (t.secs +ℤ pos 62167219200) (omega (arith, signed_arith, is.0)) in
-    let small : days ≤ 3652424 = omega (arith, signed_arith, since, is.1) in
+    let small : days ≤ 3652424 = omega (arith, signed_arith, since_first t is, is.1) in
     let day = (day_after_is days).is_day in
     let long = days_in_month_bounds (pos (day_after days).year) (day_after days).month in
     record {

@@ -1,5 +1,6 @@
 pub mod CivilTextLemmas
 pub mod CutLemmas
+pub mod DateLemmas
 pub mod DocumentLemmas
 pub mod FormatLemmas
 pub mod GainLemmas

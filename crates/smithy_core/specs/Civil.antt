@@ -34,9 +34,13 @@ IsInYears t = (negsuc 62167219199 ≤ℤ t.secs) × (t.secs ≤ℤ pos 253402300
 abbrev pub year_seconds : Instant → ℕ
 year_seconds t = unsigned_abs (t.secs +ℤ pos 62167219200)
 
+-- the whole days from 1 January of the year 0 to a moment in the years 0 to 9999
+abbrev pub day_number : Instant → ℕ
+day_number t = year_seconds t / 86400
+
 -- the day of the week of a moment in the years 0 to 9999, from 0 for Saturday, which 1 January of the year 0 was
 abbrev pub weekday : Instant → ℕ
-weekday t = year_seconds t / 86400 % 7
+weekday t = day_number t % 7
 
 -- the date and the time of day so many seconds after the start of the year 0
 unfoldable pub civil_after : ℕ → Civil

@@ -1,5 +1,5 @@
-ghost use Rattle.std.specs.Prelude.{◌≡◌, ◌+◌, ◌*◌, ◌/◌, ◌%◌, ◌<◌, ◌≤◌, MatchOption};
-ghost use Rattle.smithy_core.specs.Civil.{IsInYears, civil_after, civil_of, weekday};
+ghost use Rattle.std.specs.Prelude.{◌≡◌, ◌+◌, ◌*◌, ◌/◌, ◌%◌, ◌<◌, ◌≤◌, MatchOption, bytes_eq};
+ghost use Rattle.smithy_core.specs.Civil.{IsInYears, civil_after, civil_of, date, day_number, weekday};
 
 use crate::civil_text::Civil;
 use crate::moment::Moment;
@@ -27,13 +27,31 @@ pub fn civil(moment: Moment) -> Option<Civil>
     Some(civil_at(since))
 }
 
+/// The whole days from 1 January of the year 0 to the date of a moment, which has to lie in the years 0 to 9999.
+pub fn day_number(moment: Moment) -> u64
+    requires { IsInYears moment }
+    ensures { result ≡ day_number moment }
+{
+    let since = (moment.secs() - FIRST_SECOND) as u64;
+    since / 86400
+}
+
+/// Whether two moments have one date. Both have to lie in the years 0 to 9999.
+#[tactic(auto, using(crate::proofs::DateLemmas::same_day))]
+pub fn is_same_day(first: Moment, second: Moment) -> bool
+    requires first { IsInYears first }
+    requires second { IsInYears second }
+    ensures { result ≡ bytes_eq (date first) (date second) }
+{
+    day_number(first) == day_number(second)
+}
+
 // The day of the week of a moment in the years 0 to 9999, from 0 for Saturday.
 pub(crate) fn weekday(moment: Moment) -> u8
     requires { IsInYears moment }
     ensures { result ≡ weekday moment }
 {
-    let since = (moment.secs() - FIRST_SECOND) as u64;
-    (since / 86400 % 7) as u8
+    (day_number(moment) % 7) as u8
 }
 
 // The date and the time of day so many seconds after the start of the year 0.
