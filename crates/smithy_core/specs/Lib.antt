@@ -20,6 +20,7 @@ pub mod Moment
 pub mod Outside
 pub mod RawMessage
 pub mod ReadAll
+pub mod Request
 pub mod SdkError
 pub mod Sink
 pub mod Source

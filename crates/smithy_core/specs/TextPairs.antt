@@ -1,7 +1,8 @@
 -- Lists of pairs: headers, variables, files.
-use Rattle.std.specs.Prelude.{◌≡◌, ℕ, zero, suc, List, [], ◌∷◌, map, filter, not, Option, Some, None, String, string_bytes, bytes_eq, if◌then◌else◌}
+use Rattle.std.specs.Prelude.{◌≡◌, ℕ, zero, suc, List, [], ◌∷◌, ◌++◌, map, filter, not, length, codes, Option, Some, None, unwrap_or, String, string_bytes, bytes_eq, if◌then◌else◌}
 use Rattle.std.specs.Borrow.{Bor}
-use Rattle.std.specs.List.{AllByRecursion}
+use Rattle.std.specs.Fmt.{debug_str, decimal}
+use Rattle.std.specs.List.{AllByRecursion, flat_map}
 use Rattle.std.specs.Option.{option_or}
 use Rattle.std.specs.Char.{to_ascii_lowercase}
 use Rattle.std.specs.declared.alloc.Global.{Global}
@@ -59,3 +60,16 @@ inserted (pair ∷ pairs) name value =
 abbrev pub first_place : List (List ℕ × List ℕ) → List ℕ → ℕ
 first_place [] name = zero
 first_place (pair ∷ pairs) name = if bytes_eq pair.0 name then zero else suc (first_place pairs name)
+
+-- a name in quotes, or how many bytes it has where not all of them are ASCII
+abbrev pub shown_name : List ℕ → List ℕ
+shown_name name = unwrap_or (debug_str name) (decimal (length name) ++ codes " bytes")
+
+-- the name of a pair, and how long its value is
+abbrev pub value_size : List ℕ × List ℕ → List ℕ
+value_size pair = shown_name pair.0 ++ (codes ": " ++ decimal (length pair.1))
+
+-- the names of pairs and how long the values are, with commas between them
+abbrev pub value_sizes : List (List ℕ × List ℕ) → List ℕ
+value_sizes [] = codes "{}"
+value_sizes (pair ∷ pairs) = codes "{" ++ (value_size pair ++ (flat_map (λ other. codes ", " ++ value_size other) pairs ++ codes "}"))

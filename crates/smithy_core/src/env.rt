@@ -4,7 +4,7 @@ ghost use Rattle.std.specs.String.{string_bytes};
 ghost use Rattle.smithy_core.specs.TextPairs.{last_value, value_if};
 
 use crate::memory::Mem;
-use crate::text_pairs::{copied_pairs, fmt_lengths};
+use crate::text_pairs::{copied_pairs, fmt_value_sizes};
 use std::alloc::Global;
 use std::fmt;
 use std::marker::Model;
@@ -69,8 +69,13 @@ impl Env {
 }
 
 impl fmt::Debug for Env {
+    ghost use Rattle.std.specs.Prelude.{Some};
+    ghost use Rattle.smithy_core.specs.TextPairs.{value_sizes};
+
+    ghost debug_output = { λ env. Some (value_sizes env) };
+
     fn fmt<W: fmt::Write>(&self, f: &mut fmt::Formatter<W>) -> fmt::Result {
-        fmt_lengths(self.pairs.as_slice(), f)
+        fmt_value_sizes(self.pairs.as_slice(), f)
     }
 }
 

@@ -5,7 +5,7 @@ ghost use Rattle.smithy_core.specs.TextPairs.{AreLower, first_value, inserted, l
 use crate::header_iter::HeaderIter;
 use crate::header_values::{HeaderValues, after_named};
 use crate::memory::Mem;
-use crate::text_pairs::{copied_pairs, fmt_lengths};
+use crate::text_pairs::{copied_pairs, fmt_value_sizes};
 use std::alloc::{AllocError, Global};
 use std::fmt;
 use std::marker::Model;
@@ -158,8 +158,13 @@ fn appended(alloc: Global, pairs: &[(&str, &str)]) -> Mem<Headers>
 }
 
 impl fmt::Debug for Headers {
+    ghost use Rattle.std.specs.Prelude.{Some};
+    ghost use Rattle.smithy_core.specs.TextPairs.{value_sizes};
+
+    ghost debug_output = { λ headers. Some (value_sizes headers) };
+
     fn fmt<W: fmt::Write>(&self, f: &mut fmt::Formatter<W>) -> fmt::Result {
-        fmt_lengths(self.pairs.as_slice(), f)
+        fmt_value_sizes(self.pairs.as_slice(), f)
     }
 }
 

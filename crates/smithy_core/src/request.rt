@@ -3,12 +3,13 @@ ghost use Rattle.std.specs.String.{string_bytes};
 
 use crate::headers::Headers;
 use crate::memory::Mem;
+use crate::text_pairs::fmt_name;
 use bytes::Bytes;
 use std::alloc::Global;
 use std::fmt;
 
-/// An HTTP request. [`Debug`](std::fmt::Debug) prints the method, the headers' names and lengths, since a target, a
-/// header's value or a body may hold a secret.
+/// An HTTP request. [`Debug`](std::fmt::Debug) prints the method, the headers' names, and how long the target, the headers'
+/// values and the body are, since each of these may hold a secret.
 #[derive(Drop)]
 pub struct HttpRequest {
     /// The method, as `GET`.
@@ -53,12 +54,18 @@ impl HttpRequest {
 }
 
 impl fmt::Debug for HttpRequest {
+    ghost use Rattle.std.specs.Prelude.{Some};
+    ghost use Rattle.smithy_core.specs.Request.{request_sizes};
+
+    ghost debug_output = { λ request. Some (request_sizes request) };
+
     fn fmt<W: fmt::Write>(&self, f: &mut fmt::Formatter<W>) -> fmt::Result {
-        f.debug_struct("HttpRequest")
-            .field("method", &self.method)
-            .field("target_len", &self.target.len())
-            .field("headers", &self.headers)
-            .field("body_len", &self.body.len())
-            .finish()
+        let (target, headers, body) = (self.target.len(), &self.headers, self.body.len());
+        f.write_str("HttpRequest { method: ")?;
+        fmt_name(self.method.as_str(), f)?;
+        write!(
+            f,
+            ", target_len: {target}, headers: {headers:?}, body_len: {body} }}"
+        )
     }
 }

@@ -75,9 +75,10 @@ impl From<FramePart> for Polled {
 }
 
 impl fmt::Debug for FramePart {
+    ghost use Rattle.std.specs.Prelude.{Some};
     ghost use Rattle.smithy_core.specs.FramePart.{part_size};
 
-    ghost debug_output = { part_size };
+    ghost debug_output = { λ part. Some (part_size part) };
 
     fn fmt<W: fmt::Write>(&self, f: &mut fmt::Formatter<W>) -> fmt::Result {
         match self {
@@ -85,15 +86,16 @@ impl fmt::Debug for FramePart {
                 let count = piece.len();
                 write!(f, "Data({count} bytes)")
             }
-            FramePart::Trailers(trailers) => f.debug_tuple("Trailers").field(trailers).finish(),
+            FramePart::Trailers(trailers) => write!(f, "Trailers({trailers:?})"),
         }
     }
 }
 
 impl fmt::Debug for Polled {
+    ghost use Rattle.std.specs.Prelude.{Some};
     ghost use Rattle.smithy_core.specs.FramePart.{polled_size};
 
-    ghost debug_output = { polled_size };
+    ghost debug_output = { λ polled. Some (polled_size polled) };
 
     fn fmt<W: fmt::Write>(&self, f: &mut fmt::Formatter<W>) -> fmt::Result {
         match self {
@@ -101,7 +103,7 @@ impl fmt::Debug for Polled {
                 let count = piece.len();
                 write!(f, "Data({count} bytes)")
             }
-            Polled::Trailers(trailers) => f.debug_tuple("Trailers").field(trailers).finish(),
+            Polled::Trailers(trailers) => write!(f, "Trailers({trailers:?})"),
             Polled::NotYet => f.write_str("NotYet"),
             Polled::End => f.write_str("End"),
             Polled::Failed => f.write_str("Failed"),
