@@ -21,6 +21,7 @@ pub mod Outside
 pub mod RawMessage
 pub mod ReadAll
 pub mod Request
+pub mod Response
 pub mod SdkError
 pub mod Sink
 pub mod Source

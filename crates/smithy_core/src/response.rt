@@ -2,9 +2,11 @@ ghost use Rattle.std.specs.Prelude.{◌≡◌, IfOk};
 
 use crate::headers::Headers;
 use crate::memory::Mem;
+use std::fmt;
 
-/// What an HTTP response says before its body.
-#[derive(Debug, Drop)]
+/// What an HTTP response says before its body. [`Debug`](std::fmt::Debug) prints of the headers the names and how long the
+/// values are, since a value may be a secret.
+#[derive(Drop)]
 pub struct HttpResponse {
     /// The status code, as 200.
     pub status: u16,
@@ -26,5 +28,20 @@ impl HttpResponse {
             headers: self.headers.try_clone()?,
             skew: self.skew,
         })
+    }
+}
+
+impl fmt::Debug for HttpResponse {
+    ghost use Rattle.std.specs.Prelude.{Some};
+    ghost use Rattle.smithy_core.specs.Response.{response_sizes};
+
+    ghost debug_output = { λ response. Some (response_sizes response) };
+
+    fn fmt<W: fmt::Write>(&self, f: &mut fmt::Formatter<W>) -> fmt::Result {
+        let (status, headers, skew) = (self.status, &self.headers, self.skew);
+        write!(
+            f,
+            "HttpResponse {{ status: {status}, headers: {headers:?}, skew: {skew:?} }}"
+        )
     }
 }
