@@ -1,5 +1,5 @@
-ghost use Rattle.std.specs.Prelude.{◌≡◌, ◌+◌, ◌*◌, ◌/◌, ◌%◌, ◌<◌, ◌≤◌, MatchOption, bytes_eq};
-ghost use Rattle.smithy_core.specs.Civil.{IsInYears, civil_after, civil_of, date, day_number, weekday};
+ghost use Rattle.std.specs.Prelude.{◌≡◌, ◌+◌, ◌*◌, ◌/◌, ◌%◌, ◌<◌, ◌≤◌, MatchBool, MatchOption, bytes_eq};
+ghost use Rattle.smithy_core.specs.Civil.{IsInYears, civil_after, civil_of, date, day_number, is_in_years, weekday};
 
 use crate::civil_text::Civil;
 use crate::moment::Moment;
@@ -19,12 +19,19 @@ const DAYS_BEFORE: u32 = 3_652_059;
 pub fn civil(moment: Moment) -> Option<Civil>
     ensures { MatchOption result (IsInYears moment → ⊥) (λ civil. IsInYears moment × (civil ≡ civil_of moment)) }
 {
-    let secs = moment.secs();
-    if secs < FIRST_SECOND || secs > LAST_SECOND {
+    if !is_in_years(moment) {
         return None;
     }
-    let since = (secs - FIRST_SECOND) as u64;
+    let since = (moment.secs() - FIRST_SECOND) as u64;
     Some(civil_at(since))
+}
+
+/// Whether a moment lies in the years 0 to 9999.
+pub fn is_in_years(moment: Moment) -> bool
+    ensures value { result ≡ is_in_years moment }
+    ensures cases { MatchBool result (IsInYears moment) (IsInYears moment → ⊥) }
+{
+    FIRST_SECOND <= moment.secs() && moment.secs() <= LAST_SECOND
 }
 
 /// The whole days from 1 January of the year 0 to the date of a moment, which has to lie in the years 0 to 9999.

@@ -39,7 +39,7 @@ mod text_pairs;
 
 pub use crate::app_name::{AppName, InvalidAppName};
 pub use crate::blob::Blob;
-pub use crate::civil_date::{civil, day_number, is_same_day};
+pub use crate::civil_date::{civil, day_number, is_in_years, is_same_day};
 pub use crate::civil_text::Civil;
 pub use crate::client_config::{RetryConfig, TimeoutConfig};
 pub use crate::document::Document;
