@@ -20,6 +20,7 @@ mod documents;
 mod faults;
 mod frames;
 mod host;
+mod interrupted;
 mod moments;
 mod outside;
 mod prints;

@@ -1,3 +1,4 @@
+use crate::interrupted;
 use crate::shown::{moment, nothing, push_given, quoted, told};
 use crate::steps::{Steps, answers_of};
 use crate::words::{bytes_of, moment_of, numbers_of, size_of};
@@ -167,6 +168,8 @@ fn of_faulty(alloc: Global, call: &str, words: &[&str]) -> Mem<String> {
         "std_source" => std_source(alloc, words),
         "std_sink" => std_sink(alloc, words),
         "full_sink" => full_sink(alloc, words),
+        "interrupted_source" => interrupted::source(alloc, words),
+        "interrupted_sink" => interrupted::sink(alloc, words),
         _ => unknown(alloc),
     }
 }
@@ -277,7 +280,7 @@ fn full_sink(alloc: Global, words: &[&str]) -> Mem<String> {
     with_written(alloc, answers, slice.as_slice())
 }
 
-fn with_written(alloc: Global, answers: String, written: &[u8]) -> Mem<String> {
+pub fn with_written(alloc: Global, answers: String, written: &[u8]) -> Mem<String> {
     let mut answers = answers;
     push_given(&mut answers, quoted(alloc, written))?;
     Ok(answers)
