@@ -1,15 +1,12 @@
-ghost use Rattle.std.specs.Prelude.{◌≡◌, ◌/◌, bytes_eq, false, true, IfOk, MatchOption, string_bytes};
-ghost use Rattle.smithy_core.specs.Civil.{IsInYears, date, year_seconds};
+ghost use Rattle.std.specs.Prelude.{◌≡◌, bytes_eq, false, true, IfOk, MatchOption, string_bytes};
+ghost use Rattle.smithy_core.specs.Civil.{IsInYears, date};
 ghost use Rattle.eventstream.specs.Key.{signing_key};
 ghost use Rattle.aws_auth.specs.KeptKey.{derived_at, is_kept, kept_at, no_key};
 
 use sigv4::v4::generate_signing_key;
-use smithy_core::{Mem, Moment};
+use smithy_core::{Mem, Moment, is_same_day};
 use std::fmt;
 use std::marker::Model;
-
-/// The second of 1 January of the year 0 at 00:00:00Z.
-const FIRST_SECOND: i64 = -62_167_219_200;
 
 /// A signing key that is kept for the day that it holds for, and the number of keys that were derived.
 ///
@@ -149,25 +146,6 @@ impl DayKey {
             None
         }
     }
-}
-
-// Whether two moments have one date.
-#[tactic(auto, using(crate::proofs::KeptKeyLemmas::same_day))]
-fn is_same_day(first: Moment, second: Moment) -> bool
-    requires first { IsInYears first }
-    requires second { IsInYears second }
-    ensures { result ≡ bytes_eq (date first) (date second) }
-{
-    day_number(first) == day_number(second)
-}
-
-// The whole days from 1 January of the year 0.
-fn day_number(at: Moment) -> u64
-    requires { IsInYears at }
-    ensures { result ≡ year_seconds at / 86400 }
-{
-    let since = (at.secs() - FIRST_SECOND) as u64;
-    since / 86400
 }
 
 // Shows neither the secret nor the key.

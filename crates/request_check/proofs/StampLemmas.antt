@@ -1,42 +1,33 @@
 -- A moment, read back from its stamp.
 use Rattle.std.proofs.Common.{◌≡◌, ℕ, ◌+◌, ◌*◌, ◌/◌, ◌%◌, ◌<◌, ◌≤◌, List, length, take, drop, Some, None, refl, sym, ap, ◌∙◌, arith, ℤ, pos, ◌+ℤ◌}
-use Rattle.std.specs.Prelude.{negsuc, unsigned_abs, ◌≤ℤ◌}
 use Rattle.std.proofs.Common.{to_z, w8, w16}
 use Rattle.std.proofs.lemmas.Int.{to_z_pos}
-use Rattle.jiff_core.specs.Calendar.{IsDate, day_count, days_of_years, days_of_months}
+use Rattle.jiff_core.specs.Calendar.{IsDate}
 use Rattle.jiff_core.proofs.SignedLemmas.{signed_arith}
 use Rattle.jiff_core.proofs.CalendarLemmas.{days_from_civil-day_count}
 use Rattle.smithy_core.specs.Civil.{IsInYears, civil_after, civil_of, stamp, year_seconds}
 use Rattle.smithy_core.specs.CivilText.{FitsDigits, date_of, stamp_of, two_digits}
 use Rattle.smithy_core.specs.Moment.{Instant}
 use Rattle.smithy_core.specs.declared.civil_text.Civil.{Civil}
-use Rattle.smithy_core.proofs.DayLemmas.{civil_fits, day_after_is, year_bound}
+use Rattle.smithy_core.proofs.DayLemmas.{civil_fits, day_after_is, first_count, since_first, year_bound}
 use Rattle.request_check.specs.Stamped.{FindsMoment, IsTwoDigits, IsOnlyCivil, IsShortDate, IsWholeSecond, ReadsStamp, at_civil}
-
-first_is : day_count (pos 0) 1 1 ≡ 3652425
-unfolding day_count days_of_years days_of_months
-first_is = refl
-
-natural : (z : ℤ) → pos 0 ≤ℤ z → pos (unsigned_abs z) ≡ z
-natural (pos n) low = refl
-natural (negsuc n) low = absurd (omega (arith, signed_arith, low))
 
 -- the second at the date and the time of day of a moment is the moment's
 pub seconds_back : (t : Instant) → IsInYears t → (at_civil (civil_of t)).secs ≡ t.secs
 unfolding civil_of civil_after
 seconds_back t is =
     let days = year_seconds t / 86400 in
-    let since : pos (year_seconds t) ≡ t.secs +ℤ pos 62167219200 = natural (t.secs +ℤ pos 62167219200) (omega (arith, signed_arith, is.0)) in
+    let since = since_first t is in
     let begun = days_from_civil-day_count (pos 0) 1 1 in
     let after = (day_after_is days).number_is in
-    omega (arith, signed_arith, since, begun, first_is, after)
+    omega (arith, signed_arith, since, begun, first_count, after)
 
 -- the calendar has the date of a moment
 pub dated : (t : Instant) → IsInYears t → IsDate (pos (civil_of t).year) (pos (civil_of t).month) (pos (civil_of t).day)
 unfolding civil_of civil_after
 dated t is =
     let days = year_seconds t / 86400 in
-    let since : pos (year_seconds t) ≡ t.secs +ℤ pos 62167219200 = natural (t.secs +ℤ pos 62167219200) (omega (arith, signed_arith, is.0)) in
+    let since = since_first t is in
     let small : days ≤ 3652424 = omega (arith, signed_arith, since, is.1) in
     let day = (day_after_is days).is_day in
     let bound = year_bound days small in (
