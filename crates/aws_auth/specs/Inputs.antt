@@ -4,12 +4,12 @@ use Rattle.std.specs.Option.{option_or}
 use Rattle.sha2.specs.Sha256.{sha256}
 use Rattle.hex.specs.Hex.{encode_lower}
 use Rattle.smithy_core.specs.Document.{Data, data_of}
+use Rattle.smithy_core.specs.Identity.{secret_of}
 use Rattle.smithy_core.specs.Moment.{Instant}
 use Rattle.smithy_core.specs.declared.identity.Identity.{Identity}
 use Rattle.smithy_core.specs.declared.request.HttpRequest.{HttpRequest}
 use Rattle.smithy_http.specs.Target.{Target}
 use Rattle.sigv4.specs.Body.{payload_text}
-use Rattle.sigv4.specs.Params.{secret_of}
 use Rattle.sigv4.specs.Request.{Case, key_id_of, token_of}
 use Rattle.sigv4.specs.Settings.{Settings, default_exclusions}
 use Rattle.sigv4.specs.declared.modes.PercentEncodingMode.TheVariants.{Double, Single}

@@ -2,7 +2,7 @@
 use Rattle.std.specs.Prelude.{◌≡◌, ℕ, ◌⊎◌, List, [], Option, Some, None, Result, Ok, Err, option_map, unwrap_or, String, string_bytes}
 use Rattle.std.specs.Option.{option_map_or, option_or}
 use Rattle.std.specs.declared.alloc.Global.{Global}
-use Rattle.smithy_core.specs.Identity.{IsSameIdentity}
+use Rattle.smithy_core.specs.Identity.{IsSameIdentity, secret_of, unsigned_for}
 use Rattle.smithy_core.specs.Message.{Parts}
 use Rattle.smithy_core.specs.Moment.{Instant}
 use Rattle.smithy_core.specs.declared.identity.Identity.{Identity}
@@ -10,10 +10,9 @@ use Rattle.smithy_core.specs.declared.identity.Identity.TheVariants.{Credentials
 use Rattle.eventstream.specs.Frame.{frame, unframed}
 use Rattle.eventstream.specs.Key.{Signer, signing_key}
 use Rattle.eventstream.specs.Link.{link_message, link_signature}
-use Rattle.eventstream.specs.Told.{Told, sealed, untold, encoding_refusal, unsigned_at}
+use Rattle.eventstream.specs.Told.{Told, sealed, untold, encoding_refusal}
 use Rattle.eventstream.specs.declared.sign_error.SignMessageError.{SignMessageError}
 use Rattle.eventstream.specs.declared.sign_error.SignMessageError.TheVariants as refusals
-use Rattle.sigv4.specs.Params.{secret_of}
 use Rattle.aws_auth.specs.KeptKey.{Kept, kept_at, no_key}
 
 -- what a signer signs for, which stays
@@ -73,8 +72,7 @@ told_of signer = told_by signer.parts.identity (running_signature signer) (signe
 
 -- why an identity signs nothing at a moment: it has no secret, or the moment lies outside the years 0 to 9999
 abbrev pub unsigned_by : Identity → Instant → Option SignMessageError
-unsigned_by (Token token) t = Some refusals.UnsupportedIdentityType
-unsigned_by (Credentials credentials) t = unsigned_at t
+unsigned_by identity t = unsigned_for refusals.UnsupportedIdentityType refusals.MomentOutOfRange identity t
 
 -- why a message isn't signed: it has no frame, or the identity signs nothing
 abbrev pub unsigned_message_by : Identity → Parts → Instant → Option SignMessageError

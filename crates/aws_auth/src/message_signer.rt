@@ -1,12 +1,12 @@
 ghost use Rattle.std.specs.Prelude.{◌≡◌, IfOk, MatchResult, None, OnErr, OnOk, Some};
-ghost use Rattle.sigv4.specs.Params.{secret_of, signer_of, v4_identity, v4_time};
+ghost use Rattle.sigv4.specs.Params.{signer_of, v4_identity, v4_time};
 ghost use Rattle.aws_auth.specs.KeptKey.{no_key};
 ghost use Rattle.aws_auth.specs.MessageSigner.{GivesKey, IsSameSigner, SignsBytes, derivations, own_key, running_signature, signer_from, signer_in, unsigned_by};
 
 use crate::kept_key::KeptKey;
 use eventstream::{SignMessage, SignMessageError, write_message_to};
 use sigv4::event_stream::{SigningParams, sign_bytes_with_key};
-use smithy_core::{Identity, Mem, Message, Moment, Region, SigningName, civil};
+use smithy_core::{Identity, Mem, Message, Moment, Region, SigningName, is_in_years};
 use std::fmt;
 use std::marker::Model;
 
@@ -156,10 +156,8 @@ impl SigV4MessageSigner<()> {
     {
         match self.identity {
             Identity::Token(_) => Err(SignMessageError::UnsupportedIdentityType),
-            Identity::Credentials(_) => match civil(now) {
-                Some(_) => Ok(()),
-                None => Err(SignMessageError::MomentOutOfRange(now)),
-            },
+            Identity::Credentials(_) if is_in_years(now) => Ok(()),
+            Identity::Credentials(_) => Err(SignMessageError::MomentOutOfRange(now)),
         }
     }
 
@@ -182,7 +180,7 @@ impl SigV4MessageSigner<()> {
     {
         let alloc = *self.running_signature.allocator();
         Ok(KeptKey::new(
-            String::from_str(alloc, secret_of(&self.identity))?,
+            String::from_str(alloc, self.identity.secret())?,
             String::from_str(alloc, self.region.as_str())?,
             String::from_str(alloc, self.name.as_str())?,
         ))
@@ -222,16 +220,6 @@ fn kept_copy(kept: &Option<KeptKey>) -> Mem<Option<KeptKey>>
         Some(key) => Some(key.try_clone()?),
         None => None,
     })
-}
-
-// The secret of credentials, and nothing of a token.
-fn secret_of(identity: &Identity) -> &str
-    ensures { result.now ≡ secret_of identity.now }
-{
-    match identity {
-        Identity::Credentials(credentials) => credentials.secret_access_key(),
-        Identity::Token(_) => "",
-    }
 }
 
 // Shows all but who signs, which has a secret, and the settings.

@@ -19,7 +19,7 @@ use sigv4::{
     SignableRequest, SigningError, SigningInstructions, SigningOutput, SigningParams,
     SigningSettings, sign_request, v4,
 };
-use smithy_core::{HttpRequest, Identity, Mem, Moment, Region, SigningName, civil};
+use smithy_core::{HttpRequest, Identity, Mem, Moment, Region, SigningName, is_in_years};
 use std::alloc::Global;
 
 /// The signature of a request, and what signs what follows it.
@@ -122,7 +122,7 @@ fn tested_params<'a>(
         Some(name) => name,
         None => return Err(SigV4SigningError::MissingSigningName),
     };
-    if civil(at).is_none() {
+    if !is_in_years(at) {
         return Err(SigV4SigningError::Signing(SigningError::MomentOutOfRange(at)));
     }
     let params = v4::SigningParams::new(identity, region, name, at, settings);

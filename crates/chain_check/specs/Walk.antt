@@ -3,6 +3,7 @@ use Rattle.std.specs.Prelude.{◌≡◌, ℕ, zero, suc, ◌+◌, ◌==◌, ◌&
 use Rattle.std.specs.Global.{Vec}
 use Rattle.hex.specs.Hex.{encode_lower}
 use Rattle.smithy_core.specs.Civil.{is_in_years}
+use Rattle.smithy_core.specs.Identity.{secret_of}
 use Rattle.smithy_core.specs.Moment.{Instant}
 use Rattle.smithy_core.specs.Header.{Header}
 use Rattle.smithy_core.specs.HeaderValue.{byte_array_of, instant_of}
@@ -15,7 +16,6 @@ use Rattle.eventstream.specs.Read.{announced, read}
 use Rattle.eventstream.specs.Reading.{First, fault, begins, first_of}
 use Rattle.eventstream.specs.declared.error.ErrorKind.{ErrorKind}
 use Rattle.sigv4.specs.Output.{output_signature, signed_output}
-use Rattle.sigv4.specs.Params.{secret_of}
 use Rattle.sigv4.specs.declared.output.SigningOutput.{SigningOutput}
 use Rattle.chain_check.specs.declared.chain_fault.ChainFault.{ChainFault}
 use Rattle.chain_check.specs.declared.chain_fault.ChainFault.TheVariants.{NotChain, Mismatch, NoMemory}

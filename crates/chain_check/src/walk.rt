@@ -1,8 +1,8 @@
 ghost use Rattle.std.specs.Prelude.{◌≡◌, ◌==◌, ◌<◌, [], length, Some, None, if◌then◌else◌, IfSome, IfOk, IfErr, IsSome, bytes_eq, option_map};
 ghost use Rattle.smithy_core.specs.Civil.{IsInYears};
 ghost use Rattle.sigv4.specs.Output.{signed_output};
-ghost use Rattle.sigv4.specs.Params.{secret_of, signer_of, v4_identity, v4_time};
-ghost use Rattle.smithy_core.specs.Identity.{IsCredentials};
+ghost use Rattle.sigv4.specs.Params.{signer_of, v4_identity, v4_time};
+ghost use Rattle.smithy_core.specs.Identity.{IsCredentials, secret_of};
 ghost use Rattle.chain_check.specs.Chain.{TellsChain};
 ghost use Rattle.chain_check.specs.Walk.{AnswersChain, IsLink, ReadsEvent, SignsFrameAgain, SignsEvent, TakesChainFrame, TestsFrame, carried, carried_code, carried_date, carried_parts, chain_events, chain_signer, frame_test, signed_moment};
 
@@ -12,7 +12,7 @@ use eventstream::{DecodedFrame, ErrorKind, MessageFrameDecoder, read_message_fro
 use seg_buf::SegBuf;
 use sigv4::event_stream::{SigningParams, sign_empty_message, sign_message};
 use sigv4::{SigningError, SigningOutput};
-use smithy_core::{Credentials, Header, HeaderValue, Identity, Message, Moment, civil};
+use smithy_core::{Credentials, Header, HeaderValue, Identity, Message, Moment, is_in_years};
 use std::alloc::Global;
 
 /// The events of the chain of signed frames that the bytes are: one frame for each, and an empty one last, each signed
@@ -256,7 +256,7 @@ fn carried_date(header: &Header) -> Option<Moment>
 fn is_signed_moment(date: Moment) -> bool
     ensures { signed_moment date ≡ (if result then Some date else None) }
 {
-    date.subsec_nanos() == 0 && civil(date).is_some()
+    date.subsec_nanos() == 0 && is_in_years(date)
 }
 
 // The event whose frame a payload is, and its link over the signature before, at the moment of the parameters.

@@ -19,7 +19,6 @@ use Rattle.aws_auth.specs.Inputs.{ChosenInputs, chosen, chosen_case, chosen_text
 use Rattle.aws_auth.specs.NameOverride.{MayAnswer, NameAnswer}
 use Rattle.eventstream.specs.Key.{Signer}
 use Rattle.eventstream.specs.Told.{sealed}
-use Rattle.sigv4.specs.Params.{secret_of}
 use Rattle.sigv4.specs.Signed.{signature_of}
 use Rattle.aws_auth.specs.MessageSigner.{GoesOn, SignerState, told_by}
 use Rattle.aws_auth.specs.Options.{AreSameOverrides, IsSameOptions}
@@ -34,7 +33,7 @@ use Rattle.aws_auth.specs.declared.name_override.OverrideError.TheVariants as ov
 use Rattle.aws_auth.specs.declared.options.SigV4OperationSigningConfig.{SigV4OperationSigningConfig}
 use Rattle.aws_auth.specs.declared.signer.Signed.{Signed}
 use Rattle.signed_stream.specs.Case.{request_moment, settings_with}
-use Rattle.smithy_core.specs.Identity.{IsCredentials, IsSameIdentity}
+use Rattle.smithy_core.specs.Identity.{IsCredentials, IsSameIdentity, secret_of}
 use Rattle.signed_stream.specs.Chain.{outside_years}
 use Rattle.signed_stream.specs.Command.{Wanted}
 use Rattle.signed_stream.specs.Plan.{TargetSpells, TargetRead, accepted, unaccepted, unread}

@@ -1,7 +1,7 @@
 -- The command `gen`: a job that is generated, streamed as frames alone and checked, and what is shown of it.
 use Rattle.std.specs.Prelude.{◌≡◌, ℕ, suc, List, [], ◌∷◌, ◌++◌, codes, length, replicate, None, Some, option_map, pos, string_bytes}
 use Rattle.std.specs.Fmt.{decimal}
-use Rattle.smithy_core.specs.Identity.{IsCredentials}
+use Rattle.smithy_core.specs.Identity.{IsCredentials, secret_of}
 use Rattle.smithy_core.specs.Message.{Parts}
 use Rattle.smithy_core.specs.Moment.{Instant}
 use Rattle.smithy_core.specs.Text.{line}
@@ -10,7 +10,6 @@ use Rattle.smithy_http.specs.Target.{Target}
 use Rattle.eventstream.specs.Frame.{frame}
 use Rattle.eventstream.specs.Key.{Signer}
 use Rattle.eventstream.specs.Link.{link_signature}
-use Rattle.sigv4.specs.Params.{secret_of}
 use Rattle.sigv4.specs.Request.{Case, key_id_of, token_of}
 use Rattle.sigv4.specs.Signed.{signature_of}
 use Rattle.aws_auth.specs.Options.{default_options}

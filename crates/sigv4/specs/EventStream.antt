@@ -1,11 +1,10 @@
 -- What signing a message promises.
-use Rattle.std.specs.Prelude.{◌≡◌, ℕ, ◌⊎◌, List, if◌then◌else◌, Option, Some, None, Result, Ok, Err, option_map}
+use Rattle.std.specs.Prelude.{◌≡◌, ℕ, ◌⊎◌, List, Option, Some, None, Result, Ok, Err, option_map}
 use Rattle.std.specs.Option.{option_or}
-use Rattle.smithy_core.specs.Civil.{is_in_years}
+use Rattle.smithy_core.specs.Identity.{unsigned_for}
 use Rattle.smithy_core.specs.Moment.{Instant}
 use Rattle.smithy_core.specs.Message.{Parts}
 use Rattle.smithy_core.specs.declared.identity.Identity.{Identity}
-use Rattle.smithy_core.specs.declared.identity.Identity.TheVariants.{Credentials, Token}
 use Rattle.eventstream.specs.Error.{error_of}
 use Rattle.eventstream.specs.Frame.{unframed}
 use Rattle.eventstream.specs.Key.{signing_key}
@@ -20,8 +19,7 @@ use Rattle.sigv4.specs.declared.params.SigningParams.{SigningParams}
 
 -- why an identity doesn't sign at a moment: it has no secret, or the moment lies outside the years 0 to 9999
 abbrev pub unsignable : Identity → Instant → Option SigningError
-unsignable (Token token) t = Some UnsupportedIdentityType
-unsignable (Credentials credentials) t = if is_in_years t then None else Some (MomentOutOfRange t)
+unsignable identity t = unsigned_for UnsupportedIdentityType MomentOutOfRange identity t
 
 -- the reason why a message has no frame, as an error
 abbrev pub failed_encoding : ErrorKind → SigningError

@@ -1,21 +1,15 @@
 -- The parameters of a signature.
-use Rattle.std.specs.Prelude.{◌≡◌, ℕ, List, [], codes, Option, Some, None, Result, Ok, Err}
+use Rattle.std.specs.Prelude.{◌≡◌, ℕ, List, codes, Option, Some, None, Result, Ok, Err}
 use Rattle.std.specs.Borrow.{Bor}
 use Rattle.std.specs.Option.{option_or}
-use Rattle.smithy_core.specs.Identity.{secret_access_key}
+use Rattle.smithy_core.specs.Identity.{secret_of}
 use Rattle.smithy_core.specs.Moment.{Instant}
 use Rattle.smithy_core.specs.declared.identity.Identity.{Identity}
-use Rattle.smithy_core.specs.declared.identity.Identity.TheVariants.{Credentials, Token}
 use Rattle.eventstream.specs.Key.{Signer}
 use Rattle.sigv4.specs.declared.params.BuildError.{BuildError}
 use Rattle.sigv4.specs.declared.params.BuildError.TheVariants.{Identity as NoIdentity, Region, Name, Time, Settings}
 use Rattle.sigv4.specs.declared.params.Builder.{Builder}
 use Rattle.sigv4.specs.declared.params.SigningParams.{SigningParams}
-
--- the secret of credentials, and nothing of a token
-abbrev pub secret_of : Identity → List ℕ
-secret_of (Credentials credentials) = secret_access_key credentials
-secret_of (Token token) = []
 
 -- the parameters of these parts
 abbrev pub params_of : {S : Type 0} → Bor Identity → Bor (List ℕ) → Bor (List ℕ) → Instant → S → SigningParams S

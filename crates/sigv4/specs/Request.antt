@@ -1,7 +1,7 @@
 -- What is signed, and with what: a request and the parameters of its signature.
 use Rattle.std.specs.Prelude.{◌≡◌, ◌⊎◌, ℕ, List, [], Option, Some, None, Result, Ok, Err, string_bytes}
 use Rattle.http_uri.specs.declared.uri.Uri.{Uri}
-use Rattle.smithy_core.specs.Identity.{access_key_id, secret_access_key, session_token}
+use Rattle.smithy_core.specs.Identity.{access_key_id, secret_access_key, secret_of, session_token}
 use Rattle.smithy_core.specs.Moment.{Instant}
 use Rattle.smithy_core.specs.declared.identity.Credentials.{Credentials as Keys}
 use Rattle.smithy_core.specs.declared.identity.Identity.{Identity}
@@ -11,7 +11,7 @@ use Rattle.smithy_http.specs.QueryWriter.{SpellsNoTarget, SpellsTarget}
 use Rattle.smithy_http.specs.Target.{Target, target_of}
 use Rattle.eventstream.specs.Key.{Signer}
 use Rattle.sigv4.specs.Body.{IsSameBody, body_bytes, payload_text}
-use Rattle.sigv4.specs.Params.{secret_of, signer_of, v4_identity, v4_settings, v4_time}
+use Rattle.sigv4.specs.Params.{signer_of, v4_identity, v4_settings, v4_time}
 use Rattle.sigv4.specs.Settings.{Settings, settings_of}
 use Rattle.sigv4.specs.declared.body.SignableBody.{SignableBody}
 use Rattle.sigv4.specs.declared.error.SigningError.{SigningError}
