@@ -5,10 +5,9 @@
 //! region, the name, the settings, the payload and the moment of the case are chosen as `specs/Inputs.antt` says. The signer of
 //! the messages that follow makes the links of the chain from that signature on (`specs/MessageSigner.antt`). The signer of
 //! chunks makes the signatures of an upload, each over the one before it (`specs/ChunkSigner.antt`), and so does a
-//! [`ChunkDeferredSigner`] once it is wired.
+//! [`ChunkDeferredSigner`], which stands in `sigv4`, once it is wired.
 #![tactic(auto)]
 
-mod chunk_deferred_signer;
 mod chunk_signer;
 mod endpoint;
 mod error;
@@ -23,7 +22,6 @@ mod scheme;
 mod settings;
 mod signer;
 
-pub use crate::chunk_deferred_signer::ChunkDeferredSigner;
 pub use crate::endpoint::EndpointField;
 pub use crate::error::SigV4SigningError;
 pub use crate::inputs::SigningInputs;
@@ -34,3 +32,4 @@ pub use crate::options::{HttpSignatureType, SigV4OperationSigningConfig, Signing
 pub use crate::payload::{PayloadSigningOverride, PayloadSigningOverrideRuntimePlugin};
 pub use crate::scheme::{SCHEME_ID, SigV4AuthScheme};
 pub use crate::signer::{SigV4Signer, Signed};
+pub use sigv4::ChunkDeferredSigner;

@@ -2,7 +2,6 @@ pub mod AgainLemmas
 pub mod ByNameLemmas
 pub mod CanonicalLemmas
 pub mod CopyLemmas
-pub mod DigestLemmas
 pub mod DigitLemmas
 pub mod FitLemmas
 pub mod GatheredLemmas

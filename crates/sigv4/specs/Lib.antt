@@ -4,6 +4,7 @@ pub mod Canonical
 pub mod CanonicalHeaders
 pub mod Chunk
 pub mod ChunkTold
+pub mod Digest
 pub mod Error
 pub mod EventStream
 pub mod Host

@@ -122,11 +122,6 @@ abbrev pub Tests : Option SigningError → Result (Unit {0}) SigningError → Ty
 Tests refused (Ok _) = refused ≡ None
 Tests refused (Err error) = refused ≡ Some error
 
--- the host that is added to headers with names in lower case, exactly where the test of the host doesn't fail
-abbrev pub AddsHost : Target → List Pair → Result (Option (Bor (List ℕ))) SigningError → Type 0
-AddsHost target headers (Ok host) = (unfit_host target headers ≡ None) × (option_copied host ≡ added_host target headers) × AreLower headers
-AddsHost target headers (Err error) = unfit_host target headers ≡ Some error
-
 -- ---- the tests in the order of the code, which hashes the body after those that need no hash
 
 -- in query form the expiry, and in header form the token's text

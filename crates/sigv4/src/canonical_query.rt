@@ -124,6 +124,15 @@ impl EscapedPairs {
         }
     }
 
+    /// The same pairs.
+    pub fn try_clone(&self) -> Mem<EscapedPairs>
+        ensures { IfOk result (λ copy. copy ≡ self.now) }
+    {
+        Ok(EscapedPairs {
+            pairs: self.pairs.clone()?,
+        })
+    }
+
     /// Adds a pair, escaped. Where memory ran out, nothing is added.
     pub fn push(&mut self, key: &str, value: &str) -> Mem<()>
         ensures ok { OnOk result (self.new ≡ self.old ++ escaped_pair (key.now, value.now) ∷ []) }

@@ -40,7 +40,8 @@ pub fn sign_chunk<S>(
     Ok(sign_text(alloc, &key, text.as_slice())?)
 }
 
-/// Signs the trailers of an upload over the signature of its empty chunk.
+/// Signs the trailers of an upload over the signature of its empty chunk. Their names and values are taken as they are: that
+/// they are those of headers isn't tested here, so that CR and LF in them pass into what is signed.
 ///
 /// # Errors
 ///

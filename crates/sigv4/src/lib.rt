@@ -12,8 +12,10 @@
 //! there is none (`specs/EventStream.antt`). A key that is at hand needn't be derived anew: [`sign_with_key`],
 //! [`event_stream::sign_message_with_key`] and [`event_stream::sign_empty_message_with_key`] answer the same under it.
 //! An upload in chunks goes on from its request's signature: [`v4::sign_chunk`] and [`v4::sign_trailer`] answer the signatures of
-//! a chunk and of the trailers (`specs/Chunk.antt`), and a [`SignChunk`] makes one over the other (`specs/ChunkTold.antt`).
-//! What [`sign`] computes on its way stands in [`parts`].
+//! a chunk and of the trailers (`specs/Chunk.antt`), and a [`SignChunk`] makes one over the other (`specs/ChunkTold.antt`), a
+//! [`ChunkDeferredSigner`] once it is wired.
+//! What [`sign`] computes on its way stands in [`parts`]; the canonical text of a request that was sent is made by the same lines,
+//! for a [`parts::TextDigest`], which keeps no text.
 //! A builder gives back its parts or names the first that is missing (`specs/Params.antt`).
 #![tactic(auto)]
 
@@ -22,6 +24,7 @@ mod canonical;
 mod canonical_headers;
 mod canonical_query;
 mod chunk;
+mod chunk_deferred_signer;
 mod chunk_signer;
 mod credentials;
 mod digest;
@@ -49,11 +52,13 @@ mod signing_params;
 mod signing_scope;
 mod signing_texts;
 mod signing_time;
+mod text_sink;
 mod token_name;
 mod trim;
 pub mod v4;
 
 pub use crate::body::SignableBody;
+pub use crate::chunk_deferred_signer::ChunkDeferredSigner;
 pub use crate::chunk_signer::SignChunk;
 pub use crate::error::{SigningError, ValuePlace};
 pub use crate::header::{Header, HeaderPairs};

@@ -2,9 +2,10 @@ ghost use Rattle.std.specs.Prelude.{◌≡◌, IfOk};
 ghost use Rattle.sigv4.specs.Output.{output_parts, output_signature, output_with, signed_output};
 
 use smithy_core::Mem;
+use std::fmt;
 
 /// What was signed, and its signature.
-#[derive(Debug, Drop)]
+#[derive(Drop)]
 pub struct SigningOutput<T> {
     output: T,
     signature: String,
@@ -50,5 +51,16 @@ impl<T: Clone + Drop> SigningOutput<T> {
             output: self.output.clone()?,
             signature: self.signature.clone()?,
         })
+    }
+}
+
+// Shows neither the signature nor what was signed: with a signature anybody sends the request, and the instructions hold it too.
+impl<T> fmt::Debug for SigningOutput<T> {
+    ghost use Rattle.std.specs.Prelude.{Some, codes};
+
+    ghost debug_output = { λ _. Some (codes "SigningOutput") };
+
+    fn fmt<W: fmt::Write>(&self, f: &mut fmt::Formatter<W>) -> fmt::Result {
+        f.write_str("SigningOutput")
     }
 }

@@ -1,8 +1,8 @@
 ghost use Rattle.std.specs.Prelude.{◌≡◌, option_copied, if◌then◌else◌};
 ghost use Rattle.smithy_core.specs.TextPairs.{AreLower};
 ghost use Rattle.smithy_http.specs.Target.{target_of};
-ghost use Rattle.sigv4.specs.Canonical.{has_host, told_payload};
-ghost use Rattle.sigv4.specs.Refusal.{AddsHost, FindsHost, Tests, unfit_early_text, unfit_header, unfit_headers, unfit_host, unfit_late_texts, unfit_optional, unfit_target, unfit_value};
+ghost use Rattle.sigv4.specs.Canonical.{added_host, has_host, told_payload};
+ghost use Rattle.sigv4.specs.Refusal.{FindsHost, Tests, unfit_early_text, unfit_header, unfit_headers, unfit_host, unfit_late_texts, unfit_optional, unfit_target, unfit_value};
 ghost use Rattle.sigv4.specs.Settings.{settings_of};
 
 use crate::canonical_headers::told_payload;
@@ -25,10 +25,10 @@ pub(crate) fn test_request<'a>(
 {
     test_target(settings, &request.uri)?;
     test_headers(request.headers)?;
-    let host = added_host(&request.uri, request.headers)?;
+    test_host(&request.uri, request.headers)?;
     test_token_name(settings)?;
     test_early_text(settings, token)?;
-    Ok(host)
+    Ok(added_host(&request.uri, request.headers))
 }
 
 // Tests that the target takes parameters, where the signature goes into these.
@@ -92,20 +92,32 @@ fn test_optional(place: ValuePlace, value: Option<&str>) -> Result<(), SigningEr
     }
 }
 
-// The host that is added to the headers, where none of them is `host`.
-fn added_host<'a>(uri: &'a Uri, headers: &Headers) -> Result<Option<&'a str>, SigningError>
-    ensures { AddsHost (target_of uri.now) headers.now result }
+/// Tests the host that is added to the headers, where none of them is `host`.
+///
+/// # Errors
+///
+/// [`SigningError::MissingHost`] where there is none, and [`SigningError::InvalidHeaderValue`] where it is no header's value.
+pub fn test_host(uri: &Uri, headers: &Headers) -> Result<(), SigningError>
+    ensures { Tests (unfit_host (target_of uri.now) headers.now) result }
 {
     if has_host(headers) {
-        return Ok(None);
+        return Ok(());
     }
     match host_text(uri) {
-        Some(host) => {
-            test_value(ValuePlace::Host, host)?;
-            Ok(Some(host))
-        }
+        Some(host) => test_value(ValuePlace::Host, host),
         None => Err(SigningError::MissingHost),
     }
+}
+
+/// The host that is added to the headers: the target's, where none of them is `host`.
+pub fn added_host<'a>(uri: &'a Uri, headers: &Headers) -> Option<&'a str>
+    ensures host { option_copied result ≡ added_host (target_of uri.now) headers.now }
+    ensures lower { AreLower headers.now }
+{
+    if has_host(headers) {
+        return None;
+    }
+    host_text(uri)
 }
 
 // Whether a header is `host`.

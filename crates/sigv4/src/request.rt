@@ -18,7 +18,8 @@ pub struct SignableRequest<'a> {
 }
 
 impl<'a> SignableRequest<'a> {
-    /// A request of these parts.
+    /// A request of these parts. The method is taken as it is: that it is a token isn't tested here, so that CR and LF in it
+    /// pass into the canonical text.
     ///
     /// # Errors
     ///
@@ -40,7 +41,7 @@ impl<'a> SignableRequest<'a> {
         })
     }
 
-    /// The request as it stands, its body signed as bytes.
+    /// The request as it stands, its body signed as bytes. Its method is taken as it is, as by [`SignableRequest::new`].
     ///
     /// # Errors
     ///

@@ -1,6 +1,6 @@
 use Rattle.std.proofs.Common.{◌≡◌, subst, refl}
 use Rattle.sigv4.specs.ChunkTold.{SignsChunk}
-use Rattle.aws_auth.proofs.chunk_deferred_signer.sign_by.Goals as goal
+use Rattle.sigv4.proofs.chunk_deferred_signer.sign_by.Goals as goal
 
 -- the box lends the signer that it holds, and holds it again afterwards, whatever its type
 pub returns : goal.returns

@@ -1,8 +1,9 @@
 ghost use Rattle.std.specs.Prelude.{◌≡◌};
 ghost use Rattle.sigv4.specs.ChunkTold.{SignsChunk, SignsTrailers, unwired};
 
+use crate::chunk_signer::SignChunk;
+use crate::error::SigningError;
 use bytes::Bytes;
-use sigv4::{SignChunk, SigningError};
 use smithy_core::Headers;
 
 /// Signs chunks as the signer does that it was handed last; before that it refuses with [`SigningError::SignerNotWired`]. A deferred
