@@ -1,5 +1,6 @@
 -- What merged sections hold in the words of the definitions, and what the calls that make them answer.
-use Rattle.std.specs.Prelude.{◌≡◌, ℕ, List, [], unwrap_or, string_bytes, Result, Ok, Err}
+use Rattle.std.specs.Prelude.{◌≡◌, ℕ, List, [], ◌++◌, codes, unwrap_or, string_bytes, Result, Ok, Err}
+use Rattle.std.specs.Fmt.{decimal}
 use Rattle.std.specs.List.{AllZip}
 use Rattle.env_config.specs.declared.parse_fault.ParseFault.{ParseFault}
 use Rattle.env_config.specs.declared.parse_fault.ParseFault.TheVariants.{Parse, NoMemory}
@@ -62,3 +63,8 @@ abbrev pub ParsesSections : Result Sections FaultyLine → List ℕ → Result E
 ParsesSections read profile (Ok sections) = (read ≡ Ok (sections_of sections)) × (selected_of sections ≡ profile)
 ParsesSections read profile (Err (Parse error)) = read ≡ Err (faulty_line_of error)
 ParsesSections read profile (Err NoMemory) = Unit {0}
+
+-- what is shown to one who debugs: the selected profile, and how many profiles and sessions there are
+abbrev pub sections_shown : List ℕ → ℕ → ℕ → List ℕ
+sections_shown selected profiles sessions =
+    codes "EnvConfigSections(" ++ (selected ++ (codes " selected, " ++ (decimal profiles ++ (codes " profiles, " ++ (decimal sessions ++ codes " sessions)")))))

@@ -1,5 +1,6 @@
 -- Which files are loaded.
 use Rattle.std.specs.Prelude.{◌≡◌, ◌<◌, ℕ, Bool, List, [], ◌∷◌, ◌++◌, codes, map, if◌then◌else◌, string_bytes, Result, Ok, Err, length}
+use Rattle.std.specs.Fmt.{decimal}
 use Rattle.env_config.specs.declared.source.EnvConfigFileKind.{EnvConfigFileKind}
 use Rattle.env_config.specs.declared.source.EnvConfigFileKind.TheVariants.{Config, Credentials}
 use Rattle.env_config.specs.declared.files.Builder.{Builder}
@@ -49,3 +50,13 @@ BuildsFiles places (Err build.NoMemory) = Unit {0}
 abbrev pub build_fault_text : BuildFault → List ℕ
 build_fault_text build.NoFiles = codes "no profile files to load"
 build_fault_text build.NoMemory = codes "no memory"
+
+-- ## Shown to one who debugs
+
+-- how many files are to be loaded
+abbrev pub files_shown : ℕ → List ℕ
+files_shown count = codes "EnvConfigFiles(" ++ (decimal count ++ codes " files)")
+
+-- how many files were added
+abbrev pub builder_shown : ℕ → List ℕ
+builder_shown count = codes "Builder(" ++ (decimal count ++ codes " files added)")

@@ -1,5 +1,6 @@
 -- What a section holds, whether it is a profile or a session.
-use Rattle.std.specs.Prelude.{◌≡◌, ℕ, List, string_bytes}
+use Rattle.std.specs.Prelude.{◌≡◌, ℕ, List, ◌++◌, codes, string_bytes}
+use Rattle.std.specs.Fmt.{decimal}
 use Rattle.std.specs.List.{AllByRecursion}
 use Rattle.env_config.specs.declared.section.Section.{Section}
 use Rattle.env_config.specs.SectionProperties.{property_values}
@@ -24,3 +25,7 @@ IsKeyedSection section = IsKeyed (section_contents section)
 -- an equal name with equal properties
 abbrev pub IsSameSection : Section → Section → Type 0
 IsSameSection section copy = (string_bytes copy.name ≡ string_bytes section.name) × (section_contents copy ≡ section_contents section)
+
+-- a section of this kind as it is shown to one who debugs: its name, and how many properties it has
+abbrev pub section_shown : List ℕ → List ℕ → ℕ → List ℕ
+section_shown kind name count = kind ++ (codes "(" ++ (name ++ (codes ", " ++ (decimal count ++ codes " properties)"))))

@@ -9,7 +9,7 @@ use std::collections::BTreeMap;
 use std::marker::Model;
 
 /// Values by their names, and the names in the order of their first appearance.
-#[derive(Debug, Drop)]
+#[derive(Drop)]
 pub struct ByName<V> {
     names: Vec<String>,
     values: BTreeMap<String, V>,

@@ -44,25 +44,6 @@ impl EnvConfigFile {
     }
 }
 
-// Shows the length of the contents, and none of them: they may hold credentials.
-impl fmt::Debug for EnvConfigFile {
-    fn fmt<W: fmt::Write>(&self, f: &mut fmt::Formatter<W>) -> fmt::Result {
-        match self {
-            EnvConfigFile::Default(kind) => f.debug_tuple("Default").field(kind).finish(),
-            EnvConfigFile::FilePath { kind, path } => f
-                .debug_struct("FilePath")
-                .field("kind", kind)
-                .field("path", path)
-                .finish(),
-            EnvConfigFile::FileContents { kind, contents } => f
-                .debug_struct("FileContents")
-                .field("kind", kind)
-                .field("length", &contents.len())
-                .finish(),
-        }
-    }
-}
-
 // Equal files.
 fn copied_files(alloc: Global, files: &[EnvConfigFile]) -> Mem<Vec<EnvConfigFile>>
     ensures { IfOk result (λ copies. map file_place copies.items ≡ map file_place files.now) }
@@ -74,8 +55,9 @@ fn copied_files(alloc: Global, files: &[EnvConfigFile]) -> Mem<Vec<EnvConfigFile
     Ok(copies)
 }
 
-/// The files that are to be loaded, in order.
-#[derive(Debug, Drop)]
+/// The files that are to be loaded, in order. [`Debug`](std::fmt::Debug) prints how many there are, since a text that is
+/// given may hold credentials.
+#[derive(Drop)]
 pub struct EnvConfigFiles {
     files: Vec<EnvConfigFile>,
 }
@@ -115,8 +97,21 @@ impl EnvConfigFiles {
     }
 }
 
-/// The parts of an [`EnvConfigFiles`].
-#[derive(Debug, Drop)]
+impl fmt::Debug for EnvConfigFiles {
+    ghost use Rattle.std.specs.Prelude.{Some, length};
+    ghost use Rattle.env_config.specs.Files.{file_places, files_shown};
+
+    ghost debug_output = { λ files. Some (files_shown (length (file_places files))) };
+
+    fn fmt<W: fmt::Write>(&self, f: &mut fmt::Formatter<W>) -> fmt::Result {
+        let count = self.files.len();
+        write!(f, "EnvConfigFiles({count} files)")
+    }
+}
+
+/// The parts of an [`EnvConfigFiles`]. [`Debug`](std::fmt::Debug) prints how many files were added, since a text that is
+/// given may hold credentials.
+#[derive(Drop)]
 pub struct Builder {
     config: bool,
     credentials: bool,
@@ -208,6 +203,18 @@ impl Builder {
             return Err(BuildFault::NoFiles);
         }
         Ok(EnvConfigFiles { files })
+    }
+}
+
+impl fmt::Debug for Builder {
+    ghost use Rattle.std.specs.Prelude.{Some, length};
+    ghost use Rattle.env_config.specs.Files.{added_places, builder_shown};
+
+    ghost debug_output = { λ builder. Some (builder_shown (length (added_places builder))) };
+
+    fn fmt<W: fmt::Write>(&self, f: &mut fmt::Formatter<W>) -> fmt::Result {
+        let count = self.files.len();
+        write!(f, "Builder({count} files added)")
     }
 }
 

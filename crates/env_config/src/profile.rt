@@ -11,9 +11,10 @@ use crate::section::{Section, SectionKind};
 use crate::section_properties::SectionProperties;
 use smithy_core::Mem;
 use std::collections::BTreeMap;
+use std::fmt;
 
-/// A profile.
-#[derive(Debug, PartialEq, Eq, Drop)]
+/// A profile. [`Debug`](std::fmt::Debug) prints its name and how many properties it has, since their values may be secrets.
+#[derive(PartialEq, Eq, Drop)]
 pub struct Profile {
     section: Section,
 }
@@ -52,6 +53,19 @@ impl Profile {
     }
 }
 
+impl fmt::Debug for Profile {
+    ghost use Rattle.std.specs.Prelude.{Some, codes, length};
+    ghost use Rattle.env_config.specs.Profile.{profile_section};
+    ghost use Rattle.env_config.specs.Section.{section_of, section_shown};
+
+    ghost debug_output = { λ profile. Some (section_shown (codes "Profile") (section_of (profile_section profile)).name (length (section_of (profile_section profile)).properties)) };
+
+    fn fmt<W: fmt::Write>(&self, f: &mut fmt::Formatter<W>) -> fmt::Result {
+        let (name, count) = (self.section.name(), self.section.len());
+        write!(f, "Profile({name}, {count} properties)")
+    }
+}
+
 impl Clone for Profile {
     ghost is_clone = { λ profile copy. IsSameSection (profile_section profile) (profile_section copy) };
 
@@ -72,8 +86,9 @@ impl SectionKind for Profile {
     }
 }
 
-/// A session of single sign-on.
-#[derive(Debug, PartialEq, Eq, Drop)]
+/// A session of single sign-on. [`Debug`](std::fmt::Debug) prints its name and how many properties it has, since their
+/// values may be secrets.
+#[derive(PartialEq, Eq, Drop)]
 pub struct SsoSession {
     section: Section,
 }
@@ -92,6 +107,19 @@ impl SsoSession {
     {
         let section = self.section.try_clone()?;
         Ok(SsoSession { section })
+    }
+}
+
+impl fmt::Debug for SsoSession {
+    ghost use Rattle.std.specs.Prelude.{Some, codes, length};
+    ghost use Rattle.env_config.specs.Profile.{session_section};
+    ghost use Rattle.env_config.specs.Section.{section_of, section_shown};
+
+    ghost debug_output = { λ session. Some (section_shown (codes "SsoSession") (section_of (session_section session)).name (length (section_of (session_section session)).properties)) };
+
+    fn fmt<W: fmt::Write>(&self, f: &mut fmt::Formatter<W>) -> fmt::Result {
+        let (name, count) = (self.section.name(), self.section.len());
+        write!(f, "SsoSession({name}, {count} properties)")
     }
 }
 

@@ -55,11 +55,14 @@ impl Properties {
     }
 }
 
-// Shows how many values there are, and none of them: they may be secrets.
 impl fmt::Debug for Properties {
+    ghost use Rattle.std.specs.Prelude.{Some, length};
+    ghost use Rattle.env_config.specs.Properties.{others_of, others_shown};
+
+    ghost debug_output = { λ properties. Some (others_shown (length (others_of properties))) };
+
     fn fmt<W: fmt::Write>(&self, f: &mut fmt::Formatter<W>) -> fmt::Result {
-        f.debug_struct("Properties")
-            .field("count", &self.entries.len())
-            .finish()
+        let count = self.entries.len();
+        write!(f, "Properties({count} values)")
     }
 }

@@ -5,7 +5,7 @@ ghost use Rattle.env_config.specs.Property.{property_pair};
 use smithy_core::Mem;
 use std::fmt;
 
-/// A key and its value.
+/// A key and its value. [`Debug`](std::fmt::Debug) prints the key and how long the value is, since it may be a secret.
 #[derive(PartialEq, Eq, Drop)]
 pub struct Property {
     key: String,
@@ -46,13 +46,15 @@ impl Property {
     }
 }
 
-// Shows the value's length, and none of it: it may be a secret.
 impl fmt::Debug for Property {
+    ghost use Rattle.std.specs.Prelude.{Some, length};
+    ghost use Rattle.env_config.specs.Property.{property_pair, property_shown};
+
+    ghost debug_output = { λ property. Some (property_shown (property_pair property).0 (length (property_pair property).1)) };
+
     fn fmt<W: fmt::Write>(&self, f: &mut fmt::Formatter<W>) -> fmt::Result {
-        f.debug_struct("Property")
-            .field("key", &self.key)
-            .field("length", &self.value.len())
-            .finish()
+        let (key, length) = (self.key.as_str(), self.value.len());
+        write!(f, "Property({key}, {length} bytes)")
     }
 }
 

@@ -1,4 +1,4 @@
-ghost use Rattle.std.specs.Prelude.{◌≡◌, IfOk, option_copied};
+ghost use Rattle.std.specs.Prelude.{◌≡◌, length, IfOk, option_copied};
 ghost use Rattle.std.specs.String.{string_bytes};
 ghost use Rattle.smithy_core.specs.TextPairs.{lower};
 ghost use Rattle.env_config.specs.Section.{IsSameSection, section_contents, section_of};
@@ -10,7 +10,7 @@ use crate::section_properties::SectionProperties;
 use smithy_core::Mem;
 
 /// Properties by their keys, under a name.
-#[derive(Debug, PartialEq, Eq, Drop)]
+#[derive(PartialEq, Eq, Drop)]
 pub struct Section {
     name: String,
     properties: SectionProperties,
@@ -37,6 +37,13 @@ impl Section {
         ensures { option_copied result ≡ value_under (section_of self.now).properties (lower name.now) }
     {
         self.properties.get(name)
+    }
+
+    /// How many properties there are.
+    pub fn len(&self) -> usize
+        ensures { result ≡ length (section_of self.now).properties }
+    {
+        self.properties.len()
     }
 
     /// An equal section.

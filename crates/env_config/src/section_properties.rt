@@ -1,4 +1,4 @@
-ghost use Rattle.std.specs.Prelude.{◌≡◌, [], IfOk, OnOk, option_copied};
+ghost use Rattle.std.specs.Prelude.{◌≡◌, [], length, IfOk, OnOk, option_copied};
 ghost use Rattle.std.specs.String.{string_bytes};
 ghost use Rattle.smithy_core.specs.TextPairs.{lower};
 ghost use Rattle.env_config.specs.SectionProperties.{contents_of, contents_under, own_contents, same_contents, same_entry, property_values};
@@ -8,7 +8,6 @@ use crate::property::Property;
 use smithy_core::{Mem, is_lower_of};
 use std::alloc::Global;
 use std::collections::BTreeMap;
-use std::fmt;
 use std::marker::Model;
 
 /// The properties of a section by their keys.
@@ -84,6 +83,16 @@ impl SectionProperties {
         }
     }
 
+    /// How many there are.
+    pub fn len(&self) -> usize
+        ensures { result ≡ length self.now }
+    {
+        match &self.held {
+            Held::Given(properties) => properties.len(),
+            Held::Read(values) => values.len(),
+        }
+    }
+
     /// Equal properties.
     pub fn try_clone(&self) -> Mem<SectionProperties>
         ensures { IfOk result (λ copy. copy ≡ self.now) }
@@ -123,16 +132,6 @@ impl Eq for SectionProperties {
 
     ghost laws = { lists_equiv (and_equiv (on_equiv (λ e. e.0) nat_list_eq_equiv)
         (and_equiv (on_equiv (λ e. e.1.0) nat_list_eq_equiv) (on_equiv (λ e. e.1.1) nat_list_eq_equiv))) };
-}
-
-// Shows the keys, and of each value its length alone: it may be a secret.
-impl fmt::Debug for SectionProperties {
-    fn fmt<W: fmt::Write>(&self, f: &mut fmt::Formatter<W>) -> fmt::Result {
-        match &self.held {
-            Held::Given(properties) => show_lengths(properties, f),
-            Held::Read(values) => show_lengths(values, f),
-        }
-    }
 }
 
 /// What stands under a key: a value, and a key of its own.
@@ -211,17 +210,6 @@ fn is_same<V: Stored, W: Stored>(key: &str, stored: &V, other_key: &str, other: 
     key == other_key
         && stored.own_key(key) == other.own_key(other_key)
         && stored.stored_value() == other.stored_value()
-}
-
-fn show_lengths<V: Stored, W: fmt::Write>(
-    map: &BTreeMap<String, V>,
-    f: &mut fmt::Formatter<W>,
-) -> fmt::Result {
-    let mut shown = f.debug_map();
-    for (key, stored) in map {
-        shown.entry(key, &stored.stored_value().len());
-    }
-    shown.finish()
 }
 
 fn put_property(properties: &mut BTreeMap<String, Property>, key: String, value: String) -> Mem<()>

@@ -35,11 +35,14 @@ use crate::texts::Texts;
 use smithy_core::Mem;
 use std::alloc::Global;
 use std::collections::BTreeMap;
+use std::fmt;
 
 /// Profiles, sessions and other sections, and the name of the selected profile.
 ///
 /// Sections are equal where they select the same profile and hold equal ones, in whatever order the names came.
-#[derive(Debug, PartialEq, Eq, Drop)]
+/// [`Debug`](std::fmt::Debug) prints the selected profile and how many profiles and sessions there are, since what they
+/// hold may be secrets.
+#[derive(PartialEq, Eq, Drop)]
 pub struct EnvConfigSections {
     selected: String,
     profiles: ByName<Profile>,
@@ -378,6 +381,22 @@ impl EnvConfigSections {
                 pairs,
             ),
         }
+    }
+}
+
+impl fmt::Debug for EnvConfigSections {
+    ghost use Rattle.std.specs.Prelude.{Some, length};
+    ghost use Rattle.env_config.specs.EnvConfigSections.{sections_of, sections_shown, selected_of};
+
+    ghost debug_output = { λ s. Some (sections_shown (selected_of s) (length (sections_of s).profiles.names) (length (sections_of s).sessions.names)) };
+
+    fn fmt<W: fmt::Write>(&self, f: &mut fmt::Formatter<W>) -> fmt::Result {
+        let selected = self.selected.as_str();
+        let (profiles, sessions) = (self.profiles.names().len(), self.sessions.names().len());
+        write!(
+            f,
+            "EnvConfigSections({selected} selected, {profiles} profiles, {sessions} sessions)"
+        )
     }
 }
 

@@ -1,6 +1,6 @@
 ghost use Rattle.std.specs.Prelude.{◌≡◌, IfOk, map};
 ghost use Rattle.std.specs.String.{string_bytes};
-ghost use Rattle.env_config.specs.Source.{file_of};
+ghost use Rattle.env_config.specs.Source.{file_of, kind_name};
 
 use crate::text::copied;
 use smithy_core::Mem;
@@ -16,8 +16,21 @@ pub enum EnvConfigFileKind {
     Credentials,
 }
 
-/// The texts of profile files, and the name of the selected profile.
-#[derive(Debug, Drop)]
+impl EnvConfigFileKind {
+    // The kind in lower case.
+    fn name(&self) -> &str
+        ensures { result.now ≡ kind_name self.now }
+    {
+        match self {
+            EnvConfigFileKind::Config => "config",
+            EnvConfigFileKind::Credentials => "credentials",
+        }
+    }
+}
+
+/// The texts of profile files, and the name of the selected profile. [`Debug`](std::fmt::Debug) prints that name and how
+/// many files there are.
+#[derive(Drop)]
 pub struct Source {
     /// The files in order.
     pub files: Vec<File>,
@@ -38,6 +51,19 @@ impl Source {
     }
 }
 
+impl fmt::Debug for Source {
+    ghost use Rattle.std.specs.Prelude.{Some, length};
+    ghost use Rattle.std.specs.String.{string_bytes};
+    ghost use Rattle.env_config.specs.Source.{source_shown};
+
+    ghost debug_output = { λ source. Some (source_shown (string_bytes source.profile) (length source.files.items)) };
+
+    fn fmt<W: fmt::Write>(&self, f: &mut fmt::Formatter<W>) -> fmt::Result {
+        let (profile, files) = (self.profile.as_str(), self.files.len());
+        write!(f, "Source({profile} selected, {files} files)")
+    }
+}
+
 // Equal files.
 fn copied_files(alloc: Global, files: &[File]) -> Mem<Vec<File>>
     ensures { IfOk result (λ copies. map file_of copies.items ≡ map file_of files.now) }
@@ -49,7 +75,8 @@ fn copied_files(alloc: Global, files: &[File]) -> Mem<Vec<File>>
     Ok(copies)
 }
 
-/// The text of a profile file.
+/// The text of a profile file. [`Debug`](std::fmt::Debug) prints its kind, its path and its length, since the text may hold
+/// credentials.
 #[derive(Drop)]
 pub struct File {
     /// How it is read.
@@ -73,13 +100,17 @@ impl File {
     }
 }
 
-// Shows the length of the contents, and none of them: they may hold credentials.
 impl fmt::Debug for File {
+    ghost use Rattle.std.specs.Prelude.{Some, length};
+    ghost use Rattle.env_config.specs.Source.{file_of, file_shown};
+
+    ghost debug_output = { λ file. Some (file_shown (file_of file).kind (file_of file).path (length (file_of file).contents)) };
+
     fn fmt<W: fmt::Write>(&self, f: &mut fmt::Formatter<W>) -> fmt::Result {
-        f.debug_struct("File")
-            .field("kind", &self.kind)
-            .field("path", &self.path)
-            .field("length", &self.contents.len())
-            .finish()
+        let (kind, length) = (self.kind.name(), self.contents.len());
+        match &self.path {
+            Some(path) => write!(f, "File({kind} at {path}, {length} bytes)"),
+            None => write!(f, "File({kind}, {length} bytes)"),
+        }
     }
 }
