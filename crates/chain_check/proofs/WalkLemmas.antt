@@ -1,6 +1,6 @@
 -- The walk over the frames of a chain, frame by frame.
 use Rattle.std.proofs.Common.{◌≡◌, ℕ, zero, suc, ◌+◌, ◌<◌, ◌≤◌, true, false, List, [], ◌∷◌, ◌++◌, length, take, Option, Some, None, Result, Ok, Err, inl, inr, ◌⊎◌, refl, sym, ap, ◌∙◌, append-nil, append_assoc, arith}
-use Rattle.std.specs.Prelude.{◌==◌, ◌&&◌, Bool, if◌then◌else◌, IfSome, IsErr, IsSome, bytes_eq, is_none, not, option_map}
+use Rattle.std.specs.Prelude.{◌==◌, ◌&&◌, Bool, if◌then◌else◌, IfSome, IsErr, IsSome, bytes_eq, is_none, option_map}
 use Rattle.std.proofs.lemmas.Bool.{eq-eqb}
 use Rattle.std.proofs.lemmas.List.{take_at}
 use Rattle.std.proofs.lemmas.Slice.Eq.{bytes_eq-Decides}
@@ -249,37 +249,23 @@ tested_code signer signature place message code date event headers moment payloa
 
 pub test_differs : (signer : Signer) (signature : List ℕ) (place : ℕ) (message : Parts) (code recomputed : List ℕ) (date : Instant) (event : Option Parts)
     → carried message.headers ≡ Some (code, date) → signed_moment date ≡ Some date → inner_event message.payload ≡ Some event
-    → recomputed ≡ link_code signer signature message.payload date → (code ≡ recomputed → ⊥)
+    → recomputed ≡ link_code signer signature message.payload date → bytes_eq code recomputed ≡ false
     → frame_test signer signature place message ≡ Err (Mismatch place code recomputed)
 test_differs signer signature place message code recomputed date event headers moment payload is other =
     tested_code signer signature place message code date event headers moment payload
-    ∙ ap (λ (again : List ℕ). compared place code again event) (sym is) ∙ by_test (bytes_eq code recomputed) refl
-  where
-    by_test : (same : Bool) → bytes_eq code recomputed ≡ same → compared place code recomputed event ≡ Err (Mismatch place code recomputed)
-    by_test true test = absurd (other ((bytes_eq-Decides code recomputed).0 test))
-    by_test false test = rw test refl
+    ∙ ap (λ (again : List ℕ). compared place code again event) (sym is) ∙ rw other refl
 
 pub test_passes : (signer : Signer) (signature : List ℕ) (place : ℕ) (message : Parts) (code recomputed next : List ℕ) (date : Instant) (event : Option Parts)
     → carried message.headers ≡ Some (code, date) → signed_moment date ≡ Some date → inner_event message.payload ≡ Some event
-    → recomputed ≡ link_code signer signature message.payload date → code ≡ recomputed
+    → recomputed ≡ link_code signer signature message.payload date → bytes_eq code recomputed ≡ true
     → next ≡ link_signature signer signature message.payload date
     → frame_test signer signature place message ≡ Ok (record { event = event; signature = next })
 unfolding link_signature
 test_passes signer signature place message code recomputed next date event headers moment payload is same after =
-    let test : bytes_eq code (link_code signer signature message.payload date) ≡ true = (bytes_eq-Decides code (link_code signer signature message.payload date)).1 (same ∙ is) in
+    let test : bytes_eq code (link_code signer signature message.payload date) ≡ true = ap (bytes_eq code) (sym is) ∙ same in
     tested_code signer signature place message code date event headers moment payload ∙ rw (test, after) refl
 
--- ## Comparisons
-
-pub unlike : (a b : List ℕ) → true ≡ not (bytes_eq a b) → a ≡ b → ⊥
-unlike a b test same = let equal : bytes_eq a b ≡ true = (bytes_eq-Decides a b).1 same in cc
-
-pub alike : (a b : List ℕ) → false ≡ not (bytes_eq a b) → a ≡ b
-alike a b test = (bytes_eq-Decides a b).0 (by_test (bytes_eq a b) test)
-  where
-    by_test : (same : Bool) → false ≡ not same → same ≡ true
-    by_test true test = refl
-    by_test false test = cc
+-- ## What a frame carries, and its link
 
 pub date_signed : (date : Instant) (fits : Bool) → signed_moment date ≡ (if fits then Some date else None) → fits ≡ true → signed_moment date ≡ Some date
 date_signed date true is fit = is

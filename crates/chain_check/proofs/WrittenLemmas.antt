@@ -4,6 +4,7 @@ use Rattle.std.specs.Prelude.{◌&&◌, codes, if◌then◌else◌}
 use Rattle.std.specs.Int.{w64, cast_unsigned, saturate_signed, to_be_bytes}
 use Rattle.std.specs.List.{AllByRecursion, concat}
 use Rattle.std.specs.Ordering.{int_eq}
+use Rattle.std.proofs.lemmas.Slice.Eq.{bytes_eq-Decides}
 use Rattle.std.proofs.lemmas.Bool.Decides.{nat_tests}
 use Rattle.std.proofs.lemmas.Int.{ints}
 use Rattle.std.proofs.lemmas.List.Elements.{All-from_recursion, recursion_from_All}
@@ -133,7 +134,7 @@ unfolding link_message link_code link_signature
 link_passes signer signature bytes t place event years inner =
     test_passes signer signature place (link_message signer signature bytes t) (link_code signer signature bytes t) (link_code signer signature bytes t)
     (link_signature signer signature bytes t) (floor_secs t) event
-    (link_carried signer signature bytes t) (second_signed t years) inner refl refl refl
+    (link_carried signer signature bytes t) (second_signed t years) inner refl ((bytes_eq-Decides (link_code signer signature bytes t) _).1 refl) refl
 
 -- the frame of an event holds the event
 event_held : (event : Parts) → IsProper event → unframed event ≡ None → inner_event (frame event) ≡ Some (Some (floored_message event))

@@ -1,3 +1,6 @@
+ghost use Rattle.std.specs.Prelude.{◌≡◌};
+ghost use Rattle.chain_check.specs.ChainFault.{part_name};
+
 use std::alloc::{AllocError, AllocFailed};
 use std::fmt;
 
@@ -18,8 +21,9 @@ pub enum ChainPart {
     NoClosing,
 }
 
-/// Why bytes aren't the chain of events. Frames count from 1.
-#[derive(Clone, Copy, Debug, PartialEq, Eq)]
+/// Why bytes aren't the chain of events. Frames count from 1. [`Debug`](std::fmt::Debug) and [`Display`](std::fmt::Display)
+/// leave the recomputed signature out, since for whoever sent the frame it is the right one.
+#[derive(Clone, Copy, PartialEq, Eq)]
 pub enum ChainFault {
     /// This frame isn't one of a chain.
     NotChain {
@@ -36,7 +40,28 @@ pub enum ChainFault {
     NoMemory,
 }
 
+impl ChainPart {
+    // The name of the part.
+    fn name(self) -> &'static str
+        ensures { result.now ≡ part_name self }
+    {
+        match self {
+            ChainPart::NotFrame => "NotFrame",
+            ChainPart::Headers => "Headers",
+            ChainPart::Date => "Date",
+            ChainPart::Inner => "Inner",
+            ChainPart::AfterClosing => "AfterClosing",
+            ChainPart::NoClosing => "NoClosing",
+        }
+    }
+}
+
 impl fmt::Display for ChainPart {
+    ghost use Rattle.std.specs.Prelude.{Some};
+    ghost use Rattle.chain_check.specs.ChainFault.{part_text};
+
+    ghost output = { λ part. Some (part_text part) };
+
     fn fmt<W: fmt::Write>(&self, f: &mut fmt::Formatter<W>) -> fmt::Result {
         f.write_str(match self {
             ChainPart::NotFrame => "isn't a whole frame",
@@ -50,6 +75,11 @@ impl fmt::Display for ChainPart {
 }
 
 impl fmt::Display for ChainFault {
+    ghost use Rattle.std.specs.Prelude.{Some};
+    ghost use Rattle.chain_check.specs.ChainFault.{fault_text};
+
+    ghost output = { λ fault. Some (fault_text fault) };
+
     fn fmt<W: fmt::Write>(&self, f: &mut fmt::Formatter<W>) -> fmt::Result {
         match self {
             ChainFault::NotChain { frame, part } => write!(f, "frame {frame} {part}"),
@@ -57,6 +87,25 @@ impl fmt::Display for ChainFault {
                 write!(f, "frame {frame} carries another signature than its own")
             }
             ChainFault::NoMemory => f.write_str("no memory"),
+        }
+    }
+}
+
+// The recomputed signature isn't printed: a log that holds it hands out a valid signature for a forged frame.
+impl fmt::Debug for ChainFault {
+    ghost use Rattle.std.specs.Prelude.{Some};
+    ghost use Rattle.chain_check.specs.ChainFault.{fault_shown};
+
+    ghost debug_output = { λ fault. Some (fault_shown fault) };
+
+    fn fmt<W: fmt::Write>(&self, f: &mut fmt::Formatter<W>) -> fmt::Result {
+        match self {
+            ChainFault::NotChain { frame, part } => {
+                let name = part.name();
+                write!(f, "NotChain {{ frame: {frame}, part: {name} }}")
+            }
+            ChainFault::Mismatch { frame, .. } => write!(f, "Mismatch {{ frame: {frame}, .. }}"),
+            ChainFault::NoMemory => f.write_str("NoMemory"),
         }
     }
 }

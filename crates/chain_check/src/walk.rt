@@ -9,6 +9,7 @@ ghost use Rattle.chain_check.specs.Walk.{AnswersChain, IsLink, ReadsEvent, Signs
 use crate::chain_fault::{ChainFault, ChainPart};
 use bytes::Bytes;
 use eventstream::{DecodedFrame, ErrorKind, MessageFrameDecoder, read_message_from};
+use mac_core::constant_time_eq;
 use seg_buf::SegBuf;
 use sigv4::event_stream::{SigningParams, sign_empty_message, sign_message};
 use sigv4::{SigningError, SigningOutput};
@@ -32,9 +33,9 @@ use std::alloc::Global;
 /// # Errors
 ///
 /// The first test that fails, frame by frame, each in this order: [`ChainFault::NotChain`] with
-/// [`ChainPart::NotFrame`] where the bytes are no frame, with [`ChainPart::Headers`] where its headers aren't exactly
+/// [`ChainPart::NotFrame`] where the bytes are no frame, or one of over 16,777,216 bytes, with [`ChainPart::Headers`] where its headers aren't exactly
 /// `:chunk-signature` with 32 bytes and `:date`, with [`ChainPart::Date`] where the date is no whole second in the years 0 to
-/// 9999 0 to 9999, and with [`ChainPart::Inner`] where the payload isn't empty and is no frame of a message;
+/// 9999, and with [`ChainPart::Inner`] where the payload isn't empty and is no frame of a message;
 /// [`ChainFault::Mismatch`] where it carries another signature than its own. The first frame with an empty payload is the
 /// closing one: bytes after it are [`ChainPart::AfterClosing`] at the next place, an end without it is
 /// [`ChainPart::NoClosing`] there. [`ChainFault::NoMemory`] where memory runs out.
@@ -171,7 +172,7 @@ fn check_frame(
     let again = sign_again(alloc, message.payload(), frame, signature, &params)?;
     let recomputed = code_in(&again.signed);
     let code = carried.code;
-    if code != recomputed {
+    if !constant_time_eq(&code, &recomputed) {
         return Err(mismatch(frame, code, recomputed));
     }
     let (_, signature) = again.signed.into_parts();
