@@ -1,5 +1,5 @@
 ghost use Rattle.std.specs.Prelude.{◌≡◌};
-ghost use Rattle.chain_check.specs.ChainFault.{part_name};
+ghost use Rattle.chain_check.specs.ChainFault.{chain_part_name};
 
 use std::alloc::{AllocError, AllocFailed};
 use std::fmt;
@@ -41,9 +41,9 @@ pub enum ChainFault {
 }
 
 impl ChainPart {
-    // The name of the part.
-    fn name(self) -> &'static str
-        ensures { result.now ≡ part_name self }
+    /// The name of the part, as the program prints it.
+    pub fn name(self) -> &'static str
+        ensures { result.now ≡ chain_part_name self }
     {
         match self {
             ChainPart::NotFrame => "NotFrame",
@@ -58,9 +58,9 @@ impl ChainPart {
 
 impl fmt::Display for ChainPart {
     ghost use Rattle.std.specs.Prelude.{Some};
-    ghost use Rattle.chain_check.specs.ChainFault.{part_text};
+    ghost use Rattle.chain_check.specs.ChainFault.{chain_part_text};
 
-    ghost output = { λ part. Some (part_text part) };
+    ghost output = { λ part. Some (chain_part_text part) };
 
     fn fmt<W: fmt::Write>(&self, f: &mut fmt::Formatter<W>) -> fmt::Result {
         f.write_str(match self {
@@ -76,9 +76,9 @@ impl fmt::Display for ChainPart {
 
 impl fmt::Display for ChainFault {
     ghost use Rattle.std.specs.Prelude.{Some};
-    ghost use Rattle.chain_check.specs.ChainFault.{fault_text};
+    ghost use Rattle.chain_check.specs.ChainFault.{chain_fault_text};
 
-    ghost output = { λ fault. Some (fault_text fault) };
+    ghost output = { λ fault. Some (chain_fault_text fault) };
 
     fn fmt<W: fmt::Write>(&self, f: &mut fmt::Formatter<W>) -> fmt::Result {
         match self {
@@ -94,9 +94,9 @@ impl fmt::Display for ChainFault {
 // The recomputed signature isn't printed: a log that holds it hands out a valid signature for a forged frame.
 impl fmt::Debug for ChainFault {
     ghost use Rattle.std.specs.Prelude.{Some};
-    ghost use Rattle.chain_check.specs.ChainFault.{fault_shown};
+    ghost use Rattle.chain_check.specs.ChainFault.{chain_fault_shown};
 
-    ghost debug_output = { λ fault. Some (fault_shown fault) };
+    ghost debug_output = { λ fault. Some (chain_fault_shown fault) };
 
     fn fmt<W: fmt::Write>(&self, f: &mut fmt::Formatter<W>) -> fmt::Result {
         match self {

@@ -4,8 +4,7 @@ use Rattle.std.specs.Fmt.{decimal}
 use Rattle.smithy_core.specs.Outside.{Gains, GainsPrefix, GainsProperPrefix, RoseOrStands}
 use Rattle.smithy_core.specs.Text.{line}
 use Rattle.chain_check.specs.declared.chain_fault.ChainFault.TheVariants.{NotChain, Mismatch, NoMemory}
-use Rattle.chain_check.specs.declared.chain_fault.ChainPart.{ChainPart}
-use Rattle.chain_check.specs.declared.chain_fault.ChainPart.TheVariants.{NotFrame, Headers, Date, Inner, AfterClosing, NoClosing}
+use Rattle.chain_check.specs.ChainFault.{chain_part_name}
 use Rattle.signed_stream.specs.declared.status.CheckFault.{CheckFault}
 use Rattle.signed_stream.specs.declared.status.CheckFault.TheVariants.{NoSignature, Chain}
 use Rattle.signed_stream.specs.Status.{Ending, done, bad_words, job_too_large, bad_job, read_fault, could_not_read_file, refused, check_failed, output_fault, no_memory, RunFault, parse_error, missing_credentials, missing_signing_region, moment_out_of_range, invalid_uri, invalid_header_name, invalid_header_value, missing_host, invalid_token_name, missing_expires, invalid_header_name_length, header_value_too_long, timestamp_value_too_large, headers_too_long, payload_too_long, message_too_long, sink_fault, memory_fault}
@@ -31,19 +30,10 @@ run_fault_text (message_too_long place) = codes "16 MessageTooLong"
 run_fault_text sink_fault = codes "17 SinkFault"
 run_fault_text memory_fault = codes "18 NoMemory"
 
--- what of a frame isn't as in a chain
-abbrev pub chain_part_text : ChainPart → List ℕ
-chain_part_text NotFrame = codes "NotFrame"
-chain_part_text Headers = codes "Headers"
-chain_part_text Date = codes "Date"
-chain_part_text Inner = codes "Inner"
-chain_part_text AfterClosing = codes "AfterClosing"
-chain_part_text NoClosing = codes "NoClosing"
-
 -- the frame that isn't as in a chain, and what of it; the request counts as frame 0
 abbrev pub failed_at : CheckFault → ℕ × List ℕ
 failed_at NoSignature = (0, codes "NoSignature")
-failed_at (Chain (NotChain frame part)) = (frame, chain_part_text part)
+failed_at (Chain (NotChain frame part)) = (frame, chain_part_name part)
 failed_at (Chain (Mismatch frame carried recomputed)) = (frame, codes "Mismatch")
 failed_at (Chain NoMemory) = (0, codes "NoMemory")
 

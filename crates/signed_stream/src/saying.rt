@@ -1,10 +1,10 @@
 ghost use Rattle.std.specs.Prelude.{◌≡◌, ◌≤◌, ◌⊎◌, IfOk};
 ghost use Rattle.std.specs.String.{string_bytes};
-ghost use Rattle.signed_stream.specs.Saying.{SaysEnding, ending_line, failed_at, chain_part_text};
+ghost use Rattle.signed_stream.specs.Saying.{SaysEnding, ending_line, failed_at};
 ghost use Rattle.signed_stream.specs.Status.{check_failed, done, ending_of, run_fault, no_memory, refused};
 
 use crate::status::{CheckFault, Status, StreamFault};
-use chain_check::{ChainFault, ChainPart};
+use chain_check::ChainFault;
 use smithy_core::{ByteSink, Mem, SinkError, write_all};
 use std::alloc::Global;
 
@@ -97,21 +97,8 @@ fn failed_at(fault: CheckFault) -> (usize, &'static str)
 {
     match fault {
         CheckFault::NoSignature => (0, "NoSignature"),
-        CheckFault::Chain(ChainFault::NotChain { frame, part }) => (frame, part_name(part)),
+        CheckFault::Chain(ChainFault::NotChain { frame, part }) => (frame, part.name()),
         CheckFault::Chain(ChainFault::Mismatch { frame, .. }) => (frame, "Mismatch"),
         CheckFault::Chain(ChainFault::NoMemory) => (0, "NoMemory"),
-    }
-}
-
-fn part_name(part: ChainPart) -> &'static str
-    ensures { result.now ≡ chain_part_text part }
-{
-    match part {
-        ChainPart::NotFrame => "NotFrame",
-        ChainPart::Headers => "Headers",
-        ChainPart::Date => "Date",
-        ChainPart::Inner => "Inner",
-        ChainPart::AfterClosing => "AfterClosing",
-        ChainPart::NoClosing => "NoClosing",
     }
 }
