@@ -24,7 +24,7 @@ use Rattle.smithy_core.specs.declared.civil_text.Civil.{Civil}
 use Rattle.sigv4.specs.Body.{payload_text}
 use Rattle.sigv4.specs.Refusal.{is_name}
 use Rattle.sigv4.specs.Request.{Case}
-use Rattle.sigv4.specs.Signature.{is_lower_digit, signature}
+use Rattle.sigv4.specs.Signature.{is_lower_digit, is_signature, signature}
 use Rattle.sigv4.specs.Signed.{signature_of}
 use Rattle.sigv4.specs.Trim.{is_word, trim_all}
 use Rattle.sigv4.specs.declared.body.SignableBody.{SignableBody}
@@ -34,7 +34,7 @@ use Rattle.sigv4.proofs.JoinLemmas.{AllLack, Lacks, split_joined}
 use Rattle.sigv4.proofs.SetLemmas.{is_among, order}
 use Rattle.sigv4.proofs.SignatureLemmas.{sha256-bytes}
 use Rattle.request_check.specs.Recomputation.{IsTrimmedBody}
-use Rattle.request_check.specs.SealTexts.{has_space, is_signature}
+use Rattle.request_check.specs.SealTexts.{has_space}
 use Rattle.request_check.proofs.ReadingLemmas.{digit_is_no_space}
 
 -- ---- header names have neither `;` nor a space

@@ -8,8 +8,8 @@ use Rattle.std.proofs.lemmas.List.{append_cancel_left}
 use Rattle.sigv4.specs.Signed.{authorization_text}
 use Rattle.request_check.specs.Carried.{IsAuthorization, ReadsAuthorization}
 use Rattle.request_check.specs.Cuts.{CutsLast}
-use Rattle.sigv4.specs.Signature.{is_lower_digit}
-use Rattle.request_check.specs.SealTexts.{has_space, is_signature}
+use Rattle.sigv4.specs.Signature.{is_lower_digit, is_signature}
+use Rattle.request_check.specs.SealTexts.{has_space}
 use Rattle.request_check.proofs.CutLemmas.{one_cut, same_cut}
 
 abbrev label : List ℕ

@@ -15,9 +15,10 @@ use Rattle.sigv4.specs.Query.{Pair, decoded, decoded_pairs}
 use Rattle.sigv4.specs.Signed.{authorization_text}
 use Rattle.sigv4.specs.declared.settings.SignatureLocation.{SignatureLocation}
 use Rattle.sigv4.specs.declared.settings.SignatureLocation.TheVariants.{Headers, QueryParams}
+use Rattle.sigv4.specs.Signature.{is_signature}
 use Rattle.request_check.specs.Carried.{CutsScope, IsAuthorization, IsCarried, CarriesFirst, MakesSeal, ReadsAuthorization, ReadsParameters, TellsHeaderSeal, TellsTargetSeal}
 use Rattle.request_check.specs.Cuts.{CutsEnd}
-use Rattle.request_check.specs.SealTexts.{has_space, is_signature}
+use Rattle.request_check.specs.SealTexts.{has_space}
 use Rattle.request_check.specs.Sealed.{HasOneSeal, IsSealedAt, IsUnsealed, SealParts, SealsHeaders, SealsParameters, TellsSeal, sealed_credential}
 use Rattle.request_check.specs.Stamped.{ReadsStamp}
 use Rattle.request_check.specs.declared.seal.Carried.{Carried}

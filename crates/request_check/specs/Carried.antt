@@ -9,7 +9,8 @@ use Rattle.sigv4.specs.Query.{Pair}
 use Rattle.sigv4.specs.Signed.{authorization_text}
 use Rattle.sigv4.specs.declared.settings.SignatureLocation.{SignatureLocation}
 use Rattle.sigv4.specs.declared.settings.SignatureLocation.TheVariants.{Headers, QueryParams}
-use Rattle.request_check.specs.SealTexts.{has_space, is_signature}
+use Rattle.sigv4.specs.Signature.{is_signature}
+use Rattle.request_check.specs.SealTexts.{has_space}
 use Rattle.request_check.specs.Sealed.{IsUnsealed, SealParts, SealsHeaders, SealsParameters, SealsTarget, sealed_credential}
 use Rattle.request_check.specs.Stamped.{IsWholeSecond}
 use Rattle.request_check.specs.declared.authorization.Authorization.{Authorization}

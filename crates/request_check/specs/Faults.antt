@@ -1,4 +1,6 @@
 -- What errors of the layer below become.
+use Rattle.std.specs.Prelude.{◌≡◌}
+use Rattle.sigv4.specs.Error.{IsSameError}
 use Rattle.sigv4.specs.declared.error.SigningError.{SigningError}
 use Rattle.sigv4.specs.declared.error.SigningError.TheVariants.{NoMemory as NoRoom}
 use Rattle.request_check.specs.declared.check.CheckRequestFault.{CheckRequestFault}
@@ -11,3 +13,8 @@ check_fault_for _ error = Signing error
 -- `NoMemory` stays what it is
 abbrev pub fault_of : SigningError → CheckRequestFault
 fault_of error = check_fault_for error error
+
+-- the faults are the same, and so are the texts of an encoding that failed
+abbrev pub IsSameFault : CheckRequestFault → CheckRequestFault → Type 0
+IsSameFault (Signing error) (Signing copy) = IsSameError error copy
+IsSameFault fault copy = copy ≡ fault

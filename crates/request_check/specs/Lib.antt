@@ -6,4 +6,5 @@ pub mod Recomputation
 pub mod Recomputed
 pub mod SealTexts
 pub mod Sealed
+pub mod Shown
 pub mod Stamped

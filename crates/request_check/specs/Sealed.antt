@@ -11,7 +11,8 @@ use Rattle.smithy_http.specs.Target.{target_of}
 use Rattle.eventstream.specs.Key.{scope}
 use Rattle.sigv4.specs.Query.{Pair, decoded}
 use Rattle.sigv4.specs.Signed.{authorization_text}
-use Rattle.request_check.specs.SealTexts.{has_space, is_signature}
+use Rattle.sigv4.specs.Signature.{is_signature}
+use Rattle.request_check.specs.SealTexts.{has_space}
 use Rattle.request_check.specs.Stamped.{IsWholeSecond}
 use Rattle.sigv4.specs.declared.settings.SignatureLocation.{SignatureLocation}
 use Rattle.sigv4.specs.declared.settings.SignatureLocation.TheVariants.{Headers, QueryParams}

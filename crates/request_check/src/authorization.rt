@@ -1,7 +1,8 @@
 ghost use Rattle.request_check.specs.Carried.{CutsScope, ReadsAuthorization};
 
 use crate::cuts::{cut_end, cut_last};
-use crate::seal_texts::{has_space, is_signature};
+use crate::seal_texts::has_space;
+use sigv4::parts::is_signature;
 
 /// The parts of an `authorization` header.
 #[derive(Clone, Copy)]

@@ -1,31 +1,69 @@
-ghost use Rattle.std.specs.Prelude.{◌≡◌, Ok, Err, IfOk, string_bytes};
+ghost use Rattle.std.specs.Prelude.{◌≡◌, bytes_eq, Ok, Err, IfOk, string_bytes};
 ghost use Rattle.smithy_http.specs.Target.{target_of};
 ghost use Rattle.sigv4.specs.Body.{payload_text};
+ghost use Rattle.sigv4.specs.Digest.{HoldsText};
 ghost use Rattle.sigv4.specs.Settings.{settings_of};
+ghost use Rattle.request_check.specs.Faults.{IsSameFault};
 ghost use Rattle.request_check.specs.Recomputation.{Recomputes};
 ghost use Rattle.request_check.specs.Recomputed.{ChecksRequest, ReadsSent, sent_text};
 
 use crate::header_lines::push_header_lines;
-use crate::host::{added_host, test_host};
 use crate::seal::{Seal, seal_of};
 use crate::target::signed_query;
 use http_uri::Uri;
-use sigv4::parts::{canonical_path, payload_text, test_headers};
-use sigv4::v4::request_signature;
+use mac_core::constant_time_eq;
+use sigv4::parts::{
+    TextDigest, added_host, digest_signature, payload_text, push_head, push_tail, test_headers,
+    test_host,
+};
 use sigv4::{SignableBody, SigningError, SigningSettings};
-use smithy_core::{HttpRequest, Mem, push_text_line};
+use smithy_core::{HttpRequest, Mem};
 use smithy_http::read_target;
 use std::alloc::{AllocError, Global};
 use std::fmt;
 
 /// The signature that a request carries, and the one that was computed again. The request is as it was signed exactly where
 /// they are equal.
-#[derive(Debug, Drop)]
+///
+/// The signature that was computed again signs the request for whoever has it, also where another one is carried: it isn't
+/// printed, and it isn't to be told to whoever sent the request.
+#[derive(Drop)]
 pub struct Checked {
     /// The signature that the request carries.
     pub carried: String,
     /// The signature that was computed again.
     pub recomputed: String,
+}
+
+impl Checked {
+    /// Whether the two signatures are the same. Each of their bytes is looked at, also behind the first that differs.
+    pub fn is_same(&self) -> bool
+        ensures { result ≡ bytes_eq (string_bytes self.now.carried) (string_bytes self.now.recomputed) }
+    {
+        constant_time_eq(self.carried.as_bytes(), self.recomputed.as_bytes())
+    }
+
+    /// The same signatures.
+    pub fn try_clone(&self) -> Mem<Checked>
+        ensures carried { IfOk result (λ copy. string_bytes copy.carried ≡ string_bytes self.now.carried) }
+        ensures recomputed { IfOk result (λ copy. string_bytes copy.recomputed ≡ string_bytes self.now.recomputed) }
+    {
+        Ok(Checked {
+            carried: self.carried.clone()?,
+            recomputed: self.recomputed.clone()?,
+        })
+    }
+}
+
+// Shows neither signature.
+impl fmt::Debug for Checked {
+    ghost use Rattle.std.specs.Prelude.{Some, codes};
+
+    ghost debug_output = { λ _. Some (codes "Checked") };
+
+    fn fmt<W: fmt::Write>(&self, f: &mut fmt::Formatter<W>) -> fmt::Result {
+        f.write_str("Checked")
+    }
 }
 
 /// Why no signature is computed again.
@@ -39,6 +77,19 @@ pub enum CheckRequestFault {
     NoMemory,
 }
 
+impl CheckRequestFault {
+    /// An equal fault.
+    pub fn try_clone(&self) -> Mem<CheckRequestFault>
+        ensures { IfOk result (IsSameFault self.now) }
+    {
+        Ok(match self {
+            CheckRequestFault::NoSignature => CheckRequestFault::NoSignature,
+            CheckRequestFault::Signing(error) => CheckRequestFault::Signing(error.try_clone()?),
+            CheckRequestFault::NoMemory => CheckRequestFault::NoMemory,
+        })
+    }
+}
+
 /// Computes the signature of a request again, from nothing but the request, its body, the settings, the region, the service's
 /// name and the secret. Moment and names are those of the seal that the request carries.
 ///
@@ -48,8 +99,15 @@ pub enum CheckRequestFault {
 ///
 /// ```rust
 /// let checked = check_request(alloc, &request, &settings, "us-east-1", "service", &body, secret)?;
-/// if checked.carried == checked.recomputed { .. }
+/// if checked.is_same() { .. }
 /// ```
+///
+/// The names of the seal are taken as they are carried, a name that is listed twice twice, before any signature is known. Memory
+/// stays within a small multiple of the request's size, since the canonical text goes to its digest piece by piece. The time grows
+/// with the number of names times the size of the headers: whoever sends 64 KB of one name, with a header of that name of 64 KB,
+/// has 2 GB hashed. So bound the size of what is checked, or refuse names that are listed twice before the call.
+///
+/// The request's method is taken as it is: that it is a token isn't tested here.
 ///
 /// # Errors
 ///
@@ -78,8 +136,8 @@ pub fn check_request(
     };
     let uri = readable_target(alloc, sent)?;
     let payload = payload_text(alloc, body)?;
-    let text = sent_text(alloc, sent, &uri, settings, payload.as_str(), &seal)?;
-    let recomputed = request_signature(alloc, text.as_bytes(), secret, seal.at(), region, name)?;
+    let text = sent_digest(alloc, sent, &uri, settings, payload.as_str(), &seal)?;
+    let recomputed = digest_signature(alloc, text, secret, seal.at(), region, name)?;
     Ok(Checked {
         carried: seal.into_signature(),
         recomputed,
@@ -97,39 +155,34 @@ fn readable_target(alloc: Global, sent: &HttpRequest) -> Result<Uri, SigningErro
     Ok(uri)
 }
 
-// The canonical text of the request with the names of its seal.
-#[tactic(auto, unfolding(crate::specs::Recomputed::sent_text))]
-fn sent_text(
+// The digest of the canonical text of the request with the names of its seal.
+fn sent_digest(
     alloc: Global,
     sent: &HttpRequest,
     uri: &Uri,
     settings: &SigningSettings,
     payload: &str,
     seal: &Seal,
-) -> Mem<String>
-    ensures { IfOk result (λ text. string_bytes text
-        ≡ sent_text (string_bytes sent.now.method) (target_of uri.now) sent.now.headers (settings_of settings.now) payload.now seal.now) }
+) -> Mem<TextDigest>
+    ensures { IfOk result (λ digest. HoldsText digest
+        (sent_text (string_bytes sent.now.method) (target_of uri.now) sent.now.headers (settings_of settings.now) payload.now seal.now)) }
 {
-    let path = canonical_path(
-        alloc,
-        settings.uri_path_normalization_mode,
-        settings.percent_encoding_mode,
-        uri.path(),
-    )?;
     let query = signed_query(alloc, uri, settings, seal.place())?;
     let host = added_host(uri, &sent.headers);
-    let mut text = String::with_capacity(alloc, 512)?;
-    push_text_line(&mut text, sent.method.as_str())?;
-    push_text_line(&mut text, path.as_str())?;
-    push_text_line(&mut text, query.as_str())?;
-    push_header_lines(&mut text, &sent.headers, host, seal.names())?;
-    push_text_line(&mut text, "")?;
-    push_text_line(&mut text, seal.names())?;
-    text.push_str(payload)?;
+    let (method, query) = (sent.method.as_str(), query.as_str());
+    let mut text = TextDigest::new();
+    push_head(&mut text, alloc, method, uri, settings, query)?;
+    push_header_lines(&mut text, alloc, &sent.headers, host, seal.names())?;
+    push_tail(&mut text, seal.names(), payload)?;
     Ok(text)
 }
 
 impl fmt::Display for CheckRequestFault {
+    ghost use Rattle.std.specs.Prelude.{Some};
+    ghost use Rattle.request_check.specs.Shown.{fault_text};
+
+    ghost output = { λ fault. Some (fault_text fault) };
+
     fn fmt<W: fmt::Write>(&self, f: &mut fmt::Formatter<W>) -> fmt::Result {
         match self {
             CheckRequestFault::NoSignature => f.write_str("no signature"),

@@ -11,7 +11,6 @@ mod authorization;
 mod check;
 mod cuts;
 mod header_lines;
-mod host;
 mod laws;
 mod parameters;
 mod seal;

@@ -1,23 +1,24 @@
 ghost use Rattle.std.specs.Prelude.{◌≡◌, true, string_bytes, IfOk};
 ghost use Rattle.smithy_core.specs.TextPairs.{text_pairs};
+ghost use Rattle.sigv4.specs.Signature.{is_signature};
 ghost use Rattle.request_check.specs.Carried.{MakesSeal, ReadsParameters, TellsHeaderSeal, TellsTargetSeal};
-ghost use Rattle.request_check.specs.SealTexts.{is_signature};
 ghost use Rattle.request_check.specs.Sealed.{TellsSeal};
 
 use crate::authorization::{key_id_before, read_authorization};
 use crate::parameters::{first_value, query_pairs, spelled_uri};
-use crate::seal_texts::is_signature;
 use crate::stamp::stamped_moment;
 use sigv4::SignatureLocation;
+use sigv4::parts::is_signature;
 use sigv4::v4::credential_scope;
 use smithy_core::{Headers, HttpRequest, Mem, Moment};
 use std::alloc::Global;
+use std::fmt;
 use std::marker::Model;
 
 /// What a signed request carries of its signature: the key id, the moment, the names of the signed headers and the signature.
 ///
 /// Contracts see it as `SealParts`.
-#[derive(Debug, Drop)]
+#[derive(Drop)]
 pub struct Seal {
     place: SignatureLocation,
     key_id: String,
@@ -77,11 +78,38 @@ impl Seal {
         self.signature.as_str()
     }
 
+    /// An equal seal.
+    pub fn try_clone(&self) -> Mem<Seal>
+        ensures { IfOk result (λ copy. copy ≡ self.now) }
+    {
+        Ok(Seal {
+            place: self.place,
+            key_id: self.key_id.clone()?,
+            at: self.at,
+            names: self.names.clone()?,
+            signature: self.signature.clone()?,
+        })
+    }
+
     /// The signature alone.
     pub fn into_signature(self) -> String
         ensures { string_bytes result ≡ self.signature }
     {
         self.signature
+    }
+}
+
+// Shows when the request was signed: the signature is all that one needs of a presigned target, and the other texts come from
+// whoever sent it.
+impl fmt::Debug for Seal {
+    ghost use Rattle.std.specs.Prelude.{Some};
+    ghost use Rattle.request_check.specs.Shown.{shown_seal};
+
+    ghost debug_output = { λ seal. Some (shown_seal seal.at) };
+
+    fn fmt<W: fmt::Write>(&self, f: &mut fmt::Formatter<W>) -> fmt::Result {
+        let secs = self.at.secs();
+        write!(f, "Seal(at {secs})")
     }
 }
 

@@ -57,12 +57,12 @@ fn is_unsigned(settings: &SigningSettings, place: SignatureLocation, key: &str) 
     match place {
         SignatureLocation::Headers => false,
         SignatureLocation::QueryParams => key == "X-Amz-Signature"
-            || is_excluded_token(settings, key),
+            || is_excluded_parameter(settings, key),
     }
 }
 
-// Whether the key is that of a token that isn't signed.
-fn is_excluded_token(settings: &SigningSettings, key: &str) -> bool
+// Whether the key is that of the parameter of a token that isn't signed.
+fn is_excluded_parameter(settings: &SigningSettings, key: &str) -> bool
     ensures { result ≡ list_any (bytes_eq key.now) (excluded_token settings.now.session_token_mode (token_parameter (settings_of settings.now))) }
 {
     match settings.session_token_mode {

@@ -9,6 +9,7 @@ pub mod HeaderLemmas
 pub mod InsertedLemmas
 pub mod JoinLemmas
 pub mod KeyLemmas
+pub mod LineLemmas
 pub mod NameLemmas
 pub mod ParameterLemmas
 pub mod PathLemmas

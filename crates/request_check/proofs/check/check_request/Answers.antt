@@ -23,8 +23,9 @@ returns c =
     let settings = settings_of c.args.settings.now in
     let payload = payload_text c.args.body.now in
     let signer : Signer = record { secret = c.args.secret.now; region = c.args.region.now; name = c.args.name.now } in
-    let text = c.as_bytes.ensures.value ∙ c.in_ok-text.ensures
-    ∙ ap (λ (text : List ℕ). sent_text (string_bytes sent.method) target sent.headers settings text seal) (c.as_str.ensures.value ∙ c.in_ok-payload.ensures) in
+    let text_of = λ (text : List ℕ). sent_text (string_bytes sent.method) target sent.headers settings text seal in
+    let text = ap text_of (c.as_str.ensures.value ∙ c.in_ok-payload.ensures) in
+    let signed = c.in_ok-recomputed.ensures (text_of c.as_str.result.now) c.in_ok-text.ensures in
     let answer : Checked = record { carried = c.into_signature.result; recomputed = c.in_ok-recomputed.recomputed } in
     let checks : ChecksRequest sent settings payload signer (Ok answer) = record {
       seal = seal;
@@ -33,7 +34,7 @@ returns c =
       spelled = c.in_ok-uri.ensures.0;
       fit = c.in_ok-uri.ensures.1;
       carried = c.into_signature.ensures;
-      recomputed_is = rw c.at.ensures at c.in_ok-recomputed.ensures ∙ ap (signature signer seal.at) text;
+      recomputed_is = rw c.at.ensures at signed ∙ ap (signature signer seal.at) text;
     } in
     record { checks = checks; recomputes = recomputes sent settings payload signer (Ok answer) checks }
 
