@@ -1,5 +1,6 @@
 -- A signing key that is kept for a date.
-use Rattle.std.specs.Prelude.{◌≡◌, ℕ, Bool, false, List, bytes_eq, if◌then◌else◌, Option, Some, None}
+use Rattle.std.specs.Prelude.{◌≡◌, ℕ, Bool, false, List, ◌++◌, codes, bytes_eq, if◌then◌else◌, Option, Some, None}
+use Rattle.std.specs.Fmt.{decimal}
 use Rattle.smithy_core.specs.Calls.{one_more}
 use Rattle.smithy_core.specs.Civil.{IsInYears, date}
 use Rattle.smithy_core.specs.Moment.{Instant}
@@ -28,6 +29,10 @@ derived_at kept at = record { signer = kept.signer; date = Some (date at); deriv
 -- the moment's key is kept, and was derived only where no key was kept, or that of another date
 abbrev pub kept_at : Kept → Instant → Kept
 kept_at kept at = if is_kept kept.date at then kept else derived_at kept at
+
+-- what is printed: how many keys were derived, and nothing of the secret or of a key
+abbrev pub shown_key : Kept → List ℕ
+shown_key kept = codes "KeptKey(" ++ (decimal kept.derivations ++ codes " derivations)")
 
 -- what is kept is the signing key at its moment
 abbrev pub IsKeyFor : Signer → Option DayKey → Type 0

@@ -1,5 +1,5 @@
 -- What contracts see of the signers that go on from a signature.
-use Rattle.std.specs.Prelude.{◌≡◌, ℕ, ◌⊎◌, List, [], Option, Some, None, Result, Ok, Err, option_map, unwrap_or, String, string_bytes}
+use Rattle.std.specs.Prelude.{◌≡◌, ℕ, ◌⊎◌, List, [], ◌++◌, codes, Option, Some, None, Result, Ok, Err, option_map, unwrap_or, String, string_bytes}
 use Rattle.std.specs.Option.{option_map_or, option_or}
 use Rattle.std.specs.declared.alloc.Global.{Global}
 use Rattle.smithy_core.specs.Identity.{IsSameIdentity, secret_of, unsigned_for}
@@ -79,7 +79,8 @@ abbrev pub unsigned_message_by : Identity → Parts → Instant → Option SignM
 unsigned_message_by identity message t = option_or (option_map encoding_refusal (unframed message)) (unsigned_by identity t)
 
 -- with no reason against it the answer is the link of the bytes over the last signature, in whose place the new one comes, and the
--- moment's key is kept; else it is the reason, or memory ran out, and the signature stays
+-- moment's key is kept; else it is the reason, or memory ran out, the signature stays, and so does the key that is kept, unless memory
+-- ran out behind the deriving of the moment's, which is kept then
 abbrev pub SignsBytes : {S : Type 0} → Option SignMessageError → SignerState S → List ℕ → Instant → Result Parts SignMessageError → SignerState S → Type 0
 SignsBytes refused old bytes t (Ok answer) new =
     (refused ≡ None)
@@ -88,7 +89,10 @@ SignsBytes refused old bytes t (Ok answer) new =
     × (new.kept ≡ Some (kept_at (own_key old) t))
     × (new.parts ≡ old.parts)
 SignsBytes refused old bytes t (Err error) new =
-    ((refused ≡ Some error) ⊎ (error ≡ refusals.NoMemory)) × (running_signature new ≡ running_signature old) × (new.parts ≡ old.parts)
+    ((refused ≡ Some error) ⊎ (error ≡ refusals.NoMemory))
+    × (running_signature new ≡ running_signature old)
+    × (new.parts ≡ old.parts)
+    × ((new.kept ≡ old.kept) ⊎ ((error ≡ refusals.NoMemory) × (new.kept ≡ Some (kept_at (own_key old) t))))
 
 -- the signing of a message
 abbrev pub SignsMessage : {S : Type 0} → SignerState S → Parts → Instant → Result Parts SignMessageError → SignerState S → Type 0
@@ -116,10 +120,15 @@ pub record IsSameSigner {S : Type 0} (copies : S → S → Type 0) (signer copy 
   pub settings : copies signer.parts.settings copy.parts.settings
   pub kept : copy.kept ≡ signer.kept
 
--- a signer that goes on from a signature, for who signs, and the region, the name and the moment of that signature
+-- a signer that goes on from a signature, for who signs, and the region, the name and the moment of that signature. It keeps no key yet
 pub record GoesOn {S : Type 0} (who : Identity) (first : List ℕ) (scope : Signer) (at : Instant) (signer : SignerState S) : Type 0 where
   pub signature : running_signature signer ≡ first
   pub identity : IsSameIdentity who signer.parts.identity
   pub region : signer.parts.region ≡ scope.region
   pub name : signer.parts.name ≡ scope.name
   pub time : signer.parts.time ≡ at
+  pub kept : signer.kept ≡ None
+
+-- what is printed of a signer: for which region and service it signs, and nothing of who signs or of a signature
+abbrev pub shown_signer : {S : Type 0} → SignerState S → List ℕ
+shown_signer signer = codes "SigV4MessageSigner(" ++ (signer.parts.region ++ (codes ", " ++ (signer.parts.name ++ codes ")")))

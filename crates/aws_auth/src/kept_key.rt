@@ -84,7 +84,8 @@ impl KeptKey {
         }
     }
 
-    /// How many keys were derived. The number saturates.
+    /// How many keys were derived and kept. The number saturates. That [`KeptKey::key`] derives no other key beside them isn't
+    /// promised: no clause speaks of what a call computes and drops.
     pub fn derivations(&self) -> u64
         ensures { result ≡ self.now.derivations }
     {
@@ -150,11 +151,13 @@ impl DayKey {
 
 // Shows neither the secret nor the key.
 impl fmt::Debug for KeptKey {
+    ghost use Rattle.std.specs.Prelude.{Some};
+    ghost use Rattle.aws_auth.specs.KeptKey.{shown_key};
+
+    ghost debug_output = { λ kept. Some (shown_key kept) };
+
     fn fmt<W: fmt::Write>(&self, f: &mut fmt::Formatter<W>) -> fmt::Result {
-        f.debug_struct("KeptKey")
-            .field("region", &self.region)
-            .field("name", &self.name)
-            .field("derivations", &self.derivations)
-            .finish()
+        let count = self.derivations;
+        write!(f, "KeptKey({count} derivations)")
     }
 }

@@ -188,7 +188,8 @@ impl SigV4MessageSigner<()> {
 }
 
 /// Signs each message at the moment that it is handed, over the last signature, in whose place the new one comes. The signing
-/// key is derived once for messages of one day: when there is something to sign for the first time on that day.
+/// key is derived once for messages of one day: when there is something to sign for the first time on that day. After a refusal
+/// the signer is as before; where memory ran out it may keep the key of that moment.
 impl SignMessage for SigV4MessageSigner<()> {
     ghost use Rattle.aws_auth.specs.MessageSigner.{SignsClosing, SignsMessage, told_of};
 
@@ -222,14 +223,15 @@ fn kept_copy(kept: &Option<KeptKey>) -> Mem<Option<KeptKey>>
     })
 }
 
-// Shows all but who signs, which has a secret, and the settings.
+// Shows for which region and service it signs: neither who signs, nor the last signature, nor the key that is kept.
 impl<S> fmt::Debug for SigV4MessageSigner<S> {
+    ghost use Rattle.std.specs.Prelude.{Some};
+    ghost use Rattle.aws_auth.specs.MessageSigner.{shown_signer};
+
+    ghost debug_output = { λ signer. Some (shown_signer signer) };
+
     fn fmt<W: fmt::Write>(&self, f: &mut fmt::Formatter<W>) -> fmt::Result {
-        f.debug_struct("SigV4MessageSigner")
-            .field("running_signature", &self.running_signature)
-            .field("region", &self.region)
-            .field("name", &self.name)
-            .field("time", &self.time)
-            .finish()
+        let (region, name) = (self.region.as_str(), self.name.as_str());
+        write!(f, "SigV4MessageSigner({region}, {name})")
     }
 }

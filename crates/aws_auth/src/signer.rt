@@ -21,9 +21,10 @@ use sigv4::{
 };
 use smithy_core::{HttpRequest, Identity, Mem, Moment, Region, SigningName, is_in_years};
 use std::alloc::Global;
+use std::fmt;
 
 /// The signature of a request, and what signs what follows it.
-#[derive(Debug, Drop)]
+#[derive(Drop)]
 pub struct Signed {
     /// The signature.
     pub signature: String,
@@ -46,6 +47,17 @@ impl Signed {
     }
 }
 
+// Shows nothing of them: the signature is all that one needs of a presigned target.
+impl fmt::Debug for Signed {
+    ghost use Rattle.std.specs.Prelude.{Some, codes};
+
+    ghost debug_output = { λ _. Some (codes "Signed") };
+
+    fn fmt<W: fmt::Write>(&self, f: &mut fmt::Formatter<W>) -> fmt::Result {
+        f.write_str("Signed")
+    }
+}
+
 /// What signs a request.
 #[derive(Clone, Copy, Debug)]
 pub struct SigV4Signer;
@@ -62,6 +74,11 @@ impl SigV4Signer {
     /// is signed of the payload is what the inputs say, or else the config, or else the body. The moment is `now`, shifted by
     /// the skew where the signature goes into headers. Whether signing is optional changes nothing. The override may be
     /// called on all settings and configs; it is asked once at most, for the settings but for the token's name and the config.
+    /// (That it is asked no second time is in no clause: those of an `Fn` relate what it is handed to what it answers, and count
+    /// no calls.)
+    ///
+    /// The request's method is taken as it is: that it is a token isn't tested here, so that CR and LF in it pass into the
+    /// canonical text.
     ///
     /// # Errors
     ///
