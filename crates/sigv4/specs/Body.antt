@@ -1,7 +1,8 @@
 -- The body of a request as it is signed.
-use Rattle.std.specs.Prelude.{◌≡◌, ℕ, List, codes, Option, Some, None, string_bytes}
+use Rattle.std.specs.Prelude.{◌≡◌, ℕ, List, ◌++◌, codes, length, Option, Some, None, string_bytes}
 use Rattle.sha2.specs.Sha256.{sha256}
 use Rattle.hex.specs.Hex.{encode_lower}
+use Rattle.smithy_core.specs.Blob.{byte_count}
 use Rattle.sigv4.specs.declared.body.SignableBody.{SignableBody}
 use Rattle.sigv4.specs.declared.body.SignableBody.TheVariants.{Bytes, UnsignedPayload, Precomputed, StreamingUnsignedPayloadTrailer, StreamingSignedPayloadTrailer}
 
@@ -17,6 +18,14 @@ payload_text StreamingSignedPayloadTrailer = codes "STREAMING-AWS4-HMAC-SHA256-P
 abbrev pub body_bytes : SignableBody → Option (List ℕ)
 body_bytes (Bytes bytes) = Some bytes.now
 body_bytes _ = None
+
+-- what is printed: of bytes how many there are alone
+abbrev pub shown_body : SignableBody → List ℕ
+shown_body (Bytes bytes) = byte_count (codes "Bytes") (length bytes.now)
+shown_body UnsignedPayload = codes "UnsignedPayload"
+shown_body (Precomputed text) = codes "Precomputed(" ++ (string_bytes text ++ codes ")")
+shown_body StreamingUnsignedPayloadTrailer = codes "StreamingUnsignedPayloadTrailer"
+shown_body StreamingSignedPayloadTrailer = codes "StreamingSignedPayloadTrailer"
 
 -- the bodies are the same
 abbrev pub IsSameBody : SignableBody → SignableBody → Type 0

@@ -49,6 +49,11 @@ impl<'a> SignableBody<'a> {
 
 // Shows how many bytes there are, and none of them: a body may hold secrets.
 impl fmt::Debug for SignableBody<'_> {
+    ghost use Rattle.std.specs.Prelude.{Some};
+    ghost use Rattle.sigv4.specs.Body.{shown_body};
+
+    ghost debug_output = { λ body. Some (shown_body body) };
+
     fn fmt<W: fmt::Write>(&self, f: &mut fmt::Formatter<W>) -> fmt::Result {
         match self {
             SignableBody::Bytes(bytes) => {

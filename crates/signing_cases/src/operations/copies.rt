@@ -7,7 +7,7 @@ use aws_auth::{
     OverrideError, SigV4MessageSigner, SigV4OperationSigningConfig, SigV4SessionTokenNameOverride,
     SigV4SigningError, Signed,
 };
-use case_lines::{shown, unknown};
+use case_lines::{compared, shown, unknown};
 use sigv4::SigningSettings;
 use smithy_core::Mem;
 use std::alloc::Global;
@@ -62,15 +62,35 @@ fn of_signed(alloc: Global, kind: &str, parts: &[&str]) -> Mem<String> {
 
 fn copied(alloc: Global, kind: &str, signed: &Signed) -> Mem<String> {
     match kind {
-        "Signed" => both_shown(alloc, signed, signed.try_clone()),
+        "Signed" => whole(alloc, signed),
         "message_signer" => signer(alloc, &signed.message_signer),
         "chunk_signer" => signer(alloc, &signed.chunk_signer),
         _ => unknown(alloc),
     }
 }
 
+fn whole(alloc: Global, signed: &Signed) -> Mem<String> {
+    let copy = signed.try_clone()?;
+    compared(alloc, signed_text(alloc, signed), signed_text(alloc, &copy))
+}
+
+// The signature and both signers.
+fn signed_text(alloc: Global, signed: &Signed) -> Mem<String> {
+    let messages = signer_text(alloc, &signed.message_signer)?;
+    let chunks = signer_text(alloc, &signed.chunk_signer)?;
+    let signature = signed.signature.as_str();
+    format!(in alloc; "{signature} {messages} {chunks}")
+}
+
 fn signer<S: Clone + Drop>(alloc: Global, signer: &SigV4MessageSigner<S>) -> Mem<String> {
-    both_shown(alloc, signer, signer.try_clone())
+    let copy = signer.try_clone()?;
+    compared(alloc, signer_text(alloc, signer), signer_text(alloc, &copy))
+}
+
+// For what a signer signs, its last signature and how many keys it derived.
+fn signer_text<S>(alloc: Global, signer: &SigV4MessageSigner<S>) -> Mem<String> {
+    let (signature, derivations) = (signer.running_signature(), signer.derivations());
+    format!(in alloc; "{signer:?} {signature} derived {derivations}")
 }
 
 // The name that a copy of an override gives.
