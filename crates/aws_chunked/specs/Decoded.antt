@@ -1,5 +1,6 @@
 -- What a whole text says, and where bytes stop being one.
-use Rattle.std.specs.Prelude.{◌≡◌, ℕ, ◌+◌, ◌<◌, ◌⊎◌, Bool, true, false, List, [], ◌∷◌, ◌++◌, length, take, map, All, IsTrue, Option, Some, None, Result, Ok, Err, string_bytes, IsUtf8}
+use Rattle.std.specs.Prelude.{◌≡◌, ℕ, ◌+◌, ◌<◌, ◌⊎◌, Bool, true, false, List, [], ◌∷◌, ◌++◌, length, take, map, All, IsTrue, Option, Some, None, Result, Ok, Err, string_bytes, IsUtf8, codes}
+use Rattle.std.specs.Fmt.{decimal}
 use Rattle.std.specs.List.{AllByRecursion}
 use Rattle.smithy_core.specs.HeaderGrammar.{IsHeaderName, IsHeaderValue}
 use Rattle.smithy_core.specs.TextPairs.{lower}
@@ -84,3 +85,8 @@ IsOnly bytes decoded = (body : List ℕ) (signatures : List (List ℕ)) (trailer
 abbrev pub DecodesOnly : List ℕ → Result Decoded DecodeFault → Type 0
 DecodesOnly bytes (Ok decoded) = IsOnly bytes decoded
 DecodesOnly bytes (Err fault) = Unit {0}
+
+-- what a fault is printed as
+abbrev pub decode_fault_text : DecodeFault → List ℕ
+decode_fault_text (BadChunk place) = codes "no text in chunks goes on at byte " ++ decimal place
+decode_fault_text NoMemory = codes "no memory"

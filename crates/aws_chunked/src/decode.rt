@@ -82,6 +82,11 @@ fn decode(alloc: Global, bytes: &[u8]) -> Result<Decoded, ReadFault>
 }
 
 impl fmt::Display for DecodeFault {
+    ghost use Rattle.std.specs.Prelude.{Some};
+    ghost use Rattle.aws_chunked.specs.Decoded.{decode_fault_text};
+
+    ghost output = { λ fault. Some (decode_fault_text fault) };
+
     fn fmt<W: fmt::Write>(&self, f: &mut fmt::Formatter<W>) -> fmt::Result {
         match self {
             DecodeFault::BadChunk(place) => write!(f, "no text in chunks goes on at byte {place}"),

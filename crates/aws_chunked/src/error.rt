@@ -64,6 +64,11 @@ impl AwsChunkedBodyError {
 }
 
 impl fmt::Display for AwsChunkedBodyError {
+    ghost use Rattle.std.specs.Prelude.{Some};
+    ghost use Rattle.aws_chunked.specs.Error.{body_error_text};
+
+    ghost output = { λ error. Some (body_error_text error) };
+
     fn fmt<W: fmt::Write>(&self, f: &mut fmt::Formatter<W>) -> fmt::Result {
         match self {
             AwsChunkedBodyError::StreamLengthMismatch { actual, expected } => {

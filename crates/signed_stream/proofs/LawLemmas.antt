@@ -48,11 +48,12 @@ module _ {files : List FileText} {profile : List ℕ} {env : List (List ℕ × L
 
   pub raw_read : ((signer : Signer) (events : List Parts) (moments : List Instant) (signature : List ℕ) → All IsProper events
       → IsChained signer events moments signature → ReadsChain signer events moments signature)
-      → wanted.form ≡ Raw → All IsProper j.events → ReadsEvents j.events (written_valid input)
+      → wanted.form ≡ Raw → All IsProper j.events
+      → ReadsEvents (chain (valid_case input).signer j.events input.others (signature_of (valid_case input))) j.events (written_valid input)
   raw_read chains_read_back raw proper =
       let chained = is_framed (valid_case input).signer j.events input.others (signature_of (valid_case input)) input.chained in
       let read = chains_read_back (valid_case input).signer j.events input.others (signature_of (valid_case input)) proper chained in
-      record { messages = read.messages; carried = read.carried; joined = rw (written_raw raw) read.joined }
+      record { messages = read.messages; framed = read.frames; carried = read.carried; joined = rw (written_raw raw) read.joined }
 
   pub raw_accepted : ((signer : Signer) (events : List Parts) (moments : List Instant) (seed : List ℕ) → All IsProper events → IsWholeChain signer events moments seed
       → chain_events signer seed (concat (chain signer events moments seed)) ≡ Ok (map floored_message events))

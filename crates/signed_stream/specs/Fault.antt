@@ -1,5 +1,6 @@
 -- Faults of lines at their places.
-use Rattle.std.specs.Prelude.{ℕ}
+use Rattle.std.specs.Prelude.{ℕ, List, ◌++◌, codes}
+use Rattle.std.specs.Fmt.{decimal}
 use Rattle.signed_stream.specs.declared.job.fault.JobFault.{JobFault}
 use Rattle.signed_stream.specs.declared.job.fault.JobFault.TheVariants.{BadLine, NoMemory}
 use Rattle.signed_stream.specs.declared.job.fault.LineFault.{LineFault}
@@ -9,3 +10,8 @@ use Rattle.signed_stream.specs.declared.job.fault.LineFault.TheVariants.{Bad, No
 abbrev pub placed : ℕ → LineFault → JobFault
 placed place Bad = BadLine place
 placed place LineNoMemory = NoMemory
+
+-- what a fault is printed as
+abbrev pub job_fault_text : JobFault → List ℕ
+job_fault_text (BadLine place) = codes "bad line " ++ decimal place
+job_fault_text NoMemory = codes "no memory"

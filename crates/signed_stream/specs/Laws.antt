@@ -1,16 +1,18 @@
 -- What is read of a stream that was written raw, and how it is checked.
 use Rattle.std.specs.Prelude.{◌≡◌, List, [], map, ℕ, Result, Ok}
 use Rattle.smithy_core.specs.Message.{Parts}
+use Rattle.eventstream.specs.Frame.{frame}
 use Rattle.eventstream.specs.Key.{Signer}
 use Rattle.eventstream.specs.Laws.{floored_message}
 use Rattle.eventstream.specs.Reading.{nothing, reading}
 use Rattle.event_io.specs.Laws.{Carry}
 use Rattle.chain_check.specs.Walk.{chain_events}
 
--- The bytes are read as messages and nothing else. The payload of each but the last is the frame of its event, which is read as the event with its
--- moments in whole milliseconds; that of the last is empty.
-pub record ReadsEvents (events : List Parts) (bytes : List ℕ) : Type 0 where
+-- The bytes are read as messages and nothing else, whose frames are these. The payload of each but the last is the frame of its event, which is read as
+-- the event with its moments in whole milliseconds; that of the last is empty.
+pub record ReadsEvents (frames : List (List ℕ)) (events : List Parts) (bytes : List ℕ) : Type 0 where
   pub messages : List Parts
+  pub framed : map frame messages ≡ frames
   pub carried : Carry events messages
   pub joined : reading bytes ≡ record { messages = messages; end = nothing }
 

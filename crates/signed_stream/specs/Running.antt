@@ -47,6 +47,13 @@ reads_input (bad_word place) = false
 reads_input (generate seed count) = false
 reads_input command = true
 
+-- whether a command asks for profile files
+abbrev pub reads_files : Command → Bool
+reads_files (stream wanted) = true
+reads_files (show_settings wanted) = true
+reads_files (check_record wanted) = true
+reads_files command = false
+
 -- where the test passes
 abbrev pub When : Bool → Type 0 → Type 0
 When true P = P
@@ -102,11 +109,6 @@ EndsAsAsked command answer = IsOfCommand answer
 abbrev pub UnlessCommand : Command → Type 0 → Type 0
 UnlessCommand (bad_word place) P = P
 UnlessCommand command P = Unit {0}
-
--- where they ask to stream, what holds of that
-abbrev pub IfStreams : Command → (Wanted → Type 0) → Type 0
-IfStreams (stream wanted) P = P wanted
-IfStreams command P = ⊥
 
 -- the count of the input's faults: it rose where the input failed, and else stayed; memory may run out after a fault
 abbrev pub CountsReads : Ending → ℕ → ℕ → Type 0

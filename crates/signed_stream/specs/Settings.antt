@@ -1,7 +1,7 @@
 -- What the selected profile and the variables give to sign with.
 use Rattle.std.specs.Prelude.{◌≡◌, ℕ, List, codes, string_bytes, Option, Some, None, option_map, Result, Ok, Err}
 use Rattle.smithy_core.specs.Identity.{access_key_id, secret_access_key, session_token}
-use Rattle.env_config.specs.ParseFault.{faulty_line_of}
+use Rattle.env_config.specs.ParseFault.{faulty_line_of, parse_error_text}
 use Rattle.env_config.specs.Sections.{FaultyLine, FileText, Sections, sections}
 use Rattle.env_config.specs.Value.{Asked, Chosen, selected_value, value}
 use Rattle.env_config.specs.declared.parse_fault.ParseFault.{ParseFault}
@@ -80,3 +80,10 @@ abbrev pub IsSameSettingsFault : SettingsFault → SettingsFault → Type 0
 IsSameSettingsFault (ParseError error) (ParseError copy) = faulty_line_of copy ≡ faulty_line_of error
 IsSameSettingsFault (ParseError error) copy = ⊥
 IsSameSettingsFault fault copy = copy ≡ fault
+
+-- what a fault is printed as
+abbrev pub settings_fault_text : SettingsFault → List ℕ
+settings_fault_text (ParseError error) = parse_error_text error
+settings_fault_text MissingCredentials = codes "missing credentials"
+settings_fault_text MissingSigningRegion = codes "missing signing region"
+settings_fault_text NoMemory = codes "no memory"

@@ -111,11 +111,3 @@ pub record IsStreamable (gave : List Place → FilesRead → Type 0) (env : List
 -- the head of the signed request, and then the chain of the events
 abbrev pub streamed : {gave : List Place → FilesRead → Type 0} {env : List (List ℕ × List ℕ)} {wanted : Wanted} {bytes : List ℕ} {given : Supplied} → IsStreamable gave env wanted bytes given → List ℕ
 streamed input = written_valid input.valid
-
--- a job was read whose target isn't accepted, or has an authority without a scheme, or takes no parameters of its signature: it is `*`, or gets too long
-abbrev pub ReadsUnfitTarget : Wanted → Result JobParts ℕ → Type 0
-ReadsUnfitTarget wanted (Ok j) =
-    SpellsNoTarget j.target
-    ⊎ ((target : Target) × SpellsParts j.target target × (selected : Selected) × (first : Instant)
-    × (takes_no_more (parameters (job_case j wanted selected first target)) target ≡ true))
-ReadsUnfitTarget wanted (Err place) = ⊥

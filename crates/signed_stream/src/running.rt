@@ -1,16 +1,14 @@
-ghost use Rattle.std.specs.Prelude.{◌≡◌, ◌≤◌, ℕ, List, Some, length, map};
+ghost use Rattle.std.specs.Prelude.{◌≡◌, ◌≤◌, ℕ, List, length, map};
 ghost use Rattle.std.specs.String.{string_bytes};
 ghost use Rattle.smithy_core.specs.Outside.{IsAtEnd, IsRestOf, RoseOrStands};
 ghost use Rattle.signed_stream.specs.Carriers.{GoesForBytes, GoesForInput, IsAfterInput};
 ghost use Rattle.signed_stream.specs.Command.{command};
-ghost use Rattle.signed_stream.specs.Job.{job};
 ghost use Rattle.signed_stream.specs.Options.{input_commanded};
 ghost use Rattle.signed_stream.specs.Plan.{Supplied, most_input};
 ghost use Rattle.smithy_core.specs.Given.{Gives};
-ghost use Rattle.signed_stream.specs.Running.{EndsAsAsked, IfStreams, KeepsDisk, KeepsOutput, NamesUnreadable, Ran, Unless, UnlessCommand, When, comes_late, reads_input};
+ghost use Rattle.signed_stream.specs.Running.{EndsAsAsked, KeepsDisk, KeepsOutput, NamesUnreadable, Ran, Unless, UnlessCommand, When, comes_late, reads_files, reads_input};
 ghost use Rattle.signed_stream.specs.Sources.{DiskGives};
-ghost use Rattle.signed_stream.specs.Status.{could_not_read_file, done, ending_of, invalid_uri, output_fault, read_fault, refused};
-ghost use Rattle.signed_stream.specs.Stream.{ReadsUnfitTarget};
+ghost use Rattle.signed_stream.specs.Status.{could_not_read_file, done, ending_of, output_fault, read_fault};
 
 use crate::check_record::check_record;
 use crate::command::{Command, InputCommand, WordsFault, read_words};
@@ -66,16 +64,13 @@ pub fn run<S: ByteSource, D: Disk, C: Clock, K: ByteSink, E: ByteSink>(
         (record { held_before = K.held out.old; held_now = K.held out.new; faults_before = K.faults out.old; faults_now = K.faults out.new })
         (record { held_before = E.held err.old; held_now = E.held err.new; faults_before = E.faults err.old; faults_now = E.faults err.new }) }
 
-    // It is refused for the target only where the job's target isn't accepted, or takes no parameters of its signature.
-    ensures target { ending_of result ≡ refused invalid_uri → (bytes : List ℕ) → S.left input.old ≡ Some bytes
-        → IfStreams (command (map string_bytes words.now)) (λ wanted. ReadsUnfitTarget wanted (job bytes)) }
-
     // Where the words are no command, the output is as it was; and so is the input where they ask for none.
     ensures untouched { UnlessCommand (command (map string_bytes words.now)) ((K.held out.new ≡ K.held out.old) × (K.faults out.new ≡ K.faults out.old)) }
     ensures unread { Unless (reads_input (command (map string_bytes words.now))) ((S.left input.new ≡ S.left input.old) × (S.faults input.new ≡ S.faults input.old)) }
 
-    // The disk was asked only once the input was read and is a job; its files are as they were.
+    // The disk was asked only once the input was read and is a job, and by no command that asks for no files; its files are as they were.
     ensures disk { KeepsDisk (ending_of result) disk.old disk.new × (D.files disk.new ≡ D.files disk.old) }
+    ensures unasked { Unless (reads_files (command (map string_bytes words.now))) (disk.new ≡ disk.old) }
 
     // An input that is read was read to its end, a suffix of it is left, and no count fell.
     ensures outside { When (reads_input (command (map string_bytes words.now))) (ending_of result ≡ done → IsAtEnd (S.left input.new)) × IsRestOf (S.left input.old) (S.left input.new)
@@ -110,6 +105,7 @@ fn answer<S: ByteSource, D: Disk, C: Clock, K: ByteSink>(
     ensures untouched { UnlessCommand (command (map string_bytes words.now)) ((K.held out.new ≡ K.held out.old) × (K.faults out.new ≡ K.faults out.old)) }
     ensures unread { Unless (reads_input (command (map string_bytes words.now))) ((S.left input.new ≡ S.left input.old) × (S.faults input.new ≡ S.faults input.old)) }
     ensures disk { KeepsDisk (ending_of result) disk.old disk.new × (D.files disk.new ≡ D.files disk.old) }
+    ensures unasked { Unless (reads_files (command (map string_bytes words.now))) (disk.new ≡ disk.old) }
     ensures outside { When (reads_input (command (map string_bytes words.now))) (ending_of result ≡ done → IsAtEnd (S.left input.new)) × IsRestOf (S.left input.old) (S.left input.new)
         × (S.faults input.old ≤ S.faults input.new) × (D.faults disk.old ≤ D.faults disk.new) × (K.faults out.old ≤ K.faults out.new) }
 {
@@ -145,6 +141,7 @@ fn answer_command<S: ByteSource, D: Disk, C: Clock, K: ByteSink>(
     ensures output_failed { ending_of result ≡ output_fault → RoseOrStands (K.faults out.old) (K.faults out.new) }
     ensures output_steady { (ending_of result ≡ output_fault → ⊥) → K.faults out.new ≡ K.faults out.old }
     ensures disk { KeepsDisk (ending_of result) disk.old disk.new × (D.files disk.new ≡ D.files disk.old) }
+    ensures unasked { Unless (reads_files (input_commanded command.entry)) (disk.new ≡ disk.old) }
     ensures outside { (ending_of result ≡ done → IsAtEnd (S.left input.new)) × IsRestOf (S.left input.old) (S.left input.new)
         × (S.faults input.old ≤ S.faults input.new) × (D.faults disk.old ≤ D.faults disk.new) × (K.faults out.old ≤ K.faults out.new) }
 {
@@ -176,6 +173,7 @@ fn answer_bytes<D: Disk, C: Clock, K: ByteSink>(
         → NamesUnreadable (DiskGives D.answers D.faults (D.files disk.old) env.now disk.old disk.new) (input_commanded command.entry) path }
     ensures disk { KeepsDisk (ending_of result) disk.old disk.new }
     ensures same { D.files disk.new ≡ D.files disk.old }
+    ensures unasked { Unless (reads_files (input_commanded command.entry)) (disk.new ≡ disk.old) }
     ensures output_failed { ending_of result ≡ output_fault → RoseOrStands (K.faults out.old) (K.faults out.new) }
     ensures output_steady { (ending_of result ≡ output_fault → ⊥) → K.faults out.new ≡ K.faults out.old }
     ensures count { (D.faults disk.old ≤ D.faults disk.new) × (K.faults out.old ≤ K.faults out.new) }

@@ -1,5 +1,6 @@
-ghost use Rattle.std.specs.Prelude.{◌≡◌, IfOk, map, option_copied, option_map};
+ghost use Rattle.std.specs.Prelude.{◌≡◌, IfOk, None, map, option_copied, option_map};
 ghost use Rattle.std.specs.String.{string_bytes};
+ghost use Rattle.smithy_core.specs.Identity.{credentials_expiry};
 ghost use Rattle.env_config.specs.EnvConfigValue.{asked_of, chosen_of};
 ghost use Rattle.env_config.specs.Source.{file_of};
 ghost use Rattle.signed_stream.specs.Settings.{GivesSettings, IsSameSettingsFault, asked_region, region_in, selected_in, settings, settings_in};
@@ -25,7 +26,8 @@ pub struct Settings {
 impl Settings {
     /// Equal settings.
     pub fn try_clone(&self) -> Mem<Settings>
-        ensures { IfOk result (λ copy. selected_in copy ≡ selected_in self.now) }
+        ensures selected { IfOk result (λ copy. selected_in copy ≡ selected_in self.now) }
+        ensures expiry { IfOk result (λ copy. credentials_expiry copy.credentials ≡ credentials_expiry self.now.credentials) }
     {
         Ok(Settings {
             profile: self.profile.clone()?,
@@ -63,6 +65,11 @@ impl SettingsFault {
 }
 
 impl fmt::Display for SettingsFault {
+    ghost use Rattle.std.specs.Prelude.{Some};
+    ghost use Rattle.signed_stream.specs.Settings.{settings_fault_text};
+
+    ghost output = { λ fault. Some (settings_fault_text fault) };
+
     fn fmt<W: fmt::Write>(&self, f: &mut fmt::Formatter<W>) -> fmt::Result {
         match self {
             SettingsFault::ParseError(error) => error.fmt(f),
@@ -122,7 +129,8 @@ pub fn read_settings(
     env: &Env,
     service_id: Option<&str>,
 ) -> Result<Settings, SettingsFault>
-    ensures { GivesSettings (settings (map file_of source.now.files.items) (string_bytes source.now.profile) env.now (option_copied service_id.entry)) result }
+    ensures settings { GivesSettings (settings (map file_of source.now.files.items) (string_bytes source.now.profile) env.now (option_copied service_id.entry)) result }
+    ensures no_expiry { IfOk result (λ settings. credentials_expiry settings.credentials ≡ None) }
 {
     let keys = [
         "aws_access_key_id",
@@ -141,7 +149,8 @@ fn settings_in(
     env: &Env,
     service_id: Option<&str>,
 ) -> Result<Settings, SettingsFault>
-    ensures { GivesSettings (settings_in (chosen_of sections.now) env.now (option_copied service_id.entry)) result }
+    ensures settings { GivesSettings (settings_in (chosen_of sections.now) env.now (option_copied service_id.entry)) result }
+    ensures no_expiry { IfOk result (λ settings. credentials_expiry settings.credentials ≡ None) }
 {
     let Some(key_id) = sections.get("aws_access_key_id") else {
         return Err(SettingsFault::MissingCredentials);

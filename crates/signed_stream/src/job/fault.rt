@@ -14,6 +14,11 @@ pub enum JobFault {
 }
 
 impl fmt::Display for JobFault {
+    ghost use Rattle.std.specs.Prelude.{Some};
+    ghost use Rattle.signed_stream.specs.Fault.{job_fault_text};
+
+    ghost output = { λ fault. Some (job_fault_text fault) };
+
     fn fmt<W: fmt::Write>(&self, f: &mut fmt::Formatter<W>) -> fmt::Result {
         match self {
             JobFault::BadLine(place) => write!(f, "bad line {place}"),

@@ -5,9 +5,7 @@ use Rattle.signed_stream.specs.Running.{RunsAsPlanned, TellsInput}
 use Rattle.signed_stream.specs.Sources.{DiskGives}
 use Rattle.signed_stream.specs.Status.{ending_of}
 use Rattle.signed_stream.proofs.HeadlineLemmas.{completes, has_done_where}
-use Rattle.signed_stream.proofs.RunLemmas.{holds_when}
 use Rattle.signed_stream.proofs.SaidLemmas.{said_asked, said_is, said_keeps, said_reads, said_runs, said_when, said_writes}
-use Rattle.signed_stream.proofs.UriLemmas.{run_refused_where}
 use Rattle.signed_stream.proofs.running.run.Goals as goal
 
 pub returns-clause-headline : goal.returns-clause-headline
@@ -33,11 +31,6 @@ returns-clause-headline g c =
         writes = said_writes _ _ _ _ said answer.outside.4 answer.output_failed answer.output_steady;
       },
     )
-
-pub returns-clause-target : goal.returns-clause-target
-returns-clause-target g c = λ is bytes told.
-    run_refused_where (DiskGives g.D.Disk.answers g.D.Disk.faults (g.D.Disk.files c.args.disk.now) c.args.env.now c.args.disk.now c.answer-status.new.disk) _ _ bytes _ _ _ _ is
-    (said_runs _ _ _ _ _ _ _ _ _ (c.answer-status.ensures.planned.2 bytes (holds_when _ _ told)) c.say.ensures.answer)
 
 pub returns-clause-outside : goal.returns-clause-outside
 returns-clause-outside g c =
