@@ -15,6 +15,6 @@ abbrev pub fault_of : SigningError → CheckRequestFault
 fault_of error = check_fault_for error error
 
 -- the faults are the same, and so are the texts of an encoding that failed
-abbrev pub IsSameFault : CheckRequestFault → CheckRequestFault → Type 0
-IsSameFault (Signing error) (Signing copy) = IsSameError error copy
-IsSameFault fault copy = copy ≡ fault
+abbrev pub IsSameCheckFault : CheckRequestFault → CheckRequestFault → Type 0
+IsSameCheckFault (Signing error) (Signing copy) = IsSameError error copy
+IsSameCheckFault fault copy = copy ≡ fault

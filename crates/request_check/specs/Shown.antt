@@ -11,7 +11,7 @@ abbrev pub shown_seal : Instant → List ℕ
 shown_seal at = codes "Seal(at " ++ (signed_decimal at.secs ++ codes ")")
 
 -- the text of a fault
-abbrev pub fault_text : CheckRequestFault → List ℕ
-fault_text NoSignature = codes "no signature"
-fault_text (Signing error) = error_text error
-fault_text NoMemory = codes "no memory"
+abbrev pub check_fault_text : CheckRequestFault → List ℕ
+check_fault_text NoSignature = codes "no signature"
+check_fault_text (Signing error) = error_text error
+check_fault_text NoMemory = codes "no memory"

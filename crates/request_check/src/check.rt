@@ -3,7 +3,7 @@ ghost use Rattle.smithy_http.specs.Target.{target_of};
 ghost use Rattle.sigv4.specs.Body.{payload_text};
 ghost use Rattle.sigv4.specs.Digest.{HoldsText};
 ghost use Rattle.sigv4.specs.Settings.{settings_of};
-ghost use Rattle.request_check.specs.Faults.{IsSameFault};
+ghost use Rattle.request_check.specs.Faults.{IsSameCheckFault};
 ghost use Rattle.request_check.specs.Recomputation.{Recomputes};
 ghost use Rattle.request_check.specs.Recomputed.{ChecksRequest, ReadsSent, sent_text};
 
@@ -80,7 +80,7 @@ pub enum CheckRequestFault {
 impl CheckRequestFault {
     /// An equal fault.
     pub fn try_clone(&self) -> Mem<CheckRequestFault>
-        ensures { IfOk result (IsSameFault self.now) }
+        ensures { IfOk result (IsSameCheckFault self.now) }
     {
         Ok(match self {
             CheckRequestFault::NoSignature => CheckRequestFault::NoSignature,
@@ -179,9 +179,9 @@ fn sent_digest(
 
 impl fmt::Display for CheckRequestFault {
     ghost use Rattle.std.specs.Prelude.{Some};
-    ghost use Rattle.request_check.specs.Shown.{fault_text};
+    ghost use Rattle.request_check.specs.Shown.{check_fault_text};
 
-    ghost output = { λ fault. Some (fault_text fault) };
+    ghost output = { λ fault. Some (check_fault_text fault) };
 
     fn fmt<W: fmt::Write>(&self, f: &mut fmt::Formatter<W>) -> fmt::Result {
         match self {
