@@ -81,5 +81,10 @@ pub length-link : (signer : Signer) (signature bytes : List â„•) (t : Instant) â
 unfolding link_message
 length-link signer signature bytes t =
     let code = length-link_code signer signature bytes t in
-    omega (arith, length-append (spelling (code_header (link_code signer signature bytes t))) (spelling (date_header (floor_secs t)) ++ []), length-append (spelling (date_header (floor_secs t))) [],
-    length-code_header _ code, length-date_header (floor_secs t))
+    omega (
+      arith,
+      length-append (spelling (code_header (link_code signer signature bytes t))) (spelling (date_header (floor_secs t)) ++ []),
+      length-append (spelling (date_header (floor_secs t))) [],
+      length-code_header _ code,
+      length-date_header (floor_secs t),
+    )
