@@ -24,3 +24,5 @@ pub mod ProfileLemmas
 pub mod MergedProfileLemmas
 pub mod SelectedLemmas
 pub mod SectionLemmas
+pub mod SpreadLemmas
+pub mod GroupLemmas

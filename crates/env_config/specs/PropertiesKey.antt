@@ -2,15 +2,20 @@
 use Rattle.std.specs.Prelude.{◌≡◌, ℕ, List, ◌++◌, [], codes, Option, Some, None, IsSome, option_map, String, string_bytes, Result, Ok, Err}
 use Rattle.std.specs.declared.alloc.Global.{Global}
 use Rattle.env_config.specs.declared.properties_key.PropertiesKey.{PropertiesKey}
+use Rattle.env_config.specs.declared.properties_key.SectionNames.{SectionNames}
 use Rattle.env_config.specs.declared.properties_key.PropertiesKeyBuilder.{PropertiesKeyBuilder}
 use Rattle.env_config.specs.declared.properties_key.PropertiesKeyFault.{PropertiesKeyFault}
 use Rattle.env_config.specs.declared.properties_key.PropertiesKeyFault.TheVariants.{SectionKey, SectionName, PropertyName}
 use Rattle.env_config.specs.Sections.{Key}
 
+-- the prefix and the name of a section
+abbrev pub names_of : SectionNames → List ℕ × List ℕ
+names_of section = (string_bytes section.section_key, string_bytes section.section_name)
+
 abbrev pub key_of : PropertiesKey → Key
 key_of key = record {
-  section_key = string_bytes key.section_key;
-  section_name = string_bytes key.section_name;
+  section_key = (names_of key.section).0;
+  section_name = (names_of key.section).1;
   property_name = string_bytes key.property_name;
   sub_property_name = option_map string_bytes key.sub_property_name;
 }
@@ -34,7 +39,7 @@ key_parts builder = record {
 -- the key, or the first part that is missing
 abbrev pub BuildsKey : PropertiesKeyBuilder → Result PropertiesKey PropertiesKeyFault → Type 0
 BuildsKey builder (Ok key) =
-    (builder.section_key ≡ Some key.section_key) × (builder.section_name ≡ Some key.section_name) × (builder.property_name ≡ Some key.property_name)
+    (builder.section_key ≡ Some key.section.section_key) × (builder.section_name ≡ Some key.section.section_name) × (builder.property_name ≡ Some key.property_name)
     × (builder.sub_property_name ≡ key.sub_property_name)
 BuildsKey builder (Err SectionKey) = builder.section_key ≡ None
 BuildsKey builder (Err SectionName) = IsSome builder.section_key × (builder.section_name ≡ None)
@@ -55,4 +60,4 @@ sub_text (Some name) = codes "." ++ string_bytes name
 -- a key as it is printed
 abbrev pub key_text : PropertiesKey → List ℕ
 key_text key =
-    codes "[" ++ (string_bytes key.section_key ++ (codes " " ++ (string_bytes key.section_name ++ (codes "]." ++ (string_bytes key.property_name ++ sub_text key.sub_property_name)))))
+    codes "[" ++ (string_bytes key.section.section_key ++ (codes " " ++ (string_bytes key.section.section_name ++ (codes "]." ++ (string_bytes key.property_name ++ sub_text key.sub_property_name)))))

@@ -1,24 +1,25 @@
-ghost use Rattle.std.specs.Prelude.{◌≡◌, ◌≤◌, [], ◌∷◌, length, option_map, OnOk, IfOk, IfSome, map, if◌then◌else◌};
+ghost use Rattle.std.specs.Prelude.{◌≡◌, ◌≤◌, ℕ, List, [], ◌∷◌, length, option_map, OnOk, IfOk, IfSome, map, if◌then◌else◌};
 ghost use Rattle.std.specs.String.{string_bytes};
 ghost use Rattle.env_config.specs.Kept.{keeps_of};
 ghost use Rattle.env_config.specs.Texts.{EachValue, named_as, put};
-ghost use Rattle.env_config.specs.Sections.{is_identifier, merged_into, put_identifiers, put_others, put_sub, put_subs, section_properties, value_pieces};
-ghost use Rattle.env_config.specs.Properties.{others_of};
+ghost use Rattle.env_config.specs.Sections.{Key, is_identifier, merged_into, put_identifiers, put_others, put_sub, put_subs, section_properties, value_pieces};
+ghost use Rattle.env_config.specs.Properties.{Subs, others_of, properties_in, subs_in};
 ghost use Rattle.env_config.specs.Section.{IsKeyed, IsKeyedSection, section_of};
 ghost use Rattle.env_config.specs.SectionProperties.{property_values};
-ghost use Rattle.env_config.specs.Merge.{pieces_left, length_left};
+ghost use Rattle.env_config.specs.Merge.{HoldsProperty, HoldsSection, pieces_left, length_left};
 
 use crate::by_name::ByName;
 use crate::heading::is_identifier;
 use crate::kept::Kept;
 use crate::line::trim;
-use crate::properties::Properties;
-use crate::properties_key::PropertiesKey;
+use crate::properties::{Properties, SubProperties, insert_sub};
+use crate::properties_key::SectionNames;
 use crate::section::{Section, SectionKind};
 use crate::section_properties::SectionProperties;
 use crate::texts::Texts;
 use smithy_core::Mem;
 use std::alloc::Global;
+use std::collections::BTreeMap;
 
 /// Merges a raw section into the profile or the session of this name.
 pub fn merge_into<S: SectionKind>(
@@ -99,20 +100,27 @@ pub fn merge_others(
     others: &mut Properties,
     prefix: &str,
     name: &str,
-    mut pairs: Texts,
+    pairs: Texts,
 ) -> Mem<()>
     ensures { OnOk result (others_of others.new ≡ put_others (keeps_of kept.now) (others_of others.old) prefix.now name.now pairs) }
 {
+    let prefix = String::from_str(alloc, prefix)?;
+    let section = SectionNames::new(prefix, String::from_str(alloc, name)?);
+    others.merge(alloc, kept, section, pairs)
+}
+
+/// Puts the sub-properties of a raw section among the properties of its section, as far as they are kept.
+pub fn put_properties(
+    alloc: Global,
+    kept: &Kept<'_>,
+    properties: &mut BTreeMap<String, SubProperties>,
+    mut pairs: Texts,
+) -> Mem<()>
+    ensures { (whole : List (List ℕ × Subs) → List (Key × List ℕ)) (prefix name : List ℕ) → HoldsSection whole prefix name
+        → OnOk result (whole (properties_in properties.new) ≡ put_others (keeps_of kept.now) (whole (properties_in properties.old)) prefix name pairs) }
+{
     while let Some((key, value)) = pairs.take_first()? {
-        put_key(
-            alloc,
-            kept,
-            others,
-            prefix,
-            name,
-            key.as_str(),
-            value.as_str(),
-        )?;
+        put_key(alloc, kept, properties, key, value.as_str())?;
     }
     Ok(())
 }
@@ -120,35 +128,51 @@ pub fn merge_others(
 fn put_key(
     alloc: Global,
     kept: &Kept<'_>,
-    others: &mut Properties,
-    prefix: &str,
-    name: &str,
-    key: &str,
+    properties: &mut BTreeMap<String, SubProperties>,
+    key: String,
     value: &str,
 ) -> Mem<()>
-    ensures { OnOk result (others_of others.new ≡ (if is_identifier key.now then put_subs (keeps_of kept.now) (others_of others.old) prefix.now name.now key.now (value_pieces value.now) else others_of others.old)) }
+    ensures { (whole : List (List ℕ × Subs) → List (Key × List ℕ)) (prefix name : List ℕ) → HoldsSection whole prefix name
+        → OnOk result (whole (properties_in properties.new) ≡ (if is_identifier (string_bytes key) then put_subs (keeps_of kept.now) (whole (properties_in properties.old)) prefix name (string_bytes key) (value_pieces value.now) else whole (properties_in properties.old))) }
 {
-    if !is_identifier(key) {
+    if !is_identifier(key.as_str()) {
         return Ok(());
     }
-    put_pieces(alloc, kept, others, prefix, name, key, value)
+    put_property(alloc, kept, properties, key, value)
 }
 
-fn put_pieces(
+fn put_property(
     alloc: Global,
     kept: &Kept<'_>,
-    others: &mut Properties,
-    prefix: &str,
-    name: &str,
-    key: &str,
+    properties: &mut BTreeMap<String, SubProperties>,
+    key: String,
     value: &str,
 ) -> Mem<()>
-    ensures { OnOk result (others_of others.new ≡ put_subs (keeps_of kept.now) (others_of others.old) prefix.now name.now key.now (value_pieces value.now)) }
+    ensures { (whole : List (List ℕ × Subs) → List (Key × List ℕ)) (prefix name : List ℕ) → HoldsSection whole prefix name
+        → OnOk result (whole (properties_in properties.new) ≡ put_subs (keeps_of kept.now) (whole (properties_in properties.old)) prefix name (string_bytes key) (value_pieces value.now)) }
+{
+    match properties.get_mut(key.as_str()) {
+        Some(subs) => put_pieces(alloc, kept, subs, value),
+        None => {
+            let mut subs = BTreeMap::new(alloc);
+            put_pieces(alloc, kept, &mut subs, value)?;
+            if subs.is_empty() {
+                return Ok(());
+            }
+            properties.insert(key, subs)?;
+            Ok(())
+        }
+    }
+}
+
+fn put_pieces(alloc: Global, kept: &Kept<'_>, subs: &mut SubProperties, value: &str) -> Mem<()>
+    ensures { (whole : Subs → List (Key × List ℕ)) (prefix name key : List ℕ) → HoldsProperty whole prefix name key
+        → OnOk result (whole (subs_in subs.new) ≡ put_subs (keeps_of kept.now) (whole (subs_in subs.old)) prefix name key (value_pieces value.now)) }
 {
     let mut rest = Some(value);
     while let Some(text) = rest {
         let (piece, left) = cut_piece(text);
-        put_piece(alloc, kept, others, prefix, name, key, piece)?;
+        put_piece(alloc, kept, subs, piece)?;
         rest = left;
     }
     Ok(())
@@ -165,16 +189,9 @@ fn cut_piece(text: &str) -> (&str, Option<&str>)
     }
 }
 
-fn put_piece(
-    alloc: Global,
-    kept: &Kept<'_>,
-    others: &mut Properties,
-    prefix: &str,
-    name: &str,
-    key: &str,
-    piece: &str,
-) -> Mem<()>
-    ensures { OnOk result (others_of others.new ≡ put_sub (keeps_of kept.now) (others_of others.old) prefix.now name.now key.now piece.now) }
+fn put_piece(alloc: Global, kept: &Kept<'_>, subs: &mut SubProperties, piece: &str) -> Mem<()>
+    ensures { (whole : Subs → List (Key × List ℕ)) (prefix name key : List ℕ) → HoldsProperty whole prefix name key
+        → OnOk result (whole (subs_in subs.new) ≡ put_sub (keeps_of kept.now) (whole (subs_in subs.old)) prefix name key piece.now) }
 {
     let Some((sub, value)) = piece.split_once('=') else {
         return Ok(());
@@ -183,11 +200,6 @@ fn put_piece(
     if !kept.has_sub_property(sub) {
         return Ok(());
     }
-    let at = PropertiesKey::new(
-        String::from_str(alloc, prefix)?,
-        String::from_str(alloc, name)?,
-        String::from_str(alloc, key)?,
-        Some(String::from_str(alloc, sub)?),
-    );
-    others.insert(at, String::from_str(alloc, trim(value))?)
+    let sub = String::from_str(alloc, sub)?;
+    insert_sub(subs, Some(sub), String::from_str(alloc, trim(value))?)
 }

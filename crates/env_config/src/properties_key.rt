@@ -1,16 +1,55 @@
-ghost use Rattle.std.specs.Prelude.{◌≡◌, IfOk};
+ghost use Rattle.std.specs.Prelude.{◌≡◌, IfOk, option_map};
 ghost use Rattle.std.specs.String.{string_bytes};
-ghost use Rattle.env_config.specs.PropertiesKey.{BuildsKey, key_of, key_parts};
+ghost use Rattle.env_config.specs.PropertiesKey.{BuildsKey, key_of, key_parts, names_of};
 
 use crate::text::copied;
 use smithy_core::Mem;
 use std::fmt;
 
+/// What stands before the name of a section, and the name.
+#[derive(Debug, PartialEq, Eq, PartialOrd, Ord, Hash, Drop)]
+pub struct SectionNames {
+    section_key: String,
+    section_name: String,
+}
+
+impl SectionNames {
+    /// This name behind this prefix.
+    pub fn new(section_key: String, section_name: String) -> SectionNames
+        ensures { names_of result ≡ (string_bytes section_key, string_bytes section_name) }
+    {
+        SectionNames {
+            section_key,
+            section_name,
+        }
+    }
+
+    // An equal name.
+    fn try_clone(&self) -> Mem<SectionNames>
+        ensures { IfOk result (λ copy. names_of copy ≡ names_of self.now) }
+    {
+        Ok(SectionNames {
+            section_key: self.section_key.clone()?,
+            section_name: self.section_name.clone()?,
+        })
+    }
+}
+
+impl Clone for SectionNames {
+    ghost use Rattle.std.specs.Prelude.{◌≡◌};
+    ghost use Rattle.env_config.specs.PropertiesKey.{names_of};
+
+    ghost is_clone = { λ name copy. names_of copy ≡ names_of name };
+
+    fn clone(&self) -> Mem<SectionNames> {
+        self.try_clone()
+    }
+}
+
 /// Where a property of a section that is neither profile nor session stands.
 #[derive(Debug, PartialEq, Eq, PartialOrd, Ord, Hash, Drop)]
 pub struct PropertiesKey {
-    section_key: String,
-    section_name: String,
+    section: SectionNames,
     property_name: String,
     sub_property_name: Option<String>,
 }
@@ -22,14 +61,41 @@ impl PropertiesKey {
         property_name: String,
         sub_property_name: Option<String>,
     ) -> PropertiesKey
-        ensures { result ≡ record { section_key = section_key; section_name = section_name; property_name = property_name; sub_property_name = sub_property_name } }
+        ensures { key_of result ≡ record { section_key = string_bytes section_key; section_name = string_bytes section_name; property_name = string_bytes property_name; sub_property_name = option_map string_bytes sub_property_name } }
     {
         PropertiesKey {
-            section_key,
-            section_name,
+            section: SectionNames::new(section_key, section_name),
             property_name,
             sub_property_name,
         }
+    }
+
+    // The names of the section, of the property and of the sub-property.
+    pub(crate) fn into_parts(self) -> (SectionNames, String, Option<String>)
+        ensures { key_of self ≡ record { section_key = (names_of result.0).0; section_name = (names_of result.0).1; property_name = string_bytes result.1; sub_property_name = option_map string_bytes result.2 } }
+    {
+        (self.section, self.property_name, self.sub_property_name)
+    }
+
+    // The names of the section.
+    pub(crate) fn section(&self) -> &SectionNames
+        ensures { names_of result.now ≡ ((key_of self.now).section_key, (key_of self.now).section_name) }
+    {
+        &self.section
+    }
+
+    // The name of the property.
+    pub(crate) fn property_name(&self) -> &str
+        ensures { result.now ≡ (key_of self.now).property_name }
+    {
+        self.property_name.as_str()
+    }
+
+    // The name of the sub-property.
+    pub(crate) fn sub_property_name(&self) -> &Option<String>
+        ensures { option_map string_bytes result.now ≡ (key_of self.now).sub_property_name }
+    {
+        &self.sub_property_name
     }
 
     /// A builder with no parts.
@@ -49,8 +115,7 @@ impl PropertiesKey {
         ensures { IfOk result (λ copy. key_of copy ≡ key_of self.now) }
     {
         Ok(PropertiesKey {
-            section_key: self.section_key.clone()?,
-            section_name: self.section_name.clone()?,
+            section: self.section.try_clone()?,
             property_name: self.property_name.clone()?,
             sub_property_name: copied(&self.sub_property_name)?,
         })
@@ -75,7 +140,8 @@ impl fmt::Display for PropertiesKey {
     ghost output = { λ key. Some (key_text key) };
 
     fn fmt<W: fmt::Write>(&self, f: &mut fmt::Formatter<W>) -> fmt::Result {
-        let (prefix, name) = (self.section_key.as_str(), self.section_name.as_str());
+        let prefix = self.section.section_key.as_str();
+        let name = self.section.section_name.as_str();
         let property = self.property_name.as_str();
         match &self.sub_property_name {
             Some(sub) => write!(f, "[{prefix} {name}].{property}.{sub}"),
@@ -162,8 +228,10 @@ impl PropertiesKeyBuilder {
             return Err(PropertiesKeyFault::PropertyName);
         };
         Ok(PropertiesKey {
-            section_key,
-            section_name,
+            section: SectionNames {
+                section_key,
+                section_name,
+            },
             property_name,
             sub_property_name,
         })
