@@ -34,7 +34,12 @@ firuvaik gen SEED COUNT
 
 PROFILE is [--service-id ID] [--config PATH] [--credentials PATH]; in stream the
 last two repeat. Named files and lines of them in the input are read in place of
-~/.aws/config and ~/.aws/credentials. AWS_PROFILE and AWS_REGION come before.
+~/.aws/config and ~/.aws/credentials, or where AWS_CONFIG_FILE and
+AWS_SHARED_CREDENTIALS_FILE say. Of these one that is missing, can't be read,
+isn't UTF-8 or has over 16 MiB counts as empty, without a word. AWS_PROFILE and
+AWS_REGION come before.
+
+All but gen read standard input to its end; at a terminal Control-D ends it.
 
 A job has these lines; the input of settings has config and credentials alone:
   method METHOD, target TARGET     once each
