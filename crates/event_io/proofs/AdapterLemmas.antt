@@ -11,7 +11,7 @@ use Rattle.eventstream.specs.declared.error.ErrorKind.TheVariants as kinds
 use Rattle.eventstream.specs.declared.marshall.MarshallMessage as MarshallMessage
 use Rattle.eventstream.specs.declared.sign.SignMessage as SignMessage
 use Rattle.eventstream.specs.declared.sign_error.SignMessageError.{SignMessageError}
-use Rattle.event_io.specs.Adapter.{Asks, Frames, PollsOpen, RefusesItem, TakesMoment, TakesNone, left_by}
+use Rattle.event_io.specs.Adapter.{Asks, AsksNone, Frames, PollsOpen, RefusesItem, TakesMoment, TakesNone, left_by}
 use Rattle.event_io.specs.AdapterFault.{SendError, send_error, send_error_for}
 use Rattle.event_io.specs.declared.adapter.MessageStreamAdapter.{MessageStreamAdapter}
 use Rattle.event_io.specs.declared.adapter.Next.{Next}
@@ -57,7 +57,12 @@ module _ {S M EM G T E C : Type 0} (source : EventSource.Ghosts S T E) (marshall
   asked t signed (Err DispatchFailure) takes asks frames = (t, takes, signed, asks, frames)
   asked t signed (Err (ResponseError fault raw)) takes asks frames = (t, takes, signed, asks, frames)
   asked t signed (Err (ServiceError fault raw)) takes asks frames = (t, takes, signed, asks, frames)
-  asked t signed (Err NoMemory) takes asks frames = (refl, inr (t, takes))
+  asked t signed (Err NoMemory) takes asks frames = (new, refl, inr (t, takes, signed, asks))
+
+  -- memory ran out before the signer was asked
+  pub ran_out : AsksNone source marshaller error_marshaller signer old new → TakesNone before now old_moments moments
+      → PollsOpen source marshaller error_marshaller signer clock before now old_moments moments old (left_by (Err NoMemory) new) (Err NoMemory)
+  ran_out unasked none = (new, refl, inl (unasked, none))
 
   -- with the refusal of a marshaller
   pub refused : (error : Error) (result : SendError) → result ≡ send_error (Marshall error)
@@ -68,5 +73,5 @@ module _ {S M EM G T E C : Type 0} (source : EventSource.Ghosts S T E) (marshall
     Polled result = PollsOpen source marshaller error_marshaller signer clock before now old_moments moments old (left_by (Err result) new) (Err result)
 
     by : (send_error (Marshall error) ≡ NoMemory) ⊎ (send_error (Marshall error) ≡ ConstructionFailure (Marshall error)) → Polled (send_error (Marshall error))
-    by (inl wants) = subst Polled (sym wants) (refl, inl none)
+    by (inl wants) = subst Polled (sym wants) (ran_out (record { taken = inr (refuses.item, refuses.taken); signer_stays = refuses.signer_stays }) none)
     by (inr tells) = subst Polled (sym tells) (refuses, none)

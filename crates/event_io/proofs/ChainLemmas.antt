@@ -16,7 +16,7 @@ use Rattle.eventstream.specs.declared.sign_error.SignMessageError.{SignMessageEr
 use Rattle.eventstream.specs.declared.sign_error.SignMessageError.TheVariants as signing
 use Rattle.event_io.specs.Adapter.{Asks, Frames, Marshals, Polls, PollsOpen, TakesMoment, TellsWant}
 use Rattle.event_io.specs.AdapterFault.{SendError, send_error}
-use Rattle.event_io.specs.Chain.{Chains, ChainsOn, HasSent, IsIdentity, PollsChain, next_bytes, next_unsigned}
+use Rattle.event_io.specs.Chain.{Chains, ChainsOn, HasSent, IsIdentity, PollsChain, StaysWithinLink, next_bytes, next_unsigned}
 use Rattle.event_io.specs.EventSource.{IsUsedUp, TakesItem}
 use Rattle.event_io.specs.declared.adapter.MessageStreamAdapter.{MessageStreamAdapter}
 use Rattle.event_io.specs.declared.adapter.Next.{Next}
@@ -129,7 +129,8 @@ module _ {S M EM G E : Type 0} (source : EventSource.Ghosts S Parts E) (marshall
               → PollsChain source signer clock before now old_moments moments who events signature old new (Err (ConstructionFailure (Write error)))
           by (Ok message) (seals, goes) frames = (t, takes, seals.0, ap unframed (sym seals.1) ∙ frames, goes _ seals.2)
           by (Err refusal) asked frames = absurd frames
-    polled events signature old new (Err NoMemory) chains tells (closed, took) = took
+    polled events signature old new (Err NoMemory) chains tells (left, is, inl (unasked, none)) = inl none
+    polled events signature old new (Err NoMemory) chains tells (left, is, inr (t, takes, signed, asks)) = inr (t, takes)
     polled events signature old new (Err DispatchFailure) chains tells (t, takes, signed, asks, frames) = by signed frames where
       by : (signed : Result Parts SignMessageError) → Frames signed (Err DispatchFailure) → ⊥
       by (Ok message) frames = frames
@@ -153,6 +154,25 @@ module _ {S M EM G E : Type 0} (source : EventSource.Ghosts S Parts E) (marshall
         let goes_on : old.phase ≡ Open = chains.goes_on in let over : old.phase ≡ Ended = ended in let no : ⊥ = cc in absurd no
     chain_polled events signature old new result chains tells (inr (inr closed, is, same, none)) =
         let goes_on : old.phase ≡ Open = chains.goes_on in let over : old.phase ≡ Closed = closed in let no : ⊥ = cc in absurd no
+
+    open_stays : (events : List Parts) (signature : List ℕ) (old new : MessageStreamAdapter S M EM G) → Chains source signer who events signature old
+        → PollsOpen source marshaller error_marshaller signer clock before now old_moments moments old new (Err NoMemory)
+        → StaysWithinLink source signer clock before now old_moments moments who events signature new
+    open_stays events signature old new chains (left, is, inl (unasked, none)) = rw is (inl (ap signer.told unasked.signer_stays ∙ chains.told))
+    open_stays events signature old new chains (left, is, inr (t, takes, signed, asks)) = by signed (next_asked events signature old left t signed chains asks) where
+      by : (signed : Result Parts SignMessageError)
+          → Seals (next_unsigned events t) signature who (next_bytes events) t signed (signer.told left.signer)
+          × ((next : List ℕ) → signer.told left.signer ≡ sealed next who → ChainsOn source signer who events next left)
+          → StaysWithinLink source signer clock before now old_moments moments who events signature new
+      by (Ok message) (seals, goes) = rw is (inr (t, takes, seals.2))
+      by (Err refusal) (seals, goes) = rw is (inl seals.1)
+
+    -- where memory ran out the signer is told as before, or one link on
+    pub chain_stays : (events : List Parts) (signature : List ℕ) (old new : MessageStreamAdapter S M EM G) → Chains source signer who events signature old
+        → Polls source marshaller error_marshaller signer clock before now old_moments moments old new (Err NoMemory)
+        → StaysWithinLink source signer clock before now old_moments moments who events signature new
+    chain_stays events signature old new chains (inl polls) = open_stays events signature old new chains polls.1
+    chain_stays events signature old new chains (inr (over, is, same, none)) = let no : ⊥ = cc in absurd no
 
     -- one frame more, at the moment that the call took
     pub frame_sent : (events : List Parts) (signature : List ℕ) (frames : List (List ℕ)) (sent : List Instant) (old new : MessageStreamAdapter S M EM G) (bytes : List ℕ)

@@ -96,9 +96,13 @@ module _ {S M EM G : Type 0} where
   abbrev pub IsClosed : MessageStreamAdapter S M EM G → Type 0
   IsClosed adapter = adapter.phase ≡ Closed
 
+  -- the same adapter, which goes on no more
+  abbrev pub closed : MessageStreamAdapter S M EM G → MessageStreamAdapter S M EM G
+  closed adapter = record adapter { phase = Closed }
+
   -- an adapter as an answer leaves it
   abbrev pub left_by : Result Next SendError → MessageStreamAdapter S M EM G → MessageStreamAdapter S M EM G
-  left_by (Err NoMemory) adapter = record adapter { phase = Closed }
+  left_by (Err NoMemory) adapter = closed adapter
   left_by result adapter = adapter
 
   -- the marshallers stay
@@ -142,6 +146,11 @@ module _ {S M EM G : Type 0} where
       pub signer_stays : new.signer ≡ old.signer
       pub goes_on : IsOpen new
 
+    -- one item is taken at most, and the signer isn't asked
+    pub record AsksNone (old new : MessageStreamAdapter S M EM G) : Type 0 where
+      pub taken : (source.left new.source ≡ source.left old.source) ⊎ ((item : Result T E) × TakesItem item (source.left old.source) (source.left new.source))
+      pub signer_stays : new.signer ≡ old.signer
+
     -- nothing has come
     pub record Waits (old new : MessageStreamAdapter S M EM G) : Type 0 where
       pub waited : RoseOrStands (source.waits old.source) (source.waits new.source)
@@ -155,7 +164,10 @@ module _ {S M EM G : Type 0} where
       PollsOpen old new (Ok NotYet) = Waits old new × TakesNone before now old_moments moments
       PollsOpen old new (Ok End) = (t : Instant) × TakesMoment clock before now old_moments moments t × SignsEnd old new t None
       PollsOpen old new (Err (ConstructionFailure (Marshall error))) = RefusesItem old new error × TakesNone before now old_moments moments
-      PollsOpen old new (Err NoMemory) = IsClosed new × (TakesNone before now old_moments moments ⊎ ((t : Instant) × TakesMoment clock before now old_moments moments t))
+      PollsOpen old new (Err NoMemory) =
+          (left : MessageStreamAdapter S M EM G) × (new ≡ closed left)
+          × ((AsksNone old left × TakesNone before now old_moments moments)
+          ⊎ ((t : Instant) × TakesMoment clock before now old_moments moments t × (signed : Result Parts SignMessageError) × Asks old left t signed))
       PollsOpen old new result =
           (t : Instant) × TakesMoment clock before now old_moments moments t
           × (signed : Result Parts SignMessageError) × Asks old new t signed × Frames signed result

@@ -74,3 +74,9 @@ module _ {S M EM G E : Type 0} (source : EventSource.Ghosts S Parts E) (signer :
         × ChainsOn who events (link_signature who signature (next_bytes events) t) new
     PollsChain events signature old new (Err NoMemory) = TakesNone before now old_moments moments ⊎ ((t : Instant) × TakesMoment clock before now old_moments moments t)
     PollsChain events signature old new result = ⊥
+
+    -- the signer signs over this signature as before, or over that of the next link at a moment of the clock
+    abbrev pub StaysWithinLink : List Parts → List ℕ → MessageStreamAdapter S M EM G → Type 0
+    StaysWithinLink events signature new =
+        (signer.told new.signer ≡ sealed signature who)
+        ⊎ ((t : Instant) × TakesMoment clock before now old_moments moments t × (signer.told new.signer ≡ sealed (link_signature who signature (next_bytes events) t) who))
