@@ -28,7 +28,7 @@ pub fn received(alloc: Global, count: u32) -> anyhow::Result<Digest> {
 fn with_stream(alloc: Global, digest: Digest, source: CalmFrames) -> anyhow::Result<Digest> {
     let mut receiver = Receiver::new(alloc, IdentityUnmarshaller, source);
     let mut messages = Vec::new(alloc);
-    if receive_all(&mut receiver, usize::MAX, &mut messages).is_err() {
+    if receive_all(alloc, &mut receiver, usize::MAX, &mut messages).is_err() {
         bail!("the stream could not be received");
     }
     Ok(messages.iter().fold(digest, with_message))

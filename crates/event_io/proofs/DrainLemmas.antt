@@ -2,22 +2,20 @@
 use Rattle.std.proofs.Common.{◌≡◌, ℕ, ◌+◌, ◌<◌, ◌≤◌, Bool, true, false, if◌then◌else◌, List, [], ◌∷◌, ◌++◌, length, Option, Some, None, Result, Ok, Err, refl, ap, sym, subst, ◌∙◌, append-nil, append_assoc, length-append, arith}
 use Rattle.std.proofs.lemmas.Bool.{false≢true}
 use Rattle.smithy_core.specs.Message.{Parts}
-use Rattle.smithy_core.specs.Outside.{RoseOrStands}
 use Rattle.smithy_core.specs.declared.outside.frame_part.FramePart.{FramePart}
 use Rattle.smithy_core.specs.declared.outside.frame_source.FrameSource as FrameSource
 use Rattle.smithy_core.specs.declared.raw_message.RawMessage.TheVariants.{Decoded, Invalid}
 use Rattle.smithy_core.specs.declared.sdk_error.SdkError.TheVariants.{ConstructionFailure, DispatchFailure, NoMemory, ResponseError, ServiceError}
 use Rattle.eventstream.specs.Decode.{IsUnfinished}
-use Rattle.eventstream.specs.Error.{error_kind}
-use Rattle.eventstream.specs.Reading.{Begin, first_of, nothing, reading}
+use Rattle.eventstream.specs.Reading.{Begin, begins, first_of, nothing}
 use Rattle.eventstream.specs.Unmarshall.{PassesMessage}
 use Rattle.eventstream.specs.declared.error.Error.{Error}
 use Rattle.eventstream.specs.declared.unmarshall.UnmarshallMessage as UnmarshallMessage
 use Rattle.eventstream.specs.declared.unmarshall.UnmarshalledMessage.{UnmarshalledMessage}
-use Rattle.eventstream.proofs.ReadingLemmas.{begin_join, begin_unfinished}
-use Rattle.event_io.specs.Drain.{BeginsWith, Counts, HoldsOnly, IsCauseToStop, ReceivesAll, stops}
-use Rattle.event_io.specs.Frames.{TakesFrames, frames_data, idle_count, most_idle}
-use Rattle.event_io.specs.Receiver.{Begins, Cuts, EndsAs, IsReadOut, KeepsOthers, Reads, Receives, Rest, TellsWantOfMemory, Unmarshals, frames_of, is_terminated, kept_message, recv_stop, rest_after, rest_of, taken_bytes, terminated, terminates, unmarshaller_of, unread, untold}
+use Rattle.eventstream.proofs.ReadingLemmas.{begin_join, begin_stays, begin_unfinished}
+use Rattle.event_io.specs.Drain.{BeginsWith, Counts, HoldsOnly, IsCauseToStop, ReceivesAll, HoldsNoneFor, drain_stop, drained_by, messages_in, stops}
+use Rattle.event_io.specs.Frames.{TakesFrames, frames_data, idle_count}
+use Rattle.event_io.specs.Receiver.{Begins, Cuts, IsReadOut, KeepsOthers, Reads, Receives, Rest, StopsAt, TellsWantOfMemory, Unmarshals, is_terminated, kept_message, recv_stop, rest_after, rest_of, taken_bytes, terminated, terminates, unread, untold}
 use Rattle.event_io.specs.ResponseFault.{ReceiveError}
 use Rattle.event_io.specs.declared.drain.Drained.{Drained}
 use Rattle.event_io.specs.declared.drain.Drained.TheVariants as drained
@@ -25,7 +23,9 @@ use Rattle.event_io.specs.declared.received.Received.{Received}
 use Rattle.event_io.specs.declared.received.Received.TheVariants as received
 use Rattle.event_io.specs.declared.receiver.Receiver.{Receiver}
 use Rattle.event_io.specs.declared.response_fault.ResponseFault.TheVariants.{Frame, UnexpectedEndOfStream, Unmarshall, Preprocessor}
-use Rattle.event_io.proofs.ReceiverLemmas.{idle_more, rose_before, takes_more, takes_none}
+use Rattle.event_io.specs.declared.stop.Stop.{Stop}
+use Rattle.event_io.specs.declared.stop.Stop.TheVariants as stop
+use Rattle.event_io.proofs.ReceiverLemmas.{idle_more, joined, rose_before, takes_more, takes_none}
 
 -- ## What the rest begins with
 
@@ -67,20 +67,15 @@ holds_only (unread bytes) (unread left) messages first out =
     let none : first_of left ≡ nothing = ap first_of out ∙ nothing_first in
     rw (← none) (begin_unfinished messages bytes left first (subst IsUnfinished (sym none) tt))
 
+-- the messages that the bytes begin with, and then others that the bytes after them begin with
+pub reads_then : (bytes between after : List ℕ) (frames more : List FramePart) (messages others : List Parts) → Begin messages (bytes ++ frames_data frames) between
+    → Begin others (between ++ frames_data more) after → Begin (messages ++ others) (bytes ++ frames_data (frames ++ more)) after
+reads_then bytes between after frames more messages others first second =
+    subst (λ (all : List ℕ). Begin (messages ++ others) all after) (joined bytes frames more)
+    (begin_join messages others ((bytes ++ frames_data frames) ++ frames_data more) (between ++ frames_data more) after
+    (begin_stays messages (bytes ++ frames_data frames) between (frames_data more) first) second)
+
 -- ## One message
-
--- the messages that an answer brings
-abbrev pub messages_in : Result (Received Parts) (ReceiveError Error) → List Parts
-messages_in (Ok (received.Event message)) = message ∷ []
-messages_in answer = []
-
--- the answer of a call that takes at most one message
-abbrev pub drained_by : Result (Received Parts) (ReceiveError Error) → Result Drained (ReceiveError Error)
-drained_by (Ok (received.Event message)) = Ok drained.Enough
-drained_by (Ok received.End) = Ok drained.End
-drained_by (Ok received.NotYet) = Ok drained.NotYet
-drained_by (Ok received.OutOfTurns) = Ok drained.OutOfTurns
-drained_by (Err error) = Err error
 
 -- fewer than one is none
 counts_none : (count most : ℕ) (result : Result Drained (ReceiveError Error)) → stops result ≡ true → Counts 1 count result → (some : ℕ) → some < most → Counts most (some + count) result
@@ -105,13 +100,15 @@ module _ {F U : Type 0} (source : FrameSource.Ghosts F) where
     taken = takes_none (source.left receiver.source);
     messages = [];
     appended = sym (append-nil given);
+    read = sym (append-nil (taken_bytes receiver));
+    stopped = λ going. tt;
     counted = refl;
     after = rest_of source receiver;
     first = begins_none (rest_of source receiver);
     cause = tt;
     left = refl;
     all = λ is. cc;
-    ended = λ over. refl;
+    ended = λ over. (refl, tt);
   }
 
   pub receives_no_room : (receiver : Receiver F U) (given : List Parts) → ReceivesAll source 1 receiver receiver given given (Err NoMemory)
@@ -120,13 +117,15 @@ module _ {F U : Type 0} (source : FrameSource.Ghosts F) where
     taken = takes_none (source.left receiver.source);
     messages = [];
     appended = sym (append-nil given);
+    read = sym (append-nil (taken_bytes receiver));
+    stopped = λ going. tt;
     counted = omega arith;
     after = rest_of source receiver;
     first = begins_none (rest_of source receiver);
     cause = tt;
     left = refl;
     all = λ is. cc;
-    ended = λ over. refl;
+    ended = λ over. (refl, tt);
   }
 
   -- a terminated receiver
@@ -136,42 +135,51 @@ module _ {F U : Type 0} (source : FrameSource.Ghosts F) where
     taken = takes_none (source.left receiver.source);
     messages = [];
     appended = refl;
+    read = sym (append-nil (taken_bytes receiver));
+    stopped = λ going. absurd (false≢true (sym going ∙ over));
     counted = omega arith;
     after = rest_of source receiver;
     first = begins_none (rest_of source receiver);
     cause = rw over tt;
     left = refl;
     all = λ is. rw over tt;
-    ended = λ is. refl;
+    ended = λ is. (refl, tt);
   }
 
   -- an answer without a message, and why
-  receives_stop : (old new : Receiver F U) (given : List Parts) (result : Result Drained (ReceiveError Error)) (frames : List FramePart)
-      → TakesFrames frames (source.left old.source) (source.left new.source) → Counts 1 0 result → IsCauseToStop source (rest_of source old) (idle_count frames) old new result
+  receives_stop : (old new : Receiver F U) (given : List Parts) (result : Result Drained (ReceiveError Error)) (frames : List FramePart) (why : Stop)
+      → TakesFrames frames (source.left old.source) (source.left new.source) → drain_stop result ≡ Some why
+      → StopsAt why (taken_bytes old ++ frames_data frames) × (taken_bytes new ≡ taken_bytes old ++ frames_data frames)
+      → Counts 1 0 result → IsCauseToStop source (rest_of source old) (idle_count frames) old new result
       → rest_of source new ≡ (if terminates result then terminated else rest_of source old) → (result ≡ Ok drained.End → IsReadOut (rest_of source old)) → old.over ≡ false
       → ReceivesAll source 1 old new given (given ++ []) result
-  receives_stop old new given result frames taken counts cause left out going = record {
+  receives_stop old new given result frames why taken is found counts cause left out going = record {
     frames = frames;
     taken = taken;
     messages = [];
     appended = refl;
+    read = found.1;
+    stopped = λ goes_on. subst (λ (reason : Option Stop). HoldsNoneFor reason (taken_bytes new)) (sym is) (subst (StopsAt why) (sym found.1) found.0);
     counted = counts;
     after = rest_of source old;
     first = begins_none (rest_of source old);
     cause = cause;
     left = left;
-    all = λ is. holds_only (rest_of source old) (rest_of source old) [] (begins_none (rest_of source old)) (out is);
+    all = λ ends. holds_only (rest_of source old) (rest_of source old) [] (begins_none (rest_of source old)) (out ends);
     ended = λ over. absurd (false≢true (sym going ∙ over));
   }
 
   receives_event : (old new : Receiver F U) (given : List Parts) (frames : List FramePart) (message : Parts) (after : Rest)
-      → TakesFrames frames (source.left old.source) (source.left new.source) → Begins (rest_of source old) message after → rest_of source new ≡ after → old.over ≡ false
+      → TakesFrames frames (source.left old.source) (source.left new.source) → first_of (taken_bytes old ++ frames_data frames) ≡ begins message (taken_bytes new)
+      → Begins (rest_of source old) message after → rest_of source new ≡ after → old.over ≡ false
       → ReceivesAll source 1 old new given (given ++ message ∷ []) (Ok drained.Enough)
-  receives_event old new given frames message after taken first left going = record {
+  receives_event old new given frames message after taken comes first left going = record {
     frames = frames;
     taken = taken;
     messages = message ∷ [];
     appended = refl;
+    read = (taken_bytes new, comes, refl);
+    stopped = λ goes_on. tt;
     counted = refl;
     after = after;
     first = begins_one (rest_of source old) message after first;
@@ -194,30 +202,33 @@ module _ {F U : Type 0} (source : FrameSource.Ghosts F) where
         → TellsWantOfMemory answer → ReceivesAll source 1 old new given (given ++ messages_in answer) (drained_by answer)
     receives_open (Ok (received.Event message)) old new given going reads cuts want =
         let same : message ≡ cuts.0 = passes old.unmarshaller cuts.0 _ cuts.1 in
-        receives_event old new given reads.frames message cuts.2 reads.taken (subst (λ (m : Parts). Begins (rest_of source old) m cuts.2) (sym same) cuts.3) cuts.4 going
+        let comes : message ≡ reads.found.0 = passes old.unmarshaller reads.found.0 _ reads.found.1 in
+        receives_event old new given reads.frames message cuts.2 reads.taken
+        (subst (λ (m : Parts). first_of (taken_bytes old ++ frames_data reads.frames) ≡ begins m (taken_bytes new)) (sym comes) reads.found.2)
+        (subst (λ (m : Parts). Begins (rest_of source old) m cuts.2) (sym same) cuts.3) cuts.4 going
     receives_open (Ok received.End) old new given going reads cuts want =
-        receives_stop old new given (Ok drained.End) reads.frames reads.taken (omega arith) cuts.0 cuts.1 (λ is. cuts.0) going
+        receives_stop old new given (Ok drained.End) reads.frames stop.End reads.taken refl reads.found (omega arith) cuts.0 cuts.1 (λ is. cuts.0) going
     receives_open (Ok received.NotYet) old new given going reads cuts want =
-        receives_stop old new given (Ok drained.NotYet) reads.frames reads.taken (omega arith)
+        receives_stop old new given (Ok drained.NotYet) reads.frames stop.NotYet reads.taken refl reads.found (omega arith)
         (reads.cause, unfinished_left old new reads.frames reads.found.0 reads.found.1) cuts.1 (λ is. cc) going
     receives_open (Ok received.OutOfTurns) old new given going reads cuts want =
-        receives_stop old new given (Ok drained.OutOfTurns) reads.frames reads.taken (omega arith) (omega (arith, reads.turns)) cuts.1 (λ is. cc) going
+        receives_stop old new given (Ok drained.OutOfTurns) reads.frames stop.OutOfTurns reads.taken refl reads.found (omega arith) (omega (arith, reads.turns)) cuts.1 (λ is. cc) going
     receives_open (Err (ConstructionFailure refusal)) old new given going reads cuts want = absurd cuts.1
     receives_open (Err DispatchFailure) old new given going reads cuts want =
-        receives_stop old new given (Err DispatchFailure) reads.frames reads.taken (omega arith)
+        receives_stop old new given (Err DispatchFailure) reads.frames stop.Failed reads.taken refl reads.found (omega arith)
         (reads.cause, unfinished_left old new reads.frames reads.found.0 reads.found.1) cuts.1 (λ is. cc) going
     receives_open (Err NoMemory) old new given going reads cuts want =
-        receives_stop old new given (Err NoMemory) reads.frames reads.taken (omega arith) tt cuts.1 (λ is. cc) going
+        receives_stop old new given (Err NoMemory) reads.frames stop.NoMemory reads.taken refl reads.found (omega arith) tt cuts.1 (λ is. cc) going
     receives_open (Err (ServiceError error (Decoded raw))) old new given going reads cuts want = absurd (passes old.unmarshaller cuts.0 _ cuts.1.0)
     receives_open (Err (ServiceError error (Invalid raw))) old new given going reads cuts want = absurd cuts.1
     receives_open (Err (ResponseError (Frame error) (Decoded raw))) old new given going reads cuts want = absurd cuts.1
     receives_open (Err (ResponseError (Frame error) (Invalid (Some raw)))) old new given going reads cuts want = absurd cuts.1
     receives_open (Err (ResponseError (Frame error) (Invalid None))) old new given going reads cuts want =
-        receives_stop old new given (Err (ResponseError (Frame error) (Invalid None))) reads.frames reads.taken (omega arith) cuts.0 cuts.1 (λ is. cc) going
+        receives_stop old new given (Err (ResponseError (Frame error) (Invalid None))) reads.frames (stop.Faulty error) reads.taken refl reads.found (omega arith) cuts.0 cuts.1 (λ is. cc) going
     receives_open (Err (ResponseError (UnexpectedEndOfStream end) (Decoded raw))) old new given going reads cuts want = absurd cuts.1
     receives_open (Err (ResponseError (UnexpectedEndOfStream end) (Invalid None))) old new given going reads cuts want = absurd cuts.1
     receives_open (Err (ResponseError (UnexpectedEndOfStream end) (Invalid (Some bytes)))) old new given going reads cuts want =
-        receives_stop old new given (Err (ResponseError (UnexpectedEndOfStream end) (Invalid (Some bytes)))) reads.frames reads.taken (omega arith) cuts.0 cuts.1 (λ is. cc) going
+        receives_stop old new given (Err (ResponseError (UnexpectedEndOfStream end) (Invalid (Some bytes)))) reads.frames (stop.CutOff bytes) reads.taken refl reads.found (omega arith) cuts.0 cuts.1 (λ is. cc) going
     receives_open (Err (ResponseError (Unmarshall error) (Decoded raw))) old new given going reads cuts want =
         let is : PassesMessage {E = Error} cuts.0 (Err error) = passes old.unmarshaller cuts.0 _ cuts.1.0 in absurd (false≢true (sym want ∙ rw is refl))
     receives_open (Err (ResponseError (Unmarshall error) (Invalid raw))) old new given going reads cuts want = absurd cuts.1
@@ -241,17 +252,16 @@ module _ {F U : Type 0} (source : FrameSource.Ghosts F) where
         by false is =
             receives_open answer old new given is (subst (λ (over : Bool). Receives source unmarshaller None over old new answer) is at_none).0 (cuts none) want
 
-    -- the end, which takes no message
-    pub receives_end : (answer : Received Parts) → answer ≡ received.End → (old new : Receiver F U) (given gained : List Parts) → gained ≡ given → kept_message old ≡ None
-        → Receives source unmarshaller (kept_message old) (is_terminated old) old new (Ok answer)
+    -- what `recv` answers, where it is told apart
+    pub receives_told : (answer told : Received Parts) → answer ≡ told → (old new : Receiver F U) (given gained : List Parts) → gained ≡ given ++ messages_in (Ok told)
+        → kept_message old ≡ None → Receives source unmarshaller (kept_message old) (is_terminated old) old new (Ok answer)
         → (kept_message old ≡ None
         → Cuts (recv_stop {E = Error} (Ok answer)) (terminates {E = Error} (Ok answer)) (λ message. Unmarshals unmarshaller old.unmarshaller message (Ok answer)) (rest_of source old)
-        (rest_of source new)) → ReceivesAll source 1 old new given gained (Ok drained.End)
-    receives_end received.End is old new given gained same none receives cuts =
-        receives_answer (Ok received.End) old new given gained (same ∙ sym (append-nil given)) none receives cuts tt
-    receives_end received.NotYet is old new given gained same none receives cuts = cc
-    receives_end received.OutOfTurns is old new given gained same none receives cuts = cc
-    receives_end (received.Event message) is old new given gained same none receives cuts = cc
+        (rest_of source new)) → ReceivesAll source 1 old new given gained (drained_by (Ok told))
+    receives_told answer told is old new given gained same none receives cuts =
+        let appended : gained ≡ given ++ messages_in (Ok answer) = same ∙ sym (ap (λ (r : Received Parts). given ++ messages_in (Ok r)) is) in
+        subst (λ (r : Received Parts). ReceivesAll source 1 old new given gained (drained_by (Ok r))) is
+        (receives_answer (Ok answer) old new given gained appended none receives cuts tt)
 
     -- no message is kept afterwards
     pub keeps_none : (answer : Result (Received Parts) (ReceiveError Error)) (old new : Receiver F U) → kept_message old ≡ None
@@ -292,6 +302,22 @@ module _ {F U : Type 0} (source : FrameSource.Ghosts F) where
   cause_since old between new after idle more (Err (ResponseError (Unmarshall error) raw)) waits faults cause = absurd cause
   cause_since old between new after idle more (Err (ResponseError (Preprocessor error) raw)) waits faults cause = absurd cause
 
+  -- a receiver goes on that isn't terminated, where the messages that it took tell no fault
+  stays_open : (old between : Receiver F U) (messages : List Parts) (after : Rest) → BeginsWith (rest_of source old) messages after → rest_of source between ≡ after → old.over ≡ false
+      → between.over ≡ false
+  stays_open old between messages after first left going = by between.over refl where
+    not_over : (bytes : List ℕ) (frames : Option (List FramePart)) → BeginsWith (rest_after bytes frames) messages terminated → ⊥
+    not_over bytes None is = cc
+    not_over bytes (Some frames) is = is
+
+    by : (over : Bool) → between.over ≡ over → between.over ≡ false
+    by false is = is
+    by true is =
+        let over : terminated ≡ after = sym (rw is refl) ∙ left in
+        let begins_over : BeginsWith (rest_of source old) messages terminated = subst (λ (rest : Rest). BeginsWith (rest_of source old) messages rest) (sym over) first in
+        absurd (not_over old.buffer.bytes (source.left old.source)
+        (subst (λ (b : Bool). BeginsWith (if b then terminated else rest_after old.buffer.bytes (source.left old.source)) messages terminated) going begins_over))
+
   -- after some messages one more was taken, or there is a reason why not
   receives_then : (some most : ℕ) (old between new : Receiver F U) (given middle gained : List Parts) (result : Result Drained (ReceiveError Error))
       → (first : ReceivesAll source some old between given middle (Ok drained.Enough)) → (second : ReceivesAll source 1 between new middle gained result)
@@ -308,13 +334,15 @@ module _ {F U : Type 0} (source : FrameSource.Ghosts F) where
         taken = takes_more first.frames second.frames (source.left old.source) (source.left between.source) (source.left new.source) first.taken second.taken;
         messages = first.messages ++ second.messages;
         appended = second.appended ∙ ap (λ (front : List Parts). front ++ second.messages) first.appended ∙ append_assoc given first.messages second.messages;
+        read = reads_then (taken_bytes old) (taken_bytes between) (taken_bytes new) first.frames second.frames first.messages second.messages first.read second.read;
+        stopped = λ going. second.stopped (stays_open old between first.messages first.after first.first first.left going);
         counted = subst (λ (n : ℕ). Counts most n result) (ap (λ (n : ℕ). n + length second.messages) (sym first.counted) ∙ sym (length-append first.messages second.messages)) counts;
         after = second.after;
         first = joined;
         cause = subst (λ (n : ℕ). IsCauseToStop source second.after n old new result) (sym (idle_more first.frames second.frames)) cause;
         left = second.left;
         all = λ is. holds_only (rest_of source old) second.after (first.messages ++ second.messages) joined (subst (IsCauseToStop source second.after (idle_count second.frames) between new) is second.cause);
-        ended = λ over. let was = first.ended over in second.ended (rw was over) ∙ was;
+        ended = λ over. let was = first.ended over in let is = second.ended (rw was.0 over) in (is.0 ∙ was.0, is.1);
       }
 
   -- one more was taken

@@ -396,7 +396,7 @@ cuts_at stop.OutOfTurns seen left is drained = tt
 cuts_at stop.Failed seen left is drained = tt
 cuts_at stop.NoMemory seen left is drained = tt
 
-joined : (bytes : List ℕ) (frames left : List FramePart) → (bytes ++ frames_data frames) ++ frames_data left ≡ bytes ++ frames_data (frames ++ left)
+pub joined : (bytes : List ℕ) (frames left : List FramePart) → (bytes ++ frames_data frames) ++ frames_data left ≡ bytes ++ frames_data (frames ++ left)
 joined bytes frames left =
     append_assoc bytes (frames_data frames) (frames_data left) ∙ ap (λ (more : List ℕ). bytes ++ more) (sym (flat_map-append data_in frames left))
 

@@ -13,7 +13,9 @@ use Rattle.eventstream.specs.Error.{error_kind}
 use Rattle.eventstream.specs.Reading.{First, fault, leftover, begins, first_of, reading}
 use Rattle.eventstream.specs.declared.error.Error.{Error}
 use Rattle.eventstream.specs.declared.unmarshall.UnmarshallMessage as UnmarshallMessage
+use Rattle.eventstream.specs.declared.unmarshall.UnmarshalledMessage.{UnmarshalledMessage}
 use Rattle.eventstream.specs.declared.unmarshall.UnmarshalledMessage.TheVariants as made
+use Rattle.eventstream.specs.Unmarshall.{PassesMessage}
 use Rattle.event_io.specs.Frames.{TakesFrames, frames_data, idle_count, most_idle, one_if_idle}
 use Rattle.event_io.specs.Received.{is_initial}
 use Rattle.event_io.specs.ResponseFault.{ReceiveError, is_want}
@@ -147,6 +149,11 @@ Unmarshals unmarshaller by message (Ok (received.Event event)) = unmarshaller.an
 Unmarshals unmarshaller by message (Err (ServiceError error (Decoded raw))) = unmarshaller.answers by message (Ok (made.Error error)) × (raw ≡ message)
 Unmarshals unmarshaller by message (Err (ResponseError (Unmarshall error) (Decoded raw))) = unmarshaller.answers by message (Err error) × (raw ≡ message)
 Unmarshals unmarshaller by message _ = ⊥
+
+-- an unmarshaller that takes messages as they are
+abbrev pub PassesMessages : {U : Type 0} → UnmarshallMessage.Ghosts U Parts Error → Type 0
+PassesMessages {U = U} unmarshaller =
+    (by : U) (message : Parts) (answer : Result (UnmarshalledMessage Parts Error) Error) → unmarshaller.answers by message answer → PassesMessage message answer
 
 -- the answer of which a message is handed over, and which isn't `NoMemory`; or the message, given back
 abbrev pub Hands : {U T E : Type 0} → UnmarshallMessage.Ghosts U T E → U → Parts → Result (Result (Received T) (ReceiveError E)) Parts → Type 0

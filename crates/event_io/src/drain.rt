@@ -7,6 +7,7 @@ use crate::receiver::Receiver;
 use crate::response_fault::{ReceiveError, ResponseFault};
 use eventstream::{Error, IdentityUnmarshaller};
 use smithy_core::{FrameSource, Message, RawMessage, SdkError};
+use std::alloc::Global;
 
 /// Why a call that takes messages takes no more.
 #[derive(Clone, Copy, Debug, PartialEq, Eq)]
@@ -28,6 +29,7 @@ pub enum Drained {
 /// As [`Receiver::recv`] has them, but for those of the unmarshaller, which takes messages as they are. `out` keeps the
 /// messages before them. Room in `out` is made before each message is taken, so none is lost where memory runs out.
 pub fn receive_all<F: FrameSource>(
+    _alloc: Global,
     receiver: &mut Receiver<F, IdentityUnmarshaller>,
     most: usize,
     out: &mut Vec<Message>,

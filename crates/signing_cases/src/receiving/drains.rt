@@ -43,7 +43,7 @@ fn push_all<F: FrameSource>(
     ensures { kept_message receiver.new ≡ None }
 {
     let mut gained = Vec::new(alloc);
-    let answer = receive_all(receiver, most, &mut gained);
+    let answer = receive_all(alloc, receiver, most, &mut gained);
     push_drained(alloc, answers, &gained, &answer)
 }
 
