@@ -6,7 +6,8 @@
 //! message that ends the stream; and that each other answer comes only for its cause. Of a [`Receiver`] it is promised that
 //! each call answers the kept message, or else the next one of the bytes that came and are to come, in whatever pieces, as its
 //! unmarshaller makes it an event, or why there is none, and that no other answer loses a byte (`specs/Receiver.antt`); and
-//! of [`receive_all`] that it takes the first messages of these bytes, and tells why it takes no more (`specs/Drain.antt`).
+//! of [`receive_all`] that it takes the first messages of these bytes, and tells why it takes no more (`specs/Drain.antt`). Over any
+//! list of these calls the answers are the messages of the bytes in order, their one fault, and then the end (`specs/Laws.antt`).
 #![tactic(auto)]
 
 mod adapter;
@@ -28,7 +29,7 @@ pub use crate::adapter_fault::AdapterFault;
 pub use crate::drain::{Drained, receive_all};
 pub use crate::event_source::{EventPolled, EventSource, ListEvents};
 pub use crate::initial::{EventOrInitial, EventOrInitialMarshaller};
-pub use crate::laws::{calls_join, chains_read_back};
+pub use crate::laws::{calls_join, calls_tell_the_reading, chain_polled, chains_read_back};
 pub use crate::received::{InitialMessageType, Received, Tried};
 pub use crate::receiver::Receiver;
 pub use crate::response_fault::{ReceiverError, ResponseFault};
