@@ -28,10 +28,10 @@ fn text_of<G: SignChunk>(
 ) -> anyhow::Result<Vec<u8>> {
     let mut text = Vec::new(alloc);
     for _ in 0..u32::MAX {
-        match body.poll_frame() {
-            Ok(ChunkNext::Frame(bytes)) => text.extend_from_slice(bytes.as_slice())?,
-            Ok(ChunkNext::End) => return Ok(text),
-            _ => bail!("the body could not be encoded"),
+        match body.poll_frame()? {
+            ChunkNext::Frame(bytes) => text.extend_from_slice(bytes.as_slice())?,
+            ChunkNext::NotYet | ChunkNext::OutOfTurns => {}
+            ChunkNext::End => return Ok(text),
         }
     }
     bail!("the body has too many frames")

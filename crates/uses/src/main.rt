@@ -14,8 +14,11 @@ mod signed_requests;
 use crate::shown::{push_lines, push_request};
 use aws_intercept::{
     ConfigBag, InvocationId, PredefinedInvocationIdGenerator, RecursionDetectionInterceptor,
+    ServiceClockSkewInterceptor,
 };
-use smithy_core::{CalmDisk, Credentials, Env, ErrorMetadata, HttpRequest, Identity, Moment};
+use smithy_core::{
+    CalmDisk, Credentials, Env, ErrorMetadata, Headers, HttpRequest, HttpResponse, Identity, Moment,
+};
 use std::alloc::{AllocError, Global};
 use std::io;
 use std::process::ExitCode;
@@ -65,8 +68,10 @@ fn push_presigned(alloc: Global, text: &mut String, identity: &Identity) -> anyh
 
 fn push_checked(alloc: Global, text: &mut String, request: &HttpRequest) -> anyhow::Result<()> {
     push_request(text, request)?;
-    let is_good = signed_requests::is_good(alloc, request, SECRET)?;
-    write!(text, "good: {is_good}\n\n")?;
+    let is_good = signed_requests::is_good(alloc, request, SECRET, example_moment())?;
+    let hour_later = Moment::new(1_440_941_760, 0);
+    let is_good_later = signed_requests::is_good(alloc, request, SECRET, hour_later)?;
+    write!(text, "good: {is_good}, an hour later: {is_good_later}\n\n")?;
     Ok(())
 }
 
@@ -108,43 +113,67 @@ fn example_disk(alloc: Global) -> anyhow::Result<CalmDisk> {
 }
 
 fn push_operation(alloc: Global, text: &mut String) -> anyhow::Result<()> {
+    let mut skew = ServiceClockSkewInterceptor::new();
     let mut bag = ConfigBag::new(alloc);
-    push_attempts(alloc, text, &mut bag)
+    let mut ids = PredefinedInvocationIdGenerator::new(vec![in alloc; example_id(alloc)?]?);
+    attempts::begin(alloc, &Env::new(alloc), &mut ids, &mut skew, &mut bag)?;
+    push_attempts(alloc, text, &mut skew, &mut bag)
 }
 
 // Appends the request of each attempt at an operation that the service answers by `Throttling`.
-fn push_attempts(alloc: Global, text: &mut String, bag: &mut ConfigBag) -> anyhow::Result<()> {
-    begin(alloc, bag)?;
-    let error = ErrorMetadata {
-        code: Some(String::from_str(alloc, "Throttling")?),
-        message: None,
-    };
+fn push_attempts(
+    alloc: Global,
+    text: &mut String,
+    skew: &mut ServiceClockSkewInterceptor,
+    bag: &mut ConfigBag,
+) -> anyhow::Result<()> {
+    let request = HttpRequest::new(alloc, "GET", "https://iam.amazonaws.com/")?;
     for number in 1..4 {
         bag.attempts = Some(number);
-        push_attempt(alloc, text, bag)?;
-        if !attempts::is_retried(bag, &error) {
+        push_attempt(alloc, text, &request, skew, bag)?;
+        if !is_retried(alloc, skew, bag)? {
             return Ok(());
         }
     }
     Ok(())
 }
 
-fn begin(alloc: Global, bag: &mut ConfigBag) -> anyhow::Result<()> {
-    let mut ids = PredefinedInvocationIdGenerator::new(vec![in alloc; example_id(alloc)?]?);
-    attempts::begin(alloc, &Env::new(alloc), &mut ids, bag)
-}
-
-fn push_attempt(alloc: Global, text: &mut String, bag: &mut ConfigBag) -> anyhow::Result<()> {
-    let mut request = HttpRequest::new(alloc, "GET", "https://iam.amazonaws.com/")?;
-    ready(alloc, &mut request, bag)?;
-    push_request(text, &request)?;
+fn push_attempt(
+    alloc: Global,
+    text: &mut String,
+    request: &HttpRequest,
+    skew: &mut ServiceClockSkewInterceptor,
+    bag: &mut ConfigBag,
+) -> anyhow::Result<()> {
+    let identity = example_identity(alloc)?;
+    let mut trace = RecursionDetectionInterceptor::new(Env::new(alloc));
+    let now = example_moment();
+    let sent = attempts::attempt(alloc, request, &mut trace, skew, &identity, bag, now)?;
+    push_request(text, &sent)?;
     Ok(())
 }
 
-fn ready(alloc: Global, request: &mut HttpRequest, bag: &mut ConfigBag) -> anyhow::Result<()> {
-    let identity = example_identity(alloc)?;
-    let mut trace = RecursionDetectionInterceptor::new(Env::new(alloc));
-    attempts::ready(alloc, request, &mut trace, &identity, bag, example_moment())
+fn is_retried(
+    alloc: Global,
+    skew: &mut ServiceClockSkewInterceptor,
+    bag: &mut ConfigBag,
+) -> anyhow::Result<bool> {
+    let mut response = example_response(alloc)?;
+    let error = ErrorMetadata {
+        code: Some(String::from_str(alloc, "Throttling")?),
+        message: None,
+    };
+    Ok(attempts::is_retried(&mut response, &error, skew, bag, example_moment()))
+}
+
+fn example_response(alloc: Global) -> anyhow::Result<HttpResponse> {
+    let mut headers = Headers::new(alloc);
+    headers.append("date", "Sun, 30 Aug 2015 12:36:00 GMT")?;
+    Ok(HttpResponse {
+        status: 400,
+        headers,
+        skew: None,
+    })
 }
 
 fn example_id(alloc: Global) -> anyhow::Result<InvocationId> {

@@ -20,11 +20,12 @@ pub fn count(alloc: Global, stream: &[u8]) -> anyhow::Result<u32> {
 }
 
 fn count_all(receiver: &mut Receiver<CalmFrames, IdentityUnmarshaller>) -> anyhow::Result<u32> {
-    for count in 0..u32::MAX {
-        match receiver.recv() {
-            Ok(Received::Event(_)) => {}
-            Ok(Received::End) => return Ok(count),
-            _ => bail!("the stream could not be received"),
+    let mut count: u32 = 0;
+    for _ in 0..u32::MAX {
+        match receiver.recv()? {
+            Received::Event(_) => count = count.saturating_add(1),
+            Received::NotYet | Received::OutOfTurns => {}
+            Received::End => return Ok(count),
         }
     }
     bail!("the stream has too many messages")

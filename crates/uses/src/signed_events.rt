@@ -28,14 +28,15 @@ fn all_frames(alloc: Global, adapter: &mut Events, at: Moment) -> anyhow::Result
     let mut clock = FixedClock::new(at);
     let mut moments = Vec::new(alloc);
     let mut frames = Vec::new(alloc);
-    for _ in 0..4 {
-        match adapter.poll_next(&mut clock, &mut moments) {
-            Ok(Next::Frame(frame)) => frames.extend_from_slice(frame.as_slice())?,
-            Ok(_) => return Ok(frames),
-            Err(_) => bail!("an event could not be sent"),
+    for _ in 0..u32::MAX {
+        match adapter.poll_next(&mut clock, &mut moments)? {
+            Next::Frame(frame) => frames.extend_from_slice(frame.as_slice())?,
+            // Nothing has come yet: the stream isn't over, and the next call goes on.
+            Next::NotYet => {}
+            Next::End => return Ok(frames),
         }
     }
-    Ok(frames)
+    bail!("the stream has too many events")
 }
 
 // A signer that goes on from the signature of the request.
