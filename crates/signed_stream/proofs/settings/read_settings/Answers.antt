@@ -6,8 +6,8 @@ use Rattle.signed_stream.specs.Settings.{settings}
 use Rattle.signed_stream.proofs.SettingsLemmas.{settings_given}
 use Rattle.signed_stream.proofs.settings.read_settings.Goals as goal
 
-pub returns : goal.returns
+pub returns-clause-settings : goal.returns-clause-settings
 unfolding settings
-returns c =
+returns-clause-settings c =
     settings_given (sections (map file_of c.args.source.now.files.items)) (string_bytes c.args.source.now.profile) c.args.env.now (option_copied c.args.service_id) c.in_ok-sections.sections c.settings_in.result
-    c.in_ok-sections.ensures c.settings_in.ensures
+    c.in_ok-sections.ensures c.settings_in.ensures.settings

@@ -20,9 +20,9 @@ pub returns-in_err-read_settings-clause-selects : goal.returns-in_err-read_setti
 returns-in_err-read_settings-clause-selects g c =
     let exit = err_from_is_err_and c.from_residual-in_err-read_settings.result c.from_residual-in_err-read_settings.ensures.1 in
     rw exit.1 (settings_lack g.D.Disk.answers g.D.Disk.faults (g.D.Disk.files c.args.disk.now) c.args.env.now _ (option_copied c.args.options.now.service_id) c.args.disk.now c.load_source.new.disk c.in_ok-source.source c.in_err-read_settings.field-0.0 exit.0
-    c.in_ok-source.ensures.loads c.in_err-read_settings.ensures exit.2)
+    c.in_ok-source.ensures.loads c.in_err-read_settings.ensures.settings exit.2)
 
 pub returns-clause-selects : goal.returns-clause-selects
 returns-clause-selects g c =
     settings_select g.D.Disk.answers g.D.Disk.faults (g.D.Disk.files c.args.disk.now) c.args.env.now _ (option_copied c.args.options.now.service_id) c.args.disk.now c.load_source.new.disk c.in_ok-source.source c.in_ok-read_settings.field-0
-    c.in_ok-source.ensures.loads c.in_ok-read_settings.ensures
+    c.in_ok-source.ensures.loads c.in_ok-read_settings.ensures.settings

@@ -20,7 +20,7 @@ returns-in_err-settings-clause-streams g c =
     let env = c.args.env.now in
     let wanted = stream_wanted c.args.options.now c.args.form in
     let j = job_with c.args.request.now c.args.events.now in
-    let read : GivesSettings (settings files profile env (option_copied c.lent.result)) (Err c.in_err-settings.field-0.0) = c.in_err-settings.ensures in
+    let read : GivesSettings (settings files profile env (option_copied c.lent.result)) (Err c.in_err-settings.field-0.0) = c.in_err-settings.ensures.settings in
     let gives = subst (λ id. GivesSettings (settings files profile env id) (Err c.in_err-settings.field-0.0)) c.lent.ensures read in
     rw exit.1 (record {
       streams = record {
@@ -43,7 +43,7 @@ returns-clause-streams g c =
     let env = c.args.env.now in
     let wanted = stream_wanted c.args.options.now c.args.form in
     let j = job_with c.args.request.now c.args.events.now in
-    let read : settings files profile env (option_copied c.lent.result) ≡ Ok (selected_in c.in_ok-settings.settings) = c.in_ok-settings.ensures in
+    let read : settings files profile env (option_copied c.lent.result) ≡ Ok (selected_in c.in_ok-settings.settings) = c.in_ok-settings.ensures.settings in
     let settled = rw c.lent.ensures at read in
     let sent = c.stream_selected.ensures.streams in
     record {
