@@ -110,8 +110,9 @@ fn are_signed(names: &str, headers: &Headers) -> bool {
 
 // A name that stands twice would make whoever checks the request work twice.
 fn are_in_order(names: &str) -> bool {
-    let mut last = "";
+    let mut last: &[u8] = &[];
     for name in names.split(';') {
+        let name = name.as_bytes();
         if name <= last {
             return false;
         }
