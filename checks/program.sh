@@ -166,35 +166,6 @@ found=$? case='a line that has no room' status=7
 judge
 ends 'no name' 2 'bad word 3' stream --raw < nothing
 "$program" --help | awk 'length > 80 { print "--help: a line is over 80 wide: " $0; wide = 1 } END { exit wide }' || failed=1
-# The limits of frames, in an event without headers: the largest payload whose signed frame fits, one byte more, and the largest one of a frame that
-# isn't signed.
-limited() {
-  {
-    printf 'method POST\ntarget https://transcribe.us-east-1.amazonaws.com/stream\n'
-    printf 'header content-type: application/vnd.amazon.eventstream\n'
-    printf 'credentials %s\n' '[default]' 'aws_access_key_id = AKIDEXAMPLE' \
-      'aws_secret_access_key = wJalrXUtnFEMI/K7MDENG+bPxRfiCYEXAMPLEKEY' 'region = us-east-1'
-    printf 'event\npayload '
-    head -c $((2 * $1)) /dev/zero | tr '\0' 0
-    echo
-  } > limited
-  case="a payload of $1 bytes" status=$2
-  line "$3" > wanted.err
-  printf '%s  -\n' "$4" > wanted.out
-  env -i "$program" stream --at 1440938160 --name transcribe < limited > written 2> found.err
-  found=$?
-  sha256sum < written > found.out
-  judge
-}
-limited 16777117 0 '' 42003b23114b02e8ca77b662c5079b3104963b8e8bb513c64e637c6dacb22b49
-if [ "$(sed '1,/^$/d' written | head -c 16)" != 0100000000000043 ]; then
-  echo 'the largest frame: another prelude'
-  failed=1
-fi
-limited 16777118 7 'refused 16 MessageTooLong' bdea8e113a1c2bbeaab1ae0535576750395ef7d6ec06bf3ef2f5456ba7cf7abd
-limited 16777200 7 'refused 15 PayloadTooLong' bdea8e113a1c2bbeaab1ae0535576750395ef7d6ec06bf3ef2f5456ba7cf7abd
-rm limited written
-
 # The frames of a job are the same bytes, raw and as lines of hexadecimal.
 "$program" stream --name a --at 0 --config first < job | sed '1,/^$/d' | tr -d '\n' > frames.hex
 "$program" stream --name a --at 0 --config first --raw < job | od -An -v -tx1 | tr -d ' \n' > raw.hex
