@@ -1,10 +1,10 @@
 -- The flat list as pieces come and go.
-use Rattle.std.proofs.Common.{◌≡◌, ℕ, zero, suc, ◌+◌, ◌-◌, ◌<◌, ◌≤◌, nat_lt, true, false, List, [], ◌∷◌, ◌++◌, length, drop, ap, ◌∙◌, refl, arith, append-nil, length-append, length-drop, slice_index_or}
+use Rattle.std.proofs.Common.{◌≡◌, ℕ, zero, suc, ◌+◌, ◌-◌, ◌<◌, ◌≤◌, nat_lt, true, false, List, [], ◌∷◌, ◌++◌, length, take, drop, Some, None, ap, ◌∙◌, refl, sym, arith, append-nil, length-append, length-drop, slice_index_or}
 use Rattle.std.proofs.lemmas.Bool.{le-ltb, lt-ltb}
-use Rattle.std.proofs.lemmas.List.{drop-append-le, drop-drop}
+use Rattle.std.proofs.lemmas.List.{drop-append-le, drop-drop, take-append-le}
 use Rattle.std.proofs.lemmas.List.Concat.{flat_map-append}
 use Rattle.std.specs.List.{AllByRecursion, flat_map}
-use Rattle.seg_buf.specs.Segments.{LieIn, flat, left_of, cut, with_segment, AreLive}
+use Rattle.seg_buf.specs.Segments.{LieIn, prelude_len, flat, left_of, first_segment, cut, with_segment, AreLive}
 
 -- the bytes of the pieces, one after another
 abbrev joined : List (List ℕ) → List ℕ
@@ -83,6 +83,15 @@ lie (piece ∷ pieces) taken live = record {
     others : (pieces : List (List ℕ)) → AreLive pieces 0 → AllByRecursion (λ segment. 0 < length segment) pieces
     others [] live = tt
     others (piece ∷ pieces) live = (live.0, others pieces live.1)
+
+-- the bytes of a prelude, where the first segment has as many
+pub prelude_in_first : (bytes first : List ℕ) (segments : List (List ℕ)) → LieIn bytes segments → Some first ≡ first_segment segments → prelude_len ≤ length first
+    → take prelude_len first ≡ take prelude_len bytes
+prelude_in_first bytes first [] lies is long = absurd (let none : Some first ≡ None = is in cc)
+prelude_in_first bytes first (segment ∷ segments) lies is long =
+    let some : Some first ≡ Some segment = is in
+    let same : first ≡ segment = cc in
+    rw (lies.whole, same) (sym (take-append-le prelude_len segment (flat_map (λ (part : List ℕ). part) segments) (rw (← same) long)))
 
 pub ruleset cuts = (cut_nothing, cut_within, cut_past, left_whole)
 

@@ -1,4 +1,4 @@
-ghost use Rattle.std.specs.Prelude.{◌≡◌, ℕ, ◌+◌, ◌-◌, ◌^◌, ◌<◌, ◌≤◌, List, [], ◌++◌, length, take, drop, slice_index, min, option_copied, IsOk, IfOk, OnOk, OnErr};
+ghost use Rattle.std.specs.Prelude.{◌≡◌, ℕ, ◌+◌, ◌-◌, ◌^◌, ◌<◌, ◌≤◌, List, [], ◌++◌, length, take, drop, slice_index, min, option_copied, IsOk, IfOk, IfSome, OnOk, OnErr};
 ghost use Rattle.seg_buf.specs.Segments.{LieIn, cut, first_segment, prelude_len, with_segment};
 
 use bytes::Bytes;
@@ -199,6 +199,26 @@ impl SegBuf {
 
     /// The bytes of a prelude, which come first, and stay. It takes no memory.
     pub fn peek_prelude(&self) -> [u8; PRELUDE]
+        requires { prelude_len ≤ length self.now.bytes }
+        ensures { result ≡ take prelude_len self.now.bytes }
+    {
+        match self.first_prelude() {
+            Some(prelude) => prelude,
+            None => self.joined_prelude(),
+        }
+    }
+
+    // The bytes of a prelude, where they lie in the first segment.
+    fn first_prelude(&self) -> Option<[u8; PRELUDE]>
+        ensures { IfSome result (λ prelude. prelude ≡ take prelude_len self.now.bytes) }
+    {
+        let (prelude, _) = self.first()?.split_first_chunk::<PRELUDE>()?;
+        let prelude = *prelude;
+        Some(prelude)
+    }
+
+    // The bytes of a prelude, joined from the segments in which they lie.
+    fn joined_prelude(&self) -> [u8; PRELUDE]
         requires { prelude_len ≤ length self.now.bytes }
         ensures { result ≡ take prelude_len self.now.bytes }
     {
