@@ -93,12 +93,13 @@ printf '[default]\nregion = us-east-1\n' > home/.aws/config
 printf '[default]\naws_access_key_id = K\naws_secret_access_key = S\n' > home/.aws/credentials
 
 cp "$crate/stdin" input
-tries stream stream --name transcribe --at 1440938160
-tries raw stream --name transcribe --at 1440938160 --raw
+cp "$crate/data/config" config
+tries stream stream --name transcribe --at 1440938160 --config config
+tries raw stream --name transcribe --at 1440938160 --config config --raw
 printf 'method GET\ntarget https://h.example/\n' > input
 tries presigned stream --name a --at 1440938160 --query --expires 9
 { grep '^c' "$crate/stdin" && echo record && cat "$crate/stdout"; } > input
-tries check check --name transcribe
+tries check check --name transcribe --config config
 : > input
 tries settings settings
 printf hello > input

@@ -130,7 +130,7 @@ echo >> long
 ends 'a file of 16777217 bytes' 6 'could not read file long' settings --config long < nothing
 
 # Each other end.
-compare 'the example job' 0 "$(cat "$crate/stdout")" '' "$program" stream --at 1440938160 --name transcribe < "$crate/stdin"
+compare 'the example job' 0 "$(cat "$crate/stdout")" '' "$program" stream --at 1440938160 --config "$crate/data/config" --name transcribe < "$crate/stdin"
 compare 'the version' 0 'firuvaik 0.1.0' '' "$program" --version < nothing
 ends 'no word' 2 'bad word 1' < nothing
 ends 'a word that is no text' 2 'bad word 1' settings --config "$(printf '\377')" < nothing
@@ -174,13 +174,13 @@ if [ ! -s raw.hex ] || ! cmp -s frames.hex raw.hex; then
   failed=1
 fi
 # What is written for the example job passes the check, and without its closing frame it doesn't.
-{ grep '^con\|^cre' "$crate/stdin" && echo record && cat "$crate/stdout"; } > record
+{ grep '^cre' "$crate/stdin" && echo record && cat "$crate/stdout"; } > record
 compare 'the record of the example job' 0 'ok 3
 000000340000001fbc8bccda0d3a6d6573736167652d747970650700056576656e7403736571040000000168656c6c6f2cfa13ad
 0000001c0000000cc984e9c1026174080000014f7e9b6ffbdaf45f08
-00000016000000048def7952026f6b0000ffd7f497c4' '' "$program" check --name transcribe < record
+00000016000000048def7952026f6b0000ffd7f497c4' '' "$program" check --name transcribe --config "$crate/data/config" < record
 sed '$d' record > open
-ends 'a record without its closing frame' 8 'check failed at frame 4 NoClosing' check --name transcribe < open
+ends 'a record without its closing frame' 8 'check failed at frame 4 NoClosing' check --name transcribe --config "$crate/data/config" < open
 # Without a moment among the words the request has the clock's.
 begun=$(date +%s)
 "$program" stream --name a --config first < job | sed '/^$/q' > clock.head

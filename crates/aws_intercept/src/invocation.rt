@@ -35,6 +35,9 @@ impl InvocationIdInterceptor {
     }
 
     /// Appends the bag's id as `amz-sdk-invocation-id`, where there is one.
+    ///
+    /// Call it on the attempt's copy of the operation's request, after it was signed: on a request of an earlier attempt the id
+    /// would stand twice, and the signature would cover the first.
     pub fn modify_before_transmit(
         &mut self,
         request: &mut HttpRequest,

@@ -44,6 +44,8 @@ impl RecursionDetectionInterceptor {
 
     /// Inserts the variable `_X_AMZN_TRACE_ID` as `x-amzn-trace-id`, its controls and bytes past ASCII escaped, where the
     /// request has no such header and the variable `AWS_LAMBDA_FUNCTION_NAME` is set too.
+    ///
+    /// Call it on the attempt's copy of the operation's request, before it is signed.
     pub fn modify_before_signing(
         &mut self,
         request: &mut HttpRequest,

@@ -21,6 +21,9 @@ impl RequestInfoInterceptor {
     ///
     /// The stamp is the moment, shifted by the skew and by the read timeout. It is told from the second attempt on, where
     /// there is a timeout and the shifted moment lies in the years 0 to 9999; `max` where there is a retry config.
+    ///
+    /// Call it on the attempt's copy of the operation's request, after it was signed: on a request of an earlier attempt the
+    /// signature would cover the text that this call replaces.
     pub fn modify_before_transmit(
         &mut self,
         request: &mut HttpRequest,

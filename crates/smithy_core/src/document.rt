@@ -5,6 +5,9 @@ ghost use Rattle.smithy_core.specs.Document.{data_of, get, items_data, last_memb
 use crate::memory::Mem;
 
 /// A value of free form, as an endpoint carries it.
+///
+/// A copy, a debug text and the end of a document take stack for each level of it, as in the SDK for Rust: who makes one of a
+/// stranger's text bounds how deep that may go.
 #[derive(Debug, Drop)]
 pub enum Document {
     /// Nothing.

@@ -98,6 +98,9 @@ impl UserAgentInterceptor {
     /// Appends the text of the bag's agent as `user-agent` and as `x-amz-user-agent`, with the metrics of the bag's
     /// features, each once, and the connector as additional metadata. The bag keeps its agent as it is.
     ///
+    /// Call it on the attempt's copy of the operation's request, before it is signed: on a request of an earlier attempt the
+    /// agent would stand twice.
+    ///
     /// # Errors
     ///
     /// The first of these, and nothing changes: [`UserAgentFault::MissingUserAgent`] where the bag has no agent,
