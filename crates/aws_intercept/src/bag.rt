@@ -2,14 +2,14 @@ ghost use Rattle.std.specs.Prelude.{◌≡◌, IfOk};
 ghost use Rattle.aws_intercept.specs.Bag.{IsEmptyBag, IsSameBag};
 
 use crate::clock_skew::DisableClockSkewCorrection;
-use crate::copied::{copied_name, copied_text};
+use crate::copied::copied_name;
 use crate::invocation_id::InvocationId;
 use crate::user_agent::agent::AwsUserAgent;
 use crate::user_agent::framework::FrameworkMetadata;
 use crate::user_agent::frameworks::copied_frameworks;
 use crate::user_agent::metadata::ApiMetadata;
 use crate::user_agent::sdk_feature::{AwsCredentialFeature, AwsSdkFeature, SmithySdkFeature};
-use smithy_core::{AppName, Mem, Moment, RetryConfig, TimeoutConfig};
+use smithy_core::{AppName, Mem, Moment, RetryConfig, TimeoutConfig, copied_text};
 use std::alloc::Global;
 
 /// What the interceptors of one operation share. The four lists stand newest first.

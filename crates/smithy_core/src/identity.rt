@@ -3,6 +3,7 @@ ghost use Rattle.smithy_core.specs.Identity.{IsSameCredentials, IsSameIdentity, 
 
 use crate::memory::Mem;
 use crate::moment::Moment;
+use crate::text::copied_text;
 
 /// Credentials of an account. There is no [`Debug`](std::fmt::Debug), so that no secret is printed.
 #[derive(Drop)]
@@ -66,14 +67,10 @@ impl Credentials {
     pub fn try_clone(&self) -> Mem<Credentials>
         ensures { IfOk result (IsSameCredentials self.now) }
     {
-        let token = match &self.token {
-            Some(token) => Some(token.clone()?),
-            None => None,
-        };
         Ok(Credentials {
             key_id: self.key_id.clone()?,
             secret: self.secret.clone()?,
-            token,
+            token: copied_text(&self.token)?,
             expiry: self.expiry,
         })
     }

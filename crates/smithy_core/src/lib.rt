@@ -71,4 +71,4 @@ pub use crate::request::HttpRequest;
 pub use crate::response::HttpResponse;
 pub use crate::sdk_error::SdkError;
 pub use crate::str_bytes::StrBytes;
-pub use crate::text::{push_line, push_text_line};
+pub use crate::text::{copied_text, push_line, push_text_line};

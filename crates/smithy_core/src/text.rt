@@ -1,4 +1,4 @@
-ghost use Rattle.std.specs.Prelude.{◌≡◌, ◌++◌, OnOk, OnErr};
+ghost use Rattle.std.specs.Prelude.{◌≡◌, ◌++◌, IfOk, OnOk, OnErr, option_map};
 ghost use Rattle.std.specs.String.{string_bytes};
 ghost use Rattle.smithy_core.specs.Text.{line};
 
@@ -13,6 +13,16 @@ pub fn push_line(buffer: &mut Vec<u8>, text: &[u8]) -> Mem<()>
     buffer.extend_from_slice(text).unwrap();
     buffer.push(b'\n').unwrap();
     Ok(())
+}
+
+/// A copy of the text, where there is one. The SDK has no such public call.
+pub fn copied_text(text: &Option<String>) -> Mem<Option<String>>
+    ensures { IfOk result (λ copy. option_map string_bytes copy ≡ option_map string_bytes text.now) }
+{
+    Ok(match text {
+        Some(text) => Some(text.clone()?),
+        None => None,
+    })
 }
 
 /// Appends a line of text, ended by LF. Where memory ran out, nothing is appended.

@@ -4,7 +4,7 @@ ghost use Rattle.aws_intercept.specs.Agent.{agent_for_tests, agent_from};
 
 mod text;
 
-use crate::copied::{copied_name, copied_text};
+use crate::copied::copied_name;
 use crate::user_agent::additional::copied_additional;
 use crate::user_agent::build::{BuildMetadata, OsFamily};
 use crate::user_agent::config::ConfigMetadata;
@@ -13,7 +13,7 @@ use crate::user_agent::framework::FrameworkMetadata;
 use crate::user_agent::frameworks::copied_frameworks;
 use crate::user_agent::metadata::{AdditionalMetadata, ApiMetadata};
 use crate::user_agent::metric::BusinessMetric;
-use smithy_core::{AppName, Env, Mem};
+use smithy_core::{AppName, Env, Mem, copied_text};
 use std::alloc::Global;
 use std::marker::Model;
 

@@ -1,9 +1,8 @@
 ghost use Rattle.std.specs.Prelude.{◌≡◌, IfOk, option_copied, option_map, string_bytes};
 ghost use Rattle.aws_intercept.specs.Metadata.{ChecksNameVersion, same_name_version};
 
-use crate::copied::copied_text;
 use crate::user_agent::metadata::{InvalidMetadataValue, is_metadata};
-use smithy_core::Mem;
+use smithy_core::{Mem, copied_text};
 use std::fmt;
 use std::marker::Model;
 
