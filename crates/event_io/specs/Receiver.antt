@@ -29,32 +29,43 @@ use Rattle.event_io.specs.declared.receiver.Receiver.{Receiver}
 use Rattle.event_io.specs.declared.stop.Front.{Front}
 use Rattle.event_io.specs.declared.response_fault.ResponseFault.{ResponseFault}
 use Rattle.event_io.specs.declared.response_fault.ResponseFault.TheVariants.{Frame, UnexpectedEndOfStream, Unmarshall, Preprocessor}
+use Rattle.event_io.specs.declared.stop.Silence.{Silence}
+use Rattle.event_io.specs.declared.stop.Silence.TheVariants as silence
 use Rattle.event_io.specs.declared.stop.Stop.{Stop}
 use Rattle.event_io.specs.declared.stop.Stop.TheVariants as stop
 
 -- ## Why there is no message
 
+-- why an error is answered, where no message came
+abbrev pub error_stop : {E : Type 0} → ReceiveError E → Option Stop
+error_stop DispatchFailure = Some stop.Failed
+error_stop NoMemory = Some stop.NoMemory
+error_stop (ResponseError (Frame error) (Invalid None)) = Some (stop.Faulty error)
+error_stop (ResponseError (UnexpectedEndOfStream end) (Invalid (Some bytes))) = Some (stop.CutOff bytes)
+error_stop _ = None
+
+-- why nothing is answered, or an error
+abbrev pub silent_stop : {E : Type 0} → Result Silence (ReceiveError E) → Option Stop
+silent_stop (Ok silence.End) = Some stop.End
+silent_stop (Ok silence.NotYet) = Some stop.NotYet
+silent_stop (Ok silence.OutOfTurns) = Some stop.OutOfTurns
+silent_stop (Err error) = error_stop error
+
 -- why a call of `recv` answers no message, where none came
 abbrev pub recv_stop : {T E : Type 0} → Result (Received T) (ReceiveError E) → Option Stop
+recv_stop (Ok (received.Event event)) = None
 recv_stop (Ok received.End) = Some stop.End
 recv_stop (Ok received.NotYet) = Some stop.NotYet
 recv_stop (Ok received.OutOfTurns) = Some stop.OutOfTurns
-recv_stop (Err DispatchFailure) = Some stop.Failed
-recv_stop (Err NoMemory) = Some stop.NoMemory
-recv_stop (Err (ResponseError (Frame error) (Invalid None))) = Some (stop.Faulty error)
-recv_stop (Err (ResponseError (UnexpectedEndOfStream end) (Invalid (Some bytes)))) = Some (stop.CutOff bytes)
-recv_stop _ = None
+recv_stop (Err error) = error_stop error
 
 -- why a call that looks for the first message answers none, where none came
 abbrev pub tried_stop : {M E : Type 0} → Result (Tried M) (ReceiveError E) → Option Stop
 tried_stop (Ok tried.End) = Some stop.End
 tried_stop (Ok tried.NotYet) = Some stop.NotYet
 tried_stop (Ok tried.OutOfTurns) = Some stop.OutOfTurns
-tried_stop (Err DispatchFailure) = Some stop.Failed
-tried_stop (Err NoMemory) = Some stop.NoMemory
-tried_stop (Err (ResponseError (Frame error) (Invalid None))) = Some (stop.Faulty error)
-tried_stop (Err (ResponseError (UnexpectedEndOfStream end) (Invalid (Some bytes)))) = Some (stop.CutOff bytes)
-tried_stop _ = None
+tried_stop (Ok _) = None
+tried_stop (Err error) = error_stop error
 
 -- after each fault but a preprocessor's nothing more is read
 abbrev pub ends_reading : ResponseFault → Bool

@@ -1,6 +1,6 @@
 ghost use Rattle.std.specs.Prelude.{◌≡◌, None, Some};
 ghost use Rattle.smithy_core.specs.declared.raw_message.RawMessage.TheVariants.{Invalid};
-ghost use Rattle.event_io.specs.Receiver.{TellsWantOfMemory, recv_stop, tried_stop};
+ghost use Rattle.event_io.specs.Receiver.{TellsWantOfMemory, recv_stop, silent_stop, tried_stop};
 ghost use Rattle.event_io.specs.ResponseFault.{response_error};
 ghost use Rattle.event_io.specs.Stop.{TellsStop};
 ghost use Rattle.event_io.specs.declared.response_fault.ResponseFault.TheVariants.{Frame};
@@ -38,6 +38,14 @@ pub(crate) enum Stop {
     CutOff(Bytes),
 }
 
+// Why nothing is answered.
+#[derive(Clone, Copy)]
+enum Silence {
+    End,
+    NotYet,
+    OutOfTurns,
+}
+
 impl Stop {
     // As an answer of `recv`.
     pub(crate) fn received<T, E>(self) -> Result<Received<T>, ReceiveError<E>>
@@ -45,10 +53,36 @@ impl Stop {
         ensures stop { recv_stop result ≡ Some self }
         ensures want { TellsWantOfMemory result }
     {
+        Ok(match self.silence()? {
+            Silence::End => Received::End,
+            Silence::NotYet => Received::NotYet,
+            Silence::OutOfTurns => Received::OutOfTurns,
+        })
+    }
+
+    // As an answer of a call that looks for the first message.
+    pub(crate) fn tried<M, E>(self) -> Result<Tried<M>, ReceiveError<E>>
+        requires { TellsStop self }
+        ensures stop { tried_stop result ≡ Some self }
+        ensures want { TellsWantOfMemory result }
+    {
+        Ok(match self.silence()? {
+            Silence::End => Tried::End,
+            Silence::NotYet => Tried::NotYet,
+            Silence::OutOfTurns => Tried::OutOfTurns,
+        })
+    }
+
+    // Why nothing is answered, or the error.
+    fn silence<E>(self) -> Result<Silence, ReceiveError<E>>
+        requires { TellsStop self }
+        ensures stop { silent_stop result ≡ Some self }
+        ensures want { TellsWantOfMemory result }
+    {
         match self {
-            Stop::End => Ok(Received::End),
-            Stop::NotYet => Ok(Received::NotYet),
-            Stop::OutOfTurns => Ok(Received::OutOfTurns),
+            Stop::End => Ok(Silence::End),
+            Stop::NotYet => Ok(Silence::NotYet),
+            Stop::OutOfTurns => Ok(Silence::OutOfTurns),
             Stop::Failed => Err(SdkError::DispatchFailure),
             Stop::NoMemory => Err(SdkError::NoMemory),
             Stop::Faulty(error) => Err(frame_error(error)),
@@ -59,25 +93,6 @@ impl Stop {
         }
     }
 
-    // As an answer of a call that looks for the first message.
-    pub(crate) fn tried<M, E>(self) -> Result<Tried<M>, ReceiveError<E>>
-        requires { TellsStop self }
-        ensures stop { tried_stop result ≡ Some self }
-        ensures want { TellsWantOfMemory result }
-    {
-        match self {
-            Stop::End => Ok(Tried::End),
-            Stop::NotYet => Ok(Tried::NotYet),
-            Stop::OutOfTurns => Ok(Tried::OutOfTurns),
-            Stop::Failed => Err(SdkError::DispatchFailure),
-            Stop::NoMemory => Err(SdkError::NoMemory),
-            Stop::Faulty(error) => Err(frame_error(error)),
-            Stop::CutOff(bytes) => Err(SdkError::ResponseError {
-                source: ResponseFault::UnexpectedEndOfStream(ReceiverError),
-                raw: RawMessage::Invalid(Some(bytes)),
-            }),
-        }
-    }
 }
 
 impl From<Error> for Stop {
