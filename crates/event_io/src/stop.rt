@@ -92,7 +92,6 @@ impl Stop {
             }),
         }
     }
-
 }
 
 impl From<Error> for Stop {

@@ -1,5 +1,5 @@
 -- How a stream ends whose prelude is there.
-use Rattle.std.proofs.Common.{◌≡◌, ℕ, ◌<◌, ◌≤◌, List, length, take, Result, Ok, Err, ap, sym, ◌∙◌, refl, arith}
+use Rattle.std.proofs.Common.{◌≡◌, ℕ, ◌<◌, ◌≤◌, List, length, take, Result, Ok, Err, ap, sym, ◌∙◌, refl}
 use Rattle.smithy_core.specs.Message.{Parts}
 use Rattle.eventstream.specs.declared.decode.StreamEnd.TheVariants.{Leftover, Undecoded}
 use Rattle.eventstream.specs.declared.error.ErrorKind.{ErrorKind}

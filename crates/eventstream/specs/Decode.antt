@@ -1,5 +1,5 @@
 -- What a decoder of frames promises: one step of the reading on the bytes that it has not yet used.
-use Rattle.std.specs.Prelude.{◌≡◌, ◌≢◌, ℕ, ◌<◌, ◌≤◌, nat_lt, if◌then◌else◌, ◌⊎◌, List, [], ◌∷◌, ◌++◌, length, take, drop, Option, Some, None, Result, Ok, Err}
+use Rattle.std.specs.Prelude.{◌≡◌, ◌≢◌, ℕ, ◌≤◌, nat_lt, if◌then◌else◌, ◌⊎◌, List, [], ◌∷◌, ◌++◌, length, take, drop, Option, Some, None, IfSome, Result, Ok, Err}
 use Rattle.smithy_core.specs.Message.{Parts}
 use Rattle.seg_buf.specs.Segments.{Segments, prelude_len}
 use Rattle.eventstream.specs.declared.decode.DecodedFrame.{DecodedFrame}
@@ -11,8 +11,15 @@ use Rattle.eventstream.specs.declared.error.Error.{Error}
 use Rattle.eventstream.specs.Error.{error_kind}
 use Rattle.eventstream.specs.declared.error.ErrorKind.{ErrorKind}
 use Rattle.eventstream.specs.declared.read.lengths.Lengths.{Lengths}
-use Rattle.eventstream.specs.Read.{read_prelude}
+use Rattle.eventstream.specs.declared.kept_prelude.KeptPrelude.{KeptPrelude}
+use Rattle.eventstream.specs.Read.{AreFit, read_prelude}
 use Rattle.eventstream.specs.Reading.{First, nothing, leftover, fault, begins, first_of, Begin}
+
+-- a prelude whose lengths, where they are at hand, are those that it tells
+pub record IsReadPrelude (kept : KeptPrelude) : Type 0 where
+  pub bytes : length kept.bytes ≡ prelude_len
+  pub told : IfSome kept.lengths (λ lengths. read_prelude kept.bytes ≡ Ok lengths)
+  pub fit : IfSome kept.lengths AreFit
 
 -- the prelude that is kept, and then the bytes of the buffer
 abbrev pub undecoded_bytes : Option (List ℕ) → List ℕ → List ℕ

@@ -1,13 +1,15 @@
-ghost use Rattle.std.specs.Prelude.{◌≡◌, ℕ, List, ◌+◌, ◌≤◌, ◌<◌, ◌++◌, length, take, drop, None, Some, Ok, IfOk};
+ghost use Rattle.std.specs.Prelude.{◌≡◌, ℕ, List, ◌+◌, ◌≤◌, ◌<◌, ◌++◌, length, take, drop, None, Some, Ok, IfOk, IfSome};
 ghost use Rattle.seg_buf.specs.Segments.{prelude_len};
-ghost use Rattle.eventstream.specs.Decode.{DecodesAll, Finishes, DecodesFrame, appended_messages, end_of, undecoded_bytes};
+ghost use Rattle.eventstream.specs.Decode.{DecodesAll, Finishes, DecodesFrame, IsReadPrelude, appended_messages, end_of, undecoded_bytes};
 ghost use Rattle.eventstream.specs.Frame.{most_frame};
+ghost use Rattle.eventstream.specs.Read.{AreFit, read_prelude};
 ghost use Rattle.eventstream.specs.Reading.{first_of};
 ghost use Rattle.eventstream.specs.declared.decode.DecodedFrame.TheVariants.{Incomplete};
 
 use crate::error::{Error, ErrorKind};
+use crate::kept_prelude::KeptPrelude;
 use crate::peek::read_front;
-use crate::read::{read_frame, read_prelude};
+use crate::read::{Lengths, read_frame, read_prelude};
 use seg_buf::{PRELUDE, SegBuf};
 use smithy_core::{Mem, Message};
 use std::alloc::Global;
@@ -39,15 +41,18 @@ impl DecodedFrame {
 /// Contracts see it as the prelude that it has taken from a frame that isn't there yet.
 #[derive(Clone, Debug, Drop)]
 pub struct MessageFrameDecoder {
-    prelude: Option<[u8; PRELUDE]>,
+    prelude: Option<KeptPrelude>,
 }
 
 impl Model for MessageFrameDecoder {
-    ghost use Rattle.std.specs.Prelude.{ℕ, List, Option};
+    ghost use Rattle.std.specs.Prelude.{ℕ, List, Option, IfSome, option_map};
+    ghost use Rattle.eventstream.specs.Decode.{IsReadPrelude};
 
     ghost Value = { Option (List ℕ) };
 
-    ghost view = { λ decoder. decoder.prelude };
+    ghost view = { λ decoder. option_map (λ kept. kept.bytes) decoder.prelude };
+
+    ghost invariant = { λ decoder. IfSome decoder.prelude IsReadPrelude };
 }
 
 /// How a stream ends.
@@ -73,7 +78,10 @@ impl MessageFrameDecoder {
     pub fn prelude(&self) -> Option<[u8; PRELUDE]>
         ensures { result ≡ self.now }
     {
-        self.prelude
+        match self.prelude {
+            Some(kept) => Some(kept.bytes),
+            None => None,
+        }
     }
 
     /// Takes the next frame from the buffer, once it is there. Until then the decoder keeps its prelude.
@@ -101,7 +109,7 @@ impl MessageFrameDecoder {
         ensures spare { buffer.old.spare ≤ buffer.new.spare }
     {
         match self.prelude {
-            Some(prelude) => self.decode_rest(alloc, prelude, buffer),
+            Some(kept) => self.decode_rest(alloc, kept, buffer),
             None => self.decode_whole(alloc, buffer),
         }
     }
@@ -151,10 +159,10 @@ impl MessageFrameDecoder {
     {
         let left = buffer.remaining();
         match self.prelude {
-            Some(prelude) => end_behind(&prelude, PRELUDE, left),
+            Some(kept) => end_behind(kept.lengths(), PRELUDE, left),
             None if left == 0 => StreamEnd::Clean,
             None if left < PRELUDE => StreamEnd::Leftover(left),
-            None => end_behind(&buffer.peek_prelude(), 0, left),
+            None => end_behind(read_prelude(&buffer.peek_prelude()), 0, left),
         }
     }
 
@@ -162,21 +170,22 @@ impl MessageFrameDecoder {
     fn decode_rest(
         &mut self,
         alloc: Global,
-        prelude: [u8; PRELUDE],
+        kept: KeptPrelude,
         buffer: &mut SegBuf,
     ) -> Result<DecodedFrame, Error>
-        requires { self.old ≡ Some prelude }
+        requires kept { self.old ≡ Some kept.bytes }
+        requires read { IsReadPrelude kept }
         ensures step { DecodesFrame self.old buffer.old self.new buffer.new result }
         ensures short { result ≡ Ok Incomplete → length (undecoded_bytes self.new buffer.new.bytes) < most_frame }
         ensures spare { buffer.old.spare ≤ buffer.new.spare }
     {
-        let lengths = read_prelude(&prelude)?;
+        let lengths = kept.lengths()?;
         let left = lengths.total - PRELUDE;
         if buffer.remaining() < left {
             return Ok(DecodedFrame::Incomplete);
         }
         let rest = buffer.copy_front(left)?;
-        let read = read_frame(alloc, lengths, prelude, &rest);
+        let read = read_frame(alloc, lengths, kept.bytes, &rest);
         self.finish(buffer, left, read)
     }
 
@@ -192,20 +201,32 @@ impl MessageFrameDecoder {
             return Ok(DecodedFrame::Incomplete);
         }
         let prelude = buffer.peek_prelude();
-        match read_prelude(&prelude) {
-            Ok(lengths) if lengths.total <= there => {
-                let read = read_front(alloc, lengths, prelude, buffer);
-                self.finish(buffer, lengths.total, read)
-            }
-            Ok(_) => {
-                self.prelude = Some(buffer.take_prelude());
-                Ok(DecodedFrame::Incomplete)
-            }
+        let lengths = match read_prelude(&prelude) {
+            Ok(lengths) => lengths,
             Err(kind) => {
-                self.prelude = Some(buffer.take_prelude());
-                Err(Error::from(kind))
+                self.take_prelude(buffer, prelude, None);
+                return Err(Error::from(kind));
             }
+        };
+        if there < lengths.total {
+            self.take_prelude(buffer, prelude, Some(lengths));
+            return Ok(DecodedFrame::Incomplete);
         }
+        let read = read_front(alloc, lengths, prelude, buffer);
+        self.finish(buffer, lengths.total, read)
+    }
+
+    // Takes the prelude at the front of the buffer, which tells these lengths or is a fault, and keeps it.
+    fn take_prelude(&mut self, buffer: &mut SegBuf, bytes: [u8; PRELUDE], lengths: Option<Lengths>)
+        requires there { prelude_len ≤ length buffer.old.bytes }
+        requires told { IfSome lengths (λ lengths. read_prelude bytes ≡ Ok lengths) }
+        requires fit { IfSome lengths AreFit }
+        ensures prelude { self.new ≡ Some bytes }
+        ensures bytes { buffer.new.bytes ≡ drop prelude_len buffer.old.bytes }
+        ensures spare { buffer.old.spare ≤ buffer.new.spare }
+    {
+        buffer.advance(PRELUDE);
+        self.prelude = Some(KeptPrelude { bytes, lengths });
     }
 
     // Takes the bytes of a frame that was read, whatever came of it, unless memory ran out.
@@ -245,14 +266,14 @@ impl MessageFrameDecoder {
     }
 }
 
-// How a stream ends with `kept` and then `left` bytes, of which the first are this prelude.
+// How a stream ends with `kept` and then `left` bytes, of which the first are a prelude that was read as this.
 #[tactic(auto, using(crate::proofs::EndLemmas::end_bad, crate::proofs::EndLemmas::end_whole, crate::proofs::EndLemmas::end_leftover))]
-fn end_behind(prelude: &[u8; PRELUDE], kept: usize, left: usize) -> StreamEnd
-    requires { kept ≤ prelude_len }
-    ensures end { (bytes : List ℕ) → length bytes ≡ kept + left → prelude_len ≤ length bytes → take prelude_len bytes ≡ prelude.now → result ≡ end_of (first_of bytes) }
-    ensures len { length prelude.now ≡ prelude_len }
+fn end_behind(read: Result<Lengths, ErrorKind>, kept: usize, left: usize) -> StreamEnd
+    requires within { kept ≤ prelude_len }
+    requires fit { IfOk read AreFit }
+    ensures { (bytes : List ℕ) → length bytes ≡ kept + left → prelude_len ≤ length bytes → read_prelude (take prelude_len bytes) ≡ read → result ≡ end_of (first_of bytes) }
 {
-    let Ok(lengths) = read_prelude(prelude) else {
+    let Ok(lengths) = read else {
         return StreamEnd::Undecoded;
     };
     if lengths.total - kept <= left {

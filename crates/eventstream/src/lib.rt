@@ -19,6 +19,7 @@ mod decode;
 mod deferred_signer;
 mod error;
 mod expect;
+mod kept_prelude;
 mod kind;
 mod laws;
 mod marshall;
