@@ -41,9 +41,11 @@ unless_truth field None = None
 unless_truth field (Some (truth value)) = None
 unless_truth field (Some value) = Some (BadTypeInEndpointAuthSchemeConfig field)
 
+-- the refusal of an endpoint's field that is there and is no text
 abbrev pub bad_text : Option Data → EndpointField → Option SigV4SigningError
 bad_text endpoint field = unless_text field (field_of endpoint field)
 
+-- the refusal of an endpoint's field that is there and is neither true nor false
 abbrev pub bad_truth : Option Data → EndpointField → Option SigV4SigningError
 bad_truth endpoint field = unless_truth field (field_of endpoint field)
 

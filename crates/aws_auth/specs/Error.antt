@@ -19,7 +19,7 @@ abbrev pub override_error : OverrideError → SigV4SigningError
 override_error overrides.Refused = NameOverrideRefused
 override_error overrides.NoMemory = NoMemory
 
--- the errors are the same, and so are the texts of an encoding that failed
+-- the errors of an operation's signer are the same, and so are the texts of an encoding that failed
 abbrev pub IsSameAuthError : SigV4SigningError → SigV4SigningError → Type 0
 IsSameAuthError (Signing error) (Signing copy) = IsSameError error copy
 IsSameAuthError error copy = copy ≡ error

@@ -30,7 +30,7 @@ derived_at kept at = record { signer = kept.signer; date = Some (date at); deriv
 abbrev pub kept_at : Kept → Instant → Kept
 kept_at kept at = if is_kept kept.date at then kept else derived_at kept at
 
--- what is printed: how many keys were derived, and nothing of the secret or of a key
+-- what is printed of a kept key: how many were derived, and nothing of the secret or of a key
 abbrev pub shown_key : Kept → List ℕ
 shown_key kept = codes "KeptKey(" ++ (decimal kept.derivations ++ codes " derivations)")
 

@@ -45,6 +45,7 @@ running_signature signer = signer.running_signature
 abbrev pub signer_for : Identity → List ℕ → List ℕ → Signer
 signer_for identity region name = record { secret = secret_of identity; region = region; name = name }
 
+-- who signs in a signer, and for which region and service
 abbrev pub signer_in : {S : Type 0} → SignerState S → Signer
 signer_in signer = signer_for signer.parts.identity signer.parts.region signer.parts.name
 

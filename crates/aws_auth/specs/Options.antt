@@ -30,7 +30,7 @@ AreSameOverrides None copy = copy ≡ None
 AreSameOverrides (Some payload) (Some copy) = IsSameOverride payload copy
 AreSameOverrides (Some payload) None = ⊥
 
--- the options are the same
+-- the options of a signing are the same
 pub record IsSameOptions (options copy : SigningOptions) : Type 0 where
   pub double_uri_encode : copy.double_uri_encode ≡ options.double_uri_encode
   pub content_sha256_header : copy.content_sha256_header ≡ options.content_sha256_header

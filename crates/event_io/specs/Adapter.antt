@@ -44,7 +44,7 @@ Frames (Err refusal) (Err (ConstructionFailure (Sign error))) = error ≡ refusa
 Frames signed (Err NoMemory) = Unit {0}
 Frames signed result = ⊥
 
--- a fault that is answered isn't `NoMemory`
+-- a fault that an adapter answers isn't `NoMemory`
 abbrev pub TellsWant : Result Next SendError → Type 0
 TellsWant (Err (ConstructionFailure fault)) = send_error fault ≡ ConstructionFailure fault
 TellsWant result = Unit {0}

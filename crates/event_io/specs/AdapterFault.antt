@@ -28,7 +28,7 @@ send_error (Sign (signing.FailedToEncodeMessage error)) = send_error_for (error_
 send_error (Sign error) = ConstructionFailure (Sign error)
 send_error (Write error) = send_error_for (error_kind error) (Write error)
 
--- the faults are the same, and so are the texts that they carry
+-- the faults of an adapter are the same, and so are the texts that they carry
 abbrev pub IsSameFault : AdapterFault → AdapterFault → Type 0
 IsSameFault (Marshall error) (Marshall copy) = IsSameKind (error_kind error) (error_kind copy)
 IsSameFault (Sign error) (Sign copy) = IsSameSignError error copy

@@ -78,7 +78,7 @@ terminates (Err (ServiceError error raw)) = true
 terminates (Err (ResponseError refusal raw)) = ends_reading refusal
 terminates _ = false
 
--- a fault that is answered isn't `NoMemory`
+-- a fault that a receiver answers isn't `NoMemory`
 abbrev pub TellsWantOfMemory : {A E : Type 0} → Result A (ReceiveError E) → Type 0
 TellsWantOfMemory (Err (ResponseError refusal raw)) = is_want refusal ≡ false
 TellsWantOfMemory result = Unit {0}
@@ -111,10 +111,13 @@ IsCause source why before now = Unit {0}
 
 -- ## What is still to be read
 
--- nothing after the receiver was terminated; or these bytes; or those of a source that doesn't tell
+-- what a receiver has still to read: nothing once it was terminated, some bytes, or those of a source that doesn't say
 pub data Rest : Type 0 where
+  -- nothing more is read
   terminated : Rest
+  -- the source doesn't say what it has left
   untold : Rest
+  -- these bytes are still to be read
   unread : List ℕ → Rest
 
 -- the bytes that were taken, and then the data of the frames that are left

@@ -29,7 +29,7 @@ is_want (Preprocessor error) = is_want_kind (error_kind error)
 abbrev pub response_error : {E : Type 0} → ResponseFault → RawMessage → ReceiveError E
 response_error fault raw = if is_want fault then NoMemory else ResponseError fault raw
 
--- the faults are the same, and so are the texts that they carry
+-- the faults of a receiver are the same, and so are the texts that they carry
 abbrev pub IsSameResponseFault : ResponseFault → ResponseFault → Type 0
 IsSameResponseFault (Frame error) (Frame copy) = IsSameKind (error_kind error) (error_kind copy)
 IsSameResponseFault (UnexpectedEndOfStream end) (UnexpectedEndOfStream copy) = Unit {0}

@@ -51,7 +51,7 @@ error_kind_text (Marshalling message) = codes "failed to marshall message: " ++ 
 error_kind_text (Unmarshalling message) = codes "failed to unmarshall message: " ++ string_bytes message
 error_kind_text NoMemory = codes "no memory"
 
--- the kinds are the same, and so are their texts
+-- the kinds of errors are the same, and so are their texts
 abbrev pub IsSameKind : ErrorKind → ErrorKind → Type 0
 IsSameKind (Marshalling message) (Marshalling copy) = string_bytes copy ≡ string_bytes message
 IsSameKind (Unmarshalling message) (Unmarshalling copy) = string_bytes copy ≡ string_bytes message

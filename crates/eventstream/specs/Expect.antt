@@ -5,6 +5,6 @@ use Rattle.smithy_core.specs.Header.{Header}
 use Rattle.smithy_core.specs.declared.header.HeaderValue.{HeaderValue}
 use Rattle.eventstream.specs.Texts.{unexpected_text}
 
--- the part of the header's value that is of the kind of this name, or why there is none
+-- the part of a header's value that is of the kind of this name, or why there is none
 abbrev pub expected : {A : Type 0} → (HeaderValue → Option A) → List ℕ → Header → Result A (List ℕ)
 expected part kind h = ok_or (part h.value) (unexpected_text h.name kind)

@@ -24,7 +24,7 @@ pub record IsProperHeader (h : Header) : Type 0 where
   pub name : IsUtf8 h.name
   pub value : IsProperValue h.value
 
--- what the type of a message says of it
+-- a message as its type has it: texts are UTF-8, and numbers and moments fit their widths
 pub record IsProper (m : Parts) : Type 0 where
   pub headers : All IsProperHeader m.headers
 

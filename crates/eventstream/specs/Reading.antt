@@ -8,9 +8,11 @@ use Rattle.eventstream.specs.Read.{read, read_prelude}
 
 -- what a stream begins with
 pub data First : Type 0 where
+  -- no byte
   nothing : First
   -- less than a frame
   leftover : List ℕ → First
+  -- no frame, for this reason
   fault : ErrorKind → First
   -- a message, and the bytes after its frame
   begins : Parts → List ℕ → First
@@ -43,7 +45,7 @@ pub record Read : Type 0 where
   pub messages : List Parts
   pub end : First
 
--- a message before the others
+-- a reading with a message before the others
 abbrev pub onto : Parts → Read → Read
 onto message others = record { messages = message ∷ others.messages; end = others.end }
 

@@ -14,7 +14,7 @@ pub record Response : Type 0 where
   pub message_type : List ℕ
   pub smithy_type : List ℕ
 
--- the texts that the references point to
+-- the three texts of a response's headers, from the references to them
 abbrev pub response_in : ResponseHeaders → Response
 response_in headers = record {
   content_type = option_copied headers.content_type;

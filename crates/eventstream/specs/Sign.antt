@@ -17,7 +17,7 @@ sign_error_for _ error = FailedToEncodeMessage error
 abbrev pub sign_error_of : Error → SignMessageError
 sign_error_of error = sign_error_for (error_kind error) error
 
--- the errors are the same, and so are the texts of an encoding that failed
+-- the errors of signing a message are the same, and so are the texts of an encoding that failed
 abbrev pub IsSameSignError : SignMessageError → SignMessageError → Type 0
 IsSameSignError (FailedToEncodeMessage error) (FailedToEncodeMessage copy) = IsSameKind (error_kind error) (error_kind copy)
 IsSameSignError error copy = copy ≡ error

@@ -14,7 +14,7 @@ use Rattle.eventstream.specs.Link.{link_message, link_signature}
 
 -- what is told of a signer
 pub data Told : Type 0 where
-  -- it answers each message as it is, and none at the end
+  -- a signer that answers each message as it is, and none at the end
   plain : Told
   -- it signs over this signature, for who signs, and goes on from the new signature
   sealed : List ℕ → Signer → Told

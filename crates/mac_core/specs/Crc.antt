@@ -10,12 +10,12 @@ unfoldable pub after_bits : ℕ → ℕ → ℕ → ℕ
 after_bits zero r byte = r
 after_bits (suc k) r byte = after_bits k (after_bit r byte) (byte / 2)
 
--- what the bytes leave of r, in order
+-- the register of the checksum after these bytes, in order
 abbrev pub after_bytes : ℕ → List ℕ → ℕ
 after_bytes r [] = r
 after_bytes r (byte ∷ bytes) = after_bytes (after_bits 8 r byte) bytes
 
--- what r is before any byte
+-- the register of the checksum before any byte
 abbrev pub before_any : ℕ
 before_any = 0xFFFFFFFF
 

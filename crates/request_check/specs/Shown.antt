@@ -6,7 +6,7 @@ use Rattle.sigv4.specs.Error.{error_text}
 use Rattle.request_check.specs.declared.check.CheckRequestFault.{CheckRequestFault}
 use Rattle.request_check.specs.declared.check.CheckRequestFault.TheVariants.{NoMemory, NoSignature, Signing}
 
--- the second of a seal's moment alone
+-- what is printed of a seal: the second of its moment, and nothing else
 abbrev pub shown_seal : Instant → List ℕ
 shown_seal at = codes "Seal(at " ++ (signed_decimal at.secs ++ codes ")")
 

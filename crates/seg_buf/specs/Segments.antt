@@ -13,7 +13,7 @@ pub record Segments : Type 0 where
   pub segments : List (List ℕ)
   pub spare : ℕ
 
--- a segment at the end, where it isn't empty
+-- the segments with one more at the end, where that isn't empty
 abbrev pub with_segment : List (List ℕ) → List ℕ → List (List ℕ)
 with_segment segments [] = segments
 with_segment segments (byte ∷ bytes) = segments ++ (byte ∷ bytes) ∷ []

@@ -14,12 +14,12 @@ payload_text (Precomputed text) = string_bytes text
 payload_text StreamingUnsignedPayloadTrailer = codes "STREAMING-UNSIGNED-PAYLOAD-TRAILER"
 payload_text StreamingSignedPayloadTrailer = codes "STREAMING-AWS4-HMAC-SHA256-PAYLOAD-TRAILER"
 
--- the bytes, where these are the body
+-- the bytes of a body, where it is bytes
 abbrev pub body_bytes : SignableBody → Option (List ℕ)
 body_bytes (Bytes bytes) = Some bytes.now
 body_bytes _ = None
 
--- what is printed: of bytes how many there are alone
+-- what is printed of a body: of bytes how many there are, and nothing else
 abbrev pub shown_body : SignableBody → List ℕ
 shown_body (Bytes bytes) = byte_count (codes "Bytes") (length bytes.now)
 shown_body UnsignedPayload = codes "UnsignedPayload"

@@ -21,10 +21,11 @@ use Rattle.sigv4.specs.declared.settings.PayloadChecksumKind.TheVariants.{XAmzSh
 use Rattle.sigv4.specs.declared.settings.SessionTokenMode.{SessionTokenMode}
 use Rattle.sigv4.specs.declared.settings.SessionTokenMode.TheVariants.{Include, Exclude}
 
--- the name of the session token's header, and that of its parameter
+-- the name of the session token's header
 abbrev pub token_header : Settings → List ℕ
 token_header settings = unwrap_or settings.session_token_name_override (codes "x-amz-security-token")
 
+-- the name of the session token's parameter
 abbrev pub token_parameter : Settings → List ℕ
 token_parameter settings = unwrap_or settings.session_token_name_override (codes "X-Amz-Security-Token")
 

@@ -23,6 +23,7 @@ signed_value_text (Added value) = value.now
 abbrev pub header_pair : Bor (List ℕ) × SignedValue → Pair
 header_pair header = (header.0.now, signed_value_text header.1)
 
+-- names and values, as texts
 abbrev pub header_pairs : List (Bor (List ℕ) × SignedValue) → List Pair
 header_pairs headers = map header_pair headers
 

@@ -13,7 +13,7 @@ use Rattle.sigv4.specs.declared.error.SigningError.TheVariants.{MomentOutOfRange
 pub data ChunkTold : Type 0 where
   -- it signs over this signature, for who signs, at this moment, and goes on from the new signature
   sealed : List ℕ → Signer → Instant → ChunkTold
-  -- it waits for another signer
+  -- a signer that waits for another one
   unwired : ChunkTold
   -- nothing is told
   untold : ChunkTold

@@ -48,7 +48,7 @@ error_text (MomentOutOfRange t) = codes "moment " ++ (signed_decimal t.secs ++ c
 error_text SignerNotWired = codes "the signer isn't wired"
 error_text NoMemory = codes "no memory"
 
--- the errors are the same, and so are the texts of an encoding that failed
+-- the errors of signing a request are the same, and so are the texts of an encoding that failed
 abbrev pub IsSameError : SigningError → SigningError → Type 0
 IsSameError (FailedToEncodeMessage error) (FailedToEncodeMessage copy) = IsSameKind (error_kind error) (error_kind copy)
 IsSameError error copy = copy ≡ error

@@ -29,7 +29,7 @@ failed_encoding kind = FailedToEncodeMessage (error_of kind)
 abbrev pub message_refusal : Parts → Identity → Instant → Option SigningError
 message_refusal message identity t = option_or (option_map failed_encoding (unframed message)) (unsignable identity t)
 
--- the key is the signing key of the parameters wherever their identity signs at their moment, and elsewhere any
+-- the key is the signing key of a message's parameters wherever their identity signs at their moment, and elsewhere any
 abbrev pub IsKeyOf : {S : Type 0} → SigningParams S → List ℕ → Type 0
 IsKeyOf params key = unsignable (v4_identity params) (v4_time params) ≡ None → key ≡ signing_key (signer_of params) (v4_time params)
 

@@ -14,7 +14,7 @@ pub record Instructions : Type 0 where
   pub headers : List Instruction
   pub params : List Pair
 
--- the name and the value
+-- the name and the value of a header or parameter that goes out
 abbrev pub told_pair : Instruction → Pair
 told_pair header = (header.name, header.value)
 

@@ -19,23 +19,23 @@ params_of identity region name time settings = record { identity = identity; reg
 abbrev pub params_with_settings : {S : Type 0} → SigningParams S → S → SigningParams S
 params_with_settings params settings = record params { settings = settings }
 
--- the identity of the parameters
+-- the identity of parameters of version 4
 abbrev pub v4_identity : {S : Type 0} → SigningParams S → Identity
 v4_identity params = params.identity.now
 
--- the region of the parameters
+-- the region of parameters of version 4
 abbrev pub v4_region : {S : Type 0} → SigningParams S → List ℕ
 v4_region params = params.region.now
 
--- the service's name of the parameters
+-- the service's name of parameters of version 4
 abbrev pub v4_name : {S : Type 0} → SigningParams S → List ℕ
 v4_name params = params.name.now
 
--- the moment of the parameters
+-- the moment of parameters of version 4
 abbrev pub v4_time : {S : Type 0} → SigningParams S → Instant
 v4_time params = params.time
 
--- the settings of the parameters
+-- the settings of parameters of version 4
 abbrev pub v4_settings : {S : Type 0} → SigningParams S → S
 v4_settings params = params.settings
 

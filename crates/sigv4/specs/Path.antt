@@ -13,10 +13,11 @@ use Rattle.sigv4.specs.declared.modes.UriPathNormalizationMode.TheVariants.{Enab
 abbrev pub segments : List ℕ → List (List ℕ)
 segments path = slice_split (λ b. b == slash) path
 
--- a segment that is empty or `.`, and one that is `..`
+-- a segment that is empty or `.`
 abbrev pub is_dropped_segment : List ℕ → Bool
 is_dropped_segment segment = bytes_eq segment [] || bytes_eq segment (codes ".")
 
+-- the segment `..`
 abbrev pub is_parent_segment : List ℕ → Bool
 is_parent_segment segment = bytes_eq segment (codes "..")
 

@@ -20,6 +20,7 @@ Pair = List ℕ × List ℕ
 abbrev pub decoded_text : List ℕ → List ℕ
 decoded_text bytes = utf8_lossy (decode bytes)
 
+-- a pair whose key and value are decoded
 abbrev pub decoded_pair : Pair → Pair
 decoded_pair p = (decoded_text p.0, decoded_text p.1)
 

@@ -65,6 +65,7 @@ reserved_names =
     codes "host" ∷ codes "authorization" ∷ codes "x-amz-date" ∷ codes "x-amz-content-sha256" ∷ codes "x-amz-algorithm" ∷ codes "x-amz-credential"
     ∷ codes "x-amz-expires" ∷ codes "x-amz-signedheaders" ∷ codes "x-amz-signature" ∷ []
 
+-- a name that is reserved, whatever its case
 abbrev pub is_reserved : List ℕ → Bool
 is_reserved name = list_any (bytes_eq (lower name)) reserved_names
 
@@ -81,6 +82,7 @@ abbrev pub unfit_override : Settings → Option (List ℕ) → Option SigningErr
 unfit_override settings None = None
 unfit_override settings (Some name) = unless (is_token_name settings name) InvalidTokenName
 
+-- the settings give the token a name that it can't have
 abbrev pub unfit_token_name : Settings → Option SigningError
 unfit_token_name settings = unfit_override settings settings.session_token_name_override
 
@@ -117,7 +119,7 @@ request_refusal identity c = option_or (unsignable identity c.at) (unfit c)
 unfoldable pub unfit_signed_target : Case → Option SigningError
 unfit_signed_target c = unless (not (takes_no_more (parameters c) c.target)) InvalidUri
 
--- a test that answers why it fails
+-- a test answers why it fails, and nothing where it passes
 abbrev pub Tests : Option SigningError → Result (Unit {0}) SigningError → Type 0
 Tests refused (Ok _) = refused ≡ None
 Tests refused (Err error) = refused ≡ Some error

@@ -20,7 +20,7 @@ use Rattle.sigv4.specs.declared.signing_params.SigningParams.{SigningParams}
 use Rattle.sigv4.specs.declared.signing_params.SigningParams.TheVariants.{V4}
 use Rattle.sigv4.specs.declared.signing_texts.SigningTexts.{SigningTexts}
 
--- the key is the signing key of the parameters wherever their identity signs at their moment, and elsewhere any
+-- the key is the signing key of a request's parameters wherever their identity signs at their moment, and elsewhere any
 abbrev pub IsRequestKey : SigningParams → List ℕ → Type 0
 IsRequestKey (V4 params) key = IsKeyOf params key
 

@@ -23,6 +23,7 @@ pub record Settings : Type 0 where
   pub session_token_mode : SessionTokenMode
   pub session_token_name_override : Option (List ℕ)
 
+-- what contracts see of the settings of a signing
 abbrev pub settings_of : SigningSettings → Settings
 settings_of s = record {
   percent_encoding_mode = s.percent_encoding_mode;

@@ -7,7 +7,7 @@ pub record Tally : Type 0 where
   pub calls : ℕ
   pub faults : ℕ
 
--- these are to fail, and none was made
+-- a tally of no calls, of which these are to fail
 abbrev pub no_calls : List ℕ → Tally
 no_calls fails = record { fails = fails; calls = 0; faults = 0 }
 

@@ -5,6 +5,7 @@ use Rattle.smithy_core.specs.Moment.{Instant}
 use Rattle.smithy_core.specs.declared.civil_text.Civil.{Civil}
 use Rattle.smithy_core.specs.CivilText.{date_of, stamp_of}
 
+-- a day of the calendar
 pub record Day : Type 0 where
   pub year : ℕ
   pub month : ℕ

@@ -6,11 +6,11 @@ use Rattle.smithy_core.specs.declared.civil_text.Civil.{Civil}
 abbrev pub two_digits : ℕ → List ℕ
 two_digits n = (48 + n / 10 % 10) ∷ (48 + n % 10) ∷ []
 
--- `YYYYMMDD`
+-- the date as `YYYYMMDD`
 unfoldable pub date_of : Civil → List ℕ
 date_of c = two_digits (c.year / 100) ++ two_digits c.year ++ two_digits c.month ++ two_digits c.day
 
--- `YYYYMMDDTHHMMSSZ`
+-- date and time as `YYYYMMDDTHHMMSSZ`
 unfoldable pub stamp_of : Civil → List ℕ
 stamp_of c = date_of c ++ codes "T" ++ two_digits c.hour ++ two_digits c.minute ++ two_digits c.second ++ codes "Z"
 

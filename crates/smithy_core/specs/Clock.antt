@@ -10,7 +10,7 @@ GainsMoments before None moments = Unit {0}
 GainsMoments None (Some now) moments = ⊥
 GainsMoments (Some before) (Some now) moments = now ≡ before ++ moments
 
--- one answer was appended
+-- one moment was appended to those that a clock gave
 abbrev pub GainsOne : Option (List Instant) → Option (List Instant) → Instant → Type 0
 GainsOne before now moment = GainsMoments before now (moment ∷ [])
 

@@ -11,17 +11,17 @@ abbrev pub TakesFront : ℕ → List ℕ → Option (List ℕ) → Option (List 
 TakesFront n into None now = now ≡ None
 TakesFront n into (Some before) now = (take n before ≡ take n into) × (n ≤ length before) × (now ≡ Some (drop n before))
 
--- nothing is left
+-- a source has nothing left
 abbrev pub IsAtEnd : Option (List ℕ) → Type 0
 IsAtEnd None = Unit {0}
 IsAtEnd (Some bytes) = bytes ≡ []
 
--- these bytes are all that was left
+-- these bytes are all that a source had left
 abbrev pub IsAllOf : Option (List ℕ) → List ℕ → Type 0
 IsAllOf None read = Unit {0}
 IsAllOf (Some bytes) read = read ≡ bytes
 
--- more bytes were left than the limit
+-- a source had more bytes left than the limit
 abbrev pub IsLongerThan : Option (List ℕ) → ℕ → Type 0
 IsLongerThan None limit = Unit {0}
 IsLongerThan (Some bytes) limit = limit < length bytes
@@ -31,7 +31,7 @@ abbrev pub IsCutOf : Option (List ℕ) → List ℕ → Option (List ℕ) → Ty
 IsCutOf None read now = now ≡ None
 IsCutOf (Some all) read now = (rest : List ℕ) × (now ≡ Some rest) × (all ≡ read ++ rest)
 
--- what is left now is a suffix of what was left
+-- what a source has left now is a suffix of what it had
 abbrev pub IsRestOf : Option (List ℕ) → Option (List ℕ) → Type 0
 IsRestOf all now = (read : List ℕ) × IsCutOf all read now
 
@@ -40,7 +40,7 @@ abbrev pub Gains : Option (List ℕ) → Option (List ℕ) → List ℕ → Type
 Gains None now text = now ≡ None
 Gains (Some before) now text = now ≡ Some (before ++ text)
 
--- what is held has gained the first n bytes of the piece
+-- what a sink holds has gained the first n bytes of the piece
 abbrev pub GainsFront : ℕ → List ℕ → Option (List ℕ) → Option (List ℕ) → Type 0
 GainsFront n piece before now = Gains before now (take n piece)
 
@@ -54,7 +54,7 @@ pub record GainsRest (before now : Option (List ℕ)) (rest text : List ℕ) : T
 abbrev pub GainsPrefix : Option (List ℕ) → Option (List ℕ) → List ℕ → Type 0
 GainsPrefix before now text = (rest : List ℕ) × GainsRest before now rest text
 
--- what is held has gained a prefix of the text, and not all of it
+-- what a sink holds has gained a prefix of the text, and not all of it
 abbrev pub GainsProperPrefix : Option (List ℕ) → Option (List ℕ) → List ℕ → Type 0
 GainsProperPrefix before now text = (rest : List ℕ) × (0 < length rest) × GainsRest before now rest text
 

@@ -5,9 +5,11 @@ use Rattle.std.specs.Prelude.{ℕ, List, [], ◌∷◌, ◌++◌}
 abbrev pub line_feed : ℕ
 line_feed = 10
 
+-- a space
 abbrev pub space : ℕ
 space = 32
 
+-- a tab
 abbrev pub tab : ℕ
 tab = 9
 

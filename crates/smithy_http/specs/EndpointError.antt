@@ -5,7 +5,7 @@ use Rattle.smithy_http.specs.declared.endpoint_error.InvalidEndpointError.TheVar
 use Rattle.smithy_http.specs.declared.uri_fault.UriFault.{UriFault}
 use Rattle.smithy_http.specs.declared.uri_fault.UriFault.TheVariants as fault
 
--- the errors are the same, and so are their texts
+-- the errors of an endpoint are the same, and so are their texts
 abbrev pub IsSameEndpointError : InvalidEndpointError → InvalidEndpointError → Type 0
 IsSameEndpointError (FailedToConstructAuthority authority) (FailedToConstructAuthority copy) = string_bytes copy ≡ string_bytes authority
 IsSameEndpointError error copy = copy ≡ error

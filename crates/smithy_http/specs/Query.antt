@@ -27,7 +27,7 @@ pub record Written : Type 0 where
   pub text : List ℕ
   pub has_piece : Bool
 
--- before the first piece
+-- a writer that has put no piece after this text
 abbrev pub before_pieces : List ℕ → Written
 before_pieces text = record { text = text; has_piece = false }
 

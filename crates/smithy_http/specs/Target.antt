@@ -4,6 +4,7 @@ use Rattle.http_uri.specs.ByteClasses.{framed_text}
 use Rattle.http_uri.specs.Uri.{SpellsNone, uri_scheme, uri_authority, uri_path, uri_query}
 use Rattle.http_uri.specs.declared.uri.Uri.{Uri}
 
+-- the parts of a request's target, without a fragment
 pub record Target : Type 0 where
   pub scheme : Option (List ℕ)
   pub authority : Option (List ℕ)
