@@ -3,14 +3,23 @@
 
 docs/CALLING.md: each function that it shows stands so in crates/uses/src.
 docs/DEFINITIONS.md: each name stands in the file that is told for it, and once. A file is told as `crate/specs/File.antt`, or as
-`specs/File.antt` of the crate that was told last in the row; the names that it holds follow behind a colon.
+`specs/File.antt` of the crate that was told last in the row; the names that it holds follow behind a colon. What follows the
+heading "Every other name" is made from the sources, by `checks/docs.py --write`: each name that clauses of public functions or
+docs/CLAIMS.md cite and that has no row above, with the comment that stands above its definition.
+docs/ARCHITECTURE.md: each definition, function, wrong body and case of "From a rule to its files" stands where it is told.
 """
+import collections
 import pathlib
 import re
 import sys
 
-ROOT = pathlib.Path(__file__).resolve().parent.parent
+from definitions import ROOT, cited_names, meanings
+
+DEFINITIONS = ROOT / "docs/DEFINITIONS.md"
+HEADING = "## Every other name\n"
 PATH = re.compile(r"^(?:(\w+)/)?((?:specs|src|proofs)/[\w/]+\.(?:antt|rt))$")
+# Crates whose definitions still lack comments of their own: a name there without one is left out.
+PASSED_OVER = {"aws_chunked", "chain_check", "env_config", "signed_stream"}
 
 
 def shown_functions(page):
@@ -41,21 +50,86 @@ def told_names(row):
             yield file, text
 
 
-def definition_faults():
+def rows_of(page, title):
+    """The rows of a page's tables, without their heads."""
+    return [row for row in page.splitlines() if row.startswith("| ") and not row.startswith(f"| {title} |")]
+
+
+def definition_faults(page):
     told = set()
-    for row in (ROOT / "docs/DEFINITIONS.md").read_text().splitlines():
-        if not row.startswith("| ") or row.startswith("| name |"):
-            continue
-        for file, name in told_names(row):
-            if not (ROOT / str(file)).is_file():
-                yield f"docs/DEFINITIONS.md: there is no file {file}"
-            elif name and (file, name) in told:
-                yield f"docs/DEFINITIONS.md: {name} of {file} stands twice"
-            elif name and not re.search(rf"(?<!\w){re.escape(name)}(?!\w)", (ROOT / file).read_text()):
-                yield f"docs/DEFINITIONS.md: {file} has no {name}"
-            told.add((file, name))
+    for file, name in (told for row in rows_of(page, "name") for told in told_names(row)):
+        if not (ROOT / str(file)).is_file():
+            yield f"docs/DEFINITIONS.md: there is no file {file}"
+        elif name and (file, name) in told:
+            yield f"docs/DEFINITIONS.md: {name} of {file} stands twice"
+        elif name and not re.search(rf"(?<!\w){re.escape(name)}(?!\w)", (ROOT / file).read_text()):
+            yield f"docs/DEFINITIONS.md: {file} has no {name}"
+        told.add((file, name))
 
 
-faults = [*calling_faults(), *definition_faults()]
+def other_names(page):
+    """The meaning of each name that is cited and has no row on the page, as {(file, name): meaning}."""
+    told = {told for row in rows_of(page, "name") for told in told_names(row)}
+    claimed = set(re.findall(r"`(\w*[A-Z_]\w*)`", (ROOT / "docs/CLAIMS.md").read_text()))
+    cited = cited_names()
+    for (crate, subject, name), meaning in meanings().items():
+        place = f"crates/{crate}/specs/{subject}.antt", name
+        if ((crate, subject, name) in cited or name in claimed) and place not in told:
+            if meaning or crate not in PASSED_OVER:
+                yield place, meaning
+
+
+def other_text(names):
+    """The part of the page behind its heading: the names of each file, in the files' order."""
+    lines, last = [], None
+    for (file, name), meaning in names.items():
+        if file != last:
+            lines += ["", f"### `{file.removeprefix('crates/')}`", ""]
+        lines.append(f"- `{name}`: {meaning}")
+        last = file
+    return "\n".join(lines) + "\n"
+
+
+def meaning_faults(names):
+    """Where a name has no comment of its own: none at all, or another name's."""
+    sharing = collections.defaultdict(list)
+    for (file, name), meaning in names.items():
+        if not meaning:
+            yield f"{file}: {name}, which public clauses cite, has no comment of its own"
+        elif file.split("/")[1] not in PASSED_OVER:
+            sharing[meaning].append(f"{name} of {file}")
+    for meaning, places in sharing.items():
+        if len(places) > 1:
+            yield f"one comment stands for several names: {', '.join(places)}: {meaning}"
+
+
+def other_faults(page, names):
+    """Where the part that is made isn't what `--write` would make."""
+    found, file = {}, None
+    for line in page.splitlines():
+        head, row = re.match(r"### `(.+)`$", line), re.match(r"- `([^`]+)`: (.*)$", line)
+        if head:
+            file = f"crates/{head.group(1)}"
+        elif row:
+            found[file, row.group(1)] = row.group(2)
+    for place in found.keys() | names.keys():
+        if found.get(place) != names.get(place):
+            fault = "isn't there" if place not in found else "isn't cited, or has no comment" if place not in names else "has another comment"
+            yield f"docs/DEFINITIONS.md: {place[1]} of {place[0]} {fault} (checks/docs.py --write)"
+
+
+def page_faults(write):
+    page, made = DEFINITIONS.read_text().split(HEADING)
+    names = dict(other_names(page))
+    intro = made.split("\n### ", 1)[0].rstrip("\n")
+    if write:
+        DEFINITIONS.write_text(page + HEADING + intro + "\n" + other_text(names))
+        made = DEFINITIONS.read_text().split(HEADING)[1]
+    yield from definition_faults(page)
+    yield from meaning_faults(names)
+    yield from sorted(other_faults(made, names))
+
+
+faults = [*calling_faults(), *page_faults("--write" in sys.argv[1:])]
 print(*faults, sep="\n", end="\n" if faults else "")
 sys.exit(1 if faults else 0)
