@@ -6,7 +6,7 @@ docs/DEFINITIONS.md: each name stands in the file that is told for it, and once.
 `specs/File.antt` of the crate that was told last in the row; the names that it holds follow behind a colon. What follows the
 heading "Every other name" is made from the sources, by `checks/docs.py --write`: each name that clauses of public functions or
 docs/CLAIMS.md cite and that has no row above, with the comment that stands above its definition.
-docs/ARCHITECTURE.md: each definition, function, wrong body and case of "From a rule to its files" stands where it is told.
+docs/ARCHITECTURE.md: in "From a rule to its files" each definition, function, wrong body and case stands where it is told.
 """
 import collections
 import pathlib
@@ -130,6 +130,53 @@ def page_faults(write):
     yield from sorted(other_faults(made, names))
 
 
-faults = [*calling_faults(), *page_faults("--write" in sys.argv[1:])]
+def cited_places(cell):
+    """Each name of a cell of the map with the file or the crate that was named before it, as (place, name)."""
+    place = None
+    for text, colon in re.findall(r"`([^`]+)`(:?)", cell):
+        if colon:
+            place = text
+        else:
+            yield place, text
+
+
+def map_faults():
+    """Where the map of rules cites what isn't there: a definition, a function, a wrong body or a case."""
+    page = (ROOT / "docs/ARCHITECTURE.md").read_text()
+    known = {(f"{crate}/specs/{subject}.antt", name) for crate, subject, name in meanings()}
+    table = page.split("## From a rule to its files\n")[1].split("\n## ")[0]
+    for row in rows_of(table, "rule"):
+        cells = row.strip("| ").split(" | ")
+        if len(cells) != 5:
+            yield f"docs/ARCHITECTURE.md: a row of the map has {len(cells)} columns and not 5: {cells[0]}"
+            continue
+        rule, definitions, code, wrong_bodies, cases = cells
+        stands = [
+            (definitions, lambda file, name: (file, name) in known),
+            (code, lambda file, name: file_has(file, rf"\bfn {re.escape(name)}\b")),
+            (wrong_bodies, lambda crate, name: (ROOT / f"crates/{crate}/must-fail/{name}.edit").is_file()),
+            (cases, has_case),
+        ]
+        for cell, is_there in stands:
+            places = list(cited_places(cell))
+            if not places and (cell is not wrong_bodies or cell != "none"):
+                yield f"docs/ARCHITECTURE.md: {rule}: a column cites nothing: {cell}"
+            for place, name in places:
+                if not place or not is_there(place, name):
+                    yield f"docs/ARCHITECTURE.md: {rule}: {place} has no {name}"
+
+
+def has_case(file, text):
+    """Whether a case, which is a line with tabs, holds a text."""
+    return file_has(file, rf"(?m)^(?=.*\t).*{re.escape(text)}")
+
+
+def file_has(file, pattern):
+    """Whether a file below crates/ is there and holds a text of this pattern."""
+    path = ROOT / "crates" / file
+    return path.is_file() and bool(re.search(pattern, path.read_text()))
+
+
+faults = [*calling_faults(), *page_faults("--write" in sys.argv[1:]), *map_faults()]
 print(*faults, sep="\n", end="\n" if faults else "")
 sys.exit(1 if faults else 0)
