@@ -40,7 +40,7 @@ def meanings():
 
 
 def exported_names(crate):
-    """The names that a crate's `lib.rt` hands out, and those of its public modules."""
+    """The names that a crate's `lib.rt` hands out, its public modules, and the names of these."""
     source = ROOT / "crates" / crate / "src"
     names, waiting, seen = set(), [(source / "lib.rt", source)], set()
     while waiting:
@@ -53,6 +53,7 @@ def exported_names(crate):
             names.update(NAME.findall(listed) if listed else [path.rsplit("::", 1)[-1]])
         names.update(re.findall(r"^pub (?:fn|struct|enum|trait) (\w+)", text, re.M))
         for module in re.findall(r"^pub mod (\w+);", text, re.M):
+            names.add(module)
             waiting += [(folder / f"{module}.rt", folder / module), (folder / module / "mod.rt", folder / module)]
     return names
 

@@ -6,6 +6,7 @@ docs/DEFINITIONS.md: each name stands in the file that is told for it, and once.
 `specs/File.antt` of the crate that was told last in the row; the names that it holds follow behind a colon. What follows the
 heading "Every other name" is made from the sources, by `checks/docs.py --write`: each name that clauses of public functions or
 docs/CLAIMS.md cite and that has no row above, with the comment that stands above its definition.
+docs/FROM_THE_SDK.md: each name that is told of a crate here is one that this crate hands out.
 docs/ARCHITECTURE.md: in "From a rule to its files" each definition, function, wrong body and case stands where it is told.
 """
 import collections
@@ -13,7 +14,7 @@ import pathlib
 import re
 import sys
 
-from definitions import ROOT, cited_names, meanings
+from definitions import ROOT, cited_names, exported_names, meanings
 
 DEFINITIONS = ROOT / "docs/DEFINITIONS.md"
 HEADING = "## Every other name\n"
@@ -171,12 +172,22 @@ def has_case(file, text):
     return file_has(file, rf"(?m)^(?=.*\t).*{re.escape(text)}")
 
 
+def sdk_faults():
+    """Where the page on the SDK tells of a crate here a name that it doesn't hand out."""
+    page = (ROOT / "docs/FROM_THE_SDK.md").read_text()
+    crates = {folder.name for folder in (ROOT / "crates").iterdir()}
+    for crate, names in re.findall(r"`(\w+)::\{([^}`]*)\}`", page):
+        if crate in crates:
+            for name in sorted(set(names.split(", ")) - exported_names(crate)):
+                yield f"docs/FROM_THE_SDK.md: {crate} hands out no {name}"
+
+
 def file_has(file, pattern):
     """Whether a file below crates/ is there and holds a text of this pattern."""
     path = ROOT / "crates" / file
     return path.is_file() and bool(re.search(pattern, path.read_text()))
 
 
-faults = [*calling_faults(), *page_faults("--write" in sys.argv[1:]), *map_faults()]
+faults = [*calling_faults(), *page_faults("--write" in sys.argv[1:]), *map_faults(), *sdk_faults()]
 print(*faults, sep="\n", end="\n" if faults else "")
 sys.exit(1 if faults else 0)
