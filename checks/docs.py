@@ -6,6 +6,7 @@ docs/DEFINITIONS.md: each name stands in the file that is told for it, and once.
 `specs/File.antt` of the crate that was told last in the row; the names that it holds follow behind a colon. What follows the
 heading "Every other name" is made from the sources, by `checks/docs.py --write`: each name that clauses of public functions or
 docs/CLAIMS.md cite and that has no row above, with the comment that stands above its definition.
+docs/CLAIMS.md: each name in round brackets is that of a clause, a definition or a part of one, or a function.
 docs/FROM_THE_SDK.md: each name that is told of a crate here is one that this crate hands out.
 docs/ARCHITECTURE.md: in "From a rule to its files" each definition, function, wrong body and case stands where it is told.
 """
@@ -172,6 +173,18 @@ def has_case(file, text):
     return file_has(file, rf"(?m)^(?=.*\t).*{re.escape(text)}")
 
 
+def claim_faults():
+    """Where the page of claims cites a name that isn't there."""
+    sources = "\n".join(path.read_text() for path in (ROOT / "crates").glob("*/src/**/*.rt"))
+    specs = "\n".join(path.read_text() for path in (ROOT / "crates").glob("*/specs/*.antt"))
+    known = {name for _, _, name in meanings()} | set(re.findall(r"(?m)^ +pub (\w+) :", specs))
+    known |= set(re.findall(r"\b(?:ensures|requires|ghost|fn) (\w+)", sources)) | set(re.findall(r"(?m)^ +(\w+)[,({]", sources))
+    for listed in re.findall(r"\(((?:(?:, | and |; )?`[\w:]+`)+)\)", (ROOT / "docs/CLAIMS.md").read_text()):
+        for name in re.findall(r"(\w+)`", listed):
+            if name not in known | {"requires"}:
+                yield f"docs/CLAIMS.md: there is no clause, definition or function {name}"
+
+
 def sdk_faults():
     """Where the page on the SDK tells of a crate here a name that it doesn't hand out."""
     page = (ROOT / "docs/FROM_THE_SDK.md").read_text()
@@ -188,6 +201,6 @@ def file_has(file, pattern):
     return path.is_file() and bool(re.search(pattern, path.read_text()))
 
 
-faults = [*calling_faults(), *page_faults("--write" in sys.argv[1:]), *map_faults(), *sdk_faults()]
+faults = [*calling_faults(), *page_faults("--write" in sys.argv[1:]), *map_faults(), *claim_faults(), *sdk_faults()]
 print(*faults, sep="\n", end="\n" if faults else "")
 sys.exit(1 if faults else 0)
