@@ -20,6 +20,8 @@ from definitions import ROOT, cited_names, exported_names, meanings
 DEFINITIONS = ROOT / "docs/DEFINITIONS.md"
 HEADING = "## Every other name\n"
 PATH = re.compile(r"^(?:(\w+)/)?((?:specs|src|proofs)/[\w/]+\.(?:antt|rt))$")
+# What a copy shares with what it was made of: names that the page has together.
+COPIES = re.compile(r"IsSame\w+|Is\w+Copy|IsCopied")
 # Crates whose definitions still lack comments of their own: a name there without one is left out.
 PASSED_OVER = {"aws_chunked", "chain_check", "env_config", "signed_stream"}
 
@@ -81,10 +83,15 @@ def other_names(page):
                 yield place, meaning
 
 
+def listed(names):
+    """The names that the page lists one by one."""
+    return {place: meaning for place, meaning in names.items() if not COPIES.fullmatch(place[1])}
+
+
 def other_text(names):
     """The part of the page behind its heading: the names of each file, in the files' order."""
     lines, last = [], None
-    for (file, name), meaning in names.items():
+    for (file, name), meaning in listed(names).items():
         if file != last:
             lines += ["", f"### `{file.removeprefix('crates/')}`", ""]
         lines.append(f"- `{name}`: {meaning}")
@@ -114,6 +121,7 @@ def other_faults(page, names):
             file = f"crates/{head.group(1)}"
         elif row:
             found[file, row.group(1)] = row.group(2)
+    names = listed(names)
     for place in found.keys() | names.keys():
         if found.get(place) != names.get(place):
             fault = "isn't there" if place not in found else "isn't cited, or has no comment" if place not in names else "has another comment"
