@@ -6,6 +6,8 @@ docs/DEFINITIONS.md: each name stands in the file that is told for it, and once.
 `specs/File.antt` of the crate that was told last in the row; the names that it holds follow behind a colon. What follows the
 heading "Every other name" is made from the sources, by `checks/docs.py --write`: each name that clauses of public functions or
 docs/CLAIMS.md cite and that has no row above, with the comment that stands above its definition.
+README.md: each file, and each name beside it, of the table of claims is in the crate's src.
+Every page: each link, and each path that begins with a folder of the repository, leads to something.
 docs/CLAIMS.md: each name in round brackets is that of a clause, a definition or a part of one, or a function.
 docs/FROM_THE_SDK.md: each name that is told of a crate here is one that this crate hands out.
 docs/ARCHITECTURE.md: in "From a rule to its files" each definition, function, wrong body and case stands where it is told.
@@ -203,12 +205,35 @@ def sdk_faults():
                 yield f"docs/FROM_THE_SDK.md: {crate} hands out no {name}"
 
 
+def readme_faults():
+    """Where the table of claims cites a file or a name that the crate's sources don't have."""
+    for row in rows_of((ROOT / "README.md").read_text(), "crate"):
+        crates, _, cited = row.strip("| ").split(" | ")
+        folders = [ROOT / "crates" / crate / "src" for crate in re.findall(r"`(\w+)`", crates)]
+        files = {path.name: path.read_text() for folder in folders for path in folder.glob("**/*.rt")}
+        for name in re.findall(r"`([\w.]+)`", cited):
+            if name not in files and not any(re.search(rf"\b{re.escape(name)}\b", text) for text in files.values()):
+                yield f"README.md: {crates} has no {name}"
+
+
+def path_faults():
+    """Where a page names a path that leads nowhere."""
+    for page in [*ROOT.glob("*.md"), *ROOT.glob("docs/*.md"), *ROOT.glob("bench/*.md")]:
+        text = page.read_text()
+        for link in re.findall(r"\]\(([^)#:]+)(?:#[^)]*)?\)", text):
+            if not (page.parent / link).exists():
+                yield f"{page.relative_to(ROOT)}: the link {link} leads nowhere"
+        for path in re.findall(r"`((?:crates|docs|checks|bench|completions)/[\w./]+\w)`", text):
+            if not (ROOT / path).exists() and not path.startswith("crates/NAME") and "/out/" not in path:
+                yield f"{page.relative_to(ROOT)}: there is no {path}"
+
+
 def file_has(file, pattern):
     """Whether a file below crates/ is there and holds a text of this pattern."""
     path = ROOT / "crates" / file
     return path.is_file() and bool(re.search(pattern, path.read_text()))
 
 
-faults = [*calling_faults(), *page_faults("--write" in sys.argv[1:]), *map_faults(), *claim_faults(), *sdk_faults()]
+faults = [*calling_faults(), *page_faults("--write" in sys.argv[1:]), *map_faults(), *claim_faults(), *sdk_faults(), *readme_faults(), *path_faults()]
 print(*faults, sep="\n", end="\n" if faults else "")
 sys.exit(1 if faults else 0)
