@@ -16,7 +16,8 @@ NAME = re.compile(r"[A-Za-z_]\w*")
 
 
 def comment_above(lines, number):
-    """The comment that stands directly above a line, in one text: the definition's own. Headings and the file's first line aren't."""
+    """The comment that stands directly above a line, in one text: the definition's own. A heading and the file's first line
+    aren't."""
     found = []
     while number > 1 and re.match(r" *-- (?!#)", lines[number - 1]):
         number -= 1

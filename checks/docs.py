@@ -10,7 +10,8 @@ README.md: each file, and each name beside it, of the table of claims is in the 
 Every page: each link, and each path that begins with a folder of the repository, leads to something.
 docs/CLAIMS.md: each name in round brackets is that of a clause, a definition or a part of one, or a function.
 docs/FROM_THE_SDK.md: each name that is told of a crate here is one that this crate hands out.
-docs/ARCHITECTURE.md: in "From a rule to its files" each definition, function, wrong body and case stands where it is told.
+docs/ARCHITECTURE.md: it tells of each file of specs/ that has no file of its name in src/; and each definition, function, wrong
+body and case of "From a rule to its files" stands where it is told.
 """
 import collections
 import pathlib
@@ -126,7 +127,8 @@ def other_faults(page, names):
     names = listed(names)
     for place in found.keys() | names.keys():
         if found.get(place) != names.get(place):
-            fault = "isn't there" if place not in found else "isn't cited, or has no comment" if place not in names else "has another comment"
+            here = "has another comment" if place in names else "isn't cited, or has no comment"
+            fault = here if place in found else "isn't there"
             yield f"docs/DEFINITIONS.md: {place[1]} of {place[0]} {fault} (checks/docs.py --write)"
 
 
@@ -176,6 +178,17 @@ def map_faults():
             for place, name in places:
                 if not place or not is_there(place, name):
                     yield f"docs/ARCHITECTURE.md: {rule}: {place} has no {name}"
+
+
+def subject_faults():
+    """Where a file of specs/ that has no file of its name in src/ isn't in the page's table of such files."""
+    rows = rows_of((ROOT / "docs/ARCHITECTURE.md").read_text(), "crate")
+    for file in sorted(ROOT.glob("crates/*/specs/*.antt")):
+        crate, subject = file.parts[-3], file.stem
+        name = re.sub(r"(?<!^)(?=[A-Z])", "_", subject).lower()
+        if subject != "Lib" and not any((ROOT / "crates" / crate / "src").glob(f"**/{name}.rt")):
+            if not any(f"`{crate}`" in row.split(" | ")[0] and f"`{subject}`" in row for row in rows):
+                yield f"docs/ARCHITECTURE.md: nothing is said of crates/{crate}/specs/{subject}.antt"
 
 
 def has_case(file, text):
@@ -234,6 +247,6 @@ def file_has(file, pattern):
     return path.is_file() and bool(re.search(pattern, path.read_text()))
 
 
-faults = [*calling_faults(), *page_faults("--write" in sys.argv[1:]), *map_faults(), *claim_faults(), *sdk_faults(), *readme_faults(), *path_faults()]
+faults = [*calling_faults(), *page_faults("--write" in sys.argv[1:]), *map_faults(), *subject_faults(), *claim_faults(), *sdk_faults(), *readme_faults(), *path_faults()]
 print(*faults, sep="\n", end="\n" if faults else "")
 sys.exit(1 if faults else 0)
