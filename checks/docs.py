@@ -247,6 +247,15 @@ def file_has(file, pattern):
     return path.is_file() and bool(re.search(pattern, path.read_text()))
 
 
-faults = [*calling_faults(), *page_faults("--write" in sys.argv[1:]), *map_faults(), *subject_faults(), *claim_faults(), *sdk_faults(), *readme_faults(), *path_faults()]
+faults = [
+    *calling_faults(),
+    *page_faults("--write" in sys.argv[1:]),
+    *map_faults(),
+    *subject_faults(),
+    *claim_faults(),
+    *sdk_faults(),
+    *readme_faults(),
+    *path_faults(),
+]
 print(*faults, sep="\n", end="\n" if faults else "")
 sys.exit(1 if faults else 0)
