@@ -79,7 +79,7 @@ unspelled_value (Uuid n) = None
 abbrev pub unspelled : Header → Option ErrorKind
 unspelled h = option_or (if nat_lt most_name (length h.name) then Some InvalidHeaderNameLength else None) (unspelled_value h.value)
 
--- the first header that has no spelling decides
+-- why headers have no spelling: the first one that has none decides
 abbrev pub first_unspelled : List Header → Option ErrorKind
 first_unspelled [] = None
 first_unspelled (h ∷ hs) = option_or (unspelled h) (first_unspelled hs)
