@@ -1,31 +1,51 @@
 //! The program: makes the real objects, hands them to `run`, and ends with the number of its status.
 #![tactic(auto)]
 
-ghost use Rattle.std.specs.Prelude.{◌≡◌, ◌≤◌, ◌⊎◌, IfErr, IfSome, map};
+ghost use Rattle.std.specs.Prelude.{◌≡◌, ◌≤◌, ◌⊎◌, IfErr, IfNone, IfSome, map};
 ghost use Rattle.std.specs.Process.{exit_status};
 ghost use Rattle.std.specs.String.{string_bytes};
+ghost use Rattle.smithy_core.specs.Given.{Gives};
 ghost use Rattle.firuvaik.specs.Asked.{text_asked};
-ghost use Rattle.signed_stream.specs.Plan.{GoesAsPlanned, writes};
-ghost use Rattle.signed_stream.specs.Running.{CountsWrites};
+ghost use Rattle.signed_stream.specs.Command.{command};
+ghost use Rattle.signed_stream.specs.Plan.{GoesAsPlanned, Supplied, writes};
+ghost use Rattle.signed_stream.specs.Running.{CountsWrites, Ran, Unless, UnlessCommand, reads_input};
 ghost use Rattle.signed_stream.specs.Saying.{SaysEnding};
+ghost use Rattle.signed_stream.specs.Sources.{DiskGives};
 ghost use Rattle.signed_stream.specs.Status.{bad_words, done, ending_of, exit_code, no_memory};
 
 mod help;
 
 use signed_stream::{Status, run, say};
-use smithy_core::{ByteSink, Env, HostDisk, SinkError, StdSink, StdSource, SystemClock, write_all};
+use smithy_core::{
+    ByteSink, ByteSource, Clock, Disk, Env, HostDisk, SinkError, StdSink, StdSource, SystemClock,
+    write_all,
+};
 use std::alloc::Global;
-use std::fs::Files;
 use std::io::ErrorKind;
 use std::process::ExitCode;
 use std::{env, rt};
 
 fn main(rt: HostRuntime) -> ExitCode {
+    let alloc = rt.alloc();
     let mut out = StdSink::new(rt.stdout());
     let mut err = StdSink::new(rt.stderr());
-    let status = match words_of(&rt) {
-        Ok(words) => answer(&rt, words.as_slice(), &mut out, &mut err),
-        Err(status) => say(rt.alloc(), status, &mut err),
+    let status = match given(&rt) {
+        Ok((words, env)) => {
+            let mut input = StdSource::new(rt.reader());
+            let mut disk = HostDisk::new(alloc, &rt);
+            let mut clock = SystemClock::new(&rt);
+            answer(
+                alloc,
+                words.as_slice(),
+                &env,
+                &mut input,
+                &mut disk,
+                &mut clock,
+                &mut out,
+                &mut err,
+            )
+        }
+        Err(status) => say(alloc, status, &mut err),
     };
     exit_code_of(status)
 }
@@ -37,8 +57,8 @@ fn exit_code_of(status: Status) -> ExitCode
     ExitCode::from(status.code())
 }
 
-// The words after the program's name, or how the run ends without them.
-fn words_of<R: rt::Env + Alloc<A = Global>>(rt: &R) -> Result<Vec<String>, Status>
+// The words after the program's name and the variables, or how the run ends without them.
+fn given<R: rt::Env + Alloc<A = Global>>(rt: &R) -> Result<(Vec<String>, Env), Status>
     ensures { IfErr result (λ status. (ending_of status ≡ no_memory) ⊎ (ending_of status ≡ bad_words 1)) }
 {
     let mut args = match env::args(rt) {
@@ -47,49 +67,42 @@ fn words_of<R: rt::Env + Alloc<A = Global>>(rt: &R) -> Result<Vec<String>, Statu
         Err(_) => return Err(Status::BadWords(1)),
     };
     args.next();
-    match args.collect(rt.alloc()) {
-        Ok(words) => Ok(words),
+    let Ok(words) = args.collect(rt.alloc()) else {
+        return Err(Status::NoMemory);
+    };
+    match Env::real(rt.alloc(), rt) {
+        Ok(env) => Ok((words, env)),
         Err(_) => Err(Status::NoMemory),
     }
 }
 
-// Prints the text that the words ask for, or does what they ask for, and says on `err` how it ended.
-fn answer<R: rt::Clock + rt::Env + Files + Input + Alloc<A = Global>, K: ByteSink, E: ByteSink>(
-    rt: &R,
+// Prints the text that the words ask for, or else does what they ask for, as `run` does, and says on `err` how it ended.
+fn answer<S: ByteSource, D: Disk, C: Clock, K: ByteSink, E: ByteSink>(
+    alloc: Global,
     words: &[String],
+    env: &Env,
+    input: &mut S,
+    disk: &mut D,
+    clock: &mut C,
     out: &mut K,
     err: &mut E,
 ) -> Status
     ensures printed { IfSome (text_asked (map string_bytes words.now)) (λ text. GoesAsPlanned (writes text done) (ending_of result) (K.held out.old) (K.held out.new)) }
     ensures counted { CountsWrites (ending_of result) (K.faults out.old) (K.faults out.new) }
     ensures said { SaysEnding (ending_of result) (E.held err.old) (E.held err.new) (E.faults err.old) (E.faults err.new) }
+    ensures headline { IfNone (text_asked (map string_bytes words.now)) ((given : Supplied) × Ran (DiskGives D.answers D.faults (D.files disk.old) env.now disk.old disk.new)
+        (λ taken. Gives C.Clock clock.old taken clock.new) env.now
+        (command (map string_bytes words.now)) (S.left input.old) given (ending_of result) (S.faults input.old) (S.faults input.new)
+        (record { held_before = K.held out.old; held_now = K.held out.new; faults_before = K.faults out.old; faults_now = K.faults out.new })
+        (record { held_before = E.held err.old; held_now = E.held err.new; faults_before = E.faults err.old; faults_now = E.faults err.new })) }
+    ensures untouched { IfNone (text_asked (map string_bytes words.now))
+        (UnlessCommand (command (map string_bytes words.now)) ((K.held out.new ≡ K.held out.old) × (K.faults out.new ≡ K.faults out.old))) }
+    ensures unread { Unless (reads_input (command (map string_bytes words.now))) ((S.left input.new ≡ S.left input.old) × (S.faults input.new ≡ S.faults input.old)) }
 {
     match help::text_asked(words) {
-        Some(text) => say(rt.alloc(), print_text(text, out), err),
-        None => run_on_host(rt, words, out, err),
+        Some(text) => say(alloc, print_text(text, out), err),
+        None => run(alloc, words, env, input, disk, clock, out, err),
     }
-}
-
-// Does what the words ask for with the variables, the files, the clock and the input of the system.
-fn run_on_host<
-    R: rt::Clock + rt::Env + Files + Input + Alloc<A = Global>,
-    K: ByteSink,
-    E: ByteSink,
->(rt: &R, words: &[String], out: &mut K, err: &mut E) -> Status
-    ensures counted { CountsWrites (ending_of result) (K.faults out.old) (K.faults out.new) }
-    ensures said { SaysEnding (ending_of result) (E.held err.old) (E.held err.new) (E.faults err.old) (E.faults err.new) }
-{
-    let alloc = rt.alloc();
-    let env = match Env::real(alloc, rt) {
-        Ok(env) => env,
-        Err(_) => return say(alloc, Status::NoMemory, err),
-    };
-    let mut input = StdSource::new(rt.reader());
-    let mut disk = HostDisk::new(alloc, rt);
-    let mut clock = SystemClock::new(rt);
-    run(
-        alloc, words, &env, &mut input, &mut disk, &mut clock, out, err,
-    )
 }
 
 // Prints a text, and answers how the run ends.
