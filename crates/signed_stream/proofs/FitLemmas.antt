@@ -13,12 +13,12 @@ use Rattle.signed_stream.specs.Carriers.{GoesForJob, GoesForRecord, GoesForTexts
 use Rattle.signed_stream.specs.CheckRecord.{CarriesSeal, check_signer, sealed_plan}
 use Rattle.signed_stream.specs.Command.{CheckWanted, Wanted}
 use Rattle.signed_stream.specs.Halt.{Halt, Sends, ended, fails, halt_of, halted, refuses, wants}
-use Rattle.signed_stream.specs.Job.{JobParts}
+use Rattle.job_text.specs.Job.{JobParts}
 use Rattle.signed_stream.specs.Options.{IsOptionsOf, wanted_of}
 use Rattle.signed_stream.specs.Plan.{FilesRead, GoesAsPlanned, Plan, SealRead, Supplied, TargetRead, loaded, plan_end, unread, unsought}
 use Rattle.signed_stream.specs.ProfileOptions.{ProfileWanted}
-use Rattle.signed_stream.specs.ProfileTexts.{ProfileTexts}
-use Rattle.signed_stream.specs.Record.{RecordParts}
+use Rattle.job_text.specs.ProfileTexts.{ProfileTexts}
+use Rattle.job_text.specs.Record.{RecordParts}
 use Rattle.signed_stream.specs.Running.{OfClock}
 use Rattle.signed_stream.specs.Settings.{Selected}
 use Rattle.signed_stream.specs.Shown.{shown_settings}

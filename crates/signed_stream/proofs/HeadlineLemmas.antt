@@ -31,15 +31,15 @@ use Rattle.signed_stream.specs.Command.{CheckWanted, Command, Wanted, bad_word, 
 use Rattle.signed_stream.specs.Generate.{generate_plan, shown_stream}
 use Rattle.signed_stream.specs.Generator.{drawn_events}
 use Rattle.signed_stream.specs.ProfileOptions.{ProfileWanted}
-use Rattle.signed_stream.specs.Job.{JobParts, job}
+use Rattle.job_text.specs.Job.{JobParts, job}
 use Rattle.signed_stream.specs.Plan.{EndsAsPlanned, FilesRead, GoesAsPlanned, Plan, SealRead, sealed_over, unsealed, unsought, TargetSpells, Supplied, TargetRead, accepted, loaded, most_input, stops, unaccepted, unloaded, unread, unreadable, writes}
-use Rattle.signed_stream.specs.ProfileTexts.{ProfileTexts, profile_texts}
+use Rattle.job_text.specs.ProfileTexts.{ProfileTexts, profile_texts}
 use Rattle.request_check.specs.Sealed.{SealParts}
 use Rattle.chain_check.specs.Walk.{chain_events}
 use Rattle.chain_check.specs.declared.chain_fault.ChainFault.{ChainFault}
 use Rattle.eventstream.specs.Key.{Signer}
-use Rattle.signed_stream.specs.Record.{RecordParts, spelled_record}
-use Rattle.signed_stream.proofs.RecordLemmas.{spelled_bytes}
+use Rattle.job_text.specs.Record.{RecordParts, spelled_record}
+use Rattle.job_text.proofs.RecordLemmas.{spelled_bytes}
 use Rattle.signed_stream.specs.Running.{CanBeDone, Completes, HasDone, RunsAsPlanned, command_plan}
 use Rattle.signed_stream.specs.Settings.{Selected, settings}
 use Rattle.signed_stream.specs.ShowSettings.{GaveTexts, IsShowable, settings_plan, shown_plan}

@@ -14,7 +14,7 @@ use Rattle.env_config.specs.Sections.{FileText}
 use Rattle.sigv4.specs.Signed.{signature_of}
 use Rattle.signed_stream.specs.Chain.{chain_text, frame_text}
 use Rattle.signed_stream.specs.Command.{Wanted}
-use Rattle.signed_stream.specs.Job.{JobParts}
+use Rattle.job_text.specs.Job.{JobParts}
 use Rattle.signed_stream.specs.Laws.{AcceptsEvents, ReadsEvents}
 use Rattle.signed_stream.specs.Plan.{TargetRead}
 use Rattle.signed_stream.specs.Stream.{IsValid, valid_case, written_valid}

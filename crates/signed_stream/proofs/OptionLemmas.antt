@@ -3,7 +3,7 @@ use Rattle.std.proofs.Common.{◌≡◌, ℕ, ◌<◌, ◌≤◌, ◌||◌, List
 use Rattle.std.specs.List.{list_any}
 use Rattle.env_config.specs.declared.source.EnvConfigFileKind.{EnvConfigFileKind}
 use Rattle.signed_stream.specs.Command.{after_seed, bad_word, command, count_given, generator_from, seeded}
-use Rattle.signed_stream.specs.Numbers.{natural_below}
+use Rattle.job_text.specs.Numbers.{natural_below}
 use Rattle.signed_stream.specs.ProfileOptions.{is_same_kind, place_kind, place_of}
 use Rattle.signed_stream.specs.declared.command.profile.NamedFile.{NamedFile}
 

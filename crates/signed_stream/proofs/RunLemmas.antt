@@ -29,12 +29,12 @@ use Rattle.signed_stream.specs.Command.{CheckWanted, Command, Wanted, bad_word, 
 use Rattle.signed_stream.specs.Generate.{generate_plan, shown_stream}
 use Rattle.signed_stream.specs.Generator.{drawn_events}
 use Rattle.signed_stream.specs.ProfileOptions.{ProfileWanted}
-use Rattle.signed_stream.specs.Job.{JobParts, job}
+use Rattle.job_text.specs.Job.{JobParts, job}
 use Rattle.signed_stream.specs.Plan.{EndsAsPlanned, FilesRead, GainsAsPlanned, GoesAsPlanned, Plan, SealRead, Supplied, sealed_over, unsealed, TargetRead, accepted, plan_end, most_input, stops, unaccepted, unloaded, unread, unsought, writes}
-use Rattle.signed_stream.specs.ProfileTexts.{ProfileTexts, profile_texts}
+use Rattle.job_text.specs.ProfileTexts.{ProfileTexts, profile_texts}
 use Rattle.chain_check.specs.Walk.{chain_events}
 use Rattle.chain_check.specs.declared.chain_fault.ChainFault.{ChainFault}
-use Rattle.signed_stream.specs.Record.{RecordParts, spelled_record}
+use Rattle.job_text.specs.Record.{RecordParts, spelled_record}
 use Rattle.signed_stream.specs.Running.{EndsAsAsked, Gave, IsOfCommand, KeepsOutput, OfClock, RunsAsPlanned, TakesMoments, TellsInput, Unless, UnlessCommand, When, comes_late, command_plan, may_be_in_years, may_be_of_frame, read_plan, reads_input, IsOfOutput}
 use Rattle.signed_stream.specs.Settings.{Selected}
 use Rattle.signed_stream.specs.ShowSettings.{GaveTexts, settings_plan, shown_plan}

@@ -17,7 +17,7 @@ use Rattle.env_config.specs.declared.source.Source.{Source}
 use Rattle.signed_stream.specs.Carriers.{IsAfterTexts}
 use Rattle.signed_stream.specs.Plan.{FilesRead, loaded, unloaded, unreadable}
 use Rattle.signed_stream.specs.ProfileOptions.{place_of}
-use Rattle.signed_stream.specs.ProfileTexts.{ProfileTexts}
+use Rattle.job_text.specs.ProfileTexts.{ProfileTexts}
 use Rattle.signed_stream.specs.Settings.{GivesSettings, selected_in, settings}
 use Rattle.signed_stream.specs.Sources.{DiskGives, given_place, given_places, or_usual, selection, source_places}
 use Rattle.signed_stream.specs.Status.{could_not_read_file, ending_of, load_ending, settings_ending}

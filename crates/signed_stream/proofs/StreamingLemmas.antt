@@ -17,7 +17,7 @@ use Rattle.signed_stream.specs.Case.{job_case, request_moment}
 use Rattle.signed_stream.specs.Chain.{first_refusal}
 use Rattle.signed_stream.specs.Command.{Wanted}
 use Rattle.signed_stream.specs.Halt.{Halt, ended, fails, halt_of, halted, refuses, wants}
-use Rattle.signed_stream.specs.Job.{JobParts}
+use Rattle.job_text.specs.Job.{JobParts}
 use Rattle.signed_stream.specs.Plan.{GoesAsPlanned, IsNeeded, Plan, TargetRead, TargetSpells, accepted, stops, unaccepted, unread}
 use Rattle.signed_stream.specs.Sending.{SendsAll}
 use Rattle.signed_stream.specs.Settings.{GivesSettings, Selected, settings}

@@ -6,10 +6,10 @@ use Rattle.env_config.specs.Files.{Place}
 use Rattle.signed_stream.specs.CheckRecord.{GaveRecord, check_plan}
 use Rattle.signed_stream.specs.Command.{CheckWanted, Command, Wanted}
 use Rattle.signed_stream.specs.ProfileOptions.{ProfileWanted}
-use Rattle.signed_stream.specs.Job.{JobParts}
+use Rattle.job_text.specs.Job.{JobParts}
 use Rattle.signed_stream.specs.Plan.{FilesRead, GoesAsPlanned, IsNeeded, Plan, Supplied}
-use Rattle.signed_stream.specs.ProfileTexts.{ProfileTexts}
-use Rattle.signed_stream.specs.Record.{RecordParts}
+use Rattle.job_text.specs.ProfileTexts.{ProfileTexts}
+use Rattle.job_text.specs.Record.{RecordParts}
 use Rattle.signed_stream.specs.Running.{Gave, OfClock, RunsAsPlanned, TakesMoments, TellsInput, read_plan}
 use Rattle.signed_stream.specs.Settings.{Selected, selected_in}
 use Rattle.signed_stream.specs.ShowSettings.{GaveTexts, settings_plan}

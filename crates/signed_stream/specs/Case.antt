@@ -12,7 +12,7 @@ use Rattle.aws_auth.specs.Inputs.{chosen_text, location_of}
 use Rattle.aws_auth.specs.Moment.{signing_moment}
 use Rattle.aws_auth.specs.declared.options.SigningOptions.{SigningOptions}
 use Rattle.signed_stream.specs.Command.{Wanted}
-use Rattle.signed_stream.specs.Job.{JobParts}
+use Rattle.job_text.specs.Job.{JobParts}
 use Rattle.signed_stream.specs.Settings.{Selected}
 
 -- the default settings, but for what the options say, with this name of the token

@@ -18,7 +18,7 @@ use Rattle.env_config.specs.Loading.{selected_profile}
 use Rattle.env_config.specs.Sections.{FileText}
 use Rattle.signed_stream.specs.Command.{CheckWanted}
 use Rattle.signed_stream.specs.Plan.{FilesRead, GoesAsPlanned, Plan, SealRead, Supplied, loaded, most_input, sealed_over, stops, unsealed, unsought, writes}
-use Rattle.signed_stream.specs.Record.{RecordParts, spelled_record}
+use Rattle.job_text.specs.Record.{RecordParts, spelled_record}
 use Rattle.signed_stream.specs.Settings.{Selected, settings}
 use Rattle.signed_stream.specs.Sources.{selection, source_places, when_selected}
 use Rattle.signed_stream.specs.Status.{Ending, bad_job, check_failed, done, ending_of, no_memory}

@@ -2,9 +2,9 @@
 use Rattle.std.specs.Prelude.{◌≡◌, ℕ, Result, Ok, Err, ◌+◌, if◌then◌else◌, List, [], ◌∷◌, ◌++◌, codes, bytes_eq, Option, Some, None, is_some}
 use Rattle.sigv4.specs.Refusal.{is_name, is_value}
 use Rattle.smithy_core.specs.TextPairs.{lower}
-use Rattle.signed_stream.specs.ChunkSize.{spelled_size}
-use Rattle.signed_stream.specs.declared.command.WordsFault.{WordsFault}
-use Rattle.signed_stream.specs.declared.command.WordsFault.TheVariants.{BadWord, NoMemory}
+use Rattle.job_text.specs.ChunkSize.{spelled_size}
+use Rattle.job_text.specs.declared.words.WordsFault.{WordsFault}
+use Rattle.job_text.specs.declared.words.WordsFault.TheVariants.{BadWord, NoMemory}
 use Rattle.signed_stream.specs.declared.command.chunk.ChunkWords.{ChunkWords}
 use Rattle.signed_stream.specs.declared.command.chunk.GivenChunk.{GivenChunk}
 use Rattle.signed_stream.specs.declared.command.chunk.ChunkValue.{ChunkValue}

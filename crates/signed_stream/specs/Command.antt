@@ -9,7 +9,7 @@ use Rattle.aws_auth.specs.declared.options.HttpSignatureType.TheVariants.{HttpRe
 use Rattle.aws_auth.specs.declared.options.SigningOptions.{SigningOptions}
 use Rattle.aws_auth.specs.declared.payload.PayloadSigningOverride.TheVariants.{UnsignedPayload}
 use Rattle.signed_stream.specs.ChunkWords.{ChunkWanted, chunk_from, no_chunk_given}
-use Rattle.signed_stream.specs.Numbers.{natural_below, number}
+use Rattle.job_text.specs.Numbers.{natural_below, number}
 use Rattle.signed_stream.specs.ProfileOptions.{ProfileWanted, nothing_wanted, profile_option, names_file, stands, with_profile_option}
 use Rattle.signed_stream.specs.declared.command.check.CheckOption.{CheckOption}
 use Rattle.signed_stream.specs.declared.command.check.CheckOption.TheVariants.{Name as NameOfCheck, OfProfile as OfProfileOfCheck}

@@ -16,7 +16,7 @@ use Rattle.aws_auth.specs.Options.{default_options}
 use Rattle.signed_stream.specs.Case.{job_case}
 use Rattle.signed_stream.specs.Command.{Wanted}
 use Rattle.signed_stream.specs.Generator.{drawn_events}
-use Rattle.signed_stream.specs.Job.{JobParts}
+use Rattle.job_text.specs.Job.{JobParts}
 use Rattle.signed_stream.specs.Plan.{Plan, writes}
 use Rattle.signed_stream.specs.ProfileOptions.{nothing_wanted}
 use Rattle.signed_stream.specs.Settings.{Selected}

@@ -10,8 +10,8 @@ use Rattle.signed_stream.specs.declared.command.InputCommand.{InputCommand}
 use Rattle.signed_stream.specs.declared.command.InputCommand.TheVariants.{Chunk, Check, Stream, Settings}
 use Rattle.signed_stream.specs.declared.command.chunk.ChunkWords.{ChunkWords}
 use Rattle.signed_stream.specs.declared.command.generator.GeneratorWords.{GeneratorWords}
-use Rattle.signed_stream.specs.declared.command.WordsFault.{WordsFault}
-use Rattle.signed_stream.specs.declared.command.WordsFault.TheVariants.{BadWord, NoMemory}
+use Rattle.job_text.specs.declared.words.WordsFault.{WordsFault}
+use Rattle.job_text.specs.declared.words.WordsFault.TheVariants.{BadWord, NoMemory}
 use Rattle.signed_stream.specs.declared.command.options.StreamWords.{StreamWords}
 use Rattle.signed_stream.specs.declared.command.options.GivenOptions.{GivenOptions}
 use Rattle.signed_stream.specs.declared.command.check.CheckWords.{CheckWords}

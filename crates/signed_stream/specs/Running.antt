@@ -11,10 +11,10 @@ use Rattle.signed_stream.specs.ChunkJob.{chunk_plan, shown_chunks}
 use Rattle.signed_stream.specs.Command.{Command, Wanted, bad_word, check_record, generate, show_settings, stream, write_chunks}
 use Rattle.signed_stream.specs.Generate.{generate_plan, shown_stream}
 use Rattle.signed_stream.specs.Generator.{drawn_events}
-use Rattle.signed_stream.specs.Job.{job}
+use Rattle.job_text.specs.Job.{job}
 use Rattle.signed_stream.specs.Plan.{FilesRead, GoesAsPlanned, IsNeeded, Plan, Supplied, most_input, stops, unless_large, unreadable}
-use Rattle.signed_stream.specs.ProfileTexts.{profile_texts}
-use Rattle.signed_stream.specs.Record.{spelled_record}
+use Rattle.job_text.specs.ProfileTexts.{profile_texts}
+use Rattle.job_text.specs.Record.{spelled_record}
 use Rattle.signed_stream.specs.Saying.{SaysEnding}
 use Rattle.signed_stream.specs.ShowSettings.{GaveTexts, IsShowable, settings_plan}
 use Rattle.signed_stream.specs.Shown.{shown_settings}

@@ -5,7 +5,7 @@ use Rattle.env_config.specs.Loading.{selected_profile}
 use Rattle.env_config.specs.Sections.{FileText}
 use Rattle.signed_stream.specs.ProfileOptions.{ProfileWanted}
 use Rattle.signed_stream.specs.Plan.{FilesRead, Plan, Supplied, loaded, most_input, stops, writes}
-use Rattle.signed_stream.specs.ProfileTexts.{ProfileTexts, profile_texts}
+use Rattle.job_text.specs.ProfileTexts.{ProfileTexts, profile_texts}
 use Rattle.signed_stream.specs.Settings.{Selected, settings}
 use Rattle.signed_stream.specs.Shown.{shown_settings}
 use Rattle.signed_stream.specs.Sources.{selection, source_places, when_selected}

@@ -9,7 +9,7 @@ use Rattle.env_config.specs.Loading.{Loaded, StopsAtFile, selected_profile}
 use Rattle.env_config.specs.declared.source.EnvConfigFileKind.{EnvConfigFileKind}
 use Rattle.env_config.specs.declared.source.EnvConfigFileKind.TheVariants.{Config, Credentials}
 use Rattle.signed_stream.specs.Plan.{FilesRead, Plan, loaded, stops, unloaded, unreadable}
-use Rattle.signed_stream.specs.ProfileTexts.{ProfileTexts}
+use Rattle.job_text.specs.ProfileTexts.{ProfileTexts}
 use Rattle.signed_stream.specs.Settings.{Selected, settings}
 use Rattle.signed_stream.specs.Status.{Ending, RunFault, could_not_read_file, no_memory, refused}
 

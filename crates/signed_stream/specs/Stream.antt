@@ -15,9 +15,9 @@ use Rattle.env_config.specs.Sections.{FileText}
 use Rattle.signed_stream.specs.Case.{job_case, request_moment}
 use Rattle.chain_check.specs.Chain.{IsWholeChain}
 use Rattle.signed_stream.specs.Command.{Wanted}
-use Rattle.signed_stream.specs.Job.{JobParts, job}
+use Rattle.job_text.specs.Job.{JobParts, job}
 use Rattle.signed_stream.specs.Plan.{FilesRead, Plan, TargetSpells, Supplied, TargetRead, accepted, loaded, most_input, stops, unaccepted, unread, writes}
-use Rattle.signed_stream.specs.ProfileTexts.{ProfileTexts}
+use Rattle.job_text.specs.ProfileTexts.{ProfileTexts}
 use Rattle.signed_stream.specs.Settings.{Selected, settings}
 use Rattle.signed_stream.specs.Sign.{case_fault}
 use Rattle.signed_stream.specs.Sources.{selection, source_places, when_selected}

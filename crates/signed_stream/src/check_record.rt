@@ -7,7 +7,7 @@ ghost use Rattle.signed_stream.specs.CheckRecord.{AreFramed, ChecksRecord, GoesF
 ghost use Rattle.signed_stream.specs.Command.{check_record};
 ghost use Rattle.signed_stream.specs.Halt.{Sends};
 ghost use Rattle.signed_stream.specs.Options.{check_wanted};
-ghost use Rattle.signed_stream.specs.Record.{record_parts};
+ghost use Rattle.job_text.specs.Record.{record_parts};
 ghost use Rattle.signed_stream.specs.Running.{NamesUnreadable};
 ghost use Rattle.signed_stream.specs.Settings.{selected_in};
 ghost use Rattle.signed_stream.specs.Sources.{DiskGives};
@@ -16,12 +16,12 @@ ghost use Rattle.signed_stream.specs.Status.{could_not_read_file, ending_of, out
 use crate::chain::{write_frame, write_text};
 use crate::command::CheckWords;
 use crate::form::Form;
-use crate::job::RecordDraft;
 use crate::settings::Settings;
 use crate::sources::select;
 use crate::status::{CheckFault, Status, StreamFault, status_of};
 use chain_check::check_chain;
 use eventstream::{ErrorKind, write_message_to};
+use job_text::RecordDraft;
 use request_check::seal_of;
 use smithy_core::{ByteSink, Disk, Env, HttpRequest, Mem, Message};
 use std::alloc::{AllocError, Global};

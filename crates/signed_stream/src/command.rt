@@ -20,7 +20,8 @@ use crate::command::options::GivenOptions;
 pub use crate::command::options::StreamWords;
 use crate::command::profile::GivenProfile;
 pub use crate::command::profile::{NamedFile, ProfileOptions};
-use std::alloc::{AllocError, Global};
+use job_text::WordsFault;
+use std::alloc::Global;
 
 /// A command with its options.
 #[derive(Drop)]
@@ -42,25 +43,6 @@ pub enum InputCommand<'a> {
     Check(CheckWords<'a>),
     /// Writes the input in chunks.
     Chunk(ChunkWords),
-}
-
-/// Why words spell no command.
-#[derive(Clone, Copy, Debug, PartialEq, Eq)]
-pub enum WordsFault {
-    /// The word at this place is bad; places count from 1.
-    BadWord(usize),
-    NoMemory,
-}
-
-impl From<AllocError> for WordsFault {
-    ghost use Rattle.std.specs.Prelude.{◌≡◌};
-    ghost use Rattle.signed_stream.specs.declared.command.WordsFault.TheVariants.{NoMemory};
-
-    ghost from_gives = { λ _ fault. fault ≡ NoMemory };
-
-    fn from(_e: AllocError) -> WordsFault {
-        WordsFault::NoMemory
-    }
 }
 
 /// The command that the words spell.

@@ -6,7 +6,7 @@ ghost use Rattle.eventstream.specs.Link.{chain};
 ghost use Rattle.env_config.specs.Sections.{FileText};
 ghost use Rattle.sigv4.specs.Signed.{signature_of};
 ghost use Rattle.signed_stream.specs.Command.{Wanted};
-ghost use Rattle.signed_stream.specs.Job.{JobParts};
+ghost use Rattle.job_text.specs.Job.{JobParts};
 ghost use Rattle.signed_stream.specs.Laws.{AcceptsEvents, ReadsEvents};
 ghost use Rattle.signed_stream.specs.Plan.{TargetRead};
 ghost use Rattle.signed_stream.specs.Stream.{IsValid, valid_case, written_valid};

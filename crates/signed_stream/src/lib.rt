@@ -16,14 +16,11 @@
 
 mod chain;
 mod check_record;
-mod chunk_size;
 mod command;
 mod form;
 mod generate;
 mod generator;
-mod job;
 mod laws;
-mod numbers;
 mod running;
 mod saying;
 mod settings;
@@ -35,11 +32,9 @@ mod sources;
 mod status;
 mod stream;
 mod streaming;
-mod text;
 mod written;
 
 pub use crate::form::Form;
-pub use crate::job::{Job, JobFault, read_job};
 pub use crate::laws::{raw_streams_are_accepted, raw_streams_read_back};
 pub use crate::running::run;
 pub use crate::saying::say;
@@ -47,4 +42,5 @@ pub use crate::settings::{Settings, SettingsFault, read_settings};
 pub use crate::status::{CheckFault, Status, StreamFault};
 pub use crate::streaming::{StreamOptions, sign_and_stream};
 pub use chain_check::{ChainFault, ChainPart, check_chain};
+pub use job_text::{Job, JobFault, read_job};
 pub use request_check::{CheckRequestFault, Checked, check_request};

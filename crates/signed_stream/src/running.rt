@@ -11,14 +11,14 @@ ghost use Rattle.signed_stream.specs.Sources.{DiskGives};
 ghost use Rattle.signed_stream.specs.Status.{could_not_read_file, done, ending_of, output_fault, read_fault};
 
 use crate::check_record::check_record;
-use crate::command::{Command, InputCommand, WordsFault, read_words};
+use crate::command::{Command, InputCommand, read_words};
 use crate::generate::show_generated;
-use crate::job::{JobFault, take_job, take_profile_texts, take_record};
 use crate::saying::say;
 use crate::show_chunked::show_chunked;
 use crate::show_settings::show_settings;
 use crate::status::Status;
 use crate::stream::stream_job;
+use job_text::{JobFault, WordsFault, take_job, take_profile_texts, take_record};
 use smithy_core::{ByteSink, ByteSource, Clock, Disk, Env, ReadFault, read_all};
 use std::alloc::Global;
 

@@ -5,8 +5,8 @@ ghost use Rattle.env_config.specs.EnvConfigValue.{asked_of, chosen_of};
 ghost use Rattle.env_config.specs.Source.{file_of};
 ghost use Rattle.signed_stream.specs.Settings.{GivesSettings, IsSameSettingsFault, asked_region, region_in, selected_in, settings, settings_in};
 
-use crate::text::copied;
 use env_config::{EnvConfigParseError, EnvConfigSections, EnvConfigValue, ParseFault, Source};
+use job_text::copied;
 use smithy_core::{Credentials, Env, Mem, Region};
 use std::alloc::{AllocError, Global};
 use std::fmt;

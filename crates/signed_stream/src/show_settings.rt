@@ -4,7 +4,7 @@ ghost use Rattle.signed_stream.specs.Carriers.{GoesForTexts, IsAfterTexts};
 ghost use Rattle.signed_stream.specs.Command.{show_settings};
 ghost use Rattle.signed_stream.specs.Halt.{Sends};
 ghost use Rattle.signed_stream.specs.ProfileOptions.{profile_wanted};
-ghost use Rattle.signed_stream.specs.ProfileTexts.{texts_of};
+ghost use Rattle.job_text.specs.ProfileTexts.{texts_of};
 ghost use Rattle.signed_stream.specs.Running.{NamesUnreadable};
 ghost use Rattle.signed_stream.specs.Settings.{selected_in};
 ghost use Rattle.signed_stream.specs.Shown.{shown_settings};
@@ -13,11 +13,11 @@ ghost use Rattle.signed_stream.specs.Status.{could_not_read_file, ending_of, out
 
 use crate::chain::write_text;
 use crate::command::ProfileOptions;
-use crate::job::ProfileTexts;
 use crate::settings::Settings;
 use crate::shown::settings_text;
 use crate::sources::select;
 use crate::status::{Status, StreamFault, status_of};
+use job_text::ProfileTexts;
 use smithy_core::{ByteSink, Disk, Env};
 use std::alloc::Global;
 

@@ -8,11 +8,11 @@ ghost use Rattle.signed_stream.specs.Streaming.{stream_wanted};
 
 use crate::status::StreamFault;
 use crate::streaming::StreamOptions;
-use crate::text::copy_of;
 use aws_auth::{
     OverrideError, SigV4MessageSigner, SigV4OperationSigningConfig, SigV4SessionTokenNameOverride,
     SigV4Signer, SigV4SigningError, SigningInputs,
 };
+use job_text::copy_of;
 use sigv4::{SigningError, SigningSettings};
 use smithy_core::{HttpRequest, Identity, Mem, Moment, Region, SigningName};
 use std::alloc::Global;

@@ -5,17 +5,17 @@ ghost use Rattle.env_config.specs.Loading.{Loads};
 ghost use Rattle.signed_stream.specs.Carriers.{IsUnselected, Selects};
 ghost use Rattle.signed_stream.specs.ProfileOptions.{place_of, profile_wanted};
 ghost use Rattle.signed_stream.specs.Plan.{unreadable};
-ghost use Rattle.signed_stream.specs.ProfileTexts.{texts_of};
+ghost use Rattle.job_text.specs.ProfileTexts.{texts_of};
 ghost use Rattle.signed_stream.specs.Sources.{DiskGives, given_place, given_places, source_places};
 ghost use Rattle.signed_stream.specs.Status.{could_not_read_file, ending_of};
 
 use crate::command::{NamedFile, ProfileOptions};
-use crate::job::ProfileTexts;
 use crate::settings::{Settings, read_settings};
 use crate::status::Status;
 use env_config::{
     BuildFault, Builder, EnvConfigFileKind, EnvConfigFileLoadError, EnvConfigFiles, Source, load,
 };
+use job_text::ProfileTexts;
 use smithy_core::{Disk, Env, Mem};
 use std::alloc::{AllocError, Global};
 

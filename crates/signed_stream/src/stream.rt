@@ -5,7 +5,7 @@ ghost use Rattle.smithy_core.specs.Outside.{RoseOrStands};
 ghost use Rattle.env_config.specs.Source.{file_of};
 ghost use Rattle.signed_stream.specs.Carriers.{GoesForJob, IsAfterTexts};
 ghost use Rattle.signed_stream.specs.Command.{stream};
-ghost use Rattle.signed_stream.specs.Draft.{job_parts};
+ghost use Rattle.job_text.specs.Draft.{job_parts};
 ghost use Rattle.signed_stream.specs.Options.{IsOptionsOf, wanted_of};
 ghost use Rattle.signed_stream.specs.Running.{NamesUnreadable, OfClock};
 ghost use Rattle.signed_stream.specs.Streaming.{TakesFor, job_with, stream_plan};
@@ -14,12 +14,11 @@ ghost use Rattle.signed_stream.specs.Halt.{ended};
 ghost use Rattle.signed_stream.specs.Status.{could_not_read_file, ending_of, output_fault};
 
 use crate::command::StreamWords;
-use crate::job::{Job, ProfileTexts};
 use crate::sources::load_source;
 use crate::status::{Status, StreamFault, status_of};
 use crate::streaming::{StreamOptions, sign_and_stream};
-use crate::text::copied;
 use env_config::Source;
+use job_text::{Job, ProfileTexts, copied};
 use smithy_core::{ByteSink, Clock, Disk, Env, FixedClock, HttpRequest, Mem, Message};
 use std::alloc::Global;
 

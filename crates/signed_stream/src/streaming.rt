@@ -18,11 +18,11 @@ use crate::form::Form;
 use crate::settings::{Settings, read_settings};
 use crate::sign::sign_request;
 use crate::status::StreamFault;
-use crate::text::{copy_of, lent};
 use crate::written::head_of;
 use aws_auth::{SigV4MessageSigner, SigningOptions};
 use env_config::Source;
 use event_io::take_moment;
+use job_text::{copy_of, lent};
 use smithy_core::{ByteSink, Clock, Env, HttpRequest, Identity, Mem, Message, Moment};
 use std::alloc::Global;
 

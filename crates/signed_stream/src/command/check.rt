@@ -3,8 +3,8 @@ ghost use Rattle.std.specs.Prelude.{◌≡◌, None, OnOk};
 ghost use Rattle.signed_stream.specs.Command.{check_command, check_option, no_check_given, stands_in_check, take_check_word, with_check_option};
 ghost use Rattle.signed_stream.specs.Options.{ReadsCheck, TakesCheck, check_given};
 
-use crate::command::WordsFault;
 use crate::command::profile::{ProfileOption, ProfileOptions};
+use job_text::WordsFault;
 use smithy_core::Mem;
 use std::alloc::Global;
 

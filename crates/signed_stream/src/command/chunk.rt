@@ -1,13 +1,12 @@
 //! The words of `chunk`.
 ghost use Rattle.std.specs.Prelude.{◌≡◌, None};
 ghost use Rattle.sigv4.specs.Refusal.{is_name, is_value};
-ghost use Rattle.signed_stream.specs.ChunkSize.{spelled_size};
+ghost use Rattle.job_text.specs.ChunkSize.{spelled_size};
 ghost use Rattle.signed_stream.specs.Command.{chunk_command};
 ghost use Rattle.signed_stream.specs.Options.{ReadsChunk};
 ghost use Rattle.signed_stream.specs.ChunkWords.{TakesChunk, chunk_asked, chunk_given, no_chunk_given, take_chunk_option, take_chunk_size, take_chunk_word, take_trailer_name, take_trailer_value};
 
-use crate::chunk_size::ChunkSize;
-use crate::command::WordsFault;
+use job_text::{ChunkSize, WordsFault};
 use smithy_core::{Headers, is_header_name, is_header_value};
 use std::alloc::Global;
 

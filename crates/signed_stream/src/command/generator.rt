@@ -2,11 +2,10 @@
 ghost use Rattle.std.specs.Prelude.{◌≡◌, map};
 ghost use Rattle.std.specs.String.{string_bytes};
 ghost use Rattle.signed_stream.specs.Command.{count_given, generator_from, seeded};
-ghost use Rattle.signed_stream.specs.Numbers.{natural_below};
+ghost use Rattle.job_text.specs.Numbers.{natural_below};
 ghost use Rattle.signed_stream.specs.Options.{ReadsGenerator};
 
-use crate::command::WordsFault;
-use crate::numbers::{parse_count, parse_u64};
+use job_text::{WordsFault, parse_count, parse_u64};
 
 /// What `gen` is asked for.
 #[derive(Clone, Copy, Debug)]

@@ -1,8 +1,7 @@
-use crate::command::WordsFault;
 use crate::command::profile::{ProfileOption, ProfileOptions};
 use crate::form::Form;
-use crate::numbers::{parse_i64, parse_u64};
 use aws_auth::{HttpSignatureType, PayloadSigningOverride, SigningOptions};
+use job_text::{WordsFault, parse_i64, parse_u64};
 use smithy_core::Moment;
 use std::alloc::Global;
 
@@ -53,7 +52,7 @@ impl<'a> GivenOptions<'a> {
     ghost use Rattle.std.specs.Prelude.{◌≡◌, None};
     ghost use Rattle.std.specs.Int.{w64};
     ghost use Rattle.signed_stream.specs.Command.{command_of, no_options, take_expiry, take_flag, take_moment, take_option, take_profile_option, take_skew, take_word};
-    ghost use Rattle.signed_stream.specs.Numbers.{natural_below, number};
+    ghost use Rattle.job_text.specs.Numbers.{natural_below, number};
     ghost use Rattle.signed_stream.specs.Options.{ReadsStream, TakesWord, given_options};
     ghost use Rattle.signed_stream.specs.ProfileOptions.{profile_option};
 

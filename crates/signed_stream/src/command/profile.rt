@@ -5,8 +5,8 @@ ghost use Rattle.signed_stream.specs.Command.{no_profile_given, settings_command
 ghost use Rattle.signed_stream.specs.Options.{ReadsProfile, TakesProfile, profile_given};
 ghost use Rattle.signed_stream.specs.ProfileOptions.{is_same_kind, names_file, nothing_wanted, profile_option, profile_wanted, stands, with_profile_option};
 
-use crate::command::WordsFault;
 use env_config::EnvConfigFileKind;
+use job_text::WordsFault;
 use smithy_core::Mem;
 use std::alloc::Global;
 

@@ -1,5 +1,5 @@
 use Rattle.signed_stream.specs.Options.{check_wanted}
-use Rattle.signed_stream.specs.Record.{record_parts}
+use Rattle.job_text.specs.Record.{record_parts}
 use Rattle.signed_stream.specs.Settings.{selected_in}
 use Rattle.signed_stream.specs.Sources.{DiskGives}
 use Rattle.signed_stream.specs.Status.{ending_of}

@@ -3,8 +3,8 @@ use Rattle.smithy_core.proofs.GivenLemmas.{given_none}
 use Rattle.signed_stream.specs.ChunkWords.{chunk_wanted}
 use Rattle.signed_stream.specs.Options.{check_wanted, input_commanded, wanted_of}
 use Rattle.signed_stream.specs.ProfileOptions.{profile_wanted}
-use Rattle.signed_stream.specs.ProfileTexts.{texts_of}
-use Rattle.signed_stream.specs.Record.{record_parts}
+use Rattle.job_text.specs.ProfileTexts.{texts_of}
+use Rattle.job_text.specs.Record.{record_parts}
 use Rattle.signed_stream.specs.Sources.{DiskGives}
 use Rattle.signed_stream.proofs.RunLemmas.{bytes_no_memory, chunks_written, job_is_bad, job_was_read, record_is_bad, record_was_read, texts_are_bad, texts_were_read}
 use Rattle.signed_stream.proofs.running.answer_bytes.Goals as goal

@@ -1,7 +1,7 @@
 use Rattle.std.proofs.Common.{ap, sym, ◌∙◌}
 use Rattle.signed_stream.specs.Halt.{ended}
 use Rattle.signed_stream.specs.ProfileOptions.{profile_wanted}
-use Rattle.signed_stream.specs.ProfileTexts.{texts_of}
+use Rattle.job_text.specs.ProfileTexts.{texts_of}
 use Rattle.signed_stream.specs.Settings.{selected_in}
 use Rattle.signed_stream.specs.Sources.{DiskGives}
 use Rattle.signed_stream.specs.Status.{ending_of}

@@ -2,7 +2,7 @@ use Rattle.std.proofs.Common.{map}
 use Rattle.std.proofs.lemmas.Result.{err_from_is_err_and}
 use Rattle.std.specs.Option.{option_copied}
 use Rattle.signed_stream.specs.ProfileOptions.{place_of}
-use Rattle.signed_stream.specs.ProfileTexts.{texts_of}
+use Rattle.job_text.specs.ProfileTexts.{texts_of}
 use Rattle.signed_stream.proofs.SourceLemmas.{load_names, load_selects, settings_lack, settings_select}
 use Rattle.signed_stream.proofs.sources.select.Goals as goal
 

@@ -4,7 +4,7 @@ use Rattle.std.specs.Prelude.{string_bytes}
 use Rattle.smithy_core.specs.Given.{Gives}
 use Rattle.smithy_core.proofs.GivenLemmas.{given_none}
 use Rattle.env_config.specs.Source.{file_of}
-use Rattle.signed_stream.specs.Draft.{job_parts}
+use Rattle.job_text.specs.Draft.{job_parts}
 use Rattle.signed_stream.specs.Halt.{ended}
 use Rattle.signed_stream.specs.Options.{wanted_of}
 use Rattle.signed_stream.specs.ProfileOptions.{place_of}

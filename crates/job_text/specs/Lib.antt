@@ -1,0 +1,9 @@
+pub mod ChunkSize
+pub mod Draft
+pub mod EventHeader
+pub mod Fault
+pub mod Job
+pub mod Lines
+pub mod Numbers
+pub mod ProfileTexts
+pub mod Record

@@ -1,0 +1,125 @@
+//! The job that `stream` reads: a request, texts of profile files, and events.
+ghost use Rattle.std.specs.Prelude.{◌≡◌, [], IfOk};
+ghost use Rattle.job_text.specs.Job.{job, lines_from, no_draft};
+ghost use Rattle.job_text.specs.Lines.{job_lines};
+ghost use Rattle.job_text.specs.Draft.{ReadsJob, draft_of, job_parts};
+
+mod draft;
+mod event;
+mod event_header;
+
+use crate::fault::JobFault;
+use crate::job::draft::Draft;
+pub use crate::job::event_header::hex_bytes;
+use crate::lines::{cut_line, text_of};
+use crate::text::copy_of;
+use bytes::Bytes;
+use smithy_core::{HttpRequest, Mem, Message};
+use std::alloc::Global;
+
+/// A job: what is signed and streamed, and what text of profile files goes with it. [`Debug`](std::fmt::Debug) isn't
+/// there, so that no secret is printed.
+#[derive(Drop)]
+pub struct Job {
+    /// The request; without a line of its own its body is empty.
+    pub request: HttpRequest,
+    /// The text of a config file, where there is a line of it.
+    pub config: Option<String>,
+    /// The text of a credentials file, where there is a line of it.
+    pub credentials: Option<String>,
+    /// The events in order.
+    pub events: Vec<Message>,
+}
+
+impl Job {
+    /// An equal job.
+    pub fn try_clone(&self) -> Mem<Job>
+        ensures { IfOk result (λ copy. job_parts copy ≡ job_parts self.now) }
+    {
+        Ok(Job {
+            request: self.request.try_clone()?,
+            config: copy_of(&self.config)?,
+            credentials: copy_of(&self.credentials)?,
+            events: copied_events(*self.events.allocator(), self.events.as_slice())?,
+        })
+    }
+}
+
+// Equal events.
+fn copied_events(alloc: Global, events: &[Message]) -> Mem<Vec<Message>>
+    ensures { IfOk result (λ copies. copies.items ≡ events.now) }
+{
+    let mut copies = Vec::new(alloc);
+    for event in events {
+        copies.push(event.try_clone()?)?;
+    }
+    Ok(copies)
+}
+
+/// The job that the bytes spell.
+///
+/// ```rust
+/// let job = read_job(alloc, b"method GET\ntarget /\nevent\npayload 00\n")?;
+/// let events = job.events.len();
+/// ```
+///
+/// # Errors
+///
+/// [`JobFault::BadLine`] at the first line that is bad. Bytes that aren't UTF-8 are bad at the line of the first bad
+/// byte.
+#[tactic(auto, unfolding(crate::specs::Job::job))]
+pub fn read_job(alloc: Global, bytes: &[u8]) -> Result<Job, JobFault>
+    ensures { ReadsJob (job bytes.now) result }
+{
+    read_lines(alloc, text_of(bytes)?)
+}
+
+/// The job that the bytes spell. They go once it is read.
+///
+/// # Errors
+///
+/// As those of [`read_job`].
+pub fn take_job(alloc: Global, bytes: Vec<u8>) -> Result<Job, JobFault>
+    ensures { ReadsJob (job bytes.items) result }
+{
+    read_job(alloc, bytes.as_slice())
+}
+
+fn read_lines(alloc: Global, text: &str) -> Result<Job, JobFault>
+    ensures { ReadsJob (lines_from 1 no_draft (job_lines text.now)) result }
+{
+    let mut draft = Draft::new(alloc);
+    let mut place = 1;
+    let mut rest = text;
+    while !rest.is_empty() {
+        let (line, others) = cut_line(rest);
+        if let Err(fault) = draft.take_line(alloc, line) {
+            return Err(fault.at(place));
+        }
+        rest = others;
+        place += 1;
+    }
+    into_job(draft, place)
+}
+
+// The job, where the lines are over at the place.
+#[tactic(auto, unfolding(crate::specs::Draft::draft_of))]
+fn into_job(mut draft: Draft, place: usize) -> Result<Job, JobFault>
+    ensures { ReadsJob (lines_from place (draft_of draft) []) result }
+{
+    draft.close_event()?;
+    match (draft.method, draft.target) {
+        (Some(method), Some(target)) => Ok(Job {
+            request: HttpRequest {
+                method,
+                target,
+                headers: draft.headers,
+                body: draft.body.unwrap_or(Bytes::new()),
+            },
+            config: draft.profile.config,
+            credentials: draft.profile.credentials,
+            events: draft.events,
+        }),
+        _ => Err(JobFault::BadLine(place)),
+    }
+}

@@ -1,0 +1,182 @@
+use crate::fault::LineFault;
+use crate::job::event::OpenEvent;
+use crate::job::event_header::{header_of, hex_bytes};
+use crate::lines::{cut_pair, cut_word};
+use crate::profile_texts::ProfileTexts;
+use bytes::Bytes;
+use smithy_core::{Headers, Mem, Message};
+use std::alloc::Global;
+
+/// What the lines so far gave: texts of profile files, the finished events, and the open one.
+#[derive(Drop)]
+pub struct Draft {
+    pub method: Option<String>,
+    pub target: Option<String>,
+    pub headers: Headers,
+    pub body: Option<Bytes>,
+    pub profile: ProfileTexts,
+    pub events: Vec<Message>,
+    pub event: Option<OpenEvent>,
+}
+
+impl Draft {
+    ghost use Rattle.std.specs.Prelude.{◌≡◌, None, OnOk};
+    ghost use Rattle.job_text.specs.Job.{body_step, event_header_step, event_step, events_of, header_step, in_event, job_line_step, method_step, no_draft, payload_step, target_step, text_step, word_step};
+    ghost use Rattle.job_text.specs.Draft.{MovesDraft, draft_of};
+
+    /// Nothing yet.
+    #[tactic(auto, unfolding(crate::specs::Draft::draft_of))]
+    pub fn new(alloc: Global) -> Draft
+        ensures { draft_of result ≡ no_draft }
+    {
+        Draft {
+            method: None,
+            target: None,
+            headers: Headers::new(alloc),
+            body: None,
+            profile: ProfileTexts::new(),
+            events: Vec::new(alloc),
+            event: None,
+        }
+    }
+
+    /// A line; an empty one does nothing.
+    #[tactic(auto, unfolding(crate::specs::Job::job_line_step))]
+    pub fn take_line(&mut self, alloc: Global, line: &str) -> Result<(), LineFault>
+        ensures { MovesDraft (job_line_step (draft_of self.old) line.now) self.new result }
+    {
+        if line.is_empty() {
+            return Ok(());
+        }
+        let (word, rest) = cut_word(line);
+        self.take_word(alloc, word, rest)
+    }
+
+    // A line of this word and this rest.
+    #[tactic(auto, unfolding(crate::specs::Draft::draft_of, crate::specs::Job::word_step))]
+    fn take_word(&mut self, alloc: Global, word: &str, rest: &str) -> Result<(), LineFault>
+        ensures { MovesDraft (word_step (draft_of self.old) word.now rest.now) self.new result }
+    {
+        match word {
+            "event" => self.begin_event(alloc, rest),
+            "h" => self.take_event_header(alloc, rest),
+            "payload" => self.take_payload(alloc, rest),
+            _ if self.event.is_some() => Err(LineFault::Bad),
+            "method" => self.take_method(alloc, rest),
+            "target" => self.take_target(alloc, rest),
+            "header" => self.take_header(rest),
+            "body" => self.take_body(alloc, rest),
+            _ => self.take_text(alloc, word, rest),
+        }
+    }
+
+    // `method M`.
+    #[tactic(auto, unfolding(crate::specs::Draft::draft_of, crate::specs::Job::method_step))]
+    fn take_method(&mut self, alloc: Global, rest: &str) -> Result<(), LineFault>
+        ensures { MovesDraft (method_step (draft_of self.old) rest.now) self.new result }
+    {
+        if self.method.is_some() || rest.is_empty() || rest.as_bytes().contains(&b' ') {
+            return Err(LineFault::Bad);
+        }
+        self.method = Some(String::from_str(alloc, rest)?);
+        Ok(())
+    }
+
+    // `target T`.
+    #[tactic(auto, unfolding(crate::specs::Draft::draft_of, crate::specs::Job::target_step))]
+    fn take_target(&mut self, alloc: Global, rest: &str) -> Result<(), LineFault>
+        ensures { MovesDraft (target_step (draft_of self.old) rest.now) self.new result }
+    {
+        if self.target.is_some() {
+            return Err(LineFault::Bad);
+        }
+        self.target = Some(String::from_str(alloc, rest)?);
+        Ok(())
+    }
+
+    // `header NAME: VALUE`.
+    #[tactic(auto, unfolding(crate::specs::Draft::draft_of, crate::specs::Job::header_step))]
+    fn take_header(&mut self, rest: &str) -> Result<(), LineFault>
+        ensures { MovesDraft (header_step (draft_of self.old) rest.now) self.new result }
+    {
+        let (name, value) = cut_pair(rest).ok_or(LineFault::Bad)?;
+        self.headers.append(name, value)?;
+        Ok(())
+    }
+
+    // `body HEX`.
+    #[tactic(auto, unfolding(crate::specs::Draft::draft_of, crate::specs::Job::body_step))]
+    fn take_body(&mut self, alloc: Global, rest: &str) -> Result<(), LineFault>
+        ensures { MovesDraft (body_step (draft_of self.old) rest.now) self.new result }
+    {
+        if self.body.is_some() {
+            return Err(LineFault::Bad);
+        }
+        self.body = Some(hex_bytes(alloc, rest)?);
+        Ok(())
+    }
+
+    // A line of a profile file's text.
+    #[tactic(auto, unfolding(crate::specs::Draft::draft_of, crate::specs::Job::text_step))]
+    fn take_text(&mut self, alloc: Global, word: &str, rest: &str) -> Result<(), LineFault>
+        ensures { MovesDraft (text_step (draft_of self.old) word.now rest.now) self.new result }
+    {
+        self.profile.take_text(alloc, word, rest)
+    }
+
+    // `event`.
+    #[tactic(auto, unfolding(crate::specs::Draft::draft_of, crate::specs::Job::event_step))]
+    fn begin_event(&mut self, alloc: Global, rest: &str) -> Result<(), LineFault>
+        ensures { MovesDraft (event_step (draft_of self.old) rest.now) self.new result }
+    {
+        if !rest.is_empty() || self.method.is_none() || self.target.is_none() {
+            return Err(LineFault::Bad);
+        }
+        self.close_event()?;
+        self.event = Some(OpenEvent {
+            headers: Vec::new(alloc),
+            payload: None,
+        });
+        Ok(())
+    }
+
+    /// Moves the open event to the finished ones.
+    #[tactic(auto, unfolding(crate::specs::Draft::draft_of))]
+    pub fn close_event(&mut self) -> Mem<()>
+        ensures { OnOk result (draft_of self.new ≡ record (draft_of self.old) { events = events_of (draft_of self.old); event = None }) }
+    {
+        if let Some(event) = self.event.take() {
+            self.events.push(event.into_message())?;
+        }
+        Ok(())
+    }
+
+    // `h NAME KIND VALUE`.
+    #[tactic(auto, unfolding(crate::specs::Draft::draft_of, crate::specs::Job::event_header_step))]
+    fn take_event_header(&mut self, alloc: Global, rest: &str) -> Result<(), LineFault>
+        ensures { MovesDraft (in_event (draft_of self.old).event (λ event. event_header_step (draft_of self.old) event rest.now)) self.new result }
+    {
+        match &mut self.event {
+            Some(event) => {
+                let header = header_of(alloc, rest)?;
+                event.headers.push(header)?;
+                Ok(())
+            }
+            None => Err(LineFault::Bad),
+        }
+    }
+
+    // `payload HEX`.
+    #[tactic(auto, unfolding(crate::specs::Draft::draft_of, crate::specs::Job::payload_step))]
+    fn take_payload(&mut self, alloc: Global, rest: &str) -> Result<(), LineFault>
+        ensures { MovesDraft (in_event (draft_of self.old).event (λ event. payload_step (draft_of self.old) event rest.now)) self.new result }
+    {
+        match &mut self.event {
+            Some(event) if event.payload.is_none() => {
+                event.payload = Some(hex_bytes(alloc, rest)?);
+                Ok(())
+            }
+            _ => Err(LineFault::Bad),
+        }
+    }
+}

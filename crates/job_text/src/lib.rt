@@ -1,0 +1,26 @@
+//! The texts that programs read: lines of jobs and records, and numbers as words and lines spell them.
+//!
+//! The layer above is promised that [`read_job`] answers exactly the job that bytes spell, line by line, or the place of the
+//! first line that is bad (`specs/Job.antt`); so do [`take_record`] (`specs/Record.antt`) and [`take_profile_texts`]
+//! (`specs/ProfileTexts.antt`); and that a number is there exactly where a text spells one that fits
+//! (`specs/Numbers.antt`). Nothing here knows of signing.
+#![tactic(auto)]
+
+mod chunk_size;
+mod fault;
+mod job;
+mod lines;
+mod numbers;
+mod profile_texts;
+mod record;
+mod text;
+mod words;
+
+pub use crate::chunk_size::ChunkSize;
+pub use crate::fault::JobFault;
+pub use crate::job::{Job, read_job, take_job};
+pub use crate::numbers::{parse_count, parse_i64, parse_u64};
+pub use crate::profile_texts::{ProfileTexts, take_profile_texts};
+pub use crate::record::{RecordDraft, take_record};
+pub use crate::text::{copied, copy_of, lent};
+pub use crate::words::WordsFault;

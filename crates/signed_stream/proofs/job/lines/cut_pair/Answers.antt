@@ -1,5 +1,0 @@
-use Rattle.signed_stream.proofs.LineLemmas.{pair_cut}
-use Rattle.signed_stream.proofs.job.lines.cut_pair.Goals as goal
-
-pub returns : goal.returns
-returns c = pair_cut c.args.text.now c.split_once.result c.split_once.ensures.cases
