@@ -9,14 +9,10 @@ use Rattle.std.specs.Str.Lossy.{utf8_valid_len}
 use Rattle.std.proofs.lemmas.Bool.{and_parts, eq-eqb, eqb-true}
 use Rattle.std.proofs.lemmas.Str.{utf8_valid_len-IsUtf8}
 use Rattle.job_text.specs.Fault.{placed}
-use Rattle.job_text.specs.Job.{Draft, JobParts, job_line_step, lines_from}
-use Rattle.job_text.specs.Lines.{job_lines, header_of_line, text_lines, texts_of_pair}
-use Rattle.job_text.specs.Draft.{ReadsJob, MovesDraft}
-use Rattle.job_text.specs.ProfileTexts.{MovesTexts, ProfileTexts, ReadsTexts, texts_from, texts_line_step}
-use Rattle.job_text.specs.declared.job.draft.Draft.{Draft as JobDraft}
+use Rattle.job_text.specs.Lines.{Moves, TakesLines, job_lines, header_of_line, text_lines, texts_of_pair}
+use Rattle.job_text.specs.Pieces.{taken_from}
 use Rattle.job_text.specs.declared.fault.LineFault.{LineFault}
 use Rattle.job_text.specs.declared.fault.LineFault.TheVariants.{Bad, NoMemory}
-use Rattle.job_text.specs.declared.profile_texts.ProfileTexts.{ProfileTexts as HeldTexts}
 
 abbrev is_lf : ℕ → Bool
 is_lf b = eqb b 10
@@ -63,24 +59,14 @@ lines_end (b ∷ bytes) none = absurd (omega arith)
 pub ruleset lines = (lines_first, lines_last)
 
 -- where no bytes are left, the lines are over
-pub lines_over : (place : ℕ) (draft : Draft) (rest : List ℕ) → length rest ≡ 0 → lines_from place draft [] ≡ lines_from place draft (job_lines rest)
-lines_over place draft rest none = rw (lines_end rest none) refl
+pub lines_over : {D : Type 0} (step : D → List ℕ → Option D) (place : ℕ) (draft : D) (rest : List ℕ) → length rest ≡ 0 → taken_from step place draft (job_lines rest) ≡ Ok (draft, place)
+lines_over step place draft rest none = rw (lines_end rest none) refl
 
 -- a line that doesn't move the draft decides
-pub faulty_line : (place : ℕ) (draft : Draft) (line : List ℕ) (lines : List (List ℕ)) (whole : Result JobParts ℕ) (now : JobDraft) (fault : LineFault)
-    → lines_from place draft (line ∷ lines) ≡ whole → MovesDraft (job_line_step draft line) now (Err fault) → ReadsJob whole (Err (placed place fault))
-faulty_line place draft line lines whole now Bad is step = rw (← is, step) refl
-faulty_line place draft line lines whole now NoMemory is step = tt
-
--- where no bytes are left, the lines of texts are over
-pub text_lines_over : (place : ℕ) (texts : ProfileTexts) (rest : List ℕ) → length rest ≡ 0 → texts_from place texts [] ≡ texts_from place texts (job_lines rest)
-text_lines_over place texts rest none = rw (lines_end rest none) refl
-
--- a line that doesn't move the texts decides
-pub faulty_text_line : (place : ℕ) (texts : ProfileTexts) (line : List ℕ) (lines : List (List ℕ)) (whole : Result ProfileTexts ℕ) (now : HeldTexts) (fault : LineFault)
-    → texts_from place texts (line ∷ lines) ≡ whole → MovesTexts (texts_line_step texts line) now (Err fault) → ReadsTexts whole (Err (placed place fault))
-faulty_text_line place texts line lines whole now Bad is step = rw (← is, step) refl
-faulty_text_line place texts line lines whole now NoMemory is step = tt
+pub faulty_line : {D : Type 0} (step : D → List ℕ → Option D) (place : ℕ) (draft : D) (line : List ℕ) (lines : List (List ℕ)) (taken : Result (D × ℕ) ℕ) (now : D) (fault : LineFault)
+    → taken_from step place draft (line ∷ lines) ≡ taken → Moves (step draft line) now (Err fault) → TakesLines taken now (Err (placed place fault))
+faulty_line step place draft line lines taken now Bad is moves = rw (← is, moves) refl
+faulty_line step place draft line lines taken now NoMemory is moves = tt
 
 -- a text has its lines
 pub lines_of_text : (bytes : List ℕ) → IsUtf8 bytes → text_lines bytes ≡ Ok (job_lines bytes)

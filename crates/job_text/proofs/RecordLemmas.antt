@@ -8,26 +8,12 @@ use Rattle.hex.specs.declared.error.FromHexError.{FromHexError}
 use Rattle.hex.proofs.HexLemmas.{decode_of-ok}
 use Rattle.smithy_core.specs.TextPairs.{lower}
 use Rattle.job_text.specs.EventHeader.{hex_bytes}
-use Rattle.job_text.specs.Fault.{placed}
-use Rattle.job_text.specs.Lines.{after_job_line, after_text, header_of_line, job_lines, text_lines}
+use Rattle.job_text.specs.Lines.{after_text, header_of_line, text_lines}
+use Rattle.job_text.specs.Pieces.{after_pieces, taken_from, unless_bad}
 use Rattle.job_text.specs.ProfileTexts.{ProfileTexts, texts_line_step}
-use Rattle.job_text.specs.Record.{MovesRecord, ReadsRecord, RecordParts, chain_line_step, head_line_step, is_record, no_record, record_from, record_of, record_step, request_line, request_line_step, spelled_record, text_line_step}
-use Rattle.job_text.specs.declared.fault.LineFault.{LineFault}
-use Rattle.job_text.specs.declared.fault.LineFault.TheVariants.{Bad, NoMemory}
-use Rattle.job_text.specs.declared.record.RecordDraft.{RecordDraft}
+use Rattle.job_text.specs.Record.{RecordParts, chain_line_step, head_line_step, is_record, no_record, record_line_step, record_of, record_step, request_line, request_line_step, spelled_record, text_line_step, whole_record}
 use Rattle.job_text.specs.declared.record.Stage.{Stage}
 use Rattle.job_text.specs.declared.record.Stage.TheVariants.{Texts, RequestLine, Headers, Chain}
-use Rattle.job_text.proofs.LineLemmas.{lines_end}
-
--- where no bytes are left, the lines are over
-pub record_lines_over : (place : ℕ) (parts : RecordParts) (rest : List ℕ) → length rest ≡ 0 → record_from place parts [] ≡ record_from place parts (job_lines rest)
-record_lines_over place parts rest none = rw (lines_end rest none) refl
-
--- a line that doesn't move the draft decides
-pub faulty_record_line : (place : ℕ) (parts : RecordParts) (line : List ℕ) (lines : List (List ℕ)) (whole : Result RecordParts ℕ) (now : RecordDraft) (fault : LineFault)
-    → record_from place parts (line ∷ lines) ≡ whole → MovesRecord (record_step parts.stage parts line) now (Err fault) → ReadsRecord whole (Err (placed place fault))
-faulty_record_line place parts line lines whole now Bad is step = rw (← is, step) refl
-faulty_record_line place parts line lines whole now NoMemory is step = tt
 
 -- ## The chain of a record is bytes
 
@@ -39,6 +25,11 @@ IsSmall b = b < 256
 abbrev chain_in : Option RecordParts → List ℕ
 chain_in None = []
 chain_in (Some parts) = parts.chain
+
+-- the chain after lines, where none is bad
+abbrev chain_after : Result (RecordParts × ℕ) ℕ → List ℕ
+chain_after (Ok taken) = taken.0.chain
+chain_after (Err place) = []
 
 -- the chain of what is read
 abbrev chain_read : Result RecordParts ℕ → List ℕ
@@ -90,27 +81,31 @@ line_bytes RequestLine parts line small = request_line_bytes parts line small
 line_bytes Headers parts line small = head_line_bytes parts line small
 line_bytes Chain parts line small = chain_line_bytes parts line small
 
-lines_bytes : (place : ℕ) (parts : RecordParts) (lines : List (List ℕ)) → All IsSmall parts.chain → All IsSmall (chain_read (record_from place parts lines))
-lines_bytes place parts [] small = by_stage parts.stage
+lines_bytes : (place : ℕ) (parts : RecordParts) (lines : List (List ℕ)) → All IsSmall parts.chain → All IsSmall (chain_after (taken_from record_line_step place parts lines))
+lines_bytes place parts [] small = small
+lines_bytes place parts (line ∷ lines) small = by_step (record_line_step parts line) (line_bytes parts.stage parts line small) (λ next. lines_bytes (place + 1) next lines)
   where
-    by_stage : (stage : Stage) → All IsSmall (chain_read (record_of place parts stage))
+    by_step : (step : Option RecordParts) → All IsSmall (chain_in step) → ((next : RecordParts) → All IsSmall next.chain → All IsSmall (chain_after (taken_from record_line_step (place + 1) next lines)))
+        → All IsSmall (chain_after (unless_bad place (λ next. taken_from record_line_step (place + 1) next lines) step))
+    by_step None still others = All-nil IsSmall
+    by_step (Some next) still others = others next still
+
+whole_bytes : (taken : Result (RecordParts × ℕ) ℕ) → All IsSmall (chain_after taken) → All IsSmall (chain_read (after_pieces whole_record taken))
+whole_bytes (Err place) small = All-nil IsSmall
+whole_bytes (Ok taken) small = by_stage taken.0.stage
+  where
+    by_stage : (stage : Stage) → All IsSmall (chain_read (record_of taken.1 taken.0 stage))
     by_stage Texts = All-nil IsSmall
     by_stage RequestLine = All-nil IsSmall
     by_stage Headers = All-nil IsSmall
     by_stage Chain = small
-lines_bytes place parts (line ∷ lines) small = by_step (record_step parts.stage parts line) (line_bytes parts.stage parts line small) (λ next. lines_bytes (place + 1) next lines)
-  where
-    by_step : (step : Option RecordParts) → All IsSmall (chain_in step) → ((next : RecordParts) → All IsSmall next.chain → All IsSmall (chain_read (record_from (place + 1) next lines)))
-        → All IsSmall (chain_read (after_job_line place (λ next. record_from (place + 1) next lines) step))
-    by_step None still others = All-nil IsSmall
-    by_step (Some next) still others = others next still
 
 record_bytes : (bytes : List ℕ) → All IsSmall (chain_read (spelled_record bytes))
 unfolding spelled_record
 record_bytes bytes = by_lines (text_lines bytes)
   where
-    by_lines : (lines : Result (List (List ℕ)) ℕ) → All IsSmall (chain_read (after_text (record_from 1 no_record) lines))
-    by_lines (Ok lines) = lines_bytes 1 no_record lines (All-nil IsSmall)
+    by_lines : (lines : Result (List (List ℕ)) ℕ) → All IsSmall (chain_read (after_text (λ lines. after_pieces whole_record (taken_from record_line_step 1 no_record lines)) lines))
+    by_lines (Ok lines) = whole_bytes (taken_from record_line_step 1 no_record lines) (lines_bytes 1 no_record lines (All-nil IsSmall))
     by_lines (Err place) = All-nil IsSmall
 
 pub spelled_bytes : (bytes : List ℕ) (parts : RecordParts) → spelled_record bytes ≡ Ok parts → All IsSmall parts.chain

@@ -1,5 +1,5 @@
 -- What the reader of a job promises of its draft and of the job.
-use Rattle.std.specs.Prelude.{◌≡◌, ℕ, List, Result, Ok, Err, Option, Some, None, option_map, string_bytes}
+use Rattle.std.specs.Prelude.{◌≡◌, ℕ, Result, Ok, Err, Option, Some, None, option_map, string_bytes}
 use Rattle.job_text.specs.Job.{Event, Draft, JobParts}
 use Rattle.job_text.specs.ProfileTexts.{texts_of}
 use Rattle.job_text.specs.declared.job.event.OpenEvent.{OpenEvent}
@@ -26,12 +26,6 @@ draft_of draft =
       events = draft.events.items;
       event = option_map event_of draft.event;
     }
-
--- a line was taken as the step says, unless memory ran out
-abbrev pub MovesDraft : Option Draft → JobDraft → Result (Unit {0}) LineFault → Type 0
-MovesDraft step now (Ok _) = step ≡ Some (draft_of now)
-MovesDraft step now (Err Bad) = step ≡ None
-MovesDraft step now (Err LineNoMemory) = Unit {0}
 
 -- what is given is what the text spells, unless memory ran out
 abbrev pub GivesSpelled : {A : Type 0} → Option A → Result A LineFault → Type 0

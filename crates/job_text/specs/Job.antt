@@ -1,5 +1,5 @@
 -- The job: lines, each a word, or a word, one space and a rest. Each line moves the draft of the job on, or is bad.
-use Rattle.std.specs.Prelude.{ℕ, ◌+◌, ◌==◌, ◌||◌, nat_lt, if◌then◌else◌, List, [], ◌∷◌, ◌++◌, length, codes, bytes_eq, Option, Some, None, is_some, is_none, option_map, unwrap_or, Result, Ok, Err}
+use Rattle.std.specs.Prelude.{ℕ, ◌==◌, ◌||◌, nat_lt, if◌then◌else◌, List, [], ◌∷◌, ◌++◌, length, codes, bytes_eq, Option, Some, None, is_some, is_none, option_map, unwrap_or, Result, Ok, Err}
 use Rattle.std.specs.Option.{option_to_list}
 use Rattle.std.specs.List.{list_any}
 use Rattle.smithy_core.specs.Text.{space}
@@ -7,7 +7,8 @@ use Rattle.smithy_core.specs.TextPairs.{lower}
 use Rattle.smithy_core.specs.Message.{Parts}
 use Rattle.smithy_core.specs.Header.{Header}
 use Rattle.job_text.specs.EventHeader.{hex_bytes, event_header}
-use Rattle.job_text.specs.Lines.{after_job_line, after_text, header_of_line, after_word_of, text_lines, word_of}
+use Rattle.job_text.specs.Lines.{after_text, header_of_line, after_word_of, text_lines, word_of}
+use Rattle.job_text.specs.Pieces.{after_pieces, taken_from}
 use Rattle.job_text.specs.ProfileTexts.{ProfileTexts, no_texts, profile_step}
 
 -- ## Events
@@ -122,11 +123,10 @@ job_of place draft (Some method) (Some target) =
 job_of place draft (Some method) None = Err place
 job_of place draft None target = Err place
 
--- what the lines from a place on spell, after those that gave the draft
-abbrev pub lines_from : ℕ → Draft → List (List ℕ) → Result JobParts ℕ
-lines_from place draft [] = job_of place draft draft.method draft.target
-lines_from place draft (line ∷ lines) = after_job_line place (λ next. lines_from (place + 1) next lines) (job_line_step draft line)
+-- the job of all lines
+abbrev pub whole_job : ℕ → Draft → Result JobParts ℕ
+whole_job place draft = job_of place draft draft.method draft.target
 
 -- the job that the bytes spell, or the place of the first bad line
 unfoldable pub job : List ℕ → Result JobParts ℕ
-job bytes = after_text (lines_from 1 no_draft) (text_lines bytes)
+job bytes = after_text (λ lines. after_pieces whole_job (taken_from job_line_step 1 no_draft lines)) (text_lines bytes)

@@ -5,5 +5,7 @@ pub mod Fault
 pub mod Job
 pub mod Lines
 pub mod Numbers
+pub mod Pieces
 pub mod ProfileTexts
 pub mod Record
+pub mod Words

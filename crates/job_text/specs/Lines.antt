@@ -6,6 +6,8 @@ use Rattle.std.specs.Str.Lossy.{utf8_valid_len}
 use Rattle.smithy_core.specs.Text.{line_feed, space}
 use Rattle.job_text.specs.declared.fault.JobFault.{JobFault}
 use Rattle.job_text.specs.declared.fault.JobFault.TheVariants.{BadLine, NoMemory}
+use Rattle.job_text.specs.declared.fault.LineFault.{LineFault}
+use Rattle.job_text.specs.declared.fault.LineFault.TheVariants.{Bad, NoMemory as LineNoMemory}
 
 -- a line ends at LF, and the last one may lack it
 unfoldable pub job_lines : List ℕ → List (List ℕ)
@@ -22,11 +24,6 @@ text_lines bytes =
 abbrev pub after_text : {A : Type 0} → (List (List ℕ) → Result A ℕ) → Result (List (List ℕ)) ℕ → Result A ℕ
 after_text others (Ok lines) = others lines
 after_text others (Err place) = Err place
-
--- goes on, where the line at a place isn't bad
-abbrev pub after_job_line : {A B : Type 0} → ℕ → (A → Result B ℕ) → Option A → Result B ℕ
-after_job_line place others (Some next) = others next
-after_job_line place others None = Err place
 
 -- what stands before the first space, or all
 abbrev pub word_of : List ℕ → List ℕ
@@ -58,3 +55,15 @@ TellsText lines (Err NoMemory) = ⊥
 -- the texts of a pair
 abbrev pub texts_of_pair : Option (Bor (List ℕ) × Bor (List ℕ)) → Option (List ℕ × List ℕ)
 texts_of_pair pair = option_map (λ parts. (parts.0.now, parts.1.now)) pair
+
+-- a line was taken as the step says, unless memory ran out
+abbrev pub Moves : {D : Type 0} → Option D → D → Result (Unit {0}) LineFault → Type 0
+Moves step now (Ok _) = step ≡ Some now
+Moves step now (Err Bad) = step ≡ None
+Moves step now (Err LineNoMemory) = Unit {0}
+
+-- the lines were taken, and this is the place behind them; or the line at this place is bad; or memory ran out
+abbrev pub TakesLines : {D : Type 0} → Result (D × ℕ) ℕ → D → Result ℕ JobFault → Type 0
+TakesLines taken now (Ok place) = taken ≡ Ok (now, place)
+TakesLines taken now (Err (BadLine place)) = taken ≡ Err place
+TakesLines taken now (Err NoMemory) = Unit {0}

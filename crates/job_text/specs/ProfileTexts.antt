@@ -1,11 +1,10 @@
 -- The texts of profile files that an input holds, line by line.
-use Rattle.std.specs.Prelude.{◌≡◌, ℕ, ◌+◌, ◌==◌, if◌then◌else◌, List, [], ◌∷◌, ◌++◌, length, codes, bytes_eq, string_bytes, Option, Some, None, option_map, unwrap_or, Result, Ok, Err}
+use Rattle.std.specs.Prelude.{◌≡◌, ℕ, ◌==◌, if◌then◌else◌, List, [], ◌++◌, length, codes, bytes_eq, string_bytes, Option, Some, None, option_map, unwrap_or, Result, Ok, Err}
 use Rattle.smithy_core.specs.Text.{line}
-use Rattle.job_text.specs.Lines.{after_job_line, after_text, after_word_of, text_lines, word_of}
+use Rattle.job_text.specs.Lines.{after_text, after_word_of, text_lines, word_of}
+use Rattle.job_text.specs.Pieces.{after_pieces, taken_from}
 use Rattle.job_text.specs.declared.fault.JobFault.{JobFault}
 use Rattle.job_text.specs.declared.fault.JobFault.TheVariants.{BadLine, NoMemory}
-use Rattle.job_text.specs.declared.fault.LineFault.{LineFault}
-use Rattle.job_text.specs.declared.fault.LineFault.TheVariants.{Bad, NoMemory as LineNoMemory}
 use Rattle.job_text.specs.declared.profile_texts.ProfileTexts.{ProfileTexts as HeldTexts}
 
 -- the text of a config file and that of a credentials file, each from its first line on
@@ -31,26 +30,19 @@ profile_step texts word rest =
 unfoldable pub texts_line_step : ProfileTexts → List ℕ → Option ProfileTexts
 texts_line_step texts line = if length line == 0 then Some texts else profile_step texts (word_of line) (after_word_of line)
 
--- what the lines from a place on spell, after those that gave these texts
-abbrev pub texts_from : ℕ → ProfileTexts → List (List ℕ) → Result ProfileTexts ℕ
-texts_from place texts [] = Ok texts
-texts_from place texts (line ∷ lines) = after_job_line place (λ next. texts_from (place + 1) next lines) (texts_line_step texts line)
+-- the texts of all lines
+abbrev pub whole_texts : ℕ → ProfileTexts → Result ProfileTexts ℕ
+whole_texts place texts = Ok texts
 
 -- the texts that the bytes spell, or the place of the first bad line
 unfoldable pub profile_texts : List ℕ → Result ProfileTexts ℕ
-profile_texts bytes = after_text (texts_from 1 no_texts) (text_lines bytes)
+profile_texts bytes = after_text (λ lines. after_pieces whole_texts (taken_from texts_line_step 1 no_texts lines)) (text_lines bytes)
 
 -- ## Answers
 
 -- what contracts see of texts
 abbrev pub texts_of : HeldTexts → ProfileTexts
 texts_of texts = record { config = option_map string_bytes texts.config; credentials = option_map string_bytes texts.credentials }
-
--- a line was taken as the step says, unless memory ran out
-abbrev pub MovesTexts : Option ProfileTexts → HeldTexts → Result (Unit {0}) LineFault → Type 0
-MovesTexts step now (Ok _) = step ≡ Some (texts_of now)
-MovesTexts step now (Err Bad) = step ≡ None
-MovesTexts step now (Err LineNoMemory) = Unit {0}
 
 -- the texts are the ones that are read; or the line at this place is bad; or memory ran out
 abbrev pub ReadsTexts : Result ProfileTexts ℕ → Result HeldTexts JobFault → Type 0

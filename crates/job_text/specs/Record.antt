@@ -1,14 +1,13 @@
 -- The input of `check`: lines of profile texts, a line `record`, and then the record as `stream` writes it: the request line, the headers, an empty line, and
 -- lines of hexadecimal. Each line moves the draft of the record on, or is bad.
-use Rattle.std.specs.Prelude.{◌≡◌, ℕ, ◌+◌, ◌==◌, Bool, ◌&&◌, ◌||◌, if◌then◌else◌, List, [], ◌∷◌, ◌++◌, length, codes, bytes_eq, string_bytes, Option, Some, None, option_map, Result, Ok, Err}
+use Rattle.std.specs.Prelude.{◌≡◌, ℕ, ◌==◌, Bool, ◌&&◌, ◌||◌, if◌then◌else◌, List, [], ◌∷◌, ◌++◌, length, codes, bytes_eq, string_bytes, Option, Some, None, option_map, Result, Ok, Err}
 use Rattle.smithy_core.specs.TextPairs.{lower}
 use Rattle.job_text.specs.EventHeader.{hex_bytes}
-use Rattle.job_text.specs.Lines.{after_job_line, after_text, header_of_line, after_word_of, text_lines, word_of}
+use Rattle.job_text.specs.Lines.{after_text, header_of_line, after_word_of, text_lines, word_of}
+use Rattle.job_text.specs.Pieces.{after_pieces, taken_from}
 use Rattle.job_text.specs.ProfileTexts.{ProfileTexts, no_texts, texts_line_step, texts_of}
 use Rattle.job_text.specs.declared.fault.JobFault.{JobFault}
 use Rattle.job_text.specs.declared.fault.JobFault.TheVariants.{BadLine, NoMemory}
-use Rattle.job_text.specs.declared.fault.LineFault.{LineFault}
-use Rattle.job_text.specs.declared.fault.LineFault.TheVariants.{Bad, NoMemory as LineNoMemory}
 use Rattle.job_text.specs.declared.record.RecordDraft.{RecordDraft}
 use Rattle.job_text.specs.declared.record.Stage.{Stage}
 use Rattle.job_text.specs.declared.record.Stage.TheVariants.{Texts, RequestLine, Headers, Chain}
@@ -59,19 +58,22 @@ record_step RequestLine parts line = request_line_step parts line
 record_step Headers parts line = head_line_step parts line
 record_step Chain parts line = chain_line_step parts line
 
+-- what a line does after those before it
+abbrev pub record_line_step : RecordParts → List ℕ → Option RecordParts
+record_line_step parts line = record_step parts.stage parts line
+
 -- the lines are over: the record, where its head is whole, or the place after the last line
 abbrev pub record_of : ℕ → RecordParts → Stage → Result RecordParts ℕ
 record_of place parts Chain = Ok parts
 record_of place parts stage = Err place
 
--- what the lines from a place on spell, after those that gave these parts
-abbrev pub record_from : ℕ → RecordParts → List (List ℕ) → Result RecordParts ℕ
-record_from place parts [] = record_of place parts parts.stage
-record_from place parts (line ∷ lines) = after_job_line place (λ next. record_from (place + 1) next lines) (record_step parts.stage parts line)
+-- the record of all lines
+abbrev pub whole_record : ℕ → RecordParts → Result RecordParts ℕ
+whole_record place parts = record_of place parts parts.stage
 
 -- the record that the bytes spell, or the place of the first bad line
 unfoldable pub spelled_record : List ℕ → Result RecordParts ℕ
-spelled_record bytes = after_text (record_from 1 no_record) (text_lines bytes)
+spelled_record bytes = after_text (λ lines. after_pieces whole_record (taken_from record_line_step 1 no_record lines)) (text_lines bytes)
 
 -- ## Answers
 
@@ -85,12 +87,6 @@ record_parts draft = record {
   headers = draft.request.headers;
   chain = draft.chain.items;
 }
-
--- a line was taken as the step says, unless memory ran out
-abbrev pub MovesRecord : Option RecordParts → RecordDraft → Result (Unit {0}) LineFault → Type 0
-MovesRecord step now (Ok _) = step ≡ Some (record_parts now)
-MovesRecord step now (Err Bad) = step ≡ None
-MovesRecord step now (Err LineNoMemory) = Unit {0}
 
 -- the record is the one that is read; or the line at this place is bad; or memory ran out
 abbrev pub ReadsRecord : Result RecordParts ℕ → Result RecordDraft JobFault → Type 0

@@ -1,7 +1,6 @@
 //! The job that `stream` reads: a request, texts of profile files, and events.
-ghost use Rattle.std.specs.Prelude.{◌≡◌, [], IfOk};
-ghost use Rattle.job_text.specs.Job.{job, lines_from, no_draft};
-ghost use Rattle.job_text.specs.Lines.{job_lines};
+ghost use Rattle.std.specs.Prelude.{◌≡◌, IfOk};
+ghost use Rattle.job_text.specs.Job.{job, whole_job};
 ghost use Rattle.job_text.specs.Draft.{ReadsJob, draft_of, job_parts};
 
 mod draft;
@@ -11,7 +10,7 @@ mod event_header;
 use crate::fault::JobFault;
 use crate::job::draft::Draft;
 pub use crate::job::event_header::hex_bytes;
-use crate::lines::{cut_line, text_of};
+use crate::lines::{take_lines, text_of};
 use crate::text::copy_of;
 use bytes::Bytes;
 use smithy_core::{HttpRequest, Mem, Message};
@@ -45,8 +44,8 @@ impl Job {
     }
 }
 
-// Equal events.
-fn copied_events(alloc: Global, events: &[Message]) -> Mem<Vec<Message>>
+/// Equal events.
+pub fn copied_events(alloc: Global, events: &[Message]) -> Mem<Vec<Message>>
     ensures { IfOk result (λ copies. copies.items ≡ events.now) }
 {
     let mut copies = Vec::new(alloc);
@@ -71,7 +70,10 @@ fn copied_events(alloc: Global, events: &[Message]) -> Mem<Vec<Message>>
 pub fn read_job(alloc: Global, bytes: &[u8]) -> Result<Job, JobFault>
     ensures { ReadsJob (job bytes.now) result }
 {
-    read_lines(alloc, text_of(bytes)?)
+    let text = text_of(bytes)?;
+    let mut draft = Draft::new(alloc);
+    let place = take_lines(alloc, &mut draft, text)?;
+    into_job(draft, place)
 }
 
 /// The job that the bytes spell. They go once it is read.
@@ -85,27 +87,10 @@ pub fn take_job(alloc: Global, bytes: Vec<u8>) -> Result<Job, JobFault>
     read_job(alloc, bytes.as_slice())
 }
 
-fn read_lines(alloc: Global, text: &str) -> Result<Job, JobFault>
-    ensures { ReadsJob (lines_from 1 no_draft (job_lines text.now)) result }
-{
-    let mut draft = Draft::new(alloc);
-    let mut place = 1;
-    let mut rest = text;
-    while !rest.is_empty() {
-        let (line, others) = cut_line(rest);
-        if let Err(fault) = draft.take_line(alloc, line) {
-            return Err(fault.at(place));
-        }
-        rest = others;
-        place += 1;
-    }
-    into_job(draft, place)
-}
-
 // The job, where the lines are over at the place.
 #[tactic(auto, unfolding(crate::specs::Draft::draft_of))]
 fn into_job(mut draft: Draft, place: usize) -> Result<Job, JobFault>
-    ensures { ReadsJob (lines_from place (draft_of draft) []) result }
+    ensures { ReadsJob (whole_job place (draft_of draft)) result }
 {
     draft.close_event()?;
     match (draft.method, draft.target) {

@@ -17,10 +17,11 @@ mod text;
 mod words;
 
 pub use crate::chunk_size::ChunkSize;
-pub use crate::fault::JobFault;
-pub use crate::job::{Job, read_job, take_job};
+pub use crate::fault::{JobFault, LineFault};
+pub use crate::job::{Job, copied_events, hex_bytes, read_job, take_job};
+pub use crate::lines::{TakeLine, cut_pair, cut_word, take_lines, text_of};
 pub use crate::numbers::{parse_count, parse_i64, parse_u64};
 pub use crate::profile_texts::{ProfileTexts, take_profile_texts};
 pub use crate::record::{RecordDraft, take_record};
 pub use crate::text::{copied, copy_of, lent};
-pub use crate::words::WordsFault;
+pub use crate::words::{TakeWord, WordsFault, take_words};

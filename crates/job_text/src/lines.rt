@@ -1,9 +1,54 @@
 //! Lines, and the words in them.
 ghost use Rattle.std.specs.Prelude.{◌≡◌, ◌<◌, ◌==◌, ◌+◌, ◌∷◌, count_by, length};
 ghost use Rattle.smithy_core.specs.Text.{line_feed};
-ghost use Rattle.job_text.specs.Lines.{TellsText, after_word_of, header_of_line, job_lines, text_lines, texts_of_pair, word_of};
+ghost use Rattle.job_text.specs.Lines.{TakesLines, TellsText, after_word_of, header_of_line, job_lines, text_lines, texts_of_pair, word_of};
+ghost use Rattle.job_text.specs.Pieces.{taken_from};
 
-use crate::fault::JobFault;
+use crate::fault::{JobFault, LineFault};
+use std::alloc::Global;
+
+/// Takes a text line by line.
+pub trait TakeLine {
+    ghost use Rattle.std.specs.Prelude.{ℕ, List, Option};
+    ghost use Rattle.job_text.specs.Lines.{Moves};
+
+    // what is told of the lines so far
+    ghost Draft: { Type 0 };
+
+    ghost draft: { Self → Draft };
+
+    // what a line does, where it isn't bad
+    ghost step: { Draft → List ℕ → Option Draft };
+
+    /// A line.
+    ///
+    /// # Errors
+    ///
+    /// [`LineFault::Bad`] where it is bad.
+    fn take_line(&mut self, alloc: Global, line: &str) -> Result<(), LineFault>
+        ensures { Moves (step (draft self.old) line.now) (draft self.new) result };
+}
+
+/// Takes the lines of a text, and answers the place behind the last one; places count from 1.
+///
+/// # Errors
+///
+/// [`JobFault::BadLine`] at the first line that is bad.
+pub fn take_lines<D: TakeLine>(alloc: Global, draft: &mut D, text: &str) -> Result<usize, JobFault>
+    ensures { TakesLines (taken_from D.step 1 (D.draft draft.old) (job_lines text.now)) (D.draft draft.new) result }
+{
+    let mut place = 1;
+    let mut rest = text;
+    while !rest.is_empty() {
+        let (line, others) = cut_line(rest);
+        if let Err(fault) = draft.take_line(alloc, line) {
+            return Err(fault.at(place));
+        }
+        rest = others;
+        place += 1;
+    }
+    Ok(place)
+}
 
 /// The bytes as text.
 ///

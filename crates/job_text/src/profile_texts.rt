@@ -1,11 +1,11 @@
 //! The texts of profile files that an input holds.
 ghost use Rattle.std.specs.Prelude.{◌≡◌, OnOk, option_map};
 ghost use Rattle.std.specs.String.{string_bytes};
-ghost use Rattle.job_text.specs.Lines.{job_lines};
-ghost use Rattle.job_text.specs.ProfileTexts.{MovesTexts, ReadsTexts, no_texts, profile_step, profile_texts, texts_from, texts_line_step, texts_of, with_line};
+ghost use Rattle.job_text.specs.Lines.{Moves};
+ghost use Rattle.job_text.specs.ProfileTexts.{ReadsTexts, no_texts, profile_step, profile_texts, texts_of, with_line};
 
 use crate::fault::{JobFault, LineFault};
-use crate::lines::{cut_line, cut_word, text_of};
+use crate::lines::{TakeLine, cut_word, take_lines, text_of};
 use smithy_core::Mem;
 use std::alloc::Global;
 
@@ -30,18 +30,6 @@ impl ProfileTexts {
         }
     }
 
-    /// A line of an input that has nothing else; an empty one does nothing.
-    #[tactic(auto, unfolding(crate::specs::ProfileTexts::texts_line_step))]
-    pub fn take_line(&mut self, alloc: Global, line: &str) -> Result<(), LineFault>
-        ensures { MovesTexts (texts_line_step (texts_of self.old) line.now) self.new result }
-    {
-        if line.is_empty() {
-            return Ok(());
-        }
-        let (word, rest) = cut_word(line);
-        self.take_text(alloc, word, rest)
-    }
-
     /// A line of this word and this rest, where the word names a text: the rest is one more line of it.
     ///
     /// # Errors
@@ -49,13 +37,33 @@ impl ProfileTexts {
     /// [`LineFault::Bad`] where the word names none.
     #[tactic(auto, unfolding(crate::specs::ProfileTexts::profile_step))]
     pub fn take_text(&mut self, alloc: Global, word: &str, rest: &str) -> Result<(), LineFault>
-        ensures { MovesTexts (profile_step (texts_of self.old) word.now rest.now) self.new result }
+        ensures { Moves (profile_step (texts_of self.old) word.now rest.now) (texts_of self.new) result }
     {
         match word {
             "config" => Ok(push_line(alloc, &mut self.config, rest)?),
             "credentials" => Ok(push_line(alloc, &mut self.credentials, rest)?),
             _ => Err(LineFault::Bad),
         }
+    }
+}
+
+impl TakeLine for ProfileTexts {
+    ghost use Rattle.job_text.specs.ProfileTexts.{ProfileTexts, texts_line_step, texts_of};
+
+    ghost Draft = { ProfileTexts };
+
+    ghost draft = { texts_of };
+
+    ghost step = { texts_line_step };
+
+    // A line of an input that has nothing else; an empty one does nothing.
+    #[tactic(auto, unfolding(crate::specs::ProfileTexts::texts_line_step))]
+    fn take_line(&mut self, alloc: Global, line: &str) -> Result<(), LineFault> {
+        if line.is_empty() {
+            return Ok(());
+        }
+        let (word, rest) = cut_word(line);
+        self.take_text(alloc, word, rest)
     }
 }
 
@@ -78,22 +86,8 @@ fn push_line(alloc: Global, text: &mut Option<String>, line: &str) -> Mem<()>
 pub fn take_profile_texts(alloc: Global, bytes: Vec<u8>) -> Result<ProfileTexts, JobFault>
     ensures { ReadsTexts (profile_texts bytes.items) result }
 {
-    read_texts(alloc, text_of(bytes.as_slice())?)
-}
-
-fn read_texts(alloc: Global, text: &str) -> Result<ProfileTexts, JobFault>
-    ensures { ReadsTexts (texts_from 1 no_texts (job_lines text.now)) result }
-{
+    let text = text_of(bytes.as_slice())?;
     let mut texts = ProfileTexts::new();
-    let mut place = 1;
-    let mut rest = text;
-    while !rest.is_empty() {
-        let (line, others) = cut_line(rest);
-        if let Err(fault) = texts.take_line(alloc, line) {
-            return Err(fault.at(place));
-        }
-        rest = others;
-        place += 1;
-    }
+    take_lines(alloc, &mut texts, text)?;
     Ok(texts)
 }

@@ -1,11 +1,10 @@
 //! The record that `check` reads.
-ghost use Rattle.std.specs.Prelude.{◌≡◌, []};
-ghost use Rattle.job_text.specs.Lines.{job_lines};
-ghost use Rattle.job_text.specs.Record.{ReadsRecord, no_record, record_from, record_parts, spelled_record};
+ghost use Rattle.std.specs.Prelude.{◌≡◌};
+ghost use Rattle.job_text.specs.Record.{ReadsRecord, record_parts, spelled_record, whole_record};
 
 use crate::fault::{JobFault, LineFault};
 use crate::job::hex_bytes;
-use crate::lines::{cut_line, cut_pair, cut_word, text_of};
+use crate::lines::{TakeLine, cut_pair, cut_word, take_lines, text_of};
 use crate::profile_texts::ProfileTexts;
 use bytes::Bytes;
 use smithy_core::{Headers, HttpRequest};
@@ -36,7 +35,8 @@ pub struct RecordDraft {
 }
 
 impl RecordDraft {
-    ghost use Rattle.job_text.specs.Record.{MovesRecord, chain_line_step, head_line_step, record_step, request_line_step, text_line_step};
+    ghost use Rattle.job_text.specs.Record.{chain_line_step, head_line_step, no_record, request_line_step, text_line_step};
+    ghost use Rattle.job_text.specs.Lines.{Moves};
 
     /// Nothing yet.
     #[tactic(auto, unfolding(crate::specs::Record::record_parts))]
@@ -56,23 +56,10 @@ impl RecordDraft {
         }
     }
 
-    /// A line.
-    #[tactic(auto, unfolding(crate::specs::Record::record_parts))]
-    pub fn take_line(&mut self, alloc: Global, line: &str) -> Result<(), LineFault>
-        ensures { MovesRecord (record_step (record_parts self.old).stage (record_parts self.old) line.now) self.new result }
-    {
-        match self.stage {
-            Stage::Texts => self.take_text_line(alloc, line),
-            Stage::RequestLine => self.take_request_line(alloc, line),
-            Stage::Headers => self.take_head_line(line),
-            Stage::Chain => self.take_chain_line(alloc, line),
-        }
-    }
-
     // A line of profile texts, or the line `record`.
     #[tactic(auto, unfolding(crate::specs::Record::record_parts, crate::specs::Record::text_line_step))]
     fn take_text_line(&mut self, alloc: Global, line: &str) -> Result<(), LineFault>
-        ensures { MovesRecord (text_line_step (record_parts self.old) line.now) self.new result }
+        ensures { Moves (text_line_step (record_parts self.old) line.now) (record_parts self.new) result }
     {
         let (word, rest) = cut_word(line);
         if word == "record" && rest.is_empty() {
@@ -85,7 +72,7 @@ impl RecordDraft {
     // `METHOD target`.
     #[tactic(auto, unfolding(crate::specs::Record::record_parts, crate::specs::Record::request_line, crate::specs::Record::request_line_step))]
     fn take_request_line(&mut self, alloc: Global, line: &str) -> Result<(), LineFault>
-        ensures { MovesRecord (request_line_step (record_parts self.old) line.now) self.new result }
+        ensures { Moves (request_line_step (record_parts self.old) line.now) (record_parts self.new) result }
     {
         let (method, target) = cut_word(line);
         if method.is_empty() || method.len() == line.len() {
@@ -100,7 +87,7 @@ impl RecordDraft {
     // `name: value`, or the empty line that ends the head.
     #[tactic(auto, unfolding(crate::specs::Record::record_parts, crate::specs::Record::head_line_step))]
     fn take_head_line(&mut self, line: &str) -> Result<(), LineFault>
-        ensures { MovesRecord (head_line_step (record_parts self.old) line.now) self.new result }
+        ensures { Moves (head_line_step (record_parts self.old) line.now) (record_parts self.new) result }
     {
         if line.is_empty() {
             self.stage = Stage::Chain;
@@ -114,11 +101,31 @@ impl RecordDraft {
     // Hexadecimal digits.
     #[tactic(auto, unfolding(crate::specs::Record::record_parts, crate::specs::Record::chain_line_step))]
     fn take_chain_line(&mut self, alloc: Global, line: &str) -> Result<(), LineFault>
-        ensures { MovesRecord (chain_line_step (record_parts self.old) line.now) self.new result }
+        ensures { Moves (chain_line_step (record_parts self.old) line.now) (record_parts self.new) result }
     {
         let bytes = hex_bytes(alloc, line)?;
         self.chain.extend_from_slice(bytes.as_slice())?;
         Ok(())
+    }
+}
+
+impl TakeLine for RecordDraft {
+    ghost use Rattle.job_text.specs.Record.{RecordParts, record_line_step, record_parts};
+
+    ghost Draft = { RecordParts };
+
+    ghost draft = { record_parts };
+
+    ghost step = { record_line_step };
+
+    #[tactic(auto, unfolding(crate::specs::Record::record_parts))]
+    fn take_line(&mut self, alloc: Global, line: &str) -> Result<(), LineFault> {
+        match self.stage {
+            Stage::Texts => self.take_text_line(alloc, line),
+            Stage::RequestLine => self.take_request_line(alloc, line),
+            Stage::Headers => self.take_head_line(line),
+            Stage::Chain => self.take_chain_line(alloc, line),
+        }
     }
 }
 
@@ -131,30 +138,16 @@ impl RecordDraft {
 pub fn take_record(alloc: Global, bytes: Vec<u8>) -> Result<RecordDraft, JobFault>
     ensures { ReadsRecord (spelled_record bytes.items) result }
 {
-    read_record_lines(alloc, text_of(bytes.as_slice())?)
-}
-
-fn read_record_lines(alloc: Global, text: &str) -> Result<RecordDraft, JobFault>
-    ensures { ReadsRecord (record_from 1 no_record (job_lines text.now)) result }
-{
+    let text = text_of(bytes.as_slice())?;
     let mut draft = RecordDraft::new(alloc);
-    let mut place = 1;
-    let mut rest = text;
-    while !rest.is_empty() {
-        let (line, others) = cut_line(rest);
-        if let Err(fault) = draft.take_line(alloc, line) {
-            return Err(fault.at(place));
-        }
-        rest = others;
-        place += 1;
-    }
+    let place = take_lines(alloc, &mut draft, text)?;
     whole_record(draft, place)
 }
 
 // The record, where the lines are over at the place.
 #[tactic(auto, unfolding(crate::specs::Record::record_parts))]
 fn whole_record(draft: RecordDraft, place: usize) -> Result<RecordDraft, JobFault>
-    ensures { ReadsRecord (record_from place (record_parts draft) []) result }
+    ensures { ReadsRecord (whole_record place (record_parts draft)) result }
 {
     match draft.stage {
         Stage::Chain => Ok(draft),

@@ -1,4 +1,9 @@
-//! Words.
+//! The words of a command line.
+ghost use Rattle.std.specs.Prelude.{map};
+ghost use Rattle.std.specs.String.{string_bytes};
+ghost use Rattle.job_text.specs.Pieces.{taken_from};
+ghost use Rattle.job_text.specs.Words.{TakesWords};
+
 use std::alloc::AllocError;
 
 /// Why words spell no command.
@@ -18,4 +23,45 @@ impl From<AllocError> for WordsFault {
     fn from(_e: AllocError) -> WordsFault {
         WordsFault::NoMemory
     }
+}
+
+/// Takes the words of a command one by one.
+pub trait TakeWord<'a> {
+    ghost use Rattle.std.specs.Prelude.{ℕ, List, Option};
+    ghost use Rattle.job_text.specs.Words.{TakesWord};
+
+    // what is told of the words so far
+    ghost Given: { Type 0 };
+
+    ghost given: { Self → Given };
+
+    // what a word does, where it isn't bad
+    ghost step: { Given → List ℕ → Option Given };
+
+    /// The word at a place.
+    ///
+    /// # Errors
+    ///
+    /// [`WordsFault::BadWord`] with this place where it is bad.
+    fn take_word(&mut self, place: usize, word: &'a str) -> Result<(), WordsFault>
+        ensures { TakesWord (step (given self.old) word.now) place (given self.new) result };
+}
+
+/// Takes the words behind a command's name, whose place is 1, and answers the place behind the last one.
+///
+/// # Errors
+///
+/// [`WordsFault::BadWord`] with the place of the first word that is bad.
+pub fn take_words<'a, W: TakeWord<'a>>(
+    given: &mut W,
+    words: &'a [String],
+) -> Result<usize, WordsFault>
+    ensures { TakesWords (taken_from W.step 2 (W.given given.old) (map string_bytes words.now)) (W.given given.new) result }
+{
+    let mut place = 2;
+    for word in words {
+        given.take_word(place, word.as_str())?;
+        place += 1;
+    }
+    Ok(place)
 }

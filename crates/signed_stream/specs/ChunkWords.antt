@@ -1,10 +1,8 @@
 -- The words of `chunk`.
-use Rattle.std.specs.Prelude.{◌≡◌, ℕ, Result, Ok, Err, ◌+◌, if◌then◌else◌, List, [], ◌∷◌, ◌++◌, codes, bytes_eq, Option, Some, None, is_some}
+use Rattle.std.specs.Prelude.{ℕ, if◌then◌else◌, List, [], ◌∷◌, ◌++◌, codes, bytes_eq, Option, Some, None, is_some}
 use Rattle.sigv4.specs.Refusal.{is_name, is_value}
 use Rattle.smithy_core.specs.TextPairs.{lower}
 use Rattle.job_text.specs.ChunkSize.{spelled_size}
-use Rattle.job_text.specs.declared.words.WordsFault.{WordsFault}
-use Rattle.job_text.specs.declared.words.WordsFault.TheVariants.{BadWord, NoMemory}
 use Rattle.signed_stream.specs.declared.command.chunk.ChunkWords.{ChunkWords}
 use Rattle.signed_stream.specs.declared.command.chunk.GivenChunk.{GivenChunk}
 use Rattle.signed_stream.specs.declared.command.chunk.ChunkValue.{ChunkValue}
@@ -58,20 +56,13 @@ abbrev pub size_of : Option ℕ → ℕ
 size_of None = 65536
 size_of (Some n) = n
 
--- what is asked for once the words are over, or the place after them, where something is awaited
-abbrev pub chunk_asked : ℕ → ChunkGiven → Option ChunkValue → Result ChunkWanted ℕ
-chunk_asked place given None = Ok (record { size = size_of given.size; trailers = given.trailers })
-chunk_asked place given (Some value) = Err place
+-- what is asked for
+abbrev pub chunk_asked : ChunkGiven → ChunkWanted
+chunk_asked given = record { size = size_of given.size; trailers = given.trailers }
 
--- goes on, where the word at a place isn't bad
-abbrev pub after_chunk_word : ℕ → (ChunkGiven → Result ChunkWanted ℕ) → Option ChunkGiven → Result ChunkWanted ℕ
-after_chunk_word place others None = Err place
-after_chunk_word place others (Some given) = others given
-
--- what the words from a place on ask for, after those that gave this, or the place of the first bad one
-abbrev pub chunk_from : ℕ → ChunkGiven → List (List ℕ) → Result ChunkWanted ℕ
-chunk_from place given [] = chunk_asked place given given.awaited
-chunk_from place given (word ∷ words) = after_chunk_word place (λ more. chunk_from (place + 1) more words) (take_chunk_word given given.awaited word)
+-- a word of `chunk`
+abbrev pub chunk_word : ChunkGiven → List ℕ → Option ChunkGiven
+chunk_word given word = take_chunk_word given given.awaited word
 
 -- ## What the readers of the words answer
 
@@ -82,9 +73,3 @@ chunk_given given = record { size = given.size; trailers = given.trailers; name 
 -- what the words ask for
 abbrev pub chunk_wanted : ChunkWords → ChunkWanted
 chunk_wanted words = record { size = words.size; trailers = words.trailers }
-
--- the word at a place is taken as the step says, or is bad; or memory ran out
-abbrev pub TakesChunk : Option ChunkGiven → ℕ → GivenChunk → Result (Unit {0}) WordsFault → Type 0
-TakesChunk step place now (Ok _) = step ≡ Some (chunk_given now)
-TakesChunk step place now (Err (BadWord bad)) = (step ≡ None) × (bad ≡ place)
-TakesChunk step place now (Err NoMemory) = Unit {0}

@@ -1,5 +1,5 @@
 -- The words of the command line.
-use Rattle.std.specs.Prelude.{ℕ, ◌+◌, Bool, true, false, not, ◌&&◌, if◌then◌else◌, List, [], ◌∷◌, codes, bytes_eq, Option, Some, None, is_some, option_map, Result, Ok, Err, ℤ}
+use Rattle.std.specs.Prelude.{ℕ, Bool, true, false, not, ◌&&◌, if◌then◌else◌, List, [], ◌∷◌, codes, bytes_eq, Option, Some, None, is_some, option_map, Result, Ok, Err, ℤ}
 use Rattle.std.specs.Int.{w64}
 use Rattle.smithy_core.specs.Moment.{Instant}
 use Rattle.sigv4.specs.Settings.{is_query}
@@ -8,11 +8,13 @@ use Rattle.aws_auth.specs.Options.{default_options}
 use Rattle.aws_auth.specs.declared.options.HttpSignatureType.TheVariants.{HttpRequestQueryParams}
 use Rattle.aws_auth.specs.declared.options.SigningOptions.{SigningOptions}
 use Rattle.aws_auth.specs.declared.payload.PayloadSigningOverride.TheVariants.{UnsignedPayload}
-use Rattle.signed_stream.specs.ChunkWords.{ChunkWanted, chunk_from, no_chunk_given}
+use Rattle.signed_stream.specs.ChunkWords.{ChunkGiven, ChunkWanted, chunk_asked, chunk_word, no_chunk_given}
 use Rattle.job_text.specs.Numbers.{natural_below, number}
+use Rattle.job_text.specs.Pieces.{taken_from}
 use Rattle.signed_stream.specs.ProfileOptions.{ProfileWanted, nothing_wanted, profile_option, names_file, stands, with_profile_option}
 use Rattle.signed_stream.specs.declared.command.check.CheckOption.{CheckOption}
 use Rattle.signed_stream.specs.declared.command.check.CheckOption.TheVariants.{Name as NameOfCheck, OfProfile as OfProfileOfCheck}
+use Rattle.signed_stream.specs.declared.command.chunk.ChunkValue.{ChunkValue}
 use Rattle.signed_stream.specs.declared.command.options.Valued.{Valued}
 use Rattle.signed_stream.specs.declared.command.options.Valued.TheVariants.{Name, At, Expires, TokenName, Skew, OfProfile}
 use Rattle.signed_stream.specs.declared.command.profile.ProfileOption.{ProfileOption}
@@ -72,66 +74,65 @@ pub record OptionsGiven : Type 0 where
 abbrev pub no_options : OptionsGiven
 no_options = record { name = None; at = None; signing = default_options; token_name = None; skew_millis = None; form = HexLines; profile = nothing_wanted; awaited = None }
 
--- goes on with more words, or ends
-pub data WordTaken : Type 0 where
-  options : OptionsGiven → WordTaken
-  ends : Command → WordTaken
-
 -- an option that stands once
-abbrev pub once : ℕ → Bool → OptionsGiven → WordTaken
-once place stood given = if stood then ends (bad_word place) else options given
+abbrev pub once : Bool → OptionsGiven → Option OptionsGiven
+once stood given = if stood then None else Some given
 
--- an option without a value at a place, or none of them
-abbrev pub take_flag : ℕ → OptionsGiven → List ℕ → WordTaken
-take_flag place given word =
-    if bytes_eq word (codes "--query") then once place (is_query (location_of given.signing.signature_type)) (record given { signing = record given.signing { signature_type = HttpRequestQueryParams } })
-    else if bytes_eq word (codes "--omit-token") then once place given.signing.omit_session_token (record given { signing = record given.signing { omit_session_token = true } })
-    else if bytes_eq word (codes "--sha256") then once place given.signing.content_sha256_header (record given { signing = record given.signing { content_sha256_header = true } })
-    else if bytes_eq word (codes "--single-encode") then once place (not given.signing.double_uri_encode) (record given { signing = record given.signing { double_uri_encode = false } })
-    else if bytes_eq word (codes "--no-normalize") then once place (not given.signing.normalize_uri_path) (record given { signing = record given.signing { normalize_uri_path = false } })
-    else if bytes_eq word (codes "--unsigned") then once place (is_some given.signing.payload_override) (record given { signing = record given.signing { payload_override = Some UnsignedPayload } })
-    else if bytes_eq word (codes "--raw") then once place (is_raw given.form) (record given { form = Raw })
-    else ends (bad_word place)
+-- an option without a value, or none of them
+abbrev pub take_flag : OptionsGiven → List ℕ → Option OptionsGiven
+take_flag given word =
+    if bytes_eq word (codes "--query") then once (is_query (location_of given.signing.signature_type)) (record given { signing = record given.signing { signature_type = HttpRequestQueryParams } })
+    else if bytes_eq word (codes "--omit-token") then once given.signing.omit_session_token (record given { signing = record given.signing { omit_session_token = true } })
+    else if bytes_eq word (codes "--sha256") then once given.signing.content_sha256_header (record given { signing = record given.signing { content_sha256_header = true } })
+    else if bytes_eq word (codes "--single-encode") then once (not given.signing.double_uri_encode) (record given { signing = record given.signing { double_uri_encode = false } })
+    else if bytes_eq word (codes "--no-normalize") then once (not given.signing.normalize_uri_path) (record given { signing = record given.signing { normalize_uri_path = false } })
+    else if bytes_eq word (codes "--unsigned") then once (is_some given.signing.payload_override) (record given { signing = record given.signing { payload_override = Some UnsignedPayload } })
+    else if bytes_eq word (codes "--raw") then once (is_raw given.form) (record given { form = Raw })
+    else None
 
--- an option of profiles at a place, whose files may repeat, or none of them
-abbrev pub take_profile_option : ℕ → OptionsGiven → Option ProfileOption → List ℕ → WordTaken
-take_profile_option place given None word = take_flag place given word
-take_profile_option place given (Some option) word = once place (stands given.profile option && not (names_file option)) (record given { awaited = Some (OfProfile option) })
+-- an option of profiles, whose files may repeat, or none of them
+abbrev pub take_profile_option : OptionsGiven → Option ProfileOption → List ℕ → Option OptionsGiven
+take_profile_option given None word = take_flag given word
+take_profile_option given (Some option) word = once (stands given.profile option && not (names_file option)) (record given { awaited = Some (OfProfile option) })
 
--- the word at a place, where it is an option
-abbrev pub take_option : ℕ → OptionsGiven → List ℕ → WordTaken
-take_option place given word =
-    if bytes_eq word (codes "--name") then once place (is_some given.name) (record given { awaited = Some Name })
-    else if bytes_eq word (codes "--at") then once place (is_some given.at) (record given { awaited = Some At })
-    else if bytes_eq word (codes "--expires") then once place (is_some given.signing.expires_in) (record given { awaited = Some Expires })
-    else if bytes_eq word (codes "--token-name") then once place (is_some given.token_name) (record given { awaited = Some TokenName })
-    else if bytes_eq word (codes "--skew") then once place (is_some given.skew_millis) (record given { awaited = Some Skew })
-    else take_profile_option place given (profile_option word) word
+-- a word, where it is an option
+abbrev pub take_option : OptionsGiven → List ℕ → Option OptionsGiven
+take_option given word =
+    if bytes_eq word (codes "--name") then once (is_some given.name) (record given { awaited = Some Name })
+    else if bytes_eq word (codes "--at") then once (is_some given.at) (record given { awaited = Some At })
+    else if bytes_eq word (codes "--expires") then once (is_some given.signing.expires_in) (record given { awaited = Some Expires })
+    else if bytes_eq word (codes "--token-name") then once (is_some given.token_name) (record given { awaited = Some TokenName })
+    else if bytes_eq word (codes "--skew") then once (is_some given.skew_millis) (record given { awaited = Some Skew })
+    else take_profile_option given (profile_option word) word
 
--- the value of `--at` at a place: the seconds of the moment, where the word is a number of 64 bits
-abbrev pub take_moment : ℕ → OptionsGiven → Option ℤ → WordTaken
-take_moment place given None = ends (bad_word place)
-take_moment place given (Some secs) = options (record given { at = Some (record { secs = secs; nanos = 0 }); awaited = None })
+-- the value of `--at`: the seconds of the moment, where the word is a number of 64 bits
+abbrev pub take_moment : OptionsGiven → Option ℤ → Option OptionsGiven
+take_moment given None = None
+take_moment given (Some secs) = Some (record given { at = Some (record { secs = secs; nanos = 0 }); awaited = None })
 
 -- the value of `--expires`: seconds, where the word is a natural number of 64 bits
-abbrev pub take_expiry : ℕ → OptionsGiven → Option ℕ → WordTaken
-take_expiry place given None = ends (bad_word place)
-take_expiry place given (Some seconds) = options (record given { signing = record given.signing { expires_in = Some seconds }; awaited = None })
+abbrev pub take_expiry : OptionsGiven → Option ℕ → Option OptionsGiven
+take_expiry given None = None
+take_expiry given (Some seconds) = Some (record given { signing = record given.signing { expires_in = Some seconds }; awaited = None })
 
 -- the value of `--skew`: milliseconds, where the word is a number of 64 bits
-abbrev pub take_skew : ℕ → OptionsGiven → Option ℤ → WordTaken
-take_skew place given None = ends (bad_word place)
-take_skew place given (Some millis) = options (record given { skew_millis = Some millis; awaited = None })
+abbrev pub take_skew : OptionsGiven → Option ℤ → Option OptionsGiven
+take_skew given None = None
+take_skew given (Some millis) = Some (record given { skew_millis = Some millis; awaited = None })
 
--- the word at a place: the value of the option that waits for one, or else an option
-abbrev pub take_word : ℕ → OptionsGiven → Option Valued → List ℕ → WordTaken
-take_word place given None word = take_option place given word
-take_word place given (Some Name) word = options (record given { name = Some word; awaited = None })
-take_word place given (Some At) word = take_moment place given (number w64 word)
-take_word place given (Some Expires) word = take_expiry place given (natural_below 18446744073709551616 word)
-take_word place given (Some TokenName) word = options (record given { token_name = Some word; awaited = None })
-take_word place given (Some Skew) word = take_skew place given (number w64 word)
-take_word place given (Some (OfProfile option)) word = options (record given { profile = with_profile_option given.profile option word; awaited = None })
+-- a word: the value of the option that waits for one, or else an option; or it is bad
+abbrev pub take_word : OptionsGiven → Option Valued → List ℕ → Option OptionsGiven
+take_word given None word = take_option given word
+take_word given (Some Name) word = Some (record given { name = Some word; awaited = None })
+take_word given (Some At) word = take_moment given (number w64 word)
+take_word given (Some Expires) word = take_expiry given (natural_below 18446744073709551616 word)
+take_word given (Some TokenName) word = Some (record given { token_name = Some word; awaited = None })
+take_word given (Some Skew) word = take_skew given (number w64 word)
+take_word given (Some (OfProfile option)) word = Some (record given { profile = with_profile_option given.profile option word; awaited = None })
+
+-- a word of `stream`
+abbrev pub stream_word : OptionsGiven → List ℕ → Option OptionsGiven
+stream_word given word = take_word given given.awaited word
 
 -- the words are over: the command, or the place after the last word
 abbrev pub command_of : ℕ → OptionsGiven → Option (List ℕ) → Option Valued → Command
@@ -140,15 +141,9 @@ command_of place given None None = bad_word place
 command_of place given (Some name) None =
     stream (record { name = name; at = given.at; signing = given.signing; token_name = given.token_name; skew_millis = given.skew_millis; form = given.form; profile = given.profile })
 
--- goes on, where the word didn't end the matter
-abbrev pub after_taken : WordTaken → (OptionsGiven → Command) → Command
-after_taken (options given) others = others given
-after_taken (ends command) others = command
-
--- the words from a place on, after those that gave this
-abbrev pub options_from : ℕ → OptionsGiven → List (List ℕ) → Command
-options_from place given [] = command_of place given given.name given.awaited
-options_from place given (word ∷ words) = after_taken (take_word place given given.awaited word) (λ more. options_from (place + 1) more words)
+-- the command of all words
+abbrev pub stream_command : ℕ → OptionsGiven → Command
+stream_command place given = command_of place given given.name given.awaited
 
 -- ## `settings`
 
@@ -171,20 +166,18 @@ abbrev pub take_profile_word : ProfileGiven → Option ProfileOption → List �
 take_profile_word given None word = await_value given (profile_option word)
 take_profile_word given (Some option) word = Some (record { profile = with_profile_option given.profile option word; awaited = None })
 
+-- a word of `settings`
+abbrev pub settings_word : ProfileGiven → List ℕ → Option ProfileGiven
+settings_word given word = take_profile_word given given.awaited word
+
 -- the words are over: the command, or the place after the last word
 abbrev pub settings_command : ℕ → ProfileWanted → Option ProfileOption → Command
 settings_command place profile None = show_settings profile
 settings_command place profile (Some option) = bad_word place
 
--- goes on, where the word at a place isn't bad
-abbrev pub after_word : {A : Type 0} → ℕ → (A → Command) → Option A → Command
-after_word place others None = bad_word place
-after_word place others (Some given) = others given
-
--- the words from a place on, after those that gave this
-abbrev pub settings_words : ℕ → ProfileGiven → List (List ℕ) → Command
-settings_words place given [] = settings_command place given.profile given.awaited
-settings_words place given (word ∷ words) = after_word place (λ more. settings_words (place + 1) more words) (take_profile_word given given.awaited word)
+-- the command of all words
+abbrev pub settings_words : ℕ → ProfileGiven → Command
+settings_words place given = settings_command place given.profile given.awaited
 
 -- ## `check`
 
@@ -222,16 +215,19 @@ abbrev pub take_check_word : CheckGiven → Option CheckOption → List ℕ → 
 take_check_word given None word = await_check given (check_option word)
 take_check_word given (Some option) word = Some (with_check_option given option word)
 
+-- a word of `check`
+abbrev pub check_word : CheckGiven → List ℕ → Option CheckGiven
+check_word given word = take_check_word given given.awaited word
+
 -- the words are over: the command, or the place after the last word
 abbrev pub check_command : ℕ → ProfileWanted → Option (List ℕ) → Option CheckOption → Command
 check_command place profile (Some name) None = check_record (record { name = name; profile = profile })
 check_command place profile None None = bad_word place
 check_command place profile name (Some option) = bad_word place
 
--- the words from a place on, after those that gave this
-abbrev pub check_from : ℕ → CheckGiven → List (List ℕ) → Command
-check_from place given [] = check_command place given.profile given.name given.awaited
-check_from place given (word ∷ words) = after_word place (λ more. check_from (place + 1) more words) (take_check_word given given.awaited word)
+-- the command of all words
+abbrev pub check_words : ℕ → CheckGiven → Command
+check_words place given = check_command place given.profile given.name given.awaited
 
 -- ## `gen`
 
@@ -258,20 +254,29 @@ generator_from (word ∷ words) = after_seed (natural_below 18446744073709551616
 
 -- ## `chunk`
 
--- what the words after `chunk` ask for
-abbrev pub chunk_command : Result ChunkWanted ℕ → Command
-chunk_command (Ok wanted) = write_chunks wanted
-chunk_command (Err place) = bad_word place
+-- the words are over: the command, or the place after the last word
+abbrev pub chunk_command : ℕ → ChunkGiven → Option ChunkValue → Command
+chunk_command place given None = write_chunks (chunk_asked given)
+chunk_command place given (Some value) = bad_word place
+
+-- the command of all words
+abbrev pub chunk_words : ℕ → ChunkGiven → Command
+chunk_words place given = chunk_command place given given.awaited
 
 -- ## Commands
+
+-- the command of words, none of which is bad, or the place of the first bad one
+abbrev pub command_from : {G : Type 0} → (ℕ → G → Command) → Result (G × ℕ) ℕ → Command
+command_from whole (Ok taken) = whole taken.1 taken.0
+command_from whole (Err place) = bad_word place
 
 -- the command that the words spell, or the place of the first bad word
 unfoldable pub command : List (List ℕ) → Command
 command [] = bad_word 1
 command (word ∷ words) =
-    if bytes_eq word (codes "stream") then options_from 2 no_options words
-    else if bytes_eq word (codes "settings") then settings_words 2 no_profile_given words
-    else if bytes_eq word (codes "check") then check_from 2 no_check_given words
+    if bytes_eq word (codes "stream") then command_from stream_command (taken_from stream_word 2 no_options words)
+    else if bytes_eq word (codes "settings") then command_from settings_words (taken_from settings_word 2 no_profile_given words)
+    else if bytes_eq word (codes "check") then command_from check_words (taken_from check_word 2 no_check_given words)
     else if bytes_eq word (codes "gen") then generator_from words
-    else if bytes_eq word (codes "chunk") then chunk_command (chunk_from 2 no_chunk_given words)
+    else if bytes_eq word (codes "chunk") then command_from chunk_words (taken_from chunk_word 2 no_chunk_given words)
     else bad_word 1

@@ -2,7 +2,7 @@
 use Rattle.std.specs.Prelude.{◌≡◌, ℕ, Option, Some, None, option_map, Result, Ok, Err, string_bytes}
 use Rattle.std.specs.Option.{option_copied}
 use Rattle.signed_stream.specs.ChunkWords.{chunk_wanted}
-use Rattle.signed_stream.specs.Command.{CheckGiven, CheckWanted, Command, bad_word, check_record, generate, write_chunks, stream, show_settings, OptionsGiven, ProfileGiven, WordTaken, Wanted, options, ends}
+use Rattle.signed_stream.specs.Command.{CheckGiven, CheckWanted, Command, bad_word, check_record, generate, write_chunks, stream, show_settings, OptionsGiven, ProfileGiven, Wanted}
 use Rattle.signed_stream.specs.ProfileOptions.{profile_wanted}
 use Rattle.signed_stream.specs.declared.command.Command.{Command as Commanded}
 use Rattle.signed_stream.specs.declared.command.Command.TheVariants.{Generate, OfInput}
@@ -99,31 +99,13 @@ given_options given = record {
   awaited = given.awaited;
 }
 
--- the word is taken as the step says, or ends the matter; or memory ran out
-abbrev pub TakesWord : WordTaken → GivenOptions → Result (Unit {0}) WordsFault → Type 0
-TakesWord taken now (Ok _) = taken ≡ options (given_options now)
-TakesWord taken now (Err (BadWord place)) = taken ≡ ends (bad_word place)
-TakesWord taken now (Err NoMemory) = Unit {0}
-
 -- what the words of `settings` so far gave
 abbrev pub profile_given : GivenProfile → ProfileGiven
 profile_given given = record { profile = profile_wanted given.profile; awaited = given.awaited }
 
--- the word at a place of `settings` is taken as the step says, or is bad; or memory ran out
-abbrev pub TakesProfile : Option ProfileGiven → ℕ → GivenProfile → Result (Unit {0}) WordsFault → Type 0
-TakesProfile step place now (Ok _) = step ≡ Some (profile_given now)
-TakesProfile step place now (Err (BadWord bad)) = (step ≡ None) × (bad ≡ place)
-TakesProfile step place now (Err NoMemory) = Unit {0}
-
 -- what the words of `check` so far gave
 abbrev pub check_given : GivenCheck → CheckGiven
 check_given given = record { name = option_copied given.name; profile = profile_wanted given.profile; awaited = given.awaited }
-
--- the word at a place of `check` is taken as the step says, or is bad; or memory ran out
-abbrev pub TakesCheck : Option CheckGiven → ℕ → GivenCheck → Result (Unit {0}) WordsFault → Type 0
-TakesCheck step place now (Ok _) = step ≡ Some (check_given now)
-TakesCheck step place now (Err (BadWord bad)) = (step ≡ None) × (bad ≡ place)
-TakesCheck step place now (Err NoMemory) = Unit {0}
 
 -- the words of `chunk`: what they ask for, or the place of the first bad one; or memory ran out
 abbrev pub ReadsChunk : Command → Result ChunkWords WordsFault → Type 0

@@ -1,7 +1,8 @@
 ghost use Rattle.std.specs.Prelude.{map};
 ghost use Rattle.std.specs.String.{string_bytes};
-ghost use Rattle.signed_stream.specs.ChunkWords.{chunk_from, no_chunk_given};
-ghost use Rattle.signed_stream.specs.Command.{command, check_from, chunk_command, generator_from, no_check_given, no_options, no_profile_given, options_from, settings_words};
+ghost use Rattle.job_text.specs.Pieces.{taken_from};
+ghost use Rattle.signed_stream.specs.ChunkWords.{chunk_word, no_chunk_given};
+ghost use Rattle.signed_stream.specs.Command.{command, check_word, check_words, chunk_words, command_from, generator_from, no_check_given, no_options, no_profile_given, settings_word, settings_words, stream_command, stream_word};
 ghost use Rattle.signed_stream.specs.Options.{ReadsCheck, ReadsChunk, ReadsProfile, ReadsStream, ReadsWords};
 
 mod check;
@@ -20,7 +21,7 @@ use crate::command::options::GivenOptions;
 pub use crate::command::options::StreamWords;
 use crate::command::profile::GivenProfile;
 pub use crate::command::profile::{NamedFile, ProfileOptions};
-use job_text::WordsFault;
+use job_text::{WordsFault, take_words};
 use std::alloc::Global;
 
 /// A command with its options.
@@ -69,52 +70,36 @@ pub fn read_words<'a>(alloc: Global, words: &'a [String]) -> Result<Command<'a>,
 
 // What the words after `stream` ask for.
 fn read_options<'a>(alloc: Global, words: &'a [String]) -> Result<StreamWords<'a>, WordsFault>
-    ensures { ReadsStream (options_from 2 no_options (map string_bytes words.now)) result }
+    ensures { ReadsStream (command_from stream_command (taken_from stream_word 2 no_options (map string_bytes words.now))) result }
 {
     let mut given = GivenOptions::new(alloc);
-    let mut place = 2;
-    for word in words {
-        given.take(place, word.as_str())?;
-        place += 1;
-    }
+    let place = take_words(&mut given, words)?;
     given.finish(place)
 }
 
 // What the words after `settings` ask for.
 fn read_profile<'a>(alloc: Global, words: &'a [String]) -> Result<ProfileOptions<'a>, WordsFault>
-    ensures { ReadsProfile (settings_words 2 no_profile_given (map string_bytes words.now)) result }
+    ensures { ReadsProfile (command_from settings_words (taken_from settings_word 2 no_profile_given (map string_bytes words.now))) result }
 {
     let mut given = GivenProfile::new(alloc);
-    let mut place = 2;
-    for word in words {
-        given.take(place, word.as_str())?;
-        place += 1;
-    }
+    let place = take_words(&mut given, words)?;
     given.finish(place)
 }
 
 // What the words after `check` ask for.
 fn read_check<'a>(alloc: Global, words: &'a [String]) -> Result<CheckWords<'a>, WordsFault>
-    ensures { ReadsCheck (check_from 2 no_check_given (map string_bytes words.now)) result }
+    ensures { ReadsCheck (command_from check_words (taken_from check_word 2 no_check_given (map string_bytes words.now))) result }
 {
     let mut given = GivenCheck::new(alloc);
-    let mut place = 2;
-    for word in words {
-        given.take(place, word.as_str())?;
-        place += 1;
-    }
+    let place = take_words(&mut given, words)?;
     given.finish(place)
 }
 
 // What the words after `chunk` ask for.
 fn read_chunk(alloc: Global, words: &[String]) -> Result<ChunkWords, WordsFault>
-    ensures { ReadsChunk (chunk_command (chunk_from 2 no_chunk_given (map string_bytes words.now))) result }
+    ensures { ReadsChunk (command_from chunk_words (taken_from chunk_word 2 no_chunk_given (map string_bytes words.now))) result }
 {
     let mut given = GivenChunk::new(alloc);
-    let mut place = 2;
-    for word in words {
-        given.take(place, word.as_str())?;
-        place += 1;
-    }
+    let place = take_words(&mut given, words)?;
     given.finish(place)
 }

@@ -1,7 +1,7 @@
 use crate::fault::LineFault;
 use crate::job::event::OpenEvent;
 use crate::job::event_header::{header_of, hex_bytes};
-use crate::lines::{cut_pair, cut_word};
+use crate::lines::{TakeLine, cut_pair, cut_word};
 use crate::profile_texts::ProfileTexts;
 use bytes::Bytes;
 use smithy_core::{Headers, Mem, Message};
@@ -21,8 +21,9 @@ pub struct Draft {
 
 impl Draft {
     ghost use Rattle.std.specs.Prelude.{◌≡◌, None, OnOk};
-    ghost use Rattle.job_text.specs.Job.{body_step, event_header_step, event_step, events_of, header_step, in_event, job_line_step, method_step, no_draft, payload_step, target_step, text_step, word_step};
-    ghost use Rattle.job_text.specs.Draft.{MovesDraft, draft_of};
+    ghost use Rattle.job_text.specs.Job.{body_step, event_header_step, event_step, events_of, header_step, in_event, method_step, no_draft, payload_step, target_step, text_step, word_step};
+    ghost use Rattle.job_text.specs.Draft.{draft_of};
+    ghost use Rattle.job_text.specs.Lines.{Moves};
 
     /// Nothing yet.
     #[tactic(auto, unfolding(crate::specs::Draft::draft_of))]
@@ -40,22 +41,10 @@ impl Draft {
         }
     }
 
-    /// A line; an empty one does nothing.
-    #[tactic(auto, unfolding(crate::specs::Job::job_line_step))]
-    pub fn take_line(&mut self, alloc: Global, line: &str) -> Result<(), LineFault>
-        ensures { MovesDraft (job_line_step (draft_of self.old) line.now) self.new result }
-    {
-        if line.is_empty() {
-            return Ok(());
-        }
-        let (word, rest) = cut_word(line);
-        self.take_word(alloc, word, rest)
-    }
-
     // A line of this word and this rest.
     #[tactic(auto, unfolding(crate::specs::Draft::draft_of, crate::specs::Job::word_step))]
     fn take_word(&mut self, alloc: Global, word: &str, rest: &str) -> Result<(), LineFault>
-        ensures { MovesDraft (word_step (draft_of self.old) word.now rest.now) self.new result }
+        ensures { Moves (word_step (draft_of self.old) word.now rest.now) (draft_of self.new) result }
     {
         match word {
             "event" => self.begin_event(alloc, rest),
@@ -73,7 +62,7 @@ impl Draft {
     // `method M`.
     #[tactic(auto, unfolding(crate::specs::Draft::draft_of, crate::specs::Job::method_step))]
     fn take_method(&mut self, alloc: Global, rest: &str) -> Result<(), LineFault>
-        ensures { MovesDraft (method_step (draft_of self.old) rest.now) self.new result }
+        ensures { Moves (method_step (draft_of self.old) rest.now) (draft_of self.new) result }
     {
         if self.method.is_some() || rest.is_empty() || rest.as_bytes().contains(&b' ') {
             return Err(LineFault::Bad);
@@ -85,7 +74,7 @@ impl Draft {
     // `target T`.
     #[tactic(auto, unfolding(crate::specs::Draft::draft_of, crate::specs::Job::target_step))]
     fn take_target(&mut self, alloc: Global, rest: &str) -> Result<(), LineFault>
-        ensures { MovesDraft (target_step (draft_of self.old) rest.now) self.new result }
+        ensures { Moves (target_step (draft_of self.old) rest.now) (draft_of self.new) result }
     {
         if self.target.is_some() {
             return Err(LineFault::Bad);
@@ -97,7 +86,7 @@ impl Draft {
     // `header NAME: VALUE`.
     #[tactic(auto, unfolding(crate::specs::Draft::draft_of, crate::specs::Job::header_step))]
     fn take_header(&mut self, rest: &str) -> Result<(), LineFault>
-        ensures { MovesDraft (header_step (draft_of self.old) rest.now) self.new result }
+        ensures { Moves (header_step (draft_of self.old) rest.now) (draft_of self.new) result }
     {
         let (name, value) = cut_pair(rest).ok_or(LineFault::Bad)?;
         self.headers.append(name, value)?;
@@ -107,7 +96,7 @@ impl Draft {
     // `body HEX`.
     #[tactic(auto, unfolding(crate::specs::Draft::draft_of, crate::specs::Job::body_step))]
     fn take_body(&mut self, alloc: Global, rest: &str) -> Result<(), LineFault>
-        ensures { MovesDraft (body_step (draft_of self.old) rest.now) self.new result }
+        ensures { Moves (body_step (draft_of self.old) rest.now) (draft_of self.new) result }
     {
         if self.body.is_some() {
             return Err(LineFault::Bad);
@@ -119,7 +108,7 @@ impl Draft {
     // A line of a profile file's text.
     #[tactic(auto, unfolding(crate::specs::Draft::draft_of, crate::specs::Job::text_step))]
     fn take_text(&mut self, alloc: Global, word: &str, rest: &str) -> Result<(), LineFault>
-        ensures { MovesDraft (text_step (draft_of self.old) word.now rest.now) self.new result }
+        ensures { Moves (text_step (draft_of self.old) word.now rest.now) (draft_of self.new) result }
     {
         self.profile.take_text(alloc, word, rest)
     }
@@ -127,7 +116,7 @@ impl Draft {
     // `event`.
     #[tactic(auto, unfolding(crate::specs::Draft::draft_of, crate::specs::Job::event_step))]
     fn begin_event(&mut self, alloc: Global, rest: &str) -> Result<(), LineFault>
-        ensures { MovesDraft (event_step (draft_of self.old) rest.now) self.new result }
+        ensures { Moves (event_step (draft_of self.old) rest.now) (draft_of self.new) result }
     {
         if !rest.is_empty() || self.method.is_none() || self.target.is_none() {
             return Err(LineFault::Bad);
@@ -154,7 +143,7 @@ impl Draft {
     // `h NAME KIND VALUE`.
     #[tactic(auto, unfolding(crate::specs::Draft::draft_of, crate::specs::Job::event_header_step))]
     fn take_event_header(&mut self, alloc: Global, rest: &str) -> Result<(), LineFault>
-        ensures { MovesDraft (in_event (draft_of self.old).event (λ event. event_header_step (draft_of self.old) event rest.now)) self.new result }
+        ensures { Moves (in_event (draft_of self.old).event (λ event. event_header_step (draft_of self.old) event rest.now)) (draft_of self.new) result }
     {
         match &mut self.event {
             Some(event) => {
@@ -169,7 +158,7 @@ impl Draft {
     // `payload HEX`.
     #[tactic(auto, unfolding(crate::specs::Draft::draft_of, crate::specs::Job::payload_step))]
     fn take_payload(&mut self, alloc: Global, rest: &str) -> Result<(), LineFault>
-        ensures { MovesDraft (in_event (draft_of self.old).event (λ event. payload_step (draft_of self.old) event rest.now)) self.new result }
+        ensures { Moves (in_event (draft_of self.old).event (λ event. payload_step (draft_of self.old) event rest.now)) (draft_of self.new) result }
     {
         match &mut self.event {
             Some(event) if event.payload.is_none() => {
@@ -178,5 +167,26 @@ impl Draft {
             }
             _ => Err(LineFault::Bad),
         }
+    }
+}
+
+impl TakeLine for Draft {
+    ghost use Rattle.job_text.specs.Job.{Draft, job_line_step};
+    ghost use Rattle.job_text.specs.Draft.{draft_of};
+
+    ghost Draft = { Draft };
+
+    ghost draft = { draft_of };
+
+    ghost step = { job_line_step };
+
+    // An empty line does nothing.
+    #[tactic(auto, unfolding(crate::specs::Job::job_line_step))]
+    fn take_line(&mut self, alloc: Global, line: &str) -> Result<(), LineFault> {
+        if line.is_empty() {
+            return Ok(());
+        }
+        let (word, rest) = cut_word(line);
+        self.take_word(alloc, word, rest)
     }
 }

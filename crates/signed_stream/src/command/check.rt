@@ -1,10 +1,10 @@
 //! The words of `check`.
 ghost use Rattle.std.specs.Prelude.{◌≡◌, None, OnOk};
-ghost use Rattle.signed_stream.specs.Command.{check_command, check_option, no_check_given, stands_in_check, take_check_word, with_check_option};
-ghost use Rattle.signed_stream.specs.Options.{ReadsCheck, TakesCheck, check_given};
+ghost use Rattle.signed_stream.specs.Command.{check_option, check_words, no_check_given, stands_in_check, with_check_option};
+ghost use Rattle.signed_stream.specs.Options.{ReadsCheck, check_given};
 
 use crate::command::profile::{ProfileOption, ProfileOptions};
-use job_text::WordsFault;
+use job_text::{TakeWord, WordsFault};
 use smithy_core::Mem;
 use std::alloc::Global;
 
@@ -57,22 +57,6 @@ impl<'a> GivenCheck<'a> {
         }
     }
 
-    /// Takes the word at a place.
-    pub fn take(&mut self, place: usize, word: &'a str) -> Result<(), WordsFault>
-        ensures { let given = check_given self.old in TakesCheck (take_check_word given given.awaited word.now) place self.new result }
-    {
-        if let Some(option) = self.awaited.take() {
-            self.take_value(option, word)?;
-            return Ok(());
-        }
-        let option = CheckOption::named(word).ok_or(WordsFault::BadWord(place))?;
-        if self.has(option) {
-            return Err(WordsFault::BadWord(place));
-        }
-        self.awaited = Some(option);
-        Ok(())
-    }
-
     // Whether the option stood.
     fn has(&self, option: CheckOption) -> bool
         ensures { result ≡ stands_in_check (check_given self.now) option }
@@ -97,7 +81,7 @@ impl<'a> GivenCheck<'a> {
 
     /// What is asked, where the place after the last word is reached.
     pub fn finish(self, place: usize) -> Result<CheckWords<'a>, WordsFault>
-        ensures { let given = check_given self.entry in ReadsCheck (check_command place given.profile given.name given.awaited) result }
+        ensures { let given = check_given self.entry in ReadsCheck (check_words place given) result }
     {
         match (self.awaited, self.name) {
             (None, Some(name)) => Ok(CheckWords {
@@ -106,5 +90,29 @@ impl<'a> GivenCheck<'a> {
             }),
             _ => Err(WordsFault::BadWord(place)),
         }
+    }
+}
+
+impl<'a> TakeWord<'a> for GivenCheck<'a> {
+    ghost use Rattle.signed_stream.specs.Command.{CheckGiven, check_word};
+    ghost use Rattle.signed_stream.specs.Options.{check_given};
+
+    ghost Given = { CheckGiven };
+
+    ghost given = { check_given };
+
+    ghost step = { check_word };
+
+    fn take_word(&mut self, place: usize, word: &'a str) -> Result<(), WordsFault> {
+        if let Some(option) = self.awaited.take() {
+            self.take_value(option, word)?;
+            return Ok(());
+        }
+        let option = CheckOption::named(word).ok_or(WordsFault::BadWord(place))?;
+        if self.has(option) {
+            return Err(WordsFault::BadWord(place));
+        }
+        self.awaited = Some(option);
+        Ok(())
     }
 }

@@ -2,11 +2,12 @@
 ghost use Rattle.std.specs.Prelude.{◌≡◌, None};
 ghost use Rattle.sigv4.specs.Refusal.{is_name, is_value};
 ghost use Rattle.job_text.specs.ChunkSize.{spelled_size};
-ghost use Rattle.signed_stream.specs.Command.{chunk_command};
+ghost use Rattle.job_text.specs.Words.{TakesWord};
+ghost use Rattle.signed_stream.specs.Command.{chunk_words};
 ghost use Rattle.signed_stream.specs.Options.{ReadsChunk};
-ghost use Rattle.signed_stream.specs.ChunkWords.{TakesChunk, chunk_asked, chunk_given, no_chunk_given, take_chunk_option, take_chunk_size, take_chunk_word, take_trailer_name, take_trailer_value};
+ghost use Rattle.signed_stream.specs.ChunkWords.{chunk_given, no_chunk_given, take_chunk_option, take_chunk_size, take_trailer_name, take_trailer_value};
 
-use job_text::{ChunkSize, WordsFault};
+use job_text::{ChunkSize, TakeWord, WordsFault};
 use smithy_core::{Headers, is_header_name, is_header_value};
 use std::alloc::Global;
 
@@ -50,21 +51,9 @@ impl<'a> GivenChunk<'a> {
         }
     }
 
-    /// Takes the word at a place.
-    pub fn take(&mut self, place: usize, word: &'a str) -> Result<(), WordsFault>
-        ensures { let given = chunk_given self.old in TakesChunk (take_chunk_word given given.awaited word.now) place self.new result }
-    {
-        match self.awaited.take() {
-            None => self.take_option(place, word),
-            Some(ChunkValue::Size) => self.take_size(place, word),
-            Some(ChunkValue::TrailerName) => self.take_name(place, word),
-            Some(ChunkValue::TrailerValue) => self.take_value(place, word),
-        }
-    }
-
     // Takes an option.
     fn take_option(&mut self, place: usize, word: &str) -> Result<(), WordsFault>
-        ensures { TakesChunk (take_chunk_option (chunk_given self.old) word.now) place self.new result }
+        ensures { TakesWord (take_chunk_option (chunk_given self.old) word.now) place (chunk_given self.new) result }
     {
         match word {
             "--size" if self.size.is_none() => self.awaited = Some(ChunkValue::Size),
@@ -77,7 +66,7 @@ impl<'a> GivenChunk<'a> {
     // Takes the value of `--size`.
     fn take_size(&mut self, place: usize, word: &str) -> Result<(), WordsFault>
         requires { self.old.awaited ≡ None }
-        ensures { TakesChunk (take_chunk_size (chunk_given self.old) (spelled_size word.now)) place self.new result }
+        ensures { TakesWord (take_chunk_size (chunk_given self.old) (spelled_size word.now)) place (chunk_given self.new) result }
     {
         self.size = Some(ChunkSize::parse(word).ok_or(WordsFault::BadWord(place))?);
         Ok(())
@@ -85,7 +74,7 @@ impl<'a> GivenChunk<'a> {
 
     // Takes the name of a trailer.
     fn take_name(&mut self, place: usize, word: &'a str) -> Result<(), WordsFault>
-        ensures { TakesChunk (take_trailer_name (chunk_given self.old) word.now) place self.new result }
+        ensures { TakesWord (take_trailer_name (chunk_given self.old) word.now) place (chunk_given self.new) result }
     {
         if !is_name(word) {
             return Err(WordsFault::BadWord(place));
@@ -98,7 +87,7 @@ impl<'a> GivenChunk<'a> {
     // Takes the value of a trailer.
     fn take_value(&mut self, place: usize, word: &str) -> Result<(), WordsFault>
         requires { self.old.awaited ≡ None }
-        ensures { TakesChunk (take_trailer_value (chunk_given self.old) word.now) place self.new result }
+        ensures { TakesWord (take_trailer_value (chunk_given self.old) word.now) place (chunk_given self.new) result }
     {
         if !is_value(word) {
             return Err(WordsFault::BadWord(place));
@@ -108,7 +97,7 @@ impl<'a> GivenChunk<'a> {
 
     /// What is asked, where the place after the last word is reached.
     pub fn finish(self, place: usize) -> Result<ChunkWords, WordsFault>
-        ensures { let given = chunk_given self.entry in ReadsChunk (chunk_command (chunk_asked place given given.awaited)) result }
+        ensures { let given = chunk_given self.entry in ReadsChunk (chunk_words place given) result }
     {
         match self.awaited {
             Some(_) => Err(WordsFault::BadWord(place)),
@@ -116,6 +105,25 @@ impl<'a> GivenChunk<'a> {
                 size: self.size.unwrap_or(ChunkSize::usual()),
                 trailers: self.trailers,
             }),
+        }
+    }
+}
+
+impl<'a> TakeWord<'a> for GivenChunk<'a> {
+    ghost use Rattle.signed_stream.specs.ChunkWords.{ChunkGiven, chunk_given, chunk_word};
+
+    ghost Given = { ChunkGiven };
+
+    ghost given = { chunk_given };
+
+    ghost step = { chunk_word };
+
+    fn take_word(&mut self, place: usize, word: &'a str) -> Result<(), WordsFault> {
+        match self.awaited.take() {
+            None => self.take_option(place, word),
+            Some(ChunkValue::Size) => self.take_size(place, word),
+            Some(ChunkValue::TrailerName) => self.take_name(place, word),
+            Some(ChunkValue::TrailerValue) => self.take_value(place, word),
         }
     }
 }

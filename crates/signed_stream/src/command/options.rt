@@ -1,7 +1,7 @@
 use crate::command::profile::{ProfileOption, ProfileOptions};
 use crate::form::Form;
 use aws_auth::{HttpSignatureType, PayloadSigningOverride, SigningOptions};
-use job_text::{WordsFault, parse_i64, parse_u64};
+use job_text::{TakeWord, WordsFault, parse_i64, parse_u64};
 use smithy_core::Moment;
 use std::alloc::Global;
 
@@ -51,9 +51,10 @@ pub struct GivenOptions<'a> {
 impl<'a> GivenOptions<'a> {
     ghost use Rattle.std.specs.Prelude.{◌≡◌, None};
     ghost use Rattle.std.specs.Int.{w64};
-    ghost use Rattle.signed_stream.specs.Command.{command_of, no_options, take_expiry, take_flag, take_moment, take_option, take_profile_option, take_skew, take_word};
+    ghost use Rattle.signed_stream.specs.Command.{no_options, stream_command, take_expiry, take_flag, take_moment, take_option, take_profile_option, take_skew};
     ghost use Rattle.job_text.specs.Numbers.{natural_below, number};
-    ghost use Rattle.signed_stream.specs.Options.{ReadsStream, TakesWord, given_options};
+    ghost use Rattle.job_text.specs.Words.{TakesWord};
+    ghost use Rattle.signed_stream.specs.Options.{ReadsStream, given_options};
     ghost use Rattle.signed_stream.specs.ProfileOptions.{profile_option};
 
     /// No options.
@@ -72,30 +73,9 @@ impl<'a> GivenOptions<'a> {
         }
     }
 
-    /// Takes the word at a place.
-    pub fn take(&mut self, place: usize, word: &'a str) -> Result<(), WordsFault>
-        ensures { let given = given_options self.old in TakesWord (take_word place given given.awaited word.now) self.new result }
-    {
-        match self.awaited.take() {
-            Some(Valued::Name) => {
-                self.name = Some(word);
-                Ok(())
-            }
-            Some(Valued::TokenName) => {
-                self.token_name = Some(word);
-                Ok(())
-            }
-            Some(Valued::At) => self.take_moment(place, word),
-            Some(Valued::Expires) => self.take_expiry(place, word),
-            Some(Valued::Skew) => self.take_skew(place, word),
-            Some(Valued::OfProfile(option)) => Ok(self.profile.take(option, word)?),
-            None => self.take_option(place, word),
-        }
-    }
-
     // Takes the option at a place.
     fn take_option(&mut self, place: usize, word: &str) -> Result<(), WordsFault>
-        ensures { TakesWord (take_option place (given_options self.old) word.now) self.new result }
+        ensures { TakesWord (take_option (given_options self.old) word.now) place (given_options self.new) result }
     {
         let (stood, option) = match word {
             "--name" => (self.name.is_some(), Valued::Name),
@@ -114,7 +94,7 @@ impl<'a> GivenOptions<'a> {
 
     // Takes the option of profiles at a place; files may repeat.
     fn take_profile_option(&mut self, place: usize, word: &str) -> Result<(), WordsFault>
-        ensures { TakesWord (take_profile_option place (given_options self.old) (profile_option word.now) word.now) self.new result }
+        ensures { TakesWord (take_profile_option (given_options self.old) (profile_option word.now) word.now) place (given_options self.new) result }
     {
         let Some(option) = ProfileOption::named(word) else {
             return self.take_flag(place, word);
@@ -128,7 +108,7 @@ impl<'a> GivenOptions<'a> {
 
     // Takes the option without a value at a place.
     fn take_flag(&mut self, place: usize, word: &str) -> Result<(), WordsFault>
-        ensures { TakesWord (take_flag place (given_options self.old) word.now) self.new result }
+        ensures { TakesWord (take_flag (given_options self.old) word.now) place (given_options self.new) result }
     {
         let signing = &mut self.signing;
         match word {
@@ -154,7 +134,7 @@ impl<'a> GivenOptions<'a> {
 
     // Takes the value of `--at` at a place.
     fn take_moment(&mut self, place: usize, word: &str) -> Result<(), WordsFault>
-        ensures { TakesWord (take_moment place (given_options self.old) (number w64 word.now)) self.new result }
+        ensures { TakesWord (take_moment (given_options self.old) (number w64 word.now)) place (given_options self.new) result }
     {
         self.awaited = None;
         let Some(secs) = parse_i64(word) else {
@@ -166,7 +146,7 @@ impl<'a> GivenOptions<'a> {
 
     // Takes the value of `--expires` at a place.
     fn take_expiry(&mut self, place: usize, word: &str) -> Result<(), WordsFault>
-        ensures { TakesWord (take_expiry place (given_options self.old) (natural_below 18446744073709551616 word.now)) self.new result }
+        ensures { TakesWord (take_expiry (given_options self.old) (natural_below 18446744073709551616 word.now)) place (given_options self.new) result }
     {
         self.awaited = None;
         let Some(seconds) = parse_u64(word) else {
@@ -178,7 +158,7 @@ impl<'a> GivenOptions<'a> {
 
     // Takes the value of `--skew` at a place.
     fn take_skew(&mut self, place: usize, word: &str) -> Result<(), WordsFault>
-        ensures { TakesWord (take_skew place (given_options self.old) (number w64 word.now)) self.new result }
+        ensures { TakesWord (take_skew (given_options self.old) (number w64 word.now)) place (given_options self.new) result }
     {
         self.awaited = None;
         let Some(millis) = parse_i64(word) else {
@@ -190,7 +170,7 @@ impl<'a> GivenOptions<'a> {
 
     /// The command, where the place after the last word is reached.
     pub fn finish(self, place: usize) -> Result<StreamWords<'a>, WordsFault>
-        ensures { let given = given_options self.entry in ReadsStream (command_of place given given.name given.awaited) result }
+        ensures { let given = given_options self.entry in ReadsStream (stream_command place given) result }
     {
         match (self.awaited, self.name) {
             (None, Some(name)) => Ok(StreamWords {
@@ -203,6 +183,35 @@ impl<'a> GivenOptions<'a> {
                 profile: self.profile,
             }),
             _ => Err(WordsFault::BadWord(place)),
+        }
+    }
+}
+
+impl<'a> TakeWord<'a> for GivenOptions<'a> {
+    ghost use Rattle.signed_stream.specs.Command.{OptionsGiven, stream_word};
+    ghost use Rattle.signed_stream.specs.Options.{given_options};
+
+    ghost Given = { OptionsGiven };
+
+    ghost given = { given_options };
+
+    ghost step = { stream_word };
+
+    fn take_word(&mut self, place: usize, word: &'a str) -> Result<(), WordsFault> {
+        match self.awaited.take() {
+            Some(Valued::Name) => {
+                self.name = Some(word);
+                Ok(())
+            }
+            Some(Valued::TokenName) => {
+                self.token_name = Some(word);
+                Ok(())
+            }
+            Some(Valued::At) => self.take_moment(place, word),
+            Some(Valued::Expires) => self.take_expiry(place, word),
+            Some(Valued::Skew) => self.take_skew(place, word),
+            Some(Valued::OfProfile(option)) => Ok(self.profile.take(option, word)?),
+            None => self.take_option(place, word),
         }
     }
 }

@@ -1,12 +1,12 @@
 //! The options of profiles, which commands share.
 ghost use Rattle.std.specs.Prelude.{◌≡◌, OnOk};
 ghost use Rattle.std.specs.List.{list_any};
-ghost use Rattle.signed_stream.specs.Command.{no_profile_given, settings_command, take_profile_word};
-ghost use Rattle.signed_stream.specs.Options.{ReadsProfile, TakesProfile, profile_given};
+ghost use Rattle.signed_stream.specs.Command.{no_profile_given, settings_words};
+ghost use Rattle.signed_stream.specs.Options.{ReadsProfile, profile_given};
 ghost use Rattle.signed_stream.specs.ProfileOptions.{is_same_kind, names_file, nothing_wanted, profile_option, profile_wanted, stands, with_profile_option};
 
 use env_config::EnvConfigFileKind;
-use job_text::WordsFault;
+use job_text::{TakeWord, WordsFault};
 use smithy_core::Mem;
 use std::alloc::Global;
 
@@ -122,10 +122,28 @@ impl<'a> GivenProfile<'a> {
         }
     }
 
-    /// Takes the word at a place.
-    pub fn take(&mut self, place: usize, word: &'a str) -> Result<(), WordsFault>
-        ensures { let given = profile_given self.old in TakesProfile (take_profile_word given given.awaited word.now) place self.new result }
+    /// What is asked, where the place after the last word is reached.
+    pub fn finish(self, place: usize) -> Result<ProfileOptions<'a>, WordsFault>
+        ensures { let given = profile_given self.entry in ReadsProfile (settings_words place given) result }
     {
+        match self.awaited {
+            Some(_) => Err(WordsFault::BadWord(place)),
+            None => Ok(self.profile),
+        }
+    }
+}
+
+impl<'a> TakeWord<'a> for GivenProfile<'a> {
+    ghost use Rattle.signed_stream.specs.Command.{ProfileGiven, settings_word};
+    ghost use Rattle.signed_stream.specs.Options.{profile_given};
+
+    ghost Given = { ProfileGiven };
+
+    ghost given = { profile_given };
+
+    ghost step = { settings_word };
+
+    fn take_word(&mut self, place: usize, word: &'a str) -> Result<(), WordsFault> {
         if let Some(option) = self.awaited.take() {
             self.profile.take(option, word)?;
             return Ok(());
@@ -136,15 +154,5 @@ impl<'a> GivenProfile<'a> {
         }
         self.awaited = Some(option);
         Ok(())
-    }
-
-    /// What is asked, where the place after the last word is reached.
-    pub fn finish(self, place: usize) -> Result<ProfileOptions<'a>, WordsFault>
-        ensures { let given = profile_given self.entry in ReadsProfile (settings_command place given.profile given.awaited) result }
-    {
-        match self.awaited {
-            Some(_) => Err(WordsFault::BadWord(place)),
-            None => Ok(self.profile),
-        }
     }
 }
