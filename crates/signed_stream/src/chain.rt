@@ -1,10 +1,10 @@
-ghost use Rattle.std.specs.Prelude.{◌≡◌, ◌≤◌, ◌++◌, List, None, IfOk, IsErrOf, length, map};
+ghost use Rattle.std.specs.Prelude.{◌≡◌, ◌≤◌, ◌+◌, ◌++◌, List, None, IsErrOf, length};
 ghost use Rattle.smithy_core.specs.Given.{GivesEach};
 ghost use Rattle.smithy_core.specs.Moment.{Instant};
 ghost use Rattle.smithy_core.specs.Outside.{RoseOrStands};
 ghost use Rattle.eventstream.specs.Told.{sealed};
 ghost use Rattle.eventstream.specs.Write.{IsFrameFault};
-ghost use Rattle.event_io.specs.Adapter.{adapter_signer};
+ghost use Rattle.event_io.specs.Adapter.{adapter_signer, item_source_of};
 ghost use Rattle.event_io.specs.Chain.{Chains};
 ghost use Rattle.aws_auth.specs.MessageSigner.{running_signature, signer_in, told_of};
 ghost use Rattle.signed_stream.specs.Chain.{fault_at, frame_text};
@@ -12,24 +12,17 @@ ghost use Rattle.signed_stream.specs.Halt.{Sends, halt_of, refuses};
 ghost use Rattle.signed_stream.specs.Sending.{IsChainAnswer, IsSignFault, SendsChain, TellsAnswer, sealed_signature, sealed_signer, sign_halt};
 
 use crate::form::Form;
+use crate::own_events::OwnEvents;
 use crate::status::StreamFault;
 use aws_auth::SigV4MessageSigner;
 use bytes::Bytes;
-use event_io::{AdapterFault, EventSource, ListEvents, MessageStreamAdapter, Next};
+use event_io::{AdapterFault, EventSource, MessageStreamAdapter, Next};
 use eventstream::{ErrorKind, IdentityMarshaller, SignMessage, SignMessageError};
-use smithy_core::{
-    ByteSink, Clock, Mem, Message, Moment, RawMessage, SdkError, SinkError, write_all,
-};
+use smithy_core::{ByteSink, Clock, Message, Moment, RawMessage, SdkError, SinkError, write_all};
 use std::alloc::Global;
-use std::collections::VecDeque;
 
 // Makes frames of events in memory, which are messages as they are.
-type EventAdapter<G> = MessageStreamAdapter<
-    ListEvents<Message, Message>,
-    IdentityMarshaller,
-    IdentityMarshaller,
-    G,
->;
+type EventAdapter<G> = MessageStreamAdapter<OwnEvents, IdentityMarshaller, IdentityMarshaller, G>;
 
 /// Streams the events in a form: a signed frame for each and an empty one last, each at a moment of its own.
 ///
@@ -42,7 +35,7 @@ type EventAdapter<G> = MessageStreamAdapter<
 pub fn stream_events<C: Clock, K: ByteSink>(
     alloc: Global,
     signer: SigV4MessageSigner<()>,
-    events: &[Message],
+    events: Vec<Message>,
     clock: &mut C,
     form: Form,
     sink: &mut K,
@@ -51,56 +44,46 @@ pub fn stream_events<C: Clock, K: ByteSink>(
     requires { told_of signer ≡ sealed (running_signature signer) (signer_in signer) }
     ensures count { K.faults sink.old ≤ K.faults sink.new }
     ensures sends { (taken : List Instant) × (moments.new.items ≡ moments.old.items ++ taken) × GivesEach C.Clock clock.old taken clock.new
-        × SendsChain form (signer_in signer) events.now (running_signature signer) (K.held sink.old) (K.held sink.new) taken result }
+        × SendsChain form (signer_in signer) events.items (running_signature signer) (K.held sink.old) (K.held sink.new) taken result }
     ensures failed { IsErrOf result StreamFault.SinkFault → RoseOrStands (K.faults sink.old) (K.faults sink.new) }
     ensures steady { (IsErrOf result StreamFault.SinkFault → ⊥) → K.faults sink.new ≡ K.faults sink.old }
 {
-    let items = ListEvents::new(items_of(alloc, events)?);
+    let end = events.len() + 2;
+    let events = OwnEvents::new(events);
     let adapter = MessageStreamAdapter::new(
         alloc,
         IdentityMarshaller,
         IdentityMarshaller,
         signer,
-        items,
+        events,
     );
-    send_frames(alloc, adapter, events, clock, form, sink, moments)
+    send_frames(alloc, adapter, end, clock, form, sink, moments)
 }
 
-// Writes the frames that an adapter makes of the events and of their end.
+// Writes the frames that an adapter makes of the events and of their end, from the first place to that before `end`.
 fn send_frames<G: SignMessage, C: Clock, K: ByteSink>(
     alloc: Global,
     mut adapter: EventAdapter<G>,
-    events: &[Message],
+    end: usize,
     clock: &mut C,
     form: Form,
     sink: &mut K,
     moments: &mut Vec<Moment>,
 ) -> Result<(), StreamFault>
-    requires { Chains ⟦<ListEvents<Message, Message> as EventSource>⟧ G.SignMessage (sealed_signer (G.told (adapter_signer adapter))) events.now (sealed_signature (G.told (adapter_signer adapter))) adapter }
+    requires places { end ≡ length (item_source_of adapter) + 2 }
+    requires chains { Chains ⟦<OwnEvents as EventSource>⟧ G.SignMessage (sealed_signer (G.told (adapter_signer adapter))) (item_source_of adapter) (sealed_signature (G.told (adapter_signer adapter))) adapter }
     ensures count { K.faults sink.old ≤ K.faults sink.new }
     ensures sends { (taken : List Instant) × (moments.new.items ≡ moments.old.items ++ taken) × GivesEach C.Clock clock.old taken clock.new
-        × SendsChain form (sealed_signer (G.told (adapter_signer adapter))) events.now (sealed_signature (G.told (adapter_signer adapter))) (K.held sink.old) (K.held sink.new) taken result }
+        × SendsChain form (sealed_signer (G.told (adapter_signer adapter))) (item_source_of adapter) (sealed_signature (G.told (adapter_signer adapter))) (K.held sink.old) (K.held sink.new) taken result }
     ensures failed { IsErrOf result StreamFault.SinkFault → RoseOrStands (K.faults sink.old) (K.faults sink.new) }
     ensures steady { (IsErrOf result StreamFault.SinkFault → ⊥) → K.faults sink.new ≡ K.faults sink.old }
 {
-    let end = events.len() + 2;
     'frames: for place in 1..end {
         let answer = adapter.poll_next(clock, moments);
         let frame = frame_at(place, answer)?;
         write_frame(alloc, frame.as_slice(), form, sink)?;
     }
     Ok(())
-}
-
-// Copies of the events, none of which is an error.
-fn items_of(alloc: Global, events: &[Message]) -> Mem<VecDeque<Result<Message, Message>>>
-    ensures { IfOk result (λ items. items.items ≡ map (λ event. Ok event) events.now) }
-{
-    let mut items = VecDeque::with_capacity(alloc, events.len())?;
-    for event in events {
-        items.push_back(Ok(event.try_clone()?))?;
-    }
-    Ok(items)
 }
 
 // The frame that an adapter answered for a place.

@@ -21,6 +21,7 @@ use crate::status::{Status, StreamFault, status_of};
 use crate::streaming::StreamOptions;
 use aws_auth::{SigV4MessageSigner, SigningOptions};
 use chain_check::{ChainFault, check_chain};
+use job_text::copied_events;
 use smithy_core::{
     ByteSink, CalmSink, Credentials, FixedClock, HttpRequest, Identity, Mem, Message, Moment,
 };
@@ -136,13 +137,14 @@ fn stream_by(alloc: Global, signer: SigV4MessageSigner<()>, events: &[Message]) 
     requires drawn { AreDrawn events.now }
     ensures { IfOk result (λ sink. sink ≡ generated_stream events.now) }
 {
+    let copies = copied_events(alloc, events)?;
     let mut clock = FixedClock::new(moment());
     let mut sink = CalmSink::new(alloc);
     let mut moments = Vec::new(alloc);
     match stream_events(
         alloc,
         signer,
-        events,
+        copies,
         &mut clock,
         Form::Raw,
         &mut sink,

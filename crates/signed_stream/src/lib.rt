@@ -21,6 +21,7 @@ mod form;
 mod generate;
 mod generator;
 mod laws;
+mod own_events;
 mod running;
 mod saying;
 mod settings;

@@ -16,7 +16,7 @@ ghost use Rattle.signed_stream.specs.Status.{could_not_read_file, ending_of, out
 use crate::command::StreamWords;
 use crate::sources::load_source;
 use crate::status::{Status, StreamFault, status_of};
-use crate::streaming::{StreamOptions, sign_and_stream};
+use crate::streaming::{StreamOptions, sign_and_send};
 use env_config::Source;
 use job_text::{Job, ProfileTexts, copied};
 use smithy_core::{ByteSink, Clock, Disk, Env, FixedClock, HttpRequest, Mem, Message};
@@ -54,7 +54,6 @@ pub fn stream_job<D: Disk, C: Clock, K: ByteSink>(
     };
     match load_source(alloc, env, disk, &words.profile, texts) {
         Ok(source) => {
-            let events = events.as_slice();
             status_of(stream_source(alloc, &source, env, &request, events, words, clock, out))
         }
         Err(fault) => Status::from(fault),
@@ -67,7 +66,7 @@ fn stream_source<C: Clock, K: ByteSink>(
     source: &Source,
     env: &Env,
     request: &HttpRequest,
-    events: &[Message],
+    events: Vec<Message>,
     words: StreamWords<'_>,
     clock: &mut C,
     out: &mut K,
@@ -75,7 +74,7 @@ fn stream_source<C: Clock, K: ByteSink>(
     ensures count { K.faults out.old ≤ K.faults out.new }
     ensures streams { let wanted = wanted_of words.entry in
         TakesFor (OfClock (λ taken. Gives C.Clock clock.old taken clock.new) wanted.at) (string_bytes request.now.target)
-        (stream_plan (map file_of source.now.files.items) (string_bytes source.now.profile) env.now wanted (job_with request.now events.now)) (ended result) (K.held out.old) (K.held out.new) }
+        (stream_plan (map file_of source.now.files.items) (string_bytes source.now.profile) env.now wanted (job_with request.now events.items)) (ended result) (K.held out.old) (K.held out.new) }
     ensures failed { IsErrOf result StreamFault.SinkFault → RoseOrStands (K.faults out.old) (K.faults out.new) }
     ensures steady { (IsErrOf result StreamFault.SinkFault → ⊥) → K.faults out.new ≡ K.faults out.old }
 {
@@ -94,21 +93,21 @@ fn stream_by<C: Clock, K: ByteSink>(
     source: &Source,
     env: &Env,
     request: &HttpRequest,
-    events: &[Message],
+    events: Vec<Message>,
     words: StreamWords<'_>,
     clock: &mut C,
     out: &mut K,
 ) -> Result<(), StreamFault>
     ensures count { K.faults out.old ≤ K.faults out.new }
     ensures streams { TakesFor (λ taken. Gives C.Clock clock.old taken clock.new) (string_bytes request.now.target)
-        (stream_plan (map file_of source.now.files.items) (string_bytes source.now.profile) env.now (wanted_of words.entry) (job_with request.now events.now)) (ended result) (K.held out.old) (K.held out.new) }
+        (stream_plan (map file_of source.now.files.items) (string_bytes source.now.profile) env.now (wanted_of words.entry) (job_with request.now events.items)) (ended result) (K.held out.old) (K.held out.new) }
     ensures failed { IsErrOf result StreamFault.SinkFault → RoseOrStands (K.faults out.old) (K.faults out.new) }
     ensures steady { (IsErrOf result StreamFault.SinkFault → ⊥) → K.faults out.new ≡ K.faults out.old }
 {
     let form = words.form;
     let options = options_of(alloc, words)?;
     let mut moments = Vec::new(alloc);
-    sign_and_stream(
+    sign_and_send(
         alloc,
         source,
         env,

@@ -22,7 +22,7 @@ use crate::written::head_of;
 use aws_auth::{SigV4MessageSigner, SigningOptions};
 use env_config::Source;
 use event_io::take_moment;
-use job_text::{copy_of, lent};
+use job_text::{copied_events, copy_of, lent};
 use smithy_core::{ByteSink, Clock, Env, HttpRequest, Identity, Mem, Message, Moment};
 use std::alloc::Global;
 
@@ -80,7 +80,6 @@ impl StreamOptions {
 /// and last the closing frame are tested after the frames before them were written: the event's own frame, the moment,
 /// and the frame of its signed message. [`StreamFault::SinkFault`] comes where the sink's count of faults rose. After
 /// it, and after [`StreamFault::NoMemory`], the sink has gained a prefix of the head and the frames that were begun.
-#[tactic(auto, unfolding(crate::specs::Settings::settings))]
 pub fn sign_and_stream<C: Clock, K: ByteSink>(
     alloc: Global,
     source: &Source,
@@ -100,6 +99,37 @@ pub fn sign_and_stream<C: Clock, K: ByteSink>(
     ensures failed { IsErrOf result StreamFault.SinkFault → RoseOrStands (K.faults sink.old) (K.faults sink.new) }
     ensures steady { (IsErrOf result StreamFault.SinkFault → ⊥) → K.faults sink.new ≡ K.faults sink.old }
 {
+    let events = copied_events(alloc, events)?;
+    sign_and_send(
+        alloc, source, env, request, options, events, clock, form, sink, moments,
+    )
+}
+
+/// Signs a request and streams its events as [`sign_and_stream`] does, of which each goes when it is sent.
+///
+/// # Errors
+///
+/// As those of [`sign_and_stream`].
+#[tactic(auto, unfolding(crate::specs::Settings::settings))]
+pub fn sign_and_send<C: Clock, K: ByteSink>(
+    alloc: Global,
+    source: &Source,
+    env: &Env,
+    request: &HttpRequest,
+    options: &StreamOptions,
+    events: Vec<Message>,
+    clock: &mut C,
+    form: Form,
+    sink: &mut K,
+    moments: &mut Vec<Moment>,
+) -> Result<HttpRequest, StreamFault>
+    ensures count { K.faults sink.old ≤ K.faults sink.new }
+    ensures streams { SignsAndStreams (λ taken. Gives C.Clock clock.old taken clock.new) moments.old.items moments.new.items
+        (map file_of source.now.files.items) (string_bytes source.now.profile) env.now (stream_wanted options.now form) request.now events.items result
+        (K.held sink.old) (K.held sink.new) }
+    ensures failed { IsErrOf result StreamFault.SinkFault → RoseOrStands (K.faults sink.old) (K.faults sink.new) }
+    ensures steady { (IsErrOf result StreamFault.SinkFault → ⊥) → K.faults sink.new ≡ K.faults sink.old }
+{
     let settings = read_settings(alloc, source, env, lent(&options.service_id))?;
     stream_selected(
         alloc, settings, request, options, events, clock, form, sink, moments,
@@ -112,7 +142,7 @@ fn stream_selected<C: Clock, K: ByteSink>(
     settings: Settings,
     request: &HttpRequest,
     options: &StreamOptions,
-    events: &[Message],
+    events: Vec<Message>,
     clock: &mut C,
     form: Form,
     sink: &mut K,
@@ -120,9 +150,9 @@ fn stream_selected<C: Clock, K: ByteSink>(
 ) -> Result<HttpRequest, StreamFault>
     ensures count { K.faults sink.old ≤ K.faults sink.new }
     ensures streams { Streams (λ taken. GivesEach C.Clock clock.old taken clock.new) moments.old.items moments.new.items (string_bytes request.now.target)
-        (λ target taken. selected_plan (job_with request.now events.now) (stream_wanted options.now form) target taken (selected_in settings))
+        (λ target taken. selected_plan (job_with request.now events.items) (stream_wanted options.now form) target taken (selected_in settings))
         (ended result) (K.held sink.old) (K.held sink.new) }
-    ensures signed { IfOk result (IsSentSigned (job_with request.now events.now) (stream_wanted options.now form) (selected_in settings) request.now moments.old.items moments.new.items) }
+    ensures signed { IfOk result (IsSentSigned (job_with request.now events.items) (stream_wanted options.now form) (selected_in settings) request.now moments.old.items moments.new.items) }
     ensures failed { IsErrOf result StreamFault.SinkFault → RoseOrStands (K.faults sink.old) (K.faults sink.new) }
     ensures steady { (IsErrOf result StreamFault.SinkFault → ⊥) → K.faults sink.new ≡ K.faults sink.old }
 {
@@ -139,7 +169,7 @@ fn stream_signed<C: Clock, K: ByteSink>(
     alloc: Global,
     request: &HttpRequest,
     signer: SigV4MessageSigner<()>,
-    events: &[Message],
+    events: Vec<Message>,
     clock: &mut C,
     form: Form,
     sink: &mut K,
@@ -149,7 +179,7 @@ fn stream_signed<C: Clock, K: ByteSink>(
     ensures count { K.faults sink.old ≤ K.faults sink.new }
     ensures sends { (taken : List Instant) × (moments.new.items ≡ moments.old.items ++ taken) × GivesEach C.Clock clock.old taken clock.new
         × SendsAll form (head_in_form form (string_bytes request.now.method) (string_bytes request.now.target) request.now.headers)
-        (signer_in signer) events.now (running_signature signer) (K.held sink.old) (K.held sink.new) taken result }
+        (signer_in signer) events.items (running_signature signer) (K.held sink.old) (K.held sink.new) taken result }
     ensures failed { IsErrOf result StreamFault.SinkFault → RoseOrStands (K.faults sink.old) (K.faults sink.new) }
     ensures steady { (IsErrOf result StreamFault.SinkFault → ⊥) → K.faults sink.new ≡ K.faults sink.old }
 {

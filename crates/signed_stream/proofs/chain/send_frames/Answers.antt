@@ -6,18 +6,18 @@ use Rattle.signed_stream.proofs.PollLemmas.{answers_chain, begins_at, cut_at, go
 use Rattle.signed_stream.proofs.chain.send_frames.Goals as goal
 
 pub frames-init : goal.frames-init
-frames-init g c = record { count = refl; at = begins_at _ _ _ _ _ _ _ _ _ _ _ c.requires }
+frames-init g c = record { count = refl; at = begins_at _ _ _ _ _ _ _ _ _ _ _ c.requires.chains }
 
 pub frame_at-requires : goal.frame_at-requires
 frame_at-requires g c =
-    answers_chain _ _ _ _ _ _ _ _ _ _ _ _ _ _ c.poll_next-answer.new.clock _ _ c.poll_next-answer.new.self _ c.frames.invariant.at (omega (arith, c.frames-test.true)) never_waits
+    answers_chain _ _ _ _ _ _ _ _ _ _ _ _ _ _ c.poll_next-answer.new.clock _ _ c.poll_next-answer.new.self _ c.frames.invariant.at (omega (arith, c.frames-test.true, c.requires.places)) never_waits
     (λ left signature chains. chain_polled _ identity.ghosts identity.ghosts _ (λ m message answer is. is) _ g.C.Clock _ _ _ _ left signature _ _ _ chains c.poll_next-answer.ensures.want c.poll_next-answer.ensures.polls)
 
 pub returns-in_err-frame-clause-sends : goal.returns-in_err-frame-clause-sends
 returns-in_err-frame-clause-sends g c =
     let exit = err_from_is_err_and c.from_residual.result c.from_residual.ensures.1 in
     rw (exit.1, exit.2)
-    (halts_at _ _ _ _ _ _ _ _ _ _ _ _ _ _ c.poll_next-answer.new.clock _ _ c.poll_next-answer.new.self _ c.frames.invariant.at (omega (arith, c.frames-test.true)) never_waits
+    (halts_at _ _ _ _ _ _ _ _ _ _ _ _ _ _ c.poll_next-answer.new.clock _ _ c.poll_next-answer.new.self _ c.frames.invariant.at (omega (arith, c.frames-test.true, c.requires.places)) never_waits
     (λ left signature chains. chain_polled _ identity.ghosts identity.ghosts _ (λ m message answer is. is) _ g.C.Clock _ _ _ _ left signature _ _ _ chains c.poll_next-answer.ensures.want c.poll_next-answer.ensures.polls)
     c.in_err-frame.field-0.0 c.in_err-frame.ensures)
 
@@ -25,7 +25,7 @@ pub returns-in_err-write_frame-clause-sends : goal.returns-in_err-write_frame-cl
 returns-in_err-write_frame-clause-sends g c =
     let exit = err_from_is_err_and c.from_residual-in_err-write_frame.result c.from_residual-in_err-write_frame.ensures.1 in
     rw (exit.1, exit.2)
-    (cut_at _ _ _ _ _ _ _ _ _ _ _ _ _ _ c.poll_next-answer.new.clock _ _ c.poll_next-answer.new.self _ c.frames.invariant.at (omega (arith, c.frames-test.true)) never_waits
+    (cut_at _ _ _ _ _ _ _ _ _ _ _ _ _ _ c.poll_next-answer.new.clock _ _ c.poll_next-answer.new.self _ c.frames.invariant.at (omega (arith, c.frames-test.true, c.requires.places)) never_waits
     (λ left signature chains. chain_polled _ identity.ghosts identity.ghosts _ (λ m message answer is. is) _ g.C.Clock _ _ _ _ left signature _ _ _ chains c.poll_next-answer.ensures.want c.poll_next-answer.ensures.polls)
     c.in_ok-frame.frame c.in_ok-frame.ensures _ c.in_err-write_frame.field-0.0 (rw c.as_slice.ensures at c.in_err-write_frame.ensures.sends))
 
@@ -35,10 +35,10 @@ frames-preserved g c =
     record {
       count = c.in_ok-write_frame.ensures.steady (λ failed. cc) ∙ c.frames.invariant.count;
       at =
-          goes_at _ _ _ _ _ _ _ _ _ _ _ _ _ _ c.poll_next-answer.new.clock _ _ c.poll_next-answer.new.self _ c.frames.invariant.at (omega (arith, c.frames-test.true)) never_waits
+          goes_at _ _ _ _ _ _ _ _ _ _ _ _ _ _ c.poll_next-answer.new.clock _ _ c.poll_next-answer.new.self _ c.frames.invariant.at (omega (arith, c.frames-test.true, c.requires.places)) never_waits
           (λ left signature chains. chain_polled _ identity.ghosts identity.ghosts _ (λ m message answer is. is) _ g.C.Clock _ _ _ _ left signature _ _ _ chains c.poll_next-answer.ensures.want c.poll_next-answer.ensures.polls)
           c.in_ok-frame.frame c.in_ok-frame.ensures _ sends.1;
     }
 
 pub returns-clause-sends : goal.returns-clause-sends
-returns-clause-sends g c = sent_all _ _ _ _ _ _ _ _ _ _ _ _ _ _ _ c.frames.invariant.at (omega (arith, c.frames-test.false))
+returns-clause-sends g c = sent_all _ _ _ _ _ _ _ _ _ _ _ _ _ _ _ c.frames.invariant.at (omega (arith, c.frames-test.false, c.requires.places))

@@ -14,7 +14,7 @@ use Rattle.signed_stream.proofs.stream.stream_by.Goals as goal
 pub returns-in_err-options-clause-streams : goal.returns-in_err-options-clause-streams
 returns-in_err-options-clause-streams g c =
     let exit = err_from_is_err_and c.from_residual.result c.from_residual.ensures.1 in
-    let plan = stream_plan (map file_of c.args.source.now.files.items) (string_bytes c.args.source.now.profile) c.args.env.now (wanted_of c.args.words) (job_with c.args.request.now c.args.events.now) unread [] in
+    let plan = stream_plan (map file_of c.args.source.now.files.items) (string_bytes c.args.source.now.profile) c.args.env.now (wanted_of c.args.words) (job_with c.args.request.now c.args.events.items) unread [] in
     rw (exit.1, exit.2) (record {
       target = unread;
       moments = [];
@@ -24,14 +24,14 @@ returns-in_err-options-clause-streams g c =
       needed = λ front t rest is. absurd (no_moment front t rest is);
     })
 
-pub returns-in_err-sign_and_stream-clause-streams : goal.returns-in_err-sign_and_stream-clause-streams
-returns-in_err-sign_and_stream-clause-streams g c =
-    let exit = err_from_is_err_and c.from_residual-in_err-sign_and_stream.result c.from_residual-in_err-sign_and_stream.ensures.1 in
+pub returns-in_err-sign_and_send-clause-streams : goal.returns-in_err-sign_and_send-clause-streams
+returns-in_err-sign_and_send-clause-streams g c =
+    let exit = err_from_is_err_and c.from_residual-in_err-sign_and_send.result c.from_residual-in_err-sign_and_send.ensures.1 in
     rw (exit.1, exit.2)
-    (words_go (λ taken. Gives g.C.Clock c.args.clock.now taken c.sign_and_stream.new.clock) (string_bytes c.args.request.now.target) (map file_of c.args.source.now.files.items) (string_bytes c.args.source.now.profile)
-    c.args.env.now c.args.words c.in_ok-options.options (job_with c.args.request.now c.args.events.now) _ _ _ c.in_ok-options.ensures (streams_take _ _ _ _ _ _ _ _ c.in_err-sign_and_stream.ensures.streams.streams))
+    (words_go (λ taken. Gives g.C.Clock c.args.clock.now taken c.sign_and_send.new.clock) (string_bytes c.args.request.now.target) (map file_of c.args.source.now.files.items) (string_bytes c.args.source.now.profile)
+    c.args.env.now c.args.words c.in_ok-options.options (job_with c.args.request.now c.args.events.items) _ _ _ c.in_ok-options.ensures (streams_take _ _ _ _ _ _ _ _ c.in_err-sign_and_send.ensures.streams.streams))
 
 pub returns-clause-streams : goal.returns-clause-streams
 returns-clause-streams g c =
-    words_go (λ taken. Gives g.C.Clock c.args.clock.now taken c.sign_and_stream.new.clock) (string_bytes c.args.request.now.target) (map file_of c.args.source.now.files.items) (string_bytes c.args.source.now.profile)
-    c.args.env.now c.args.words c.in_ok-options.options (job_with c.args.request.now c.args.events.now) _ _ _ c.in_ok-options.ensures (streams_take _ _ _ _ _ _ _ _ c.in_ok-sign_and_stream.ensures.streams.streams)
+    words_go (λ taken. Gives g.C.Clock c.args.clock.now taken c.sign_and_send.new.clock) (string_bytes c.args.request.now.target) (map file_of c.args.source.now.files.items) (string_bytes c.args.source.now.profile)
+    c.args.env.now c.args.words c.in_ok-options.options (job_with c.args.request.now c.args.events.items) _ _ _ c.in_ok-options.ensures (streams_take _ _ _ _ _ _ _ _ c.in_ok-sign_and_send.ensures.streams.streams)

@@ -19,7 +19,7 @@ use Rattle.signed_stream.proofs.stream.stream_job.Goals as goal
 pub returns-in-Ok-clause-planned : goal.returns-in-Ok-clause-planned
 returns-in-Ok-clause-planned g c =
     let gave = DiskGives g.D.Disk.answers g.D.Disk.faults (g.D.Disk.files c.args.disk.now) c.args.env.now c.args.disk.now c.load_source.new.disk in
-    let streams = rw c.as_slice-events.ensures.value at c.stream_source.ensures.streams in
+    let streams = c.stream_source.ensures.streams in
     rw c.status_of.ensures
     (job_goes gave (λ taken. Gives g.C.Clock c.args.clock.now taken c.stream_source.new.clock) c.args.env.now (wanted_of c.args.words) (job_parts c.args.job) (job_with c.args.job.request c.args.job.events.items)
     (map file_of c.in-Ok.source.files.items) (string_bytes c.in-Ok.source.profile) _ _ _ refl c.in-Ok.ensures.loads.1 c.in-Ok.ensures.loads.0 streams)

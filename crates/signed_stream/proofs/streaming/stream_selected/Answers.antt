@@ -27,14 +27,14 @@ returns-in_err-first-clause-streams g c =
       spelled = tt;
       gained = c.in_err-first.ensures.err.1 ∙ sym (append-nil c.args.moments.now.items);
       given = c.in_err-first.ensures.err.0;
-      goes = goes_no_memory (selected_plan (job_with c.args.request.now c.args.events.now) (stream_wanted c.args.options.now c.args.form) unread [] (selected_in c.args.settings)) held;
+      goes = goes_no_memory (selected_plan (job_with c.args.request.now c.args.events.items) (stream_wanted c.args.options.now c.args.form) unread [] (selected_in c.args.settings)) held;
       needed = λ front t rest is. absurd (no_moment front t rest is);
     })
 
 pub returns-in_err-signed-clause-streams : goal.returns-in_err-signed-clause-streams
 returns-in_err-signed-clause-streams g c =
     let exit = err_from_is_err_and c.from_residual-in_err-signed.result c.from_residual-in_err-signed.ensures.1 in
-    let j = job_with c.args.request.now c.args.events.now in
+    let j = job_with c.args.request.now c.args.events.items in
     let wanted = stream_wanted c.args.options.now c.args.form in
     let selected = selected_in c.args.settings in
     let unsigned = c.in_err-signed.ensures c.args.form in
@@ -67,7 +67,7 @@ returns-in_err-stream_signed-clause-streams g c =
     let made = rw c.as_str-region.ensures at raw in
     let sent = c.in_err-stream_signed.ensures.sends in
     rw (exit.1, exit.2)
-    (signed_streams (job_with c.args.request.now c.args.events.now) (stream_wanted c.args.options.now c.args.form) (selected_in c.args.settings) c.in_ok-first.first made.0 made.2
+    (signed_streams (job_with c.args.request.now c.args.events.items) (stream_wanted c.args.options.now c.args.form) (selected_in c.args.settings) c.in_ok-first.first made.0 made.2
     c.args.request.now c.in_ok-signed.signed c.in_ok-signed.signer refl made.3 made.4 (λ taken. GivesEach g.C.Clock c.args.clock.now taken c.stream_signed.new.clock)
     c.args.moments.now.items c.take_moment.new.moments.items c.stream_signed.new.moments.items sent.0 _ _ _ c.in_ok-first.ensures.ok.0 sent.1 (c.take_moment.new.clock, c.in_ok-first.ensures.ok.1, sent.2) made.1 sent.3)
 
@@ -76,7 +76,7 @@ returns-clause-streams g c =
     let raw = c.in_ok-signed.ensures c.args.form in
     let made = rw c.as_str-region.ensures at raw in
     let sent = c.in_ok-stream_signed.ensures.sends in
-    signed_streams (job_with c.args.request.now c.args.events.now) (stream_wanted c.args.options.now c.args.form) (selected_in c.args.settings) c.in_ok-first.first made.0 made.2
+    signed_streams (job_with c.args.request.now c.args.events.items) (stream_wanted c.args.options.now c.args.form) (selected_in c.args.settings) c.in_ok-first.first made.0 made.2
     c.args.request.now c.in_ok-signed.signed c.in_ok-signed.signer refl made.3 made.4 (λ taken. GivesEach g.C.Clock c.args.clock.now taken c.stream_signed.new.clock)
     c.args.moments.now.items c.take_moment.new.moments.items c.stream_signed.new.moments.items sent.0 _ _ _ c.in_ok-first.ensures.ok.0 sent.1 (c.take_moment.new.clock, c.in_ok-first.ensures.ok.1, sent.2) made.1 sent.3
 
