@@ -23,6 +23,19 @@ parts_data phase.Trailers size held kept piece frames = refl
 parts_data phase.Ended size held kept piece frames = refl
 parts_data phase.Closed size held kept piece frames = refl
 
+pub trailers_data : (at : Phase) (kept : Option (List Trailer)) (piece : List ℕ) (frames : List FramePart)
+    → trailers_left at kept frames ≡ trailers_left at kept (frame.Data piece ∷ frames)
+trailers_data phase.Data kept piece frames = refl
+trailers_data phase.Trailers kept piece frames = refl
+trailers_data phase.Ended kept piece frames = refl
+trailers_data phase.Closed kept piece frames = refl
+
+pub held_more : (at : Phase) (held now piece : List ℕ) → now ≡ held_after at held piece → length held ≤ length now
+held_more phase.Data held now piece is = omega (arith, ap length is, length-append held piece)
+held_more phase.Trailers held now piece is = omega (arith, ap length is)
+held_more phase.Ended held now piece is = omega (arith, ap length is)
+held_more phase.Closed held now piece is = omega (arith, ap length is)
+
 pub total_data : (at : Phase) (taken : ℕ) (piece : List ℕ) (frames : List FramePart)
     → counted (taken_after at taken piece + length (data_left at frames)) ≡ counted (taken + length (data_left at (frame.Data piece ∷ frames)))
 total_data phase.Data taken piece frames = omega (arith, length-append piece (data_before frames))
@@ -40,6 +53,15 @@ parts_trailers phase.Ended size held kept trailers frames (inr is) = cc
 parts_trailers phase.Closed size held kept trailers frames (inl is) = cc
 parts_trailers phase.Closed size held kept trailers frames (inr is) = cc
 
+pub trailers_more : (at : Phase) (kept : Option (List Trailer)) (trailers : List Trailer) (frames : List FramePart) → (at ≡ phase.Data) ⊎ (at ≡ phase.Trailers)
+    → trailers_left phase.Trailers (Some (with_frame kept trailers)) frames ≡ trailers_left at kept (frame.Trailers trailers ∷ frames)
+trailers_more phase.Data kept trailers frames on = refl
+trailers_more phase.Trailers kept trailers frames on = refl
+trailers_more phase.Ended kept trailers frames (inl is) = cc
+trailers_more phase.Ended kept trailers frames (inr is) = cc
+trailers_more phase.Closed kept trailers frames (inl is) = cc
+trailers_more phase.Closed kept trailers frames (inr is) = cc
+
 pub total_trailers : (at : Phase) (taken : ℕ) (trailers : List Trailer) (frames : List FramePart)
     → counted (taken + length (data_left phase.Trailers frames)) ≡ counted (taken + length (data_left at (frame.Trailers trailers ∷ frames)))
 total_trailers phase.Data taken trailers frames = refl
@@ -54,6 +76,14 @@ parts_end phase.Trailers size held kept on = refl
 parts_end phase.Ended size held kept on = refl
 parts_end phase.Closed size held kept (inl is) = cc
 parts_end phase.Closed size held kept (inr is) = cc
+
+pub trailers_end : (at : Phase) (kept : Option (List Trailer)) → (at ≡ phase.Data) ⊎ (at ≡ phase.Trailers)
+    → trailers_left phase.Ended kept [] ≡ trailers_left at kept []
+trailers_end phase.Data kept on = refl
+trailers_end phase.Trailers kept on = refl
+trailers_end phase.Ended kept on = refl
+trailers_end phase.Closed kept (inl is) = cc
+trailers_end phase.Closed kept (inr is) = cc
 
 pub total_end : (at : Phase) (taken : ℕ) → counted (taken + length (data_left phase.Ended [])) ≡ counted (taken + length (data_left at []))
 total_end phase.Data taken = refl

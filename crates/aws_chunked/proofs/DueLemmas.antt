@@ -213,32 +213,32 @@ writes_none true untold parts none = tt
 
 module _ {F G : Type 0} (source : FrameSource.Ghosts F) (signer : SignChunk.Ghosts G) where
   -- the text that was made is none of the parts
-  pub parts_same : (body : AwsChunkedBody F G) (ready : List ℕ) → parts_due source (record body { ready = ready }) ≡ parts_due source body
+  pub parts_same : (body : AwsChunkedBody F G) (ready : List ℕ) → parts_due source (record body { chunks = record body.chunks { ready = ready } }) ≡ parts_due source body
   parts_same body ready = by (source.left body.source)
     where
-      by : (left : Option (List FramePart)) → option_map (λ (rest : TextLeft). rest.parts) (option_map (text_to_come_with (record body { ready = ready })) left)
+      by : (left : Option (List FramePart)) → option_map (λ (rest : TextLeft). rest.parts) (option_map (text_to_come_with (record body { chunks = record body.chunks { ready = ready } })) left)
           ≡ option_map (λ (rest : TextLeft). rest.parts) (option_map (text_to_come_with body) left)
       by None = refl
       by (Some frames) = refl
 
   -- how the text of the parts that are left is written
   abbrev writing_of : AwsChunkedBody F G → Option (List Part → List ℕ)
-  writing_of body = writing body.options.is_signed (told_of_chunks signer body.signer)
+  writing_of body = writing body.options.is_signed (told_of_chunks signer body.chunks.signer)
 
   first_due : (old new : AwsChunkedBody F G) (text bytes : List ℕ) → new.options ≡ old.options → text ≡ bytes ++ ready_bytes new → ready_bytes old ≡ []
       → MakesFirst source signer old new text → TakesText bytes (due source signer old) (due source signer new)
   unfolding due
   first_due old new text bytes options is none first =
-      subst (λ (o : Options). TakesText bytes (due source signer old) (text_due (writing o.is_signed (told_of_chunks signer new.signer)) (ready_bytes new) (parts_due source new)))
+      subst (λ (o : Options). TakesText bytes (due source signer old) (text_due (writing o.is_signed (told_of_chunks signer new.chunks.signer)) (ready_bytes new) (parts_due source new)))
       (sym options)
       (subst (λ (ready : List ℕ). TakesText bytes (text_due (writing_of old) ready (parts_due source old))
-      (text_due (writing old.options.is_signed (told_of_chunks signer new.signer)) (ready_bytes new) (parts_due source new))) (sym none)
-      (part_step signer old.options.is_signed first.part old.signer new.signer text bytes (ready_bytes new) (parts_due source old) (parts_due source new) first.made is first.parts
+      (text_due (writing old.options.is_signed (told_of_chunks signer new.chunks.signer)) (ready_bytes new) (parts_due source new))) (sym none)
+      (part_step signer old.options.is_signed first.part old.chunks.signer new.chunks.signer text bytes (ready_bytes new) (parts_due source old) (parts_due source new) first.made is first.parts
       (due_ends (text_to_come_with old) first.part (source.left old.source) (parts_due source new)
-      (λ frames rest same. left_ends old.phase old.options.chunk_size (held_bytes old) old.trailers frames first.part rest same) first.parts)))
+      (λ frames rest same. left_ends old.came.phase old.options.chunk_size (held_bytes old) old.came.trailers frames first.part rest same) first.parts)))
 
   ready_due : (old new : AwsChunkedBody F G) (text bytes : List ℕ) → text ≡ bytes ++ ready_bytes new → text ≡ ready_bytes old
-      → new ≡ record old { ready = ready_bytes new } → TakesText bytes (due source signer old) (due source signer new)
+      → new ≡ record old { chunks = record old.chunks { ready = ready_bytes new } } → TakesText bytes (due source signer old) (due source signer new)
   unfolding due
   ready_due old new text bytes is same others =
       subst (λ (body : AwsChunkedBody F G). TakesText bytes (due source signer old) (due source signer body)) (sym others)
@@ -251,7 +251,7 @@ module _ {F G : Type 0} (source : FrameSource.Ghosts F) (signer : SignChunk.Ghos
       → TakesText bytes (due source signer old) (due source signer new)
   front_due old new bytes answers options = by answers.2
     where
-      by : ((answers.0 ≡ ready_bytes old) × (new ≡ record old { ready = ready_bytes new })) ⊎ ((ready_bytes old ≡ []) × MakesFirst source signer old new answers.0)
+      by : ((answers.0 ≡ ready_bytes old) × (new ≡ record old { chunks = record old.chunks { ready = ready_bytes new } })) ⊎ ((ready_bytes old ≡ []) × MakesFirst source signer old new answers.0)
           → TakesText bytes (due source signer old) (due source signer new)
       by (inl (same, others)) = ready_due old new answers.0 bytes answers.1 same others
       by (inr (none, first)) = first_due old new answers.0 bytes options answers.1 none first
@@ -261,21 +261,21 @@ module _ {F G : Type 0} (source : FrameSource.Ghosts F) (signer : SignChunk.Ghos
   due_kept old new keeps =
       (λ i. text_due (writing_of (kept i)) (ready_bytes (kept i)) (option_map (λ (rest : TextLeft). rest.parts) (keeps.rest i)))
     where
-      kept : new ≡ record old { source = new.source; phase = new.phase; held = new.held; taken = new.taken; trailers = new.trailers }
+      kept : new ≡ record old { source = new.source; came = new.came; chunks = record old.chunks { held = new.chunks.held } }
       kept = keeps.others
 
   pub closed_due : (body : AwsChunkedBody F G) → IsBodyClosed body → IsNothing (due source signer body)
   unfolding due
   closed_due body closed =
       subst (λ (ready : List ℕ). IsNothing (text_due (writing_of body) ready (parts_due source body))) (sym closed.answered)
-      (writes_none body.options.is_signed (told_of_chunks signer body.signer) (parts_due source body) (by (source.left body.source)))
+      (writes_none body.options.is_signed (told_of_chunks signer body.chunks.signer) (parts_due source body) (by (source.left body.source)))
     where
       by : (left : Option (List FramePart)) (rest : List Part) → option_map (λ (rest : TextLeft). rest.parts) (option_map (text_to_come_with body) left) ≡ Some rest → rest ≡ []
       by None rest is = (let no : ◌≡◌ {A = Option (List Part)} None (Some rest) = is in cc)
       by (Some frames) rest is =
-          (let all : ◌≡◌ {A = Option (List Part)} (Some (parts_left body.phase body.options.chunk_size (held_bytes body) body.trailers frames)) (Some rest) = is in
-          let none : parts_left body.phase body.options.chunk_size (held_bytes body) body.trailers frames ≡ [] =
-          ap (λ (at : Phase). parts_left at body.options.chunk_size (held_bytes body) body.trailers frames) closed.over in cc)
+          (let all : ◌≡◌ {A = Option (List Part)} (Some (parts_left body.came.phase body.options.chunk_size (held_bytes body) body.came.trailers frames)) (Some rest) = is in
+          let none : parts_left body.came.phase body.options.chunk_size (held_bytes body) body.came.trailers frames ≡ [] =
+          ap (λ (at : Phase). parts_left at body.options.chunk_size (held_bytes body) body.came.trailers frames) closed.over in cc)
 
   -- ---- a new body
 
@@ -283,7 +283,7 @@ module _ {F G : Type 0} (source : FrameSource.Ghosts F) (signer : SignChunk.Ghos
       → due source signer body ≡ option_map (λ (frames : List FramePart). chunked_text options.chunk_size (data_before frames) (listed (trailers_from None frames))) (source.left from)
   unfolding due chunked_text
   new_due body from options new unsigned =
-      (λ i. text_due (writing (encoded i) (told_of_chunks signer body.signer)) (new.nothing_ready i) (new_parts source body from options new i)) ∙ by (source.left from)
+      (λ i. text_due (writing (encoded i) (told_of_chunks signer body.chunks.signer)) (new.nothing_ready i) (new_parts source body from options new i)) ∙ by (source.left from)
     where
       encoded : body.options.is_signed ≡ false
       encoded = ap (λ (o : Options). o.is_signed) new.encoded ∙ unsigned
@@ -294,10 +294,10 @@ module _ {F G : Type 0} (source : FrameSource.Ghosts F) (signer : SignChunk.Ghos
       by None = refl
       by (Some frames) = refl
 
-  pub starts_sealed : (old new : AwsChunkedBody F G) (given : G) → new ≡ record old { signer = Some given } → StartsSealed source signer old new
+  pub starts_sealed : (old new : AwsChunkedBody F G) (given : G) → new ≡ record old { chunks = record old.chunks { signer = Some given } } → StartsSealed source signer old new
   unfolding due sealed_chunked_text
   starts_sealed old new given is from options before who t started signed told years =
-      subst (λ (body : AwsChunkedBody F G). text_due (writing body.options.is_signed (told_of_chunks signer new.signer)) (ready_bytes body) (parts_due source body)
+      subst (λ (body : AwsChunkedBody F G). text_due (writing body.options.is_signed (told_of_chunks signer new.chunks.signer)) (ready_bytes body) (parts_due source body)
       ≡ option_map (λ (frames : List FramePart). sealed_chunked_text who t before options.chunk_size (data_before frames) (listed (trailers_from None frames))) (source.left from))
       (sym is)
       ((λ i. text_due (writing (encoded i) (told i)) (started.nothing_ready i) (parts i)) ∙ rw years (by (source.left from)))
@@ -305,12 +305,12 @@ module _ {F G : Type 0} (source : FrameSource.Ghosts F) (signer : SignChunk.Ghos
       encoded : old.options.is_signed ≡ true
       encoded = ap (λ (o : Options). o.is_signed) started.encoded ∙ signed
 
-      signer_same : (left : Option (List FramePart)) → option_map (λ (rest : TextLeft). rest.parts) (option_map (text_to_come_with (record old { signer = Some given })) left)
+      signer_same : (left : Option (List FramePart)) → option_map (λ (rest : TextLeft). rest.parts) (option_map (text_to_come_with (record old { chunks = record old.chunks { signer = Some given } })) left)
           ≡ option_map (λ (rest : TextLeft). rest.parts) (option_map (text_to_come_with old) left)
       signer_same None = refl
       signer_same (Some frames) = refl
 
-      parts : parts_due source (record old { signer = Some given })
+      parts : parts_due source (record old { chunks = record old.chunks { signer = Some given } })
           ≡ option_map (λ (frames : List FramePart). parts_of options.chunk_size (data_before frames) (listed (trailers_from None frames))) (source.left from)
       parts = signer_same (source.left old.source) ∙ new_parts source old from options started
 

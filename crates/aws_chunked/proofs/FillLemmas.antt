@@ -1,13 +1,13 @@
 -- What a body makes is what was due, and why it makes nothing.
 use Rattle.std.proofs.Common.{◌≡◌, ℕ, ◌⊎◌, inl, inr, ◌+◌, ◌<◌, ◌≤◌, min, Bool, List, [], ◌∷◌, ◌++◌, length, drop, Option, None, Some, refl, ap, sym, subst, ◌∙◌, arith}
-use Rattle.std.specs.Prelude.{Result, Ok, Err, IfSome, option_map, string_bytes}
+use Rattle.std.specs.Prelude.{Result, Ok, Err, IfSome, OnErr, option_map, string_bytes}
 use Rattle.std.specs.List.{flat_map}
 use Rattle.std.proofs.lemmas.List.{length-append, take-append-drop}
 use Rattle.sigv4.specs.declared.chunk_signer.SignChunk as SignChunk
 use Rattle.sigv4.specs.declared.error.SigningError.{SigningError}
 use Rattle.smithy_core.specs.declared.outside.frame_source.FrameSource as FrameSource
 use Rattle.smithy_core.specs.declared.outside.frame_part.FramePart.{FramePart}
-use Rattle.aws_chunked.specs.Body.{AnswersFrame, AreTurns, CanMake, Causes, KeepsCounts, Gathers, HasCause, HasLengths, HasTrailerLengths, actual_length, IsAtHand, IsBodyClosed, IsFirstPart, KeepsText, MakesChunk, MakesFirst, MakesTail, Readies, TextLeft, TakesDue, TakesIdleFrames, Trailer, stop_answer, data_left, first_piece, held_bytes, idle_frames, listed, parts_due, parts_left, ready_bytes, text_to_come_with, total_of}
+use Rattle.aws_chunked.specs.Body.{AnswersFrame, AreTurns, CanMake, Causes, KeepsCounts, Gathers, HasCause, HasLengths, HasTrailerLengthsIfAny, HaveAllCome, actual_length, after_stop, IsAtHand, IsBodyClosed, IsFirstPart, KeepsText, MakesEnd, MakesFirst, MakesNextChunk, HasTextOrStops, TextLeft, TakesDue, TakesIdleFrames, Trailer, stop_answer, data_left, first_piece, held_bytes, idle_frames, listed, parts_due, parts_left, ready_bytes, text_to_come_with, total_of, trailers_due, trailers_left}
 use Rattle.aws_chunked.specs.Due.{due}
 use Rattle.aws_chunked.specs.Options.{counted, declared_length}
 use Rattle.aws_chunked.specs.Signing.{ChunkAnswers, FailsPart, MakesPart, TrailerAnswers, has_signature}
@@ -23,7 +23,7 @@ use Rattle.aws_chunked.specs.declared.phase.Phase.{Phase}
 use Rattle.aws_chunked.specs.declared.phase.Phase.TheVariants as phase
 use Rattle.aws_chunked.proofs.BodyLemmas.{parts_chunk, piece_length}
 use Rattle.aws_chunked.proofs.DueLemmas.{closed_due, due_kept, front_due}
-use Rattle.aws_chunked.proofs.PullLemmas.{counts_of}
+use Rattle.aws_chunked.proofs.PullLemmas.{counts_of, if_parts, if_trailers}
 use Rattle.aws_chunked.proofs.SignLemmas.{signs_error}
 use Rattle.aws_chunked.proofs.TurnLemmas.{idle_none, left_none}
 
@@ -48,20 +48,15 @@ parts_step : (before now : List FramePart → TextLeft) (part : Part) (left : Op
 parts_step before now part None same = refl
 parts_step before now part (Some frames) same = ap Some (same frames)
 
+trailers_same : (before now : List FramePart → TextLeft) (left : Option (List FramePart)) → ((frames : List FramePart) → (now frames).trailers ≡ (before frames).trailers)
+    → option_map (λ (rest : TextLeft). rest.trailers) (option_map now left) ≡ option_map (λ (rest : TextLeft). rest.trailers) (option_map before left)
+trailers_same before now None same = refl
+trailers_same before now (Some frames) same = ap Some (same frames)
+
 totals_same : (before now : List FramePart → TextLeft) (left : Option (List FramePart)) → ((frames : List FramePart) → (now frames).total ≡ (before frames).total)
     → option_map (λ (rest : TextLeft). rest.total) (option_map now left) ≡ option_map (λ (rest : TextLeft). rest.total) (option_map before left)
 totals_same before now None same = refl
 totals_same before now (Some frames) same = ap Some (same frames)
-
-if_parts : (now : List FramePart → TextLeft) (left : Option (List FramePart)) (P : List Part → Type 0) → ((frames : List FramePart) → P (now frames).parts)
-    → IfSome (option_map (λ (rest : TextLeft). rest.parts) (option_map now left)) P
-if_parts now None P holds = tt
-if_parts now (Some frames) P holds = holds frames
-
-if_total : (now : List FramePart → TextLeft) (left : Option (List FramePart)) (P : ℕ → Type 0) → ((frames : List FramePart) → P (now frames).total)
-    → IfSome (option_map (λ (rest : TextLeft). rest.total) (option_map now left)) P
-if_total now None P holds = tt
-if_total now (Some frames) P holds = holds frames
 
 ended : (at : Phase) (size : ℕ) (held : List ℕ) → 0 < size → CanMake at size held → held ≡ [] → at ≡ phase.Ended
 ended phase.Data size held some can none = absurd (omega (arith, can.0, can.1, ap length none))
@@ -73,13 +68,6 @@ tail_left : (size : ℕ) (held : List ℕ) (kept : Option (List Trailer)) (frame
     → parts_left phase.Ended size held kept frames ≡ tail (listed kept) ∷ []
 unfolding pieces_of_size cut_within
 tail_left size held kept frames none = ap (λ (bytes : List ℕ). parts_left phase.Ended size bytes kept frames) none
-
-ended_total : (at : Phase) (taken : ℕ) (frames : List FramePart) → (at ≡ phase.Trailers) ⊎ (at ≡ phase.Ended)
-    → counted (taken + length (data_left at frames)) ≡ counted taken
-ended_total at taken frames (inl is) =
-    ap (λ (p : Phase). counted (taken + length (data_left p frames))) is ∙ ap counted (omega arith)
-ended_total at taken frames (inr is) =
-    ap (λ (p : Phase). counted (taken + length (data_left p frames))) is ∙ ap counted (omega arith)
 
 pub some_bytes : (bytes : List ℕ) → (bytes ≡ [] → ⊥) → 0 < length bytes
 some_bytes [] some = absurd (some refl)
@@ -111,52 +99,82 @@ module _ {F G : Type 0} (source : FrameSource.Ghosts F) (signer : SignChunk.Ghos
       ap (λ (f : F). option_map (λ (rest : TextLeft). rest.total) (option_map (text_to_come_with new) (source.left f))) source_is
       ∙ totals_same (text_to_come_with old) (text_to_come_with new) (source.left old.source) same
 
+  trailers_made : (old new : AwsChunkedBody F G) → new.source ≡ old.source
+      → ((frames : List FramePart) → (text_to_come_with new frames).trailers ≡ (text_to_come_with old frames).trailers) → trailers_due source new ≡ trailers_due source old
+  trailers_made old new source_is same =
+      ap (λ (f : F). option_map (λ (rest : TextLeft). rest.trailers) (option_map (text_to_come_with new) (source.left f))) source_is
+      ∙ trailers_same (text_to_come_with old) (text_to_come_with new) (source.left old.source) same
+
+  -- once the source has ended all trailers have come
+  all_come : (old new : AwsChunkedBody F G) → old.came.phase ≡ phase.Ended → new.came.trailers ≡ old.came.trailers → HaveAllCome source old new
+  all_come old new ends same =
+      if_trailers (text_to_come_with old) (source.left old.source) (λ (trailers : Option (List Trailer)). new.came.trailers ≡ trailers)
+      (λ (frames : List FramePart). same ∙ sym (ap (λ (at : Phase). trailers_left at old.came.trailers frames) ends))
+
+  come_later : (old mid new : AwsChunkedBody F G) → KeepsText source old mid → HaveAllCome source mid new → HaveAllCome source old new
+  come_later old mid new keeps come =
+      subst (λ (rest : Option TextLeft). IfSome (option_map (λ (r : TextLeft). r.trailers) rest) (λ (trailers : Option (List Trailer)). new.came.trailers ≡ trailers)) keeps.rest come
+
+  lengths_later : (old mid new : AwsChunkedBody F G) (part : Part) → KeepsText source old mid → HasLengths source mid part new → HasLengths source old part new
+  lengths_later old mid new (chunk piece) keeps has = tt
+  lengths_later old mid new (tail trailers) keeps has = (has.0, has.1, come_later old mid new keeps has.2)
+
+  lengths_of : (old new : AwsChunkedBody F G) (part : Part) (at : Phase) (ready : List ℕ) → HasLengths source old part new
+      → HasLengths source old part (record new { came = record new.came { phase = at }; chunks = record new.chunks { ready = ready } })
+  lengths_of old new (chunk piece) at ready has = has
+  lengths_of old new (tail trailers) at ready has = has
+
   chunk_first : (old new : AwsChunkedBody F G) → IsAtHand old → 0 < old.options.chunk_size → 0 < length (held_bytes old)
-      → MakesChunk signer old new (Ok tt) → MakesFirst source signer old new (ready_bytes new)
+      → MakesNextChunk signer old new (Ok tt) → MakesFirst source signer old new (ready_bytes new)
   chunk_first old new at_hand some full made =
       let size = old.options.chunk_size in
-      let piece = first_piece old in
+      let piece = first_piece old.options.chunk_size (held_bytes old) in
       let long : length piece ≡ min (length (held_bytes old)) size = piece_length size (held_bytes old) in
       let whole : 0 < length piece = omega (arith, long, some, full) in
-      let source_is : new.source ≡ old.source = ap (λ (body : AwsChunkedBody F G). body.source) made.2 in
+      let source_is : new.source ≡ old.source = ap (λ (body : AwsChunkedBody F G). body.source) made.1 in
       record {
         part = chunk piece;
-        made = made.0;
+        made = made.0.0;
         parts = parts_made old new (chunk piece) source_is (λ (frames : List FramePart).
-            parts_chunk old.phase size (held_bytes old) piece (held_bytes new) old.trailers frames some whole at_hand long made.1
-            ∙ ap (λ (parts : List Part). chunk piece ∷ parts) (sym (ap (λ (body : AwsChunkedBody F G). parts_left body.phase body.options.chunk_size (held_bytes new) body.trailers frames) made.2)));
+            parts_chunk old.came.phase size (held_bytes old) piece (held_bytes new) old.came.trailers frames some whole at_hand long made.0.1
+            ∙ ap (λ (parts : List Part). chunk piece ∷ parts) (sym (ap (λ (body : AwsChunkedBody F G). parts_left body.came.phase body.options.chunk_size (held_bytes new) body.came.trailers frames) made.1)));
         total = total_made old new source_is (λ (frames : List FramePart).
-            ap (λ (body : AwsChunkedBody F G). counted (body.taken + length (data_left body.phase frames))) made.2);
+            ap (λ (body : AwsChunkedBody F G). counted (body.came.taken + length (data_left body.came.phase frames))) made.1);
+        trailers = trailers_made old new source_is (λ (frames : List FramePart). ap (λ (body : AwsChunkedBody F G). trailers_left body.came.phase body.came.trailers frames) made.1);
         lengths = tt;
       }
 
   tail_first : (old new : AwsChunkedBody F G) → held_bytes old ≡ [] → IsAtHand old → 0 < old.options.chunk_size
-      → (held_bytes old ≡ [] → old.taken ≡ old.options.stream_length) → MakesTail signer old new (Ok tt) → MakesFirst source signer old new (ready_bytes new)
+      → (held_bytes old ≡ [] → old.came.taken ≡ old.options.stream_length) → MakesEnd signer old new (Ok tt) → MakesFirst source signer old new (ready_bytes new)
   tail_first old new none at_hand some taken made =
       let size = old.options.chunk_size in
-      let last = tail (listed old.trailers) in
-      let ends : old.phase ≡ phase.Ended = ended old.phase size (held_bytes old) some at_hand none in
-      let source_is : new.source ≡ old.source = ap (λ (body : AwsChunkedBody F G). body.source) made.2 in
+      let last = tail (listed old.came.trailers) in
+      let ends : old.came.phase ≡ phase.Ended = ended old.came.phase size (held_bytes old) some at_hand none in
+      let source_is : new.source ≡ old.source = ap (λ (body : AwsChunkedBody F G). body.source) made.1 in
       record {
         part = last;
-        made = made.0;
+        made = made.0.0;
         parts = parts_made old new last source_is (λ (frames : List FramePart).
-            ap (λ (at : Phase). parts_left at size (held_bytes old) old.trailers frames) ends
-            ∙ tail_left size (held_bytes old) old.trailers frames none
-            ∙ ap (λ (parts : List Part). last ∷ parts) (sym (ap (λ (body : AwsChunkedBody F G). (text_to_come_with body frames).parts) made.2)));
+            ap (λ (at : Phase). parts_left at size (held_bytes old) old.came.trailers frames) ends
+            ∙ tail_left size (held_bytes old) old.came.trailers frames none
+            ∙ ap (λ (parts : List Part). last ∷ parts) (sym (ap (λ (body : AwsChunkedBody F G). (text_to_come_with body frames).parts) made.1)));
         total = total_made old new source_is (λ (frames : List FramePart).
-            ap (λ (body : AwsChunkedBody F G). counted (body.taken + length (data_left body.phase frames))) made.2
-            ∙ sym (ap (λ (at : Phase). counted (old.taken + length (data_left at frames))) ends));
-        lengths = subst (λ (body : AwsChunkedBody F G). HasLengths last body) (sym made.2) (taken none, made.1);
+            ap (λ (body : AwsChunkedBody F G). counted (body.came.taken + length (data_left body.came.phase frames))) made.1
+            ∙ sym (ap (λ (at : Phase). counted (old.came.taken + length (data_left at frames))) ends));
+        trailers = trailers_made old new source_is (λ (frames : List FramePart).
+            ap (λ (body : AwsChunkedBody F G). trailers_left body.came.phase body.came.trailers frames) made.1
+            ∙ sym (ap (λ (at : Phase). trailers_left at old.came.trailers frames) ends));
+        lengths = subst (λ (body : AwsChunkedBody F G). HasLengths source old last body) (sym made.1) (taken none, made.0.1, all_come old old ends refl);
       }
 
   first_later : (old mid new : AwsChunkedBody F G) (text : List ℕ) → KeepsText source old mid → MakesFirst source signer mid new text → MakesFirst source signer old new text
   first_later old mid new text keeps first = record {
     part = first.part;
-    made = subst (λ (body : AwsChunkedBody F G). MakesPart signer body.options.is_signed first.part body.signer text new.signer) keeps.others first.made;
+    made = subst (λ (body : AwsChunkedBody F G). MakesPart signer body.options.is_signed first.part body.chunks.signer text new.chunks.signer) keeps.others first.made;
     parts = sym (ap (option_map (λ (rest : TextLeft). rest.parts)) keeps.rest) ∙ first.parts;
     total = first.total ∙ ap (option_map (λ (rest : TextLeft). rest.total)) keeps.rest;
-    lengths = first.lengths;
+    trailers = first.trailers ∙ ap (option_map (λ (rest : TextLeft). rest.trailers)) keeps.rest;
+    lengths = lengths_later old mid new first.part keeps first.lengths;
   }
 
   turns_kept : (P : ℕ → Type 0) (old mid new : AwsChunkedBody F G) → TakesIdleFrames source P old mid → new.source ≡ mid.source → TakesIdleFrames source P old new
@@ -174,28 +192,28 @@ module _ {F G : Type 0} (source : FrameSource.Ghosts F) (signer : SignChunk.Ghos
   }
 
   pub made_ready : (old mid new : AwsChunkedBody F G) → ready_bytes old ≡ [] → Gathers source old mid (Ok tt)
-      → (0 < length (held_bytes mid) → MakesChunk signer mid new (Ok tt)) → (held_bytes mid ≡ [] → MakesTail signer mid new (Ok tt))
-      → Readies source signer old new (Ok tt)
+      → (0 < length (held_bytes mid) → MakesNextChunk signer mid new (Ok tt)) → (held_bytes mid ≡ [] → MakesEnd signer mid new (Ok tt))
+      → HasTextOrStops source signer old new (Ok tt)
   made_ready old mid new none gathers as_chunk as_tail = by (held_bytes mid) refl
     where
       keeps : KeepsText source old mid
       keeps = gathers.0
 
-      by : (held : List ℕ) → held_bytes mid ≡ held → Readies source signer old new (Ok tt)
+      by : (held : List ℕ) → held_bytes mid ≡ held → HasTextOrStops source signer old new (Ok tt)
       by [] is =
           let made = as_tail is in
-          let source_is : new.source ≡ mid.source = ap (λ (body : AwsChunkedBody F G). body.source) made.2 in (
-            counts_kept old mid new (counts_of source old mid gathers.0) source_is (ap (λ (body : AwsChunkedBody F G). body.options) made.2),
-            part_some signer mid.options.is_signed (tail (listed mid.trailers)) mid.signer (ready_bytes new) new.signer made.0,
+          let source_is : new.source ≡ mid.source = ap (λ (body : AwsChunkedBody F G). body.source) made.1 in (
+            counts_kept old mid new (counts_of source old mid gathers.0) source_is (ap (λ (body : AwsChunkedBody F G). body.options) made.1),
+            part_some signer mid.options.is_signed (tail (listed mid.came.trailers)) mid.chunks.signer (ready_bytes new) new.chunks.signer made.0.0,
             turns_kept (λ (count : ℕ). count < 65536) old mid new gathers.4 source_is,
             inr (none, first_later old mid new (ready_bytes new) gathers.0 (tail_first mid new is gathers.1 gathers.2 gathers.3 made)),
           )
       by (byte ∷ bytes) is =
           let full : 0 < length (held_bytes mid) = omega (arith, ap length is) in
           let made = as_chunk full in
-          let source_is : new.source ≡ mid.source = ap (λ (body : AwsChunkedBody F G). body.source) made.2 in (
-            counts_kept old mid new (counts_of source old mid gathers.0) source_is (ap (λ (body : AwsChunkedBody F G). body.options) made.2),
-            part_some signer mid.options.is_signed (chunk (first_piece mid)) mid.signer (ready_bytes new) new.signer made.0,
+          let source_is : new.source ≡ mid.source = ap (λ (body : AwsChunkedBody F G). body.source) made.1 in (
+            counts_kept old mid new (counts_of source old mid gathers.0) source_is (ap (λ (body : AwsChunkedBody F G). body.options) made.1),
+            part_some signer mid.options.is_signed (chunk (first_piece mid.options.chunk_size (held_bytes mid))) mid.chunks.signer (ready_bytes new) new.chunks.signer made.0.0,
             turns_kept (λ (count : ℕ). count < 65536) old mid new gathers.4 source_is,
             inr (none, first_later old mid new (ready_bytes new) gathers.0 (chunk_first mid new gathers.1 gathers.2 full made)),
           )
@@ -207,14 +225,14 @@ module _ {F G : Type 0} (source : FrameSource.Ghosts F) (signer : SignChunk.Ghos
   turns_not P old new is zero_is = record {
     frames = [];
     taken = left_none (source.left old.source) ∙ ap (λ (body : AwsChunkedBody F G). option_map (λ (rest : List FramePart). [] ++ rest) (source.left body.source)) (sym is);
-    turns = subst P (sym (idle_none old.phase)) zero_is;
+    turns = subst P (sym (idle_none old.came.phase)) zero_is;
   }
 
   counts_not : (old new : AwsChunkedBody F G) → new ≡ old → KeepsCounts source old new
   counts_not old new is = subst (λ (body : AwsChunkedBody F G). KeepsCounts source old body) (sym is) (record { waits = omega arith; faults = omega arith; options = refl })
 
   -- text is ready
-  pub stays_ready : (body : AwsChunkedBody F G) → 0 < length (ready_bytes body) → Readies source signer body body (Ok tt)
+  pub stays_ready : (body : AwsChunkedBody F G) → 0 < length (ready_bytes body) → HasTextOrStops source signer body body (Ok tt)
   stays_ready body some =
       (counts_not body body refl, some, turns_not (λ (count : ℕ). count < 65536) body body refl (omega arith), inl refl)
 
@@ -224,28 +242,28 @@ module _ {F G : Type 0} (source : FrameSource.Ghosts F) (signer : SignChunk.Ghos
   first_kept old mid part keeps first =
       subst (λ (rest : Option TextLeft). IfSome (option_map (λ (r : TextLeft). r.parts) rest) (λ (parts : List Part). (more : List Part) × (parts ≡ part ∷ more))) keeps.rest first
 
-  chunk_is_first : (old : AwsChunkedBody F G) → IsAtHand old → 0 < old.options.chunk_size → 0 < length (held_bytes old) → IsFirstPart source signer old (chunk (first_piece old))
+  chunk_is_first : (old : AwsChunkedBody F G) → IsAtHand old → 0 < old.options.chunk_size → 0 < length (held_bytes old) → IsFirstPart source signer old (chunk (first_piece old.options.chunk_size (held_bytes old)))
   chunk_is_first old at_hand some full =
       let size = old.options.chunk_size in
-      let piece = first_piece old in
+      let piece = first_piece old.options.chunk_size (held_bytes old) in
       let long : length piece ≡ min (length (held_bytes old)) size = piece_length size (held_bytes old) in
       let whole : 0 < length piece = omega (arith, long, some, full) in
       let left = drop (min (length (held_bytes old)) size) (held_bytes old) in
       let is : held_bytes old ≡ piece ++ left = sym (take-append-drop (min (length (held_bytes old)) size) (held_bytes old)) in
       if_parts (text_to_come_with old) (source.left old.source) (λ (parts : List Part). (more : List Part) × (parts ≡ chunk piece ∷ more))
       (λ (frames : List FramePart). (
-        parts_left old.phase size left old.trailers frames,
-        parts_chunk old.phase size (held_bytes old) piece left old.trailers frames some whole at_hand long is,
+        parts_left old.came.phase size left old.came.trailers frames,
+        parts_chunk old.came.phase size (held_bytes old) piece left old.came.trailers frames some whole at_hand long is,
       ))
 
-  tail_is_first : (old : AwsChunkedBody F G) → held_bytes old ≡ [] → IsAtHand old → 0 < old.options.chunk_size → IsFirstPart source signer old (tail (listed old.trailers))
+  tail_is_first : (old : AwsChunkedBody F G) → held_bytes old ≡ [] → IsAtHand old → 0 < old.options.chunk_size → IsFirstPart source signer old (tail (listed old.came.trailers))
   tail_is_first old none at_hand some =
       let size = old.options.chunk_size in
-      let ends : old.phase ≡ phase.Ended = ended old.phase size (held_bytes old) some at_hand none in
-      if_parts (text_to_come_with old) (source.left old.source) (λ (parts : List Part). (more : List Part) × (parts ≡ tail (listed old.trailers) ∷ more))
+      let ends : old.came.phase ≡ phase.Ended = ended old.came.phase size (held_bytes old) some at_hand none in
+      if_parts (text_to_come_with old) (source.left old.source) (λ (parts : List Part). (more : List Part) × (parts ≡ tail (listed old.came.trailers) ∷ more))
       (λ (frames : List FramePart). (
         [],
-        ap (λ (at : Phase). parts_left at size (held_bytes old) old.trailers frames) ends ∙ tail_left size (held_bytes old) old.trailers frames none,
+        ap (λ (at : Phase). parts_left at size (held_bytes old) old.came.trailers frames) ends ∙ tail_left size (held_bytes old) old.came.trailers frames none,
       ))
 
   abbrev MayCause : AwsChunkedBody F G → AwsChunkedBody F G → AwsChunkedBodyError → Type 0
@@ -260,32 +278,33 @@ module _ {F G : Type 0} (source : FrameSource.Ghosts F) (signer : SignChunk.Ghos
   causes_of old new error (inr (inr told)) = subst (λ (e : AwsChunkedBodyError). Causes source signer old new (Err e)) (sym told.1) told.2
 
   fails_for : (old mid new : AwsChunkedBody F G) (part : Part) (error : AwsChunkedBodyError) → KeepsText source old mid → IsFirstPart source signer mid part
-      → FailsPart signer mid.options.is_signed part mid.signer error new.signer
+      → HasLengths source mid part new → FailsPart signer mid.options.is_signed part mid.chunks.signer error new.chunks.signer
       → (error ≡ fault.NoMemory) ⊎ ((why : SigningError) × (error ≡ fault.FailedToSign why)) → MayCause old new error
-  fails_for old mid new part error keeps first fails (inl is) = inl is
-  fails_for old mid new part error keeps first fails (inr told) =
+  fails_for old mid new part error keeps first has fails (inl is) = inl is
+  fails_for old mid new part error keeps first has fails (inr told) =
       inr (inr (
         told.0,
         told.1,
         (
           part,
-          subst (λ (body : AwsChunkedBody F G). FailsPart signer body.options.is_signed part body.signer (fault.FailedToSign told.0) new.signer) keeps.others
-              (subst (λ (e : AwsChunkedBodyError). FailsPart signer mid.options.is_signed part mid.signer e new.signer) told.1 fails),
+          subst (λ (body : AwsChunkedBody F G). FailsPart signer body.options.is_signed part body.chunks.signer (fault.FailedToSign told.0) new.chunks.signer) keeps.others
+              (subst (λ (e : AwsChunkedBodyError). FailsPart signer mid.options.is_signed part mid.chunks.signer e new.chunks.signer) told.1 fails),
           first_kept old mid part keeps first,
+          lengths_later old mid new part keeps has,
         ),
       ))
 
   fault_chunk : (old mid new : AwsChunkedBody F G) (error : AwsChunkedBodyError) → Gathers source old mid (Ok tt) → 0 < length (held_bytes mid)
-      → MakesChunk signer mid new (Err error) → MayCause old new error
+      → MakesNextChunk signer mid new (Err error) → MayCause old new error
   fault_chunk old mid new error gathers full (inl is, others) = inl is
   fault_chunk old mid new error gathers full (inr fails, others) =
-      fails_for old mid new (chunk (first_piece mid)) error gathers.0 (chunk_is_first mid gathers.1 gathers.2 full) fails
-      (signs_error (ChunkAnswers signer (first_piece mid)) mid.options.is_signed mid.signer new.signer error fails)
+      fails_for old mid new (chunk (first_piece mid.options.chunk_size (held_bytes mid))) error gathers.0 (chunk_is_first mid gathers.1 gathers.2 full) tt fails
+      (signs_error (ChunkAnswers signer (first_piece mid.options.chunk_size (held_bytes mid))) mid.options.is_signed mid.chunks.signer new.chunks.signer error fails)
 
   fault_tail : (old mid new : AwsChunkedBody F G) (error : AwsChunkedBodyError) → Gathers source old mid (Ok tt) → held_bytes mid ≡ []
-      → MakesTail signer mid new (Err error) → MayCause old new error
-  fault_tail old mid new error gathers none (inl is, others) = inl is
-  fault_tail old mid new error gathers none (inr (inl (lacks, signs)), others) =
+      → MakesEnd signer mid new (Err error) → MayCause old new error
+  fault_tail old mid new error gathers none ((inl is, rest), others) = inl is
+  fault_tail old mid new error gathers none ((inr (inl (lacks, signs)), rest), others) =
       let actual = counted (actual_length mid.options.is_signed lacks.0) in
       let expected = counted (declared_length mid.options.trailer_lengths) in
       inr (inl (
@@ -293,27 +312,34 @@ module _ {F G : Type 0} (source : FrameSource.Ghosts F) (signer : SignChunk.Ghos
         expected,
         lacks.2,
         (
-          subst (λ (body : AwsChunkedBody F G). HasTrailerLengths body (Err (fault.ReportedTrailerLengthMismatch actual expected))) (sym others)
+          subst (λ (body : AwsChunkedBody F G). HasTrailerLengthsIfAny body.came body.options (Err (fault.ReportedTrailerLengthMismatch actual expected))) (sym others)
               (lacks.0, lacks.1, refl, lacks.3),
-          ap (λ (body : AwsChunkedBody F G). body.taken) others ∙ gathers.3 none ∙ sym (ap (λ (body : AwsChunkedBody F G). body.options.stream_length) others),
-          first_kept old mid (tail (listed new.trailers)) gathers.0
-              (subst (λ (kept : Option (List Trailer)). IsFirstPart source signer mid (tail (listed kept))) (sym (ap (λ (body : AwsChunkedBody F G). body.trailers) others))
+          ap (λ (body : AwsChunkedBody F G). body.came.taken) others ∙ gathers.3 none ∙ sym (ap (λ (body : AwsChunkedBody F G). body.options.stream_length) others),
+          come_later old mid new gathers.0 (all_come mid new (ended mid.came.phase mid.options.chunk_size (held_bytes mid) gathers.2 gathers.1 none)
+              (ap (λ (body : AwsChunkedBody F G). body.came.trailers) others)),
+          first_kept old mid (tail (listed new.came.trailers)) gathers.0
+              (subst (λ (kept : Option (List Trailer)). IsFirstPart source signer mid (tail (listed kept))) (sym (ap (λ (body : AwsChunkedBody F G). body.came.trailers) others))
               (tail_is_first mid none gathers.1 gathers.2)),
-          signs ∙ ap (λ (body : AwsChunkedBody F G). body.signer) gathers.0.others,
+          signs ∙ ap (λ (body : AwsChunkedBody F G). body.chunks.signer) gathers.0.others,
         ),
       ))
-  fault_tail old mid new error gathers none (inr (inr fails), others) =
-      fails_for old mid new (tail (listed mid.trailers)) error gathers.0 (tail_is_first mid none gathers.1 gathers.2) fails (by fails)
+  fault_tail old mid new error gathers none ((inr (inr (fits, fails)), rest), others) =
+      fails_for old mid new (tail (listed mid.came.trailers)) error gathers.0 (tail_is_first mid none gathers.1 gathers.2) has fails (by fails)
     where
-      by : FailsPart signer mid.options.is_signed (tail (listed mid.trailers)) mid.signer error new.signer
+      has : HasLengths source mid (tail (listed mid.came.trailers)) new
+      has =
+          subst (λ (body : AwsChunkedBody F G). HasLengths source mid (tail (listed mid.came.trailers)) body) (sym others)
+          (gathers.3 none, fits, all_come mid mid (ended mid.came.phase mid.options.chunk_size (held_bytes mid) gathers.2 gathers.1 none) refl)
+
+      by : FailsPart signer mid.options.is_signed (tail (listed mid.came.trailers)) mid.chunks.signer error new.chunks.signer
           → (error ≡ fault.NoMemory) ⊎ ((why : SigningError) × (error ≡ fault.FailedToSign why))
-      by (inl first) = signs_error (ChunkAnswers signer []) mid.options.is_signed mid.signer new.signer error first
+      by (inl first) = signs_error (ChunkAnswers signer []) mid.options.is_signed mid.chunks.signer new.chunks.signer error first
       by (inr last) =
-          signs_error (TrailerAnswers signer (listed mid.trailers)) (has_signature mid.options.is_signed (listed mid.trailers)) last.1 new.signer error last.3
+          signs_error (TrailerAnswers signer (listed mid.came.trailers)) (has_signature mid.options.is_signed (listed mid.came.trailers)) last.1 new.chunks.signer error last.3
 
   pub made_fault : (old mid new : AwsChunkedBody F G) (error : AwsChunkedBodyError) → Gathers source old mid (Ok tt)
-      → (0 < length (held_bytes mid) → MakesChunk signer mid new (Err error)) → (held_bytes mid ≡ [] → MakesTail signer mid new (Err error))
-      → Readies source signer old new (Err (stop.Fault error))
+      → (0 < length (held_bytes mid) → MakesNextChunk signer mid new (Err error)) → (held_bytes mid ≡ [] → MakesEnd signer mid new (Err error))
+      → HasTextOrStops source signer old new (Err (stop.Fault error))
   made_fault old mid new error gathers as_chunk as_tail = by (held_bytes mid) refl
     where
       few : (at : AwsChunkedBodyError) (count : ℕ) → count < 65536 → AreTurns (Err at) count
@@ -323,14 +349,14 @@ module _ {F G : Type 0} (source : FrameSource.Ghosts F) (signer : SignChunk.Ghos
       few fault.SourceFault count is = is
       few fault.NoMemory count is = omega (arith, is)
 
-      ends : new.source ≡ mid.source → new.options ≡ mid.options → MayCause old new error → Readies source signer old new (Err (stop.Fault error))
+      ends : new.source ≡ mid.source → new.options ≡ mid.options → MayCause old new error → HasTextOrStops source signer old new (Err (stop.Fault error))
       ends source_is options cause =
           let turns = turns_kept (λ (count : ℕ). count < 65536) old mid new gathers.4 source_is in (
             (counts_kept old mid new (counts_of source old mid gathers.0) source_is options, causes_of old new error cause),
-            record { frames = turns.frames; taken = turns.taken; turns = few error (idle_frames old.phase turns.frames) turns.turns },
+            record { frames = turns.frames; taken = turns.taken; turns = few error (idle_frames old.came.phase turns.frames) turns.turns },
           )
 
-      by : (held : List ℕ) → held_bytes mid ≡ held → Readies source signer old new (Err (stop.Fault error))
+      by : (held : List ℕ) → held_bytes mid ≡ held → HasTextOrStops source signer old new (Err (stop.Fault error))
       by [] is =
           let made = as_tail is in
           ends (ap (λ (body : AwsChunkedBody F G). body.source) made.1) (ap (λ (body : AwsChunkedBody F G). body.options) made.1) (fault_tail old mid new error gathers is made)
@@ -339,64 +365,106 @@ module _ {F G : Type 0} (source : FrameSource.Ghosts F) (signer : SignChunk.Ghos
           let made = as_chunk full in
           ends (ap (λ (body : AwsChunkedBody F G). body.source) made.1) (ap (λ (body : AwsChunkedBody F G). body.options) made.1) (fault_chunk old mid new error gathers full made)
 
-  cause_gathered : (old mid : AwsChunkedBody F G) (error : AwsChunkedBodyError) → Gathers source old mid (Err (stop.Fault error)) → Causes source signer old mid (Err error)
-  cause_gathered old mid (fault.StreamLengthMismatch actual expected) gathers = (
-    gathers.1.1,
-    subst (λ (rest : Option TextLeft). IfSome (option_map (λ (r : TextLeft). r.total) rest) (λ (total : ℕ). total ≡ counted actual)) gathers.1.0.rest
-        (if_total (text_to_come_with mid) (source.left mid.source) (λ (total : ℕ). total ≡ counted actual)
-        (λ (frames : List FramePart). ended_total mid.phase mid.taken frames gathers.1.2 ∙ ap counted (sym gathers.1.1.0))),
-  )
-  cause_gathered old mid (fault.ReportedTrailerLengthMismatch actual expected) gathers = absurd gathers.1
-  cause_gathered old mid (fault.FailedToSign why) gathers = absurd gathers.1
-  cause_gathered old mid fault.SourceFault gathers = gathers.1
-  cause_gathered old mid fault.NoMemory gathers = tt
+  cause_gathered : (old mid : AwsChunkedBody F G) (error : AwsChunkedBodyError) → ready_bytes old ≡ [] → Gathers source old mid (Err (stop.Fault error))
+      → Causes source signer old mid (Err error)
+  cause_gathered old mid (fault.StreamLengthMismatch actual expected) none gathers = (none, gathers.1)
+  cause_gathered old mid (fault.ReportedTrailerLengthMismatch actual expected) none gathers = absurd gathers.1
+  cause_gathered old mid (fault.FailedToSign why) none gathers = absurd gathers.1
+  cause_gathered old mid fault.SourceFault none gathers = gathers.1
+  cause_gathered old mid fault.NoMemory none gathers = tt
 
-  pub gathered_not : (old mid : AwsChunkedBody F G) (why : Stop) → Gathers source old mid (Err why) → Readies source signer old mid (Err why)
-  gathered_not old mid stop.End gathers = absurd gathers.1
-  gathered_not old mid stop.NotYet gathers = (gathers.1.0, (gathers.0, (gathers.1.1, gathers.1.2)), gathers.2)
-  gathered_not old mid stop.OutOfTurns gathers = (gathers.1, (gathers.0, tt), gathers.2)
-  gathered_not old mid (stop.Fault error) gathers = ((gathers.0, cause_gathered old mid error gathers), gathers.2)
+  pub gathered_not : (old mid : AwsChunkedBody F G) (why : Stop) → ready_bytes old ≡ [] → Gathers source old mid (Err why) → HasTextOrStops source signer old mid (Err why)
+  gathered_not old mid stop.NotYet none gathers = (gathers.1.0, (gathers.0, gathers.1.1), gathers.2)
+  gathered_not old mid stop.OutOfTurns none gathers = (gathers.1, (gathers.0, tt), gathers.2)
+  gathered_not old mid (stop.Fault error) none gathers = ((gathers.0, cause_gathered old mid error none gathers), gathers.2)
 
   -- ---- what a call answers
 
-  pub stopped_due : (old new : AwsChunkedBody F G) (why : Stop) → Readies source signer old new (Err why) → TakesDue (due source signer old) (due source signer new) (stop_answer why)
-  stopped_due old new stop.End told = (ap (λ (body : AwsChunkedBody F G). due source signer body) told.0, closed_due source signer new told.1)
-  stopped_due old new stop.NotYet told = due_kept source signer old new told.0
-  stopped_due old new stop.OutOfTurns told = due_kept source signer old new told.0
-  stopped_due old new (stop.Fault error) told = tt
+  -- ---- a body that was closed
 
-  pub stopped_answers : (old new : AwsChunkedBody F G) (why : Stop) → Readies source signer old new (Err why) → AnswersFrame source signer old new (stop_answer why)
-  stopped_answers old new stop.End told = told.0
-  stopped_answers old new stop.NotYet told = told.0
-  stopped_answers old new stop.OutOfTurns told = told.0
-  stopped_answers old new (stop.Fault error) told = tt
+  closed_is : (mid new : AwsChunkedBody F G) → new ≡ record mid { came = record mid.came { phase = phase.Closed }; chunks = record mid.chunks { ready = [] } } → IsBodyClosed new
+  closed_is mid new is =
+      record { over = ap (λ (body : AwsChunkedBody F G). body.came.phase) is; answered = ap (λ (body : AwsChunkedBody F G). ready_bytes body) is }
 
-  pub stopped_cause : (old new : AwsChunkedBody F G) (why : Stop) → Readies source signer old new (Err why) → HasCause source signer old new (stop_answer why)
-  stopped_cause old new stop.End told = (counts_not old new told.0, tt)
-  stopped_cause old new stop.NotYet told = told.1
-  stopped_cause old new stop.OutOfTurns told = told.1
-  stopped_cause old new (stop.Fault error) told = told.0
+  closed_cause : (old mid new : AwsChunkedBody F G) (error : AwsChunkedBodyError) → HasCause source signer old mid (Err error)
+      → new ≡ record mid { came = record mid.came { phase = phase.Closed }; chunks = record mid.chunks { ready = [] } } → HasCause source signer old new (Err error)
+  closed_cause old mid new error told is = subst (λ (body : AwsChunkedBody F G). HasCause source signer old body (Err error)) (sym is) (counts, by error told.1)
+    where
+      counts : KeepsCounts source old (record mid { came = record mid.came { phase = phase.Closed }; chunks = record mid.chunks { ready = [] } })
+      counts = record { waits = told.0.waits; faults = told.0.faults; options = told.0.options }
 
-  pub stopped_turns : (old new : AwsChunkedBody F G) (why : Stop) → Readies source signer old new (Err why) → TakesIdleFrames source (AreTurns (stop_answer why)) old new
-  stopped_turns old new stop.End told = turns_not (AreTurns (stop_answer stop.End)) old new told.0 (omega arith)
-  stopped_turns old new stop.NotYet told = told.2
-  stopped_turns old new stop.OutOfTurns told = told.2
-  stopped_turns old new (stop.Fault error) told = told.1
+      by : (at : AwsChunkedBodyError) → Causes source signer old mid (Err at) → Causes source signer old (record mid { came = record mid.came { phase = phase.Closed }; chunks = record mid.chunks { ready = [] } }) (Err at)
+      by (fault.StreamLengthMismatch actual expected) cause = (
+        cause.0,
+        record {
+          counts = cause.1.counts;
+          declared = cause.1.declared;
+          differs = cause.1.differs;
+          none_held = cause.1.none_held;
+          total = cause.1.total;
+          parts = cause.1.parts;
+        },
+      )
+      by (fault.ReportedTrailerLengthMismatch actual expected) cause = cause
+      by (fault.FailedToSign why) cause = (cause.0, cause.1, cause.2, lengths_of old mid cause.0 phase.Closed [] cause.3)
+      by fault.SourceFault cause = cause
+      by fault.NoMemory cause = cause
 
-  pub stopped_end : (old new : AwsChunkedBody F G) (why : Stop) → Readies source signer old new (Err why) → stop_answer why ≡ Ok next.End → IsBodyClosed new
-  stopped_end old new stop.End told is = told.1
-  stopped_end old new stop.NotYet told is = absurd (not_end (Ok next.NotYet) is tt)
-  stopped_end old new stop.OutOfTurns told is = absurd (not_end (Ok next.OutOfTurns) is tt)
-  stopped_end old new (stop.Fault error) told is = absurd (not_fault error is)
+  closed_turns : (old mid new : AwsChunkedBody F G) (error : AwsChunkedBodyError) → TakesIdleFrames source (AreTurns (Err error)) old mid
+      → new ≡ record mid { came = record mid.came { phase = phase.Closed }; chunks = record mid.chunks { ready = [] } } → TakesIdleFrames source (AreTurns (Err error)) old new
+  closed_turns old mid new error turns is = turns_kept (AreTurns (Err error)) old mid new turns (ap (λ (body : AwsChunkedBody F G). body.source) is)
 
-  pub front_answers : (old mid new : AwsChunkedBody F G) (piece : List ℕ) → Readies source signer old mid (Ok tt) → ready_bytes mid ≡ piece ++ ready_bytes new
-      → new ≡ record mid { ready = ready_bytes new } → AnswersFrame source signer old new (Ok (next.Frame piece))
+  pub over_cause : (body : AwsChunkedBody F G) → HasCause source signer body body (Ok next.End)
+  over_cause body = (counts_not body body refl, tt)
+
+  pub over_turns : (body : AwsChunkedBody F G) → TakesIdleFrames source (AreTurns (Ok next.End)) body body
+  over_turns body = turns_not (AreTurns (Ok next.End)) body body refl (omega arith)
+
+  pub over_due : (body : AwsChunkedBody F G) → IsBodyClosed body → TakesDue (due source signer body) (due source signer body) (Ok next.End)
+  over_due body closed = (refl, closed_due source signer body closed)
+
+  pub stopped_due : (old mid new : AwsChunkedBody F G) (why : Stop) → HasTextOrStops source signer old mid (Err why) → new ≡ after_stop why mid
+      → TakesDue (due source signer old) (due source signer new) (stop_answer why)
+  stopped_due old mid new stop.NotYet told is = ap (λ (body : AwsChunkedBody F G). due source signer body) is ∙ due_kept source signer old mid told.0
+  stopped_due old mid new stop.OutOfTurns told is = ap (λ (body : AwsChunkedBody F G). due source signer body) is ∙ due_kept source signer old mid told.0
+  stopped_due old mid new (stop.Fault error) told is = tt
+
+  pub stopped_answers : (old mid new : AwsChunkedBody F G) (why : Stop) → HasTextOrStops source signer old mid (Err why) → new ≡ after_stop why mid
+      → AnswersFrame source signer old new (stop_answer why)
+  stopped_answers old mid new stop.NotYet told is = subst (λ (body : AwsChunkedBody F G). KeepsText source old body) (sym is) told.0
+  stopped_answers old mid new stop.OutOfTurns told is = subst (λ (body : AwsChunkedBody F G). KeepsText source old body) (sym is) told.0
+  stopped_answers old mid new (stop.Fault error) told is = tt
+
+  pub stopped_cause : (old mid new : AwsChunkedBody F G) (why : Stop) → HasTextOrStops source signer old mid (Err why) → new ≡ after_stop why mid
+      → HasCause source signer old new (stop_answer why)
+  stopped_cause old mid new stop.NotYet told is = subst (λ (body : AwsChunkedBody F G). HasCause source signer old body (Ok next.NotYet)) (sym is) told.1
+  stopped_cause old mid new stop.OutOfTurns told is = subst (λ (body : AwsChunkedBody F G). HasCause source signer old body (Ok next.OutOfTurns)) (sym is) told.1
+  stopped_cause old mid new (stop.Fault error) told is = closed_cause old mid new error told.0 is
+
+  pub stopped_turns : (old mid new : AwsChunkedBody F G) (why : Stop) → HasTextOrStops source signer old mid (Err why) → new ≡ after_stop why mid
+      → TakesIdleFrames source (AreTurns (stop_answer why)) old new
+  stopped_turns old mid new stop.NotYet told is = turns_kept (AreTurns (Ok next.NotYet)) old mid new told.2 (ap (λ (body : AwsChunkedBody F G). body.source) is)
+  stopped_turns old mid new stop.OutOfTurns told is = turns_kept (AreTurns (Ok next.OutOfTurns)) old mid new told.2 (ap (λ (body : AwsChunkedBody F G). body.source) is)
+  stopped_turns old mid new (stop.Fault error) told is = closed_turns old mid new error told.1 is
+
+  pub stopped_closed : (mid new : AwsChunkedBody F G) (why : Stop) → new ≡ after_stop why mid → OnErr (stop_answer why) (IsBodyClosed new)
+  stopped_closed mid new stop.NotYet is = tt
+  stopped_closed mid new stop.OutOfTurns is = tt
+  stopped_closed mid new (stop.Fault error) is = closed_is mid new is
+
+  pub stopped_on : (why : Stop) → stop_answer why ≡ Ok next.End → ⊥
+  stopped_on stop.NotYet is = not_end (Ok next.NotYet) is tt
+  stopped_on stop.OutOfTurns is = not_end (Ok next.OutOfTurns) is tt
+  stopped_on (stop.Fault error) is = not_fault error is
+
+  pub front_answers : (old mid new : AwsChunkedBody F G) (piece : List ℕ) → HasTextOrStops source signer old mid (Ok tt) → ready_bytes mid ≡ piece ++ ready_bytes new
+      → new ≡ record mid { chunks = record mid.chunks { ready = ready_bytes new } } → AnswersFrame source signer old new (Ok (next.Frame piece))
   front_answers old mid new piece readies is others = (ready_bytes mid, is, by readies.3)
     where
       by : (mid ≡ old) ⊎ ((ready_bytes old ≡ []) × MakesFirst source signer old mid (ready_bytes mid))
-          → ((ready_bytes mid ≡ ready_bytes old) × (new ≡ record old { ready = ready_bytes new }))
+          → ((ready_bytes mid ≡ ready_bytes old) × (new ≡ record old { chunks = record old.chunks { ready = ready_bytes new } }))
           ⊎ ((ready_bytes old ≡ []) × MakesFirst source signer old new (ready_bytes mid))
-      by (inl same) = inl (ap (λ (body : AwsChunkedBody F G). ready_bytes body) same, others ∙ ap (λ (body : AwsChunkedBody F G). record body { ready = ready_bytes new }) same)
+      by (inl same) = inl (ap (λ (body : AwsChunkedBody F G). ready_bytes body) same, others ∙ ap (λ (body : AwsChunkedBody F G). record body { chunks = record body.chunks { ready = ready_bytes new } }) same)
       by (inr (none, first)) = inr (
         none,
         subst (λ (body : AwsChunkedBody F G). MakesFirst source signer old body (ready_bytes mid)) (sym others) (record {
@@ -404,58 +472,40 @@ module _ {F G : Type 0} (source : FrameSource.Ghosts F) (signer : SignChunk.Ghos
           made = first.made;
           parts = first.parts ∙ ap (option_map (λ (parts : List Part). first.part ∷ parts)) (parts_ready (source.left mid.source));
           total = totals_ready (source.left mid.source) ∙ first.total;
-          lengths = lengths_ready first.part first.lengths;
+          trailers = trailers_ready (source.left mid.source) ∙ first.trailers;
+          lengths = lengths_of old mid first.part mid.came.phase (ready_bytes new) first.lengths;
         }),
       )
         where
           parts_ready : (left : Option (List FramePart)) → option_map (λ (rest : TextLeft). rest.parts) (option_map (text_to_come_with mid) left)
-              ≡ option_map (λ (rest : TextLeft). rest.parts) (option_map (text_to_come_with (record mid { ready = ready_bytes new })) left)
+              ≡ option_map (λ (rest : TextLeft). rest.parts) (option_map (text_to_come_with (record mid { chunks = record mid.chunks { ready = ready_bytes new } })) left)
           parts_ready None = refl
           parts_ready (Some frames) = refl
 
-          totals_ready : (left : Option (List FramePart)) → option_map (λ (rest : TextLeft). rest.total) (option_map (text_to_come_with (record mid { ready = ready_bytes new })) left)
+          totals_ready : (left : Option (List FramePart)) → option_map (λ (rest : TextLeft). rest.total) (option_map (text_to_come_with (record mid { chunks = record mid.chunks { ready = ready_bytes new } })) left)
               ≡ option_map (λ (rest : TextLeft). rest.total) (option_map (text_to_come_with mid) left)
           totals_ready None = refl
           totals_ready (Some frames) = refl
 
-          lengths_ready : (part : Part) → HasLengths part mid → HasLengths part (record mid { ready = ready_bytes new })
-          lengths_ready (chunk piece) has = has
-          lengths_ready (tail trailers) has = has
+          trailers_ready : (left : Option (List FramePart)) → option_map (λ (rest : TextLeft). rest.trailers) (option_map (text_to_come_with (record mid { chunks = record mid.chunks { ready = ready_bytes new } })) left)
+              ≡ option_map (λ (rest : TextLeft). rest.trailers) (option_map (text_to_come_with mid) left)
+          trailers_ready None = refl
+          trailers_ready (Some frames) = refl
 
-  pub front_taken_due : (old mid new : AwsChunkedBody F G) (piece : List ℕ) → Readies source signer old mid (Ok tt) → ready_bytes mid ≡ piece ++ ready_bytes new
-      → 0 < length piece → new ≡ record mid { ready = ready_bytes new } → TakesDue (due source signer old) (due source signer new) (Ok (next.Frame piece))
+  pub front_taken_due : (old mid new : AwsChunkedBody F G) (piece : List ℕ) → HasTextOrStops source signer old mid (Ok tt) → ready_bytes mid ≡ piece ++ ready_bytes new
+      → 0 < length piece → new ≡ record mid { chunks = record mid.chunks { ready = ready_bytes new } } → TakesDue (due source signer old) (due source signer new) (Ok (next.Frame piece))
   front_taken_due old mid new piece readies is some others = (
     front_due source signer old new piece (front_answers old mid new piece readies is others)
         (ap (λ (body : AwsChunkedBody F G). body.options) others ∙ readies.0.options),
     some,
   )
 
-  pub front_cause : (old mid new : AwsChunkedBody F G) (piece : List ℕ) → Readies source signer old mid (Ok tt) → new ≡ record mid { ready = ready_bytes new }
+  pub front_cause : (old mid new : AwsChunkedBody F G) (piece : List ℕ) → HasTextOrStops source signer old mid (Ok tt) → new ≡ record mid { chunks = record mid.chunks { ready = ready_bytes new } }
       → HasCause source signer old new (Ok (next.Frame piece))
   front_cause old mid new piece readies others =
       (counts_kept old mid new readies.0 (ap (λ (body : AwsChunkedBody F G). body.source) others) (ap (λ (body : AwsChunkedBody F G). body.options) others), tt)
 
-  pub front_turns : (old mid new : AwsChunkedBody F G) (piece : List ℕ) → Readies source signer old mid (Ok tt) → new ≡ record mid { ready = ready_bytes new }
+  pub front_turns : (old mid new : AwsChunkedBody F G) (piece : List ℕ) → HasTextOrStops source signer old mid (Ok tt) → new ≡ record mid { chunks = record mid.chunks { ready = ready_bytes new } }
       → TakesIdleFrames source (AreTurns (Ok (next.Frame piece))) old new
   front_turns old mid new piece readies others =
       turns_kept (AreTurns (Ok (next.Frame piece))) old mid new readies.2 (ap (λ (body : AwsChunkedBody F G). body.source) others)
-
-  -- ---- a body that was closed
-
-  pub closed_cause : (old mid new : AwsChunkedBody F G) (error : AwsChunkedBodyError) → HasCause source signer old mid (Err error)
-      → new ≡ record mid { phase = phase.Closed; ready = [] } → HasCause source signer old new (Err error)
-  closed_cause old mid new error told is = subst (λ (body : AwsChunkedBody F G). HasCause source signer old body (Err error)) (sym is) (counts, by error told.1)
-    where
-      counts : KeepsCounts source old (record mid { phase = phase.Closed; ready = [] })
-      counts = record { waits = told.0.waits; faults = told.0.faults; options = told.0.options }
-
-      by : (at : AwsChunkedBodyError) → Causes source signer old mid (Err at) → Causes source signer old (record mid { phase = phase.Closed; ready = [] }) (Err at)
-      by (fault.StreamLengthMismatch actual expected) cause = cause
-      by (fault.ReportedTrailerLengthMismatch actual expected) cause = cause
-      by (fault.FailedToSign why) cause = cause
-      by fault.SourceFault cause = cause
-      by fault.NoMemory cause = cause
-
-  pub closed_turns : (old mid new : AwsChunkedBody F G) (error : AwsChunkedBodyError) → TakesIdleFrames source (AreTurns (Err error)) old mid
-      → new ≡ record mid { phase = phase.Closed; ready = [] } → TakesIdleFrames source (AreTurns (Err error)) old new
-  closed_turns old mid new error turns is = turns_kept (AreTurns (Err error)) old mid new turns (ap (λ (body : AwsChunkedBody F G). body.source) is)

@@ -12,6 +12,7 @@ use Rattle.aws_chunked.specs.Text.{chunk, chunk_text, chunked_text, crlf, pieces
 use Rattle.aws_chunked.specs.declared.decode.DecodeFault.{DecodeFault}
 use Rattle.aws_chunked.specs.declared.decode.DecodeFault.TheVariants.{BadChunk, NoMemory}
 use Rattle.aws_chunked.specs.declared.decode.Decoded.{Decoded}
+use Rattle.aws_chunked.proofs.SignatureLemmas.{signature_long}
 use Rattle.aws_chunked.proofs.LengthLemmas.{cut_long, lines_long, pieces_length}
 
 -- ## Decoding
@@ -60,7 +61,7 @@ last_line_long (trailer ∷ trailers) signatures None takes = absurd takes
 last_line_long (trailer ∷ trailers) signatures (Some signature) takes =
     omega (
       arith,
-      takes.0.0,
+      signature_long signature takes.0,
       length-append ((codes "x-amz-trailer-signature" ++ codes ":") ++ signature) crlf,
       length-append (codes "x-amz-trailer-signature" ++ codes ":") signature,
     )
@@ -92,7 +93,7 @@ pieces_long [] signatures trailers text is = by is.0 is.3 is.5
         → length text ≡ 0 + head_length true 0 + actual_length true trailers + 2
     by None takes same = absurd takes
     by (Some signature) takes same =
-        omega (arith, ap length same, tail_long (Some signature) is.2 trailers, head_long 0 signature takes.0.0, last_line_long trailers is.1 is.2 is.4)
+        omega (arith, ap length same, tail_long (Some signature) is.2 trailers, head_long 0 signature (signature_long signature takes.0), last_line_long trailers is.1 is.2 is.4)
 pieces_long (piece ∷ pieces) signatures trailers text is = by is.0 is.3 is.4 (pieces_long pieces is.1 trailers is.2 is.5)
   where
     by : (signature : Option (List ℕ)) → TakesSignature true signatures signature is.1 → text ≡ chunk_text signature piece ++ is.2
@@ -105,7 +106,7 @@ pieces_long (piece ∷ pieces) signatures trailers text is = by is.0 is.3 is.4 (
           ap length same,
           length-append (chunk_text (Some signature) piece) is.2,
           chunk_long (Some signature) piece,
-          head_long (length piece) signature takes.0.0,
+          head_long (length piece) signature (signature_long signature takes.0),
           rest,
         )
 

@@ -12,7 +12,7 @@ use Rattle.aws_chunked.specs.Options.{IsChunkSize, Options, chunk_length, chunks
 use Rattle.aws_chunked.specs.Text.{Part, chunk, chunk_text, chunked_text, crlf, pieces_of_size, head_text, length_text, part_text, parts_text, tail, tail_text, trailer_line}
 use Rattle.aws_chunked.proofs.CutLemmas.{cut_first, cut_none}
 
-head_long : (n : ℕ) → length (head_text n None) ≡ head_length false n
+pub head_long : (n : ℕ) → length (head_text n None) ≡ head_length false n
 head_long n = omega (arith, length-append (length_text n ++ []) crlf, length-append (length_text n) [])
 
 chunk_long : (piece : List ℕ) → length (chunk_text None piece) ≡ chunk_length false (length piece)

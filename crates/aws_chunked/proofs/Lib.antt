@@ -11,6 +11,7 @@ mod LineLemmas
 mod MadeLemmas
 mod NewLemmas
 mod PassLemmas
+mod PassedLengthLemmas
 mod PieceLemmas
 mod PlaceLemmas
 mod PullLemmas

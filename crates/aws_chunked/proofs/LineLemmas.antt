@@ -17,8 +17,8 @@ use Rattle.aws_chunked.specs.Reading.{Led, RefusesNext, TellsWhere}
 use Rattle.aws_chunked.specs.Rests.{first_byte}
 use Rattle.aws_chunked.specs.TailRests.{EndsRun, IsLine, IsNamePart, IsLongestFront, IsValuePart, is_name_byte}
 use Rattle.aws_chunked.specs.Text.{crlf, trailer_line}
-use Rattle.aws_chunked.specs.declared.decode.fault.ReadFault.{ReadFault}
-use Rattle.aws_chunked.specs.declared.decode.fault.ReadFault.TheVariants.{Bad}
+use Rattle.aws_chunked.specs.declared.decode.fault.PartFault.{PartFault}
+use Rattle.aws_chunked.specs.declared.decode.fault.PartFault.TheVariants.{Bad}
 use Rattle.aws_chunked.proofs.FollowLemmas.{stops_behind_word}
 use Rattle.aws_chunked.proofs.PlaceLemmas.{stops_first, stops_next}
 use Rattle.aws_chunked.proofs.RunLemmas.{run_ended, run_taken, run_within, same_first, same_run}
@@ -107,7 +107,7 @@ name_utf8 name some all = IsUtf8-from_token name (some, bytes_token name all)
 -- ## Names
 
 -- no name, where none of its bytes stands first
-pub no_name : (bytes : List ℕ) (fault : ReadFault) → EndsRun is_name_byte bytes → fault ≡ Bad (length bytes) → TellsWhere IsNamePart (Led IsNamePart) bytes fault
+pub no_name : (bytes : List ℕ) (fault : PartFault) → EndsRun is_name_byte bytes → fault ≡ Bad (length bytes) → TellsWhere IsNamePart (Led IsNamePart) bytes fault
 no_name bytes fault ends told = subst (TellsWhere IsNamePart (Led IsNamePart) bytes) (sym told) ([], bytes, refl, refl, (codes "a:", (97 ∷ [], a_name.0, a_name.1, refl)), refuses bytes ends)
   where
     none : (text : List ℕ) → EndsRun is_name_byte text → Led IsNamePart text → ⊥
@@ -138,7 +138,7 @@ name_ends name other text more all ends is same parted =
     empty [] none = refl
     empty (z ∷ zs) none = absurd (omega (arith, none))
 
-pub colon_stops : (bytes name rest : List ℕ) (fault : ReadFault) → bytes ≡ name ++ rest → 0 < length name → length name ≤ 65535 → All (λ byte. IsTrue (is_name_byte byte)) name
+pub colon_stops : (bytes name rest : List ℕ) (fault : PartFault) → bytes ≡ name ++ rest → 0 < length name → length name ≤ 65535 → All (λ byte. IsTrue (is_name_byte byte)) name
     → (length name < 65535 → EndsRun is_name_byte rest) → TellsWhere (λ word. word ≡ codes ":") (Led (λ word. word ≡ codes ":")) rest fault
     → TellsWhere IsNamePart (Led IsNamePart) bytes fault
 colon_stops bytes name rest fault parted some low all ends told =
@@ -162,7 +162,7 @@ pub a_value : (value : List ℕ) (text more : List ℕ) → All (λ byte. IsTrue
 a_value value text more all other each ends parted =
     same_run is_value_byte value other text (crlf ++ more) all each ends refl (parted ∙ append_assoc other crlf more)
 
-pub value_stops : (bytes value rest : List ℕ) (m : ℕ) (fault : ReadFault) → bytes ≡ value ++ rest → All (λ byte. IsTrue (is_value_byte byte)) value
+pub value_stops : (bytes value rest : List ℕ) (m : ℕ) (fault : PartFault) → bytes ≡ value ++ rest → All (λ byte. IsTrue (is_value_byte byte)) value
     → EndsRun is_value_byte rest → (IsUtf8 value → ⊥) → IsLongestFront value m → fault ≡ Bad (length (drop m bytes)) → TellsWhere IsValuePart (Led IsValuePart) bytes fault
 value_stops bytes value rest m fault parted all ends not_text sound told =
     subst (TellsWhere IsValuePart (Led IsValuePart) bytes) (sym told) (
@@ -250,7 +250,7 @@ same_line one two rest more is other parted =
     ((λ i. (names.0 i, values.0 i)), append_cancel_left crlf rest more values.1)
 
 pub crlf_stops_line : (bytes name behind value rest : List ℕ) → IsHeaderName name → lower name ≡ name
-    → bytes ≡ name ++ codes ":" ++ behind → IsUtf8 value → IsHeaderValue value → behind ≡ value ++ rest → EndsRun is_value_byte rest → (fault : ReadFault)
+    → bytes ≡ name ++ codes ":" ++ behind → IsUtf8 value → IsHeaderValue value → behind ≡ value ++ rest → EndsRun is_value_byte rest → (fault : PartFault)
     → TellsWhere (λ word. word ≡ crlf) (Led (λ word. word ≡ crlf)) rest fault → TellsWhere IsLine (Led IsLine) bytes fault
 crlf_stops_line bytes name behind value rest is same parted text all read ends fault told =
     stops_behind_word (λ word. word ≡ crlf) (Led (λ word. word ≡ crlf)) IsLine (Led IsLine) ((name ++ codes ":") ++ value) bytes rest fault
@@ -266,7 +266,7 @@ crlf_stops_line bytes name behind value rest is same parted text all read ends f
     (crlf, led.1, refl, values.1))
     told
 
-pub name_stops_line : (bytes : List ℕ) (fault : ReadFault) → TellsWhere IsNamePart (Led IsNamePart) bytes fault → TellsWhere IsLine (Led IsLine) bytes fault
+pub name_stops_line : (bytes : List ℕ) (fault : PartFault) → TellsWhere IsNamePart (Led IsNamePart) bytes fault → TellsWhere IsLine (Led IsLine) bytes fault
 name_stops_line bytes fault told =
     stops_first IsNamePart (Led IsNamePart) IsLine (Led IsLine) bytes fault
     (λ word is. (
@@ -288,7 +288,7 @@ name_stops_line bytes fault told =
     ))
     told
 
-pub value_stops_line : (bytes name behind : List ℕ) (fault : ReadFault) → IsHeaderName name → lower name ≡ name → bytes ≡ name ++ codes ":" ++ behind
+pub value_stops_line : (bytes name behind : List ℕ) (fault : PartFault) → IsHeaderName name → lower name ≡ name → bytes ≡ name ++ codes ":" ++ behind
     → TellsWhere IsValuePart (Led IsValuePart) behind fault → TellsWhere IsLine (Led IsLine) bytes fault
 value_stops_line bytes name behind fault is same parted told =
     stops_next IsValuePart (Led IsValuePart) IsLine (Led IsLine) (name ++ codes ":") bytes behind fault parted
@@ -327,7 +327,7 @@ all_from : (bytes name : List ℕ) (n : ℕ) → n ≤ length bytes → ((k : �
     → All (λ byte. IsTrue (is_name_byte byte)) name
 all_from bytes name n there all front = subst (λ (x : List ℕ). All (λ byte. IsTrue (is_name_byte byte)) x) (sym front) (run_taken is_name_byte bytes n there all)
 
-pub name_none : (bytes name rest : List ℕ) (n : ℕ) (fault : ReadFault) → n ≤ length bytes
+pub name_none : (bytes name rest : List ℕ) (n : ℕ) (fault : PartFault) → n ≤ length bytes
     → (n < 65535 → n < length bytes → is_name_byte (slice_index bytes n) ≡ false) → length name ≡ n → rest ≡ drop n bytes → length name ≡ 0
     → fault ≡ Bad (length rest) → TellsWhere IsNamePart (Led IsNamePart) bytes fault
 name_none bytes name rest n fault there ends long back none told =
@@ -336,7 +336,7 @@ name_none bytes name rest n fault there ends long back none told =
     no_name bytes fault (subst (EndsRun is_name_byte) whole (ends_from bytes rest n there ends back (omega (arith, zero_))))
     (told ∙ ap (λ (r : List ℕ). Bad (length r)) whole)
 
-pub name_colon : (bytes name rest : List ℕ) (n : ℕ) (fault : ReadFault) → n ≤ 65535 → n ≤ length bytes → ((k : ℕ) → k < n → IsTrue (is_name_byte (slice_index bytes k)))
+pub name_colon : (bytes name rest : List ℕ) (n : ℕ) (fault : PartFault) → n ≤ 65535 → n ≤ length bytes → ((k : ℕ) → k < n → IsTrue (is_name_byte (slice_index bytes k)))
     → (n < 65535 → n < length bytes → is_name_byte (slice_index bytes n) ≡ false) → name ≡ take n bytes → length name ≡ n → rest ≡ drop n bytes
     → (length name ≡ 0 → ⊥) → TellsWhere (λ word. word ≡ codes ":") (Led (λ word. word ≡ codes ":")) rest fault → TellsWhere IsNamePart (Led IsNamePart) bytes fault
 name_colon bytes name rest n fault most there all ends front long back some told =
@@ -374,7 +374,7 @@ value_found bytes value text rest n there all ends front back same is = (
   subst (EndsRun is_value_byte) (sym back) (run_ended is_value_byte bytes n there ends),
 )
 
-pub value_bad : (bytes value rest : List ℕ) (n m : ℕ) (fault : ReadFault) → n ≤ length bytes → ((k : ℕ) → k < n → IsTrue (is_value_byte (slice_index bytes k)))
+pub value_bad : (bytes value rest : List ℕ) (n m : ℕ) (fault : PartFault) → n ≤ length bytes → ((k : ℕ) → k < n → IsTrue (is_value_byte (slice_index bytes k)))
     → (n < length bytes → is_value_byte (slice_index bytes n) ≡ false) → value ≡ take n bytes → rest ≡ drop n bytes → (IsUtf8 value → ⊥) → IsLongestFront value m
     → fault ≡ Bad (length (take (length bytes - m) (drop m bytes))) → TellsWhere IsValuePart (Led IsValuePart) bytes fault
 value_bad bytes value rest n m fault there all ends front back not sound told =

@@ -3,10 +3,10 @@ use Rattle.std.proofs.Common.{◌≡◌, ◌+◌, List, length, Option, None, So
 use Rattle.std.specs.Prelude.{option_map}
 use Rattle.smithy_core.specs.declared.outside.frame_source.FrameSource as FrameSource
 use Rattle.smithy_core.specs.declared.outside.frame_part.FramePart.{FramePart}
-use Rattle.aws_chunked.specs.Body.{IsNewBody, TextLeft, data_before, data_left, listed, parts_due, parts_left, text_to_come_with, total_of, trailers_from}
+use Rattle.aws_chunked.specs.Body.{IsNewBody, TextLeft, data_before, data_left, listed, parts_due, parts_left, text_to_come_with, total_of, trailers_due, trailers_from, trailers_left}
 use Rattle.aws_chunked.specs.Options.{Options, counted}
 use Rattle.aws_chunked.specs.Passing.{filled_before, pieces_due, pieces_to_come, pieces_of, pieces_with}
-use Rattle.aws_chunked.specs.declared.sent.Sent.TheVariants as sent
+use Rattle.aws_chunked.specs.declared.piece_engine.Sent.TheVariants as sent
 use Rattle.aws_chunked.specs.Text.{parts_of}
 use Rattle.aws_chunked.specs.declared.body.AwsChunkedBody.{AwsChunkedBody}
 
@@ -25,6 +25,15 @@ module _ {F G : Type 0} (source : FrameSource.Ghosts F) where
           ≡ option_map (λ (frames : List FramePart). parts_of options.chunk_size (data_before frames) (listed (trailers_from None frames))) left
       by None = refl
       by (Some frames) = ap Some (parts_new body from options new frames)
+
+  pub new_trailers : (body : AwsChunkedBody F G) (from : F) (options : Options) → IsNewBody from options body
+      → trailers_due source body ≡ option_map (trailers_from None) (source.left from)
+  new_trailers body from options new =
+      ap (λ (f : F). option_map (λ (rest : TextLeft). rest.trailers) (option_map (text_to_come_with body) (source.left f))) new.reads_from ∙ by (source.left from)
+    where
+      by : (left : Option (List FramePart)) → option_map (λ (rest : TextLeft). rest.trailers) (option_map (text_to_come_with body) left) ≡ option_map (trailers_from None) left
+      by None = refl
+      by (Some frames) = ap Some (λ i. trailers_left (new.starts i) (new.no_trailers i) frames)
 
   pub new_total : (body : AwsChunkedBody F G) (from : F) (options : Options) → IsNewBody from options body
       → total_of source body ≡ option_map (λ (frames : List FramePart). counted (length (data_before frames))) (source.left from)

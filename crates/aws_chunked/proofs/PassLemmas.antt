@@ -1,6 +1,6 @@
 -- What a body passes on is the first of what was due, and why it passes nothing on.
 use Rattle.std.proofs.Common.{◌≡◌, ℕ, ◌⊎◌, inl, inr, zero, suc, ◌+◌, ◌<◌, ◌≤◌, ◌==◌, List, [], ◌∷◌, ◌++◌, length, Option, None, Some, refl, ap, sym, subst, ◌∙◌, arith}
-use Rattle.std.specs.Prelude.{IfSome, Result, Ok, Err, option_map}
+use Rattle.std.specs.Prelude.{IfSome, OnErr, Result, Ok, Err, option_map}
 use Rattle.std.specs.Fmt.{digits}
 use Rattle.std.specs.List.{flat_map}
 use Rattle.std.proofs.lemmas.List.{length-append}
@@ -9,10 +9,11 @@ use Rattle.smithy_core.specs.FrameSource.{IsDrained, TakesFrame}
 use Rattle.smithy_core.specs.Outside.{RoseOrStands}
 use Rattle.smithy_core.specs.declared.outside.frame_part.FramePart.{FramePart}
 use Rattle.smithy_core.specs.declared.outside.frame_part.FramePart.TheVariants as frame
-use Rattle.aws_chunked.specs.Body.{AreTurns, MayReadOn, HasLength, Trailer, data_before, data_left, idle_frames, listed, phase_after, trailers_left, with_frame}
+use Rattle.aws_chunked.specs.Body.{AreTurns, MayReadOn, HasLength, HasTrailerLengthsAlways, IsBodyClosed, IsBodyOpen, IsCompared, StaysClosed, Trailer, after_stop, data_before, data_left, idle_frames, listed, phase_after, ready_bytes, stop_answer, trailers_left, with_frame}
 use Rattle.aws_chunked.specs.Options.{counted}
 use Rattle.aws_chunked.specs.Text.{crlf, head_text, length_text, signature_text, trailer_line}
-use Rattle.aws_chunked.specs.Passing.{AreFew, AreNone, FitsPiece, HasLineLengths, Idles, IsNextPiece, MakesEmptyChunk, MakesLastLines, MayLack, OthersPass, PassCauses, PassKeeps, PassesData, PassesFrames, PassesOn, Piece, Steps, TakesPiece, empty_chunk, filled_before, last_lines, length_line, onto_filled, passed, piece_text, pieces_due, pieces_to_come, pieces_of, pieces_with, sent_after}
+use Rattle.aws_chunked.specs.Passing.{AreIdleInStep, AreNoneTaken, AsksSource, FitsPiece, TakesOnlyIdleFrames, IsNextPiece, MakesEmptyChunk, MakesLastLines, MayLack, OthersPass, PieceCauses, KeepsCountsUnsigned, PassesDataOn, TakesCountedFrames, AnswersStep, Piece, Steps, TakesPiece, empty_chunk, filled_before, last_lines, length_line, onto_filled, passed, piece_text, pieces_due, pieces_to_come, pieces_of, pieces_with, sent_after}
+use Rattle.aws_chunked.specs.declared.arrivals.Arrivals.{Arrivals}
 use Rattle.aws_chunked.specs.declared.body.AwsChunkedBody.{AwsChunkedBody}
 use Rattle.aws_chunked.specs.declared.body.ChunkNext.{ChunkNext}
 use Rattle.aws_chunked.specs.declared.body.ChunkNext.TheVariants as next
@@ -20,8 +21,11 @@ use Rattle.aws_chunked.specs.declared.error.AwsChunkedBodyError.{AwsChunkedBodyE
 use Rattle.aws_chunked.specs.declared.error.AwsChunkedBodyError.TheVariants as fault
 use Rattle.aws_chunked.specs.declared.phase.Phase.{Phase}
 use Rattle.aws_chunked.specs.declared.phase.Phase.TheVariants as phase
-use Rattle.aws_chunked.specs.declared.sent.Sent.{Sent}
-use Rattle.aws_chunked.specs.declared.sent.Sent.TheVariants as sent
+use Rattle.aws_chunked.specs.declared.piece_engine.PieceEngine.{PieceEngine}
+use Rattle.aws_chunked.specs.declared.piece_engine.Sent.{Sent}
+use Rattle.aws_chunked.specs.declared.piece_engine.Sent.TheVariants as sent
+use Rattle.aws_chunked.specs.declared.stop.Stop.{Stop}
+use Rattle.aws_chunked.specs.declared.stop.Stop.TheVariants as stop
 use Rattle.aws_chunked.proofs.TurnLemmas.{none_idle, idle_more, idle_none, left_more, left_none, left_one, phase_more, rose_before}
 
 -- ---- the text of a piece
@@ -199,7 +203,7 @@ same_drained before now old (Some frames) kept drained same =
 
 -- ---- how many frames have no data
 
-few_turns : (answer : Result ChunkNext AwsChunkedBodyError) (count n : ℕ) → count < 65536 → AreFew answer n → AreTurns answer (count + n)
+few_turns : (answer : Result ChunkNext AwsChunkedBodyError) (count n : ℕ) → count < 65536 → AreIdleInStep answer n → AreTurns answer (count + n)
 few_turns (Ok (next.Frame bytes)) count n low few = omega (arith, low, few)
 few_turns (Ok next.NotYet) count n low few = omega (arith, low, few)
 few_turns (Ok next.OutOfTurns) count n low few = absurd few
@@ -210,7 +214,7 @@ few_turns (Err (fault.FailedToSign why)) count n low few = omega (arith, low, fe
 few_turns (Err fault.SourceFault) count n low few = omega (arith, low, few)
 few_turns (Err fault.NoMemory) count n low few = omega (arith, low, few)
 
-none_few : (answer : Result ChunkNext AwsChunkedBodyError) (n : ℕ) → AreNone answer n → AreFew answer n
+none_few : (answer : Result ChunkNext AwsChunkedBodyError) (n : ℕ) → AreNoneTaken answer n → AreIdleInStep answer n
 none_few (Ok (next.Frame bytes)) n none = none
 none_few (Ok next.NotYet) n none = none
 none_few (Ok next.OutOfTurns) n none = none
@@ -221,7 +225,7 @@ none_few (Err (fault.FailedToSign why)) n none = none
 none_few (Err fault.SourceFault) n none = none
 none_few (Err fault.NoMemory) n none = omega (arith, none)
 
-none_ended : (answer : Result ChunkNext AwsChunkedBodyError) (n : ℕ) → AreNone answer n → n ≡ 0
+none_ended : (answer : Result ChunkNext AwsChunkedBodyError) (n : ℕ) → AreNoneTaken answer n → n ≡ 0
 none_ended (Ok (next.Frame bytes)) n none = none
 none_ended (Ok next.NotYet) n none = none
 none_ended (Ok next.OutOfTurns) n none = absurd none
@@ -231,15 +235,15 @@ none_ended (Err error) n none = none
 module _ {F G : Type 0} (source : FrameSource.Ghosts F) where
   -- ---- a piece is made of what was taken
 
-  none_taken : (P : ℕ → Type 0) (old new : AwsChunkedBody F G) → new.source ≡ old.source → new.taken ≡ old.taken → P 0 → PassesFrames source P old new
+  none_taken : (P : ℕ → Type 0) (old new : AwsChunkedBody F G) → new.source ≡ old.source → new.came.taken ≡ old.came.taken → P 0 → TakesCountedFrames source P old new
   none_taken P old new source_is taken is = record {
     frames = [];
     taken = left_none (source.left old.source) ∙ ap (λ (f : F). option_map (λ (rest : List FramePart). [] ++ rest) (source.left f)) (sym source_is);
-    turns = subst P (sym (idle_none old.phase)) is;
-    data_count = ap counted (omega (arith, taken, data_none old.phase));
+    turns = subst P (sym (idle_none old.came.phase)) is;
+    data_count = ap counted (omega (arith, taken, data_none old.came.phase));
   }
 
-  none_kept : (old new : AwsChunkedBody F G) → new.source ≡ old.source → OthersPass old new → PassKeeps source old new
+  none_kept : (old new : AwsChunkedBody F G) → new.source ≡ old.source → OthersPass old new → KeepsCountsUnsigned source old new
   none_kept old new source_is others = record {
     waits = subst (λ (f : F). source.waits old.source ≤ source.waits f) (sym source_is) (omega arith);
     faults = subst (λ (f : F). source.faults old.source ≤ source.faults f) (sym source_is) (omega arith);
@@ -247,9 +251,9 @@ module _ {F G : Type 0} (source : FrameSource.Ghosts F) where
   }
 
   -- the piece that is made was the first that was due
-  piece_made : (old new : AwsChunkedBody F G) (piece : Piece) (bytes : List ℕ) → new.source ≡ old.source → new.taken ≡ old.taken → OthersPass old new
+  piece_made : (old new : AwsChunkedBody F G) (piece : Piece) (bytes : List ℕ) → new.source ≡ old.source → new.came.taken ≡ old.came.taken → OthersPass old new
       → ((frames : List FramePart) → pieces_with old frames ≡ piece ∷ pieces_with new frames) → bytes ≡ piece_text piece → 0 < length (piece_text piece)
-      → FitsPiece piece new → PassesOn source (λ count. count ≡ 0) old new (Ok (next.Frame bytes))
+      → FitsPiece piece new → AnswersStep source (λ count. count ≡ 0) old new (Ok (next.Frame bytes))
   piece_made old new piece bytes source_is taken others first is some fits = record {
     takes = (
       piece,
@@ -264,93 +268,188 @@ module _ {F G : Type 0} (source : FrameSource.Ghosts F) where
     keeps = none_kept old new source_is others;
   }
 
-  pub line_made : (old new : AwsChunkedBody F G) (bytes : List ℕ) → (old.phase ≡ phase.Closed → ⊥) → old.sent ≡ sent.Nothing
-      → bytes ≡ piece_text (length_line old.options.stream_length) → new ≡ record old { sent = sent_after old.options.stream_length }
-      → PassesOn source (λ count. count ≡ 0) old new (Ok (next.Frame bytes))
-  line_made old new bytes on was is others =
-      piece_made old new (length_line n) bytes (ap (λ (body : AwsChunkedBody F G). body.source) others) (ap (λ (body : AwsChunkedBody F G). body.taken) others)
-      (others ∙ ap (λ (body : AwsChunkedBody F G). record old { source = body.source; phase = body.phase; sent = body.sent; taken = body.taken; trailers = body.trailers; ready = body.ready }) (sym others))
+  pub line_made : (old : AwsChunkedBody F G) (after : PieceEngine) (bytes : List ℕ) → IsBodyOpen old → old.pieces.sent ≡ sent.Nothing
+      → bytes ≡ piece_text (length_line old.options.stream_length) → after ≡ record { sent = sent_after old.options.stream_length }
+      → AnswersStep source (λ count. count ≡ 0) old (record old { pieces = after }) (Ok (next.Frame bytes))
+  line_made old after bytes on was is same =
+      piece_made old (record old { pieces = after }) (length_line n) bytes refl refl refl
       (λ (frames : List FramePart).
-      ap (λ (w : Sent). pieces_to_come w old.phase n old.trailers frames) was
-      ∙ line_left old.phase n old.trailers frames on
-      ∙ sym (ap (λ (body : AwsChunkedBody F G). length_line n ∷ pieces_with body frames) others))
+      ap (λ (w : Sent). pieces_to_come w old.came.phase n old.came.trailers frames) was
+      ∙ line_left old.came.phase n old.came.trailers frames on
+      ∙ sym (ap (λ (engine : PieceEngine). length_line n ∷ pieces_to_come engine.sent old.came.phase n old.came.trailers frames) same))
       is (line_some n) tt
     where
       n : ℕ
       n = old.options.stream_length
 
-  pub chunk_made : (old new : AwsChunkedBody F G) (bytes : List ℕ) → (old.phase ≡ phase.Closed → ⊥) → (old.phase ≡ phase.Data → ⊥) → old.sent ≡ sent.LengthLine
-      → MakesEmptyChunk old new (Ok bytes) → PassesOn source (λ count. count ≡ 0) old new (Ok (next.Frame bytes))
-  chunk_made old new bytes on over was made =
-      piece_made old new empty_chunk bytes (ap (λ (body : AwsChunkedBody F G). body.source) made.2) (ap (λ (body : AwsChunkedBody F G). body.taken) made.2)
-      (made.2 ∙ ap (λ (body : AwsChunkedBody F G). record old { source = body.source; phase = body.phase; sent = body.sent; taken = body.taken; trailers = body.trailers; ready = body.ready }) (sym made.2))
+  pub chunk_made : (old : AwsChunkedBody F G) (after : PieceEngine) (bytes : List ℕ) → IsBodyOpen old → (old.came.phase ≡ phase.Data → ⊥) → old.pieces.sent ≡ sent.LengthLine
+      → MakesEmptyChunk old.options old.came old.pieces after (Ok bytes) → AnswersStep source (λ count. count ≡ 0) old (record old { pieces = after }) (Ok (next.Frame bytes))
+  chunk_made old after bytes on over was made =
+      piece_made old (record old { pieces = after }) empty_chunk bytes refl refl refl
       (λ (frames : List FramePart).
-      ap (λ (w : Sent). pieces_to_come w old.phase old.options.stream_length old.trailers frames) was
-      ∙ chunk_left old.phase old.options.stream_length old.trailers frames on over
-      ∙ sym (ap (λ (body : AwsChunkedBody F G). empty_chunk ∷ pieces_with body frames) made.2))
-      made.0 chunk_some (subst (λ (body : AwsChunkedBody F G). FitsPiece empty_chunk body) (sym made.2) made.1)
+      ap (λ (w : Sent). pieces_to_come w old.came.phase old.options.stream_length old.came.trailers frames) was
+      ∙ chunk_left old.came.phase old.options.stream_length old.came.trailers frames on over
+      ∙ sym (ap (λ (engine : PieceEngine). empty_chunk ∷ pieces_to_come engine.sent old.came.phase old.options.stream_length old.came.trailers frames) made.2))
+      made.0 chunk_some made.1
 
-  lines_left : (old : AwsChunkedBody F G) (frames : List FramePart) → old.phase ≡ phase.Ended → old.sent ≡ sent.EmptyChunk
-      → pieces_with old frames ≡ last_lines (listed old.trailers) ∷ []
-  lines_left old frames ended was = (λ i. pieces_to_come (was i) (ended i) old.options.stream_length old.trailers frames)
+  lines_left : (old : AwsChunkedBody F G) (frames : List FramePart) → old.came.phase ≡ phase.Ended → old.pieces.sent ≡ sent.EmptyChunk
+      → pieces_with old frames ≡ last_lines (listed old.came.trailers) ∷ []
+  lines_left old frames ended was = (λ i. pieces_to_come (was i) (ended i) old.options.stream_length old.came.trailers frames)
 
-  pub lines_made : (old new : AwsChunkedBody F G) (bytes : List ℕ) → old.phase ≡ phase.Ended → old.sent ≡ sent.EmptyChunk → MakesLastLines old new (Ok bytes)
-      → PassesOn source (λ count. count ≡ 0) old new (Ok (next.Frame bytes))
-  lines_made old new bytes ended was made =
-      piece_made old new (last_lines (listed old.trailers)) bytes (ap (λ (body : AwsChunkedBody F G). body.source) made.3) (ap (λ (body : AwsChunkedBody F G). body.taken) made.3)
-      (made.3 ∙ ap (λ (body : AwsChunkedBody F G). record old { source = body.source; phase = body.phase; sent = body.sent; taken = body.taken; trailers = body.trailers; ready = body.ready }) (sym made.3))
-      (λ (frames : List FramePart).
-      lines_left old frames ended was ∙ sym (ap (λ (body : AwsChunkedBody F G). last_lines (listed old.trailers) ∷ pieces_with body frames) made.3))
-      made.0 (lines_some (listed old.trailers)) (subst (λ (body : AwsChunkedBody F G). FitsPiece (last_lines (listed old.trailers)) body) (sym made.3) (made.1, made.2))
+  pub lines_made : (old : AwsChunkedBody F G) (bytes : List ℕ) → old.came.phase ≡ phase.Ended → old.pieces.sent ≡ sent.EmptyChunk
+      → MakesLastLines old.options old.came (Ok bytes)
+      → AnswersStep source (λ count. count ≡ 0) old (record old { came = record old.came { phase = phase.Closed } }) (Ok (next.Frame bytes))
+  lines_made old bytes ended was made =
+      piece_made old (record old { came = record old.came { phase = phase.Closed } }) (last_lines (listed old.came.trailers)) bytes refl refl refl
+      (λ (frames : List FramePart). lines_left old frames ended was)
+      made.0 (lines_some (listed old.came.trailers)) (made.1, made.2)
 
   -- ---- why none is made
 
-  stays : (old new : AwsChunkedBody F G) (answer : Result ChunkNext AwsChunkedBodyError) → new ≡ old → TakesPiece source old old answer → PassCauses source old old answer
-      → PassesOn source (λ count. count ≡ 0) old new answer
+  stays : (old new : AwsChunkedBody F G) (answer : Result ChunkNext AwsChunkedBodyError) → new ≡ old → TakesPiece source old old answer → PieceCauses source old old answer
+      → AnswersStep source (λ count. count ≡ 0) old new answer
   stays old new answer same takes cause = record {
     takes = subst (λ (body : AwsChunkedBody F G). TakesPiece source old body answer) (sym same) takes;
-    cause = subst (λ (body : AwsChunkedBody F G). PassCauses source old body answer) (sym same) cause;
-    turns = none_taken (λ count. count ≡ 0) old new (ap (λ (body : AwsChunkedBody F G). body.source) same) (ap (λ (body : AwsChunkedBody F G). body.taken) same) refl;
+    cause = subst (λ (body : AwsChunkedBody F G). PieceCauses source old body answer) (sym same) cause;
+    turns = none_taken (λ count. count ≡ 0) old new (ap (λ (body : AwsChunkedBody F G). body.source) same) (ap (λ (body : AwsChunkedBody F G). body.came.taken) same) refl;
     keeps = none_kept old new (ap (λ (body : AwsChunkedBody F G). body.source) same)
-        (same ∙ ap (λ (body : AwsChunkedBody F G). record old { source = body.source; phase = body.phase; sent = body.sent; taken = body.taken; trailers = body.trailers; ready = body.ready }) (sym same));
+        (same ∙ ap (λ (body : AwsChunkedBody F G). record old { source = body.source; came = body.came; pieces = body.pieces; chunks = record old.chunks { ready = body.chunks.ready } }) (sym same));
   }
 
-  pub over_already : (body : AwsChunkedBody F G) → body.phase ≡ phase.Closed → PassesOn source (λ count. count ≡ 0) body body (Ok next.End)
-  over_already body closed = stays body body (Ok next.End) refl (refl, closed) tt
+  -- a body that was closed
 
-  pub no_room : (old new : AwsChunkedBody F G) → new ≡ old → PassesOn source (λ count. count ≡ 0) old new (Err fault.NoMemory)
-  no_room old new same = stays old new (Err fault.NoMemory) same tt tt
+  pub over_turns : (old new : AwsChunkedBody F G) → new ≡ record old { came = record old.came { phase = phase.Closed }; chunks = record old.chunks { ready = [] } } → TakesCountedFrames source (AreTurns (Ok next.End)) old new
+  over_turns old new is =
+      none_taken (AreTurns (Ok next.End)) old new (ap (λ (body : AwsChunkedBody F G). body.source) is) (ap (λ (body : AwsChunkedBody F G). body.came.taken) is) (omega arith)
 
-  lack_told : (old : AwsChunkedBody F G) (error : AwsChunkedBodyError) (piece : Piece) → HasLength old (Err error) → MayLack piece old.options.stream_length → IsNextPiece source old piece
-      → PassCauses source old old (Err error)
+  pub over_kept : (old new : AwsChunkedBody F G) → new ≡ record old { came = record old.came { phase = phase.Closed }; chunks = record old.chunks { ready = [] } } → KeepsCountsUnsigned source old new
+  over_kept old new is =
+      none_kept old new (ap (λ (body : AwsChunkedBody F G). body.source) is)
+      (is ∙ ap (λ (body : AwsChunkedBody F G). record old { source = body.source; came = body.came; pieces = body.pieces; chunks = record old.chunks { ready = body.chunks.ready } }) (sym is))
+
+  pub over_takes : (old new : AwsChunkedBody F G) → old.came.phase ≡ phase.Closed → new ≡ record old { came = record old.came { phase = phase.Closed }; chunks = record old.chunks { ready = [] } } → TakesPiece source old new (Ok next.End)
+  over_takes old new closed is = (
+    ap (λ (body : AwsChunkedBody F G). pieces_due source body) is
+        ∙ sym (ap (λ (at : Phase). option_map (λ (frames : List FramePart). pieces_to_come old.pieces.sent at old.options.stream_length old.came.trailers frames) (source.left old.source)) closed),
+    closed,
+  )
+
+  pub over_stays : (old new : AwsChunkedBody F G) → new ≡ record old { came = record old.came { phase = phase.Closed }; chunks = record old.chunks { ready = [] } } → StaysClosed old new (Ok next.End)
+  over_stays old new is closed =
+      (refl, is ∙ (λ i. record old { came = record old.came { phase = sym closed.over i }; chunks = record old.chunks { ready = sym closed.answered i } }))
+
+  -- a stop as an answer
+
+  pub stopped_takes : (old mid new : AwsChunkedBody F G) (why : Stop) → TakesPiece source old mid (stop_answer why) → new ≡ after_stop why mid
+      → TakesPiece source old new (stop_answer why)
+  stopped_takes old mid new stop.NotYet takes is = ap (λ (body : AwsChunkedBody F G). pieces_due source body) is ∙ takes
+  stopped_takes old mid new stop.OutOfTurns takes is = ap (λ (body : AwsChunkedBody F G). pieces_due source body) is ∙ takes
+  stopped_takes old mid new (stop.Fault error) takes is = tt
+
+  pub stopped_cause : (old mid new : AwsChunkedBody F G) (why : Stop) → PieceCauses source old mid (stop_answer why) → new ≡ after_stop why mid
+      → PieceCauses source old new (stop_answer why)
+  stopped_cause old mid new stop.NotYet cause is = subst (λ (body : AwsChunkedBody F G). PieceCauses source old body (Ok next.NotYet)) (sym is) cause
+  stopped_cause old mid new stop.OutOfTurns cause is = tt
+  stopped_cause old mid new (stop.Fault error) cause is = subst (λ (body : AwsChunkedBody F G). PieceCauses source old body (Err error)) (sym is) (by error cause)
+    where
+      by : (e : AwsChunkedBodyError) → PieceCauses source old mid (Err e) → PieceCauses source old (record mid { came = record mid.came { phase = phase.Closed }; chunks = record mid.chunks { ready = [] } }) (Err e)
+      by (fault.StreamLengthMismatch actual expected) told = told
+      by (fault.ReportedTrailerLengthMismatch actual expected) told = told
+      by (fault.FailedToSign why) told = told
+      by fault.SourceFault told = told
+      by fault.NoMemory told = told
+
+  after_parts : (P : AwsChunkedBody F G → Type 0) (mid new : AwsChunkedBody F G) (why : Stop) → new ≡ after_stop why mid → P mid
+      → P (record mid { came = record mid.came { phase = phase.Closed }; chunks = record mid.chunks { ready = [] } }) → P new
+  after_parts P mid new stop.NotYet is same closed = subst P (sym is) same
+  after_parts P mid new stop.OutOfTurns is same closed = subst P (sym is) same
+  after_parts P mid new (stop.Fault error) is same closed = subst P (sym is) closed
+
+  pub stopped_turns : (old mid new : AwsChunkedBody F G) (why : Stop) → TakesCountedFrames source (AreTurns (stop_answer why)) old mid → new ≡ after_stop why mid
+      → TakesCountedFrames source (AreTurns (stop_answer why)) old new
+  stopped_turns old mid new why turns is =
+      after_parts (λ (body : AwsChunkedBody F G). TakesCountedFrames source (AreTurns (stop_answer why)) old body) mid new why is turns
+      (record { frames = turns.frames; taken = turns.taken; turns = turns.turns; data_count = turns.data_count })
+
+  pub stopped_keeps : (old mid new : AwsChunkedBody F G) (why : Stop) → KeepsCountsUnsigned source old mid → new ≡ after_stop why mid → KeepsCountsUnsigned source old new
+  stopped_keeps old mid new why keeps is =
+      after_parts (λ (body : AwsChunkedBody F G). KeepsCountsUnsigned source old body) mid new why is keeps (record {
+        waits = keeps.waits;
+        faults = keeps.faults;
+        others = ap (λ (body : AwsChunkedBody F G). record body { came = record body.came { phase = phase.Closed }; chunks = record body.chunks { ready = [] } }) keeps.others;
+      })
+
+  pub stopped_closed : (mid new : AwsChunkedBody F G) (why : Stop) → new ≡ after_stop why mid → OnErr (stop_answer why) (IsBodyClosed new)
+  stopped_closed mid new stop.NotYet is = tt
+  stopped_closed mid new stop.OutOfTurns is = tt
+  stopped_closed mid new (stop.Fault error) is =
+      record { over = ap (λ (body : AwsChunkedBody F G). body.came.phase) is; answered = ap (λ (body : AwsChunkedBody F G). ready_bytes body) is }
+
+  pub no_room : (old : AwsChunkedBody F G) (after : PieceEngine) → after ≡ old.pieces
+      → AnswersStep source (λ count. count ≡ 0) old (record old { pieces = after }) (Err fault.NoMemory)
+  no_room old after same =
+      stays old (record old { pieces = after }) (Err fault.NoMemory) (ap (λ (engine : PieceEngine). record old { pieces = engine }) same) tt tt
+
+  lack_told : (old : AwsChunkedBody F G) (error : AwsChunkedBodyError) (piece : Piece) → HasLength old.came old.options (Err error) → MayLack piece old.options.stream_length → IsNextPiece source old piece
+      → PieceCauses source old old (Err error)
   lack_told old error piece lacks may first =
-      subst (λ (e : AwsChunkedBodyError). PassCauses source old old (Err e)) (sym lacks.0) (refl, refl, lacks.1, piece, may, first)
+      subst (λ (e : AwsChunkedBodyError). PieceCauses source old old (Err e)) (sym lacks.0) (refl, refl, lacks.1, piece, may, first)
 
-  pub chunk_lacks : (old new : AwsChunkedBody F G) (error : AwsChunkedBodyError) → (old.phase ≡ phase.Closed → ⊥) → (old.phase ≡ phase.Data → ⊥) → old.sent ≡ sent.LengthLine
-      → MakesEmptyChunk old new (Err error) → PassesOn source (λ count. count ≡ 0) old new (Err error)
-  chunk_lacks old new error on over was made =
-      stays old new (Err error) made.1 tt
+  pub chunk_lacks : (old : AwsChunkedBody F G) (after : PieceEngine) (error : AwsChunkedBodyError) → IsBodyOpen old → (old.came.phase ≡ phase.Data → ⊥)
+      → old.pieces.sent ≡ sent.LengthLine → MakesEmptyChunk old.options old.came old.pieces after (Err error)
+      → AnswersStep source (λ count. count ≡ 0) old (record old { pieces = after }) (Err error)
+  chunk_lacks old after error on over was made =
+      stays old (record old { pieces = after }) (Err error) (ap (λ (engine : PieceEngine). record old { pieces = engine }) made.1) tt
       (lack_told old error empty_chunk made.0 tt
       (on_some (pieces_with old) (source.left old.source) (λ (pieces : List Piece). (rest : List Piece) × (pieces ≡ empty_chunk ∷ rest))
       (λ (frames : List FramePart). (
-        pieces_to_come sent.EmptyChunk old.phase old.options.stream_length old.trailers frames,
-        ap (λ (w : Sent). pieces_to_come w old.phase old.options.stream_length old.trailers frames) was ∙ chunk_left old.phase old.options.stream_length old.trailers frames on over,
+        pieces_to_come sent.EmptyChunk old.came.phase old.options.stream_length old.came.trailers frames,
+        ap (λ (w : Sent). pieces_to_come w old.came.phase old.options.stream_length old.came.trailers frames) was ∙ chunk_left old.came.phase old.options.stream_length old.came.trailers frames on over,
       ))))
 
-  pub lines_lack : (old new : AwsChunkedBody F G) (error : AwsChunkedBodyError) → old.phase ≡ phase.Ended → old.sent ≡ sent.EmptyChunk
-      → MakesLastLines old new (Err error) → PassesOn source (λ count. count ≡ 0) old new (Err error)
-  lines_lack old new error ended was made = stays old new (Err error) made.1 tt (by made.0)
+  pub lines_lack : (old : AwsChunkedBody F G) (error : AwsChunkedBodyError) → old.came.phase ≡ phase.Ended → old.pieces.sent ≡ sent.EmptyChunk
+      → MakesLastLines old.options old.came (Err error) → AnswersStep source (λ count. count ≡ 0) old old (Err error)
+  lines_lack old error ended was made = stays old old (Err error) refl tt (by made)
     where
-      first : IsNextPiece source old (last_lines (listed old.trailers))
+      first : IsNextPiece source old (last_lines (listed old.came.trailers))
       first =
-          on_some (pieces_with old) (source.left old.source) (λ (pieces : List Piece). (rest : List Piece) × (pieces ≡ last_lines (listed old.trailers) ∷ rest))
+          on_some (pieces_with old) (source.left old.source) (λ (pieces : List Piece). (rest : List Piece) × (pieces ≡ last_lines (listed old.came.trailers) ∷ rest))
           (λ (frames : List FramePart). ([], lines_left old frames ended was))
 
-      by : (error ≡ fault.NoMemory) ⊎ HasLength old (Err error) ⊎ (HasLength old (Ok tt) × HasLineLengths old (Err error)) → PassCauses source old old (Err error)
-      by (inl is) = subst (λ (e : AwsChunkedBodyError). PassCauses source old old (Err e)) (sym is) tt
-      by (inr (inl lack)) = lack_told old error (last_lines (listed old.trailers)) lack tt first
+      by : (error ≡ fault.NoMemory) ⊎ HasLength old.came old.options (Err error) ⊎ (HasLength old.came old.options (Ok tt) × HasTrailerLengthsAlways old.came old.options (Err error)) → PieceCauses source old old (Err error)
+      by (inl is) = subst (λ (e : AwsChunkedBodyError). PieceCauses source old old (Err e)) (sym is) tt
+      by (inr (inl lack)) = lack_told old error (last_lines (listed old.came.trailers)) lack tt first
       by (inr (inr (fits, lack))) =
-          subst (λ (e : AwsChunkedBodyError). PassCauses source old old (Err e)) (sym lack.0) ((refl, lack.1), fits, first)
+          subst (λ (e : AwsChunkedBodyError). PieceCauses source old old (Err e)) (sym lack.0) ((refl, lack.1), fits, first)
+
+  -- trailers came behind data that has another length
+  pub trailers_lack : (old : AwsChunkedBody F G) (error : AwsChunkedBodyError) → old.came.phase ≡ phase.Trailers → old.pieces.sent ≡ sent.EmptyChunk → HasLength old.came old.options (Err error)
+      → AnswersStep source (λ count. count ≡ 0) old old (Err error)
+  trailers_lack old error at was lack = stays old old (Err error) refl tt (by (source.left old.source) refl)
+    where
+      due : (frames : List FramePart) → pieces_with old frames ≡ last_lines (listed (trailers_left phase.Trailers old.came.trailers frames)) ∷ []
+      due frames = (λ i. pieces_to_come (was i) (at i) old.options.stream_length old.came.trailers frames)
+
+      by : (left : Option (List FramePart)) → source.left old.source ≡ left → PieceCauses source old old (Err error)
+      by None is = lack_told old error empty_chunk lack tt (subst (λ (all : Option (List FramePart)). IfSome (option_map (pieces_with old) all) (λ (pieces : List Piece). (rest : List Piece) × (pieces ≡ empty_chunk ∷ rest))) (sym is) tt)
+      by (Some frames) is =
+          let last = last_lines (listed (trailers_left phase.Trailers old.came.trailers frames)) in
+          lack_told old error last lack tt (subst (λ (all : Option (List FramePart)). IfSome (option_map (pieces_with old) all) (λ (pieces : List Piece). (rest : List Piece) × (pieces ≡ last ∷ rest))) (sym is) ([], due frames))
+
+  -- data may still come
+  pub asks_more : (body : AwsChunkedBody F G) → body.came.phase ≡ phase.Data → (body.pieces.sent ≡ sent.Nothing → ⊥) → AsksSource body
+  asks_more body at begun = (inl at, begun, never)
+    where
+      never : IsCompared body
+      never (inl other) = absurd (let no : phase.Data ≡ phase.Trailers = sym at ∙ other in cc)
+      never (inr other) = absurd (let no : phase.Data ≡ phase.Ended = sym at ∙ other in cc)
+
+  -- trailers came, and the data has the declared length
+  pub asks_compared : (body : AwsChunkedBody F G) → body.came.phase ≡ phase.Trailers → body.pieces.sent ≡ sent.EmptyChunk → HasLength body.came body.options (Ok tt) → AsksSource body
+  asks_compared body at was has = (inr at, begun, λ ends. has)
+    where
+      begun : body.pieces.sent ≡ sent.Nothing → ⊥
+      begun none = (let no : sent.EmptyChunk ≡ sent.Nothing = sym was ∙ none in cc)
 
   -- ---- a frame is taken
 
@@ -359,34 +458,50 @@ module _ {F G : Type 0} (source : FrameSource.Ghosts F) where
   takes_new part old new from is gives = subst (λ (f : F). TakesFrame part (source.left old.source) (source.left f)) (sym is) gives
 
   one_taken : (P : ℕ → Type 0) (old new : AwsChunkedBody F G) (part : FramePart) → TakesFrame part (source.left old.source) (source.left new.source)
-      → counted new.taken ≡ counted (old.taken + length (data_left old.phase (part ∷ []))) → P (idle_frames old.phase (part ∷ [])) → PassesFrames source P old new
+      → counted new.came.taken ≡ counted (old.came.taken + length (data_left old.came.phase (part ∷ []))) → P (idle_frames old.came.phase (part ∷ [])) → TakesCountedFrames source P old new
   one_taken P old new part gives count is =
       record { frames = part ∷ []; taken = left_one part (source.left old.source) (source.left new.source) gives; turns = is; data_count = count }
 
   from_kept : (old new : AwsChunkedBody F G) (from : F) → new.source ≡ from → source.waits old.source ≤ source.waits from → source.faults old.source ≤ source.faults from
-      → OthersPass old new → PassKeeps source old new
+      → OthersPass old new → KeepsCountsUnsigned source old new
   from_kept old new from is waits faults others = record {
     waits = subst (λ (f : F). source.waits old.source ≤ source.waits f) (sym is) waits;
     faults = subst (λ (f : F). source.faults old.source ≤ source.faults f) (sym is) faults;
     others = others;
   }
 
+  -- a body over a source that gave a piece, which it counts and passes on, or has nothing to pass on, or may not pass on
+  abbrev PassesHere : AwsChunkedBody F G → AwsChunkedBody F G → List ℕ → Result (Option (List ℕ)) AwsChunkedBodyError → Type 0
+  PassesHere old new piece (Ok None) = (old.came.phase ≡ phase.Data → piece ≡ []) × (new ≡ old)
+  PassesHere old new piece (Ok (Some bytes)) = (bytes ≡ piece) × (old.came.phase ≡ phase.Data) × (0 < length piece) × (0 < old.options.stream_length)
+      × (new ≡ record old { came = record old.came { taken = counted (old.came.taken + length piece) } })
+  PassesHere old new piece (Err error) = (old.came.phase ≡ phase.Data) × (0 < length piece) × (old.options.stream_length ≡ 0) × HasLength new.came new.options (Err error)
+      × (new ≡ record old { came = record old.came { taken = counted (old.came.taken + length piece) } })
+
+  passes_here : (old : AwsChunkedBody F G) (from : F) (after : Arrivals) (piece : List ℕ) (found : Result (Option (List ℕ)) AwsChunkedBodyError)
+      → PassesDataOn old.options old.came after piece found → PassesHere (record old { source = from }) (record old { source = from; came = after }) piece found
+  passes_here old from after piece (Ok None) passes = (passes.0, ap (λ (came : Arrivals). record old { source = from; came = came }) passes.1)
+  passes_here old from after piece (Ok (Some bytes)) passes =
+      (passes.0, passes.1, passes.2, passes.3, ap (λ (came : Arrivals). record old { source = from; came = came }) passes.4)
+  passes_here old from after piece (Err error) passes =
+      (passes.0, passes.1, passes.2, passes.3, ap (λ (came : Arrivals). record old { source = from; came = came }) passes.4)
+
   -- data that is ignored
-  pub data_idles : (old new : AwsChunkedBody F G) (from : F) (piece : List ℕ) → TakesFrame (frame.Data piece) (source.left old.source) (source.left from)
+  data_idles : (old new : AwsChunkedBody F G) (from : F) (piece : List ℕ) → TakesFrame (frame.Data piece) (source.left old.source) (source.left from)
       → source.waits old.source ≤ source.waits from → source.faults old.source ≤ source.faults from
-      → PassesData (record old { source = from }) new piece (Ok None) → Idles source 1 old new
+      → PassesHere (record old { source = from }) new piece (Ok None) → TakesOnlyIdleFrames source 1 old new
   unfolding one_taken
   data_idles old new from piece gives waits faults passes = record {
     due = same_taken (pieces_with old) (pieces_with new) (frame.Data piece) (source.left old.source) (source.left new.source) gives_new
         (λ (frames : List FramePart).
         ap (λ (body : AwsChunkedBody F G). pieces_with body frames) passes.1
-        ∙ ignored_left old.sent old.phase old.options.stream_length old.trailers piece frames passes.0);
+        ∙ ignored_left old.pieces.sent old.came.phase old.options.stream_length old.came.trailers piece frames passes.0);
     turns = one_taken (λ n. n ≡ 1) old new (frame.Data piece) gives_new
-        (ap counted (omega (arith, ap (λ (body : AwsChunkedBody F G). body.taken) passes.1, data_ignored old.phase piece passes.0))) (idle_ignored old.phase piece passes.0);
-    at = ap (λ (body : AwsChunkedBody F G). body.phase) passes.1 ∙ sym (same_phase old.phase);
+        (ap counted (omega (arith, ap (λ (body : AwsChunkedBody F G). body.came.taken) passes.1, data_ignored old.came.phase piece passes.0))) (idle_ignored old.came.phase piece passes.0);
+    at = ap (λ (body : AwsChunkedBody F G). body.came.phase) passes.1 ∙ sym (same_phase old.came.phase);
     keeps = from_kept old new from source_is waits faults
-        (passes.1 ∙ ap (λ (body : AwsChunkedBody F G). record old { source = body.source; phase = body.phase; sent = body.sent; taken = body.taken; trailers = body.trailers; ready = body.ready }) (sym passes.1));
-    same = ap (λ (body : AwsChunkedBody F G). body.sent) passes.1;
+        (passes.1 ∙ ap (λ (body : AwsChunkedBody F G). record old { source = body.source; came = body.came; pieces = body.pieces; chunks = record old.chunks { ready = body.chunks.ready } }) (sym passes.1));
+    same = ap (λ (body : AwsChunkedBody F G). body.pieces.sent) passes.1;
   }
     where
       source_is : new.source ≡ from
@@ -402,10 +517,10 @@ module _ {F G : Type 0} (source : FrameSource.Ghosts F) where
       same_phase phase.Closed = refl
 
   -- data that is passed on
-  pub data_passed : (old new : AwsChunkedBody F G) (from : F) (piece bytes : List ℕ) → (old.sent ≡ sent.Nothing → ⊥)
+  data_passed : (old new : AwsChunkedBody F G) (from : F) (piece bytes : List ℕ) → (old.pieces.sent ≡ sent.Nothing → ⊥)
       → TakesFrame (frame.Data piece) (source.left old.source) (source.left from)
       → source.waits old.source ≤ source.waits from → source.faults old.source ≤ source.faults from
-      → PassesData (record old { source = from }) new piece (Ok (Some bytes)) → PassesOn source (AreFew (Ok (next.Frame bytes))) old new (Ok (next.Frame bytes))
+      → PassesHere (record old { source = from }) new piece (Ok (Some bytes)) → AnswersStep source (AreIdleInStep (Ok (next.Frame bytes))) old new (Ok (next.Frame bytes))
   data_passed old new from piece bytes begun gives waits faults passes = record {
     takes = (
       passed piece,
@@ -413,9 +528,9 @@ module _ {F G : Type 0} (source : FrameSource.Ghosts F) where
       omega (arith, ap length passes.0, passes.2),
       first_taken (pieces_with old) (pieces_with new) (passed piece) (frame.Data piece) (source.left old.source) (source.left new.source) gives_new
           (λ (frames : List FramePart).
-          ap (λ (at : Phase). pieces_to_come old.sent at old.options.stream_length old.trailers (frame.Data piece ∷ frames)) passes.1
-          ∙ data_behind old.sent old.options.stream_length piece (filled_before frames) (listed (trailers_left phase.Data old.trailers frames)) begun passes.2
-          ∙ ap (λ (at : Phase). passed piece ∷ pieces_to_come old.sent at old.options.stream_length old.trailers frames) (sym passes.1)
+          ap (λ (at : Phase). pieces_to_come old.pieces.sent at old.options.stream_length old.came.trailers (frame.Data piece ∷ frames)) passes.1
+          ∙ data_behind old.pieces.sent old.options.stream_length piece (filled_before frames) (listed (trailers_left phase.Data old.came.trailers frames)) begun passes.2
+          ∙ ap (λ (at : Phase). passed piece ∷ pieces_to_come old.pieces.sent at old.options.stream_length old.came.trailers frames) (sym passes.1)
           ∙ sym (ap (λ (body : AwsChunkedBody F G). passed piece ∷ pieces_with body frames) passes.4)),
       subst (λ (body : AwsChunkedBody F G). 0 < body.options.stream_length) (sym passes.4) passes.3,
     );
@@ -423,7 +538,7 @@ module _ {F G : Type 0} (source : FrameSource.Ghosts F) where
     turns = one_taken (λ n. n ≡ 0) old new (frame.Data piece) gives_new (counts passes.1 passes.4)
         (ap (λ (at : Phase). idle_frames at (frame.Data piece ∷ [])) passes.1 ∙ idle_filled piece passes.2);
     keeps = from_kept old new from source_is waits faults
-        (passes.4 ∙ ap (λ (body : AwsChunkedBody F G). record old { source = body.source; phase = body.phase; sent = body.sent; taken = body.taken; trailers = body.trailers; ready = body.ready }) (sym passes.4));
+        (passes.4 ∙ ap (λ (body : AwsChunkedBody F G). record old { source = body.source; came = body.came; pieces = body.pieces; chunks = record old.chunks { ready = body.chunks.ready } }) (sym passes.4));
   }
     where
       source_is : new.source ≡ from
@@ -432,22 +547,22 @@ module _ {F G : Type 0} (source : FrameSource.Ghosts F) where
       gives_new : TakesFrame (frame.Data piece) (source.left old.source) (source.left new.source)
       gives_new = takes_new (frame.Data piece) old new from source_is gives
 
-      counts : old.phase ≡ phase.Data → new ≡ record old { source = from; taken = counted (old.taken + length piece) }
-          → counted new.taken ≡ counted (old.taken + length (data_left old.phase (frame.Data piece ∷ [])))
+      counts : old.came.phase ≡ phase.Data → new ≡ record old { source = from; came = record old.came { taken = counted (old.came.taken + length piece) } }
+          → counted new.came.taken ≡ counted (old.came.taken + length (data_left old.came.phase (frame.Data piece ∷ [])))
       counts at is =
-          omega (arith, ap (λ (body : AwsChunkedBody F G). body.taken) is, ap (λ (p : Phase). length (data_left p (frame.Data piece ∷ []))) at, length-append piece [])
+          omega (arith, ap (λ (body : AwsChunkedBody F G). body.came.taken) is, ap (λ (p : Phase). length (data_left p (frame.Data piece ∷ []))) at, length-append piece [])
 
   -- data that may not come
-  pub data_refused : (old new : AwsChunkedBody F G) (from : F) (piece : List ℕ) (error : AwsChunkedBodyError) → (old.sent ≡ sent.Nothing → ⊥)
+  data_refused : (old new : AwsChunkedBody F G) (from : F) (piece : List ℕ) (error : AwsChunkedBodyError) → (old.pieces.sent ≡ sent.Nothing → ⊥)
       → TakesFrame (frame.Data piece) (source.left old.source) (source.left from)
       → source.waits old.source ≤ source.waits from → source.faults old.source ≤ source.faults from
-      → PassesData (record old { source = from }) new piece (Err error) → PassesOn source (AreFew (Err error)) old new (Err error)
+      → PassesHere (record old { source = from }) new piece (Err error) → AnswersStep source (AreIdleInStep (Err error)) old new (Err error)
   data_refused old new from piece error begun gives waits faults passes = record {
     takes = tt;
-    cause = subst (λ (e : AwsChunkedBodyError). PassCauses source old new (Err e)) (sym passes.3.0) (refl, refl, passes.3.1, passed piece, none_declared, first);
-    turns = one_taken (AreFew (Err error)) old new (frame.Data piece) gives_new (counts passes.0 passes.4) (few error);
+    cause = subst (λ (e : AwsChunkedBodyError). PieceCauses source old new (Err e)) (sym passes.3.0) (refl, refl, passes.3.1, passed piece, none_declared, first);
+    turns = one_taken (AreIdleInStep (Err error)) old new (frame.Data piece) gives_new (counts passes.0 passes.4) (few error);
     keeps = from_kept old new from source_is waits faults
-        (passes.4 ∙ ap (λ (body : AwsChunkedBody F G). record old { source = body.source; phase = body.phase; sent = body.sent; taken = body.taken; trailers = body.trailers; ready = body.ready }) (sym passes.4));
+        (passes.4 ∙ ap (λ (body : AwsChunkedBody F G). record old { source = body.source; came = body.came; pieces = body.pieces; chunks = record old.chunks { ready = body.chunks.ready } }) (sym passes.4));
   }
     where
       source_is : new.source ≡ from
@@ -463,20 +578,20 @@ module _ {F G : Type 0} (source : FrameSource.Ghosts F) where
       first =
           next_taken (pieces_with old) (passed piece) (frame.Data piece) (source.left old.source) (source.left new.source) gives_new
           (λ (frames : List FramePart). (
-            pieces_of old.sent old.options.stream_length (filled_before frames) (listed (trailers_left phase.Data old.trailers frames)),
-            ap (λ (at : Phase). pieces_to_come old.sent at old.options.stream_length old.trailers (frame.Data piece ∷ frames)) passes.0
-                ∙ data_behind old.sent old.options.stream_length piece (filled_before frames) (listed (trailers_left phase.Data old.trailers frames)) begun passes.1,
+            pieces_of old.pieces.sent old.options.stream_length (filled_before frames) (listed (trailers_left phase.Data old.came.trailers frames)),
+            ap (λ (at : Phase). pieces_to_come old.pieces.sent at old.options.stream_length old.came.trailers (frame.Data piece ∷ frames)) passes.0
+                ∙ data_behind old.pieces.sent old.options.stream_length piece (filled_before frames) (listed (trailers_left phase.Data old.came.trailers frames)) begun passes.1,
           ))
 
-      counts : old.phase ≡ phase.Data → new ≡ record old { source = from; taken = counted (old.taken + length piece) }
-          → counted new.taken ≡ counted (old.taken + length (data_left old.phase (frame.Data piece ∷ [])))
+      counts : old.came.phase ≡ phase.Data → new ≡ record old { source = from; came = record old.came { taken = counted (old.came.taken + length piece) } }
+          → counted new.came.taken ≡ counted (old.came.taken + length (data_left old.came.phase (frame.Data piece ∷ [])))
       counts at is =
-          omega (arith, ap (λ (body : AwsChunkedBody F G). body.taken) is, ap (λ (p : Phase). length (data_left p (frame.Data piece ∷ []))) at, length-append piece [])
+          omega (arith, ap (λ (body : AwsChunkedBody F G). body.came.taken) is, ap (λ (p : Phase). length (data_left p (frame.Data piece ∷ []))) at, length-append piece [])
 
-      none : idle_frames old.phase (frame.Data piece ∷ []) ≡ 0
+      none : idle_frames old.came.phase (frame.Data piece ∷ []) ≡ 0
       none = ap (λ (at : Phase). idle_frames at (frame.Data piece ∷ [])) passes.0 ∙ idle_filled piece passes.1
 
-      few : (e : AwsChunkedBodyError) → AreFew (Err e) (idle_frames old.phase (frame.Data piece ∷ []))
+      few : (e : AwsChunkedBodyError) → AreIdleInStep (Err e) (idle_frames old.came.phase (frame.Data piece ∷ []))
       few (fault.StreamLengthMismatch actual expected) = none
       few (fault.ReportedTrailerLengthMismatch actual expected) = none
       few (fault.FailedToSign why) = none
@@ -486,19 +601,19 @@ module _ {F G : Type 0} (source : FrameSource.Ghosts F) where
   pub trailers_idle : (old new : AwsChunkedBody F G) (from : F) (trailers : List Trailer) → MayReadOn old
       → TakesFrame (frame.Trailers trailers) (source.left old.source) (source.left from)
       → source.waits old.source ≤ source.waits from → source.faults old.source ≤ source.faults from
-      → new ≡ record old { source = from; phase = phase.Trailers; trailers = Some (with_frame old.trailers trailers) } → Idles source 1 old new
+      → new ≡ record old { source = from; came = record old.came { phase = phase.Trailers; trailers = Some (with_frame old.came.trailers trailers) } } → TakesOnlyIdleFrames source 1 old new
   unfolding one_taken
   trailers_idle old new from trailers on gives waits faults is = record {
     due = same_taken (pieces_with old) (pieces_with new) (frame.Trailers trailers) (source.left old.source) (source.left new.source) gives_new
         (λ (frames : List FramePart).
         ap (λ (body : AwsChunkedBody F G). pieces_with body frames) is
-        ∙ trailers_same old.sent old.phase old.options.stream_length old.trailers trailers frames on);
+        ∙ trailers_same old.pieces.sent old.came.phase old.options.stream_length old.came.trailers trailers frames on);
     turns = one_taken (λ n. n ≡ 1) old new (frame.Trailers trailers) gives_new
-        (ap counted (omega (arith, ap (λ (body : AwsChunkedBody F G). body.taken) is, data_trailers old.phase trailers))) (idle_trailers old.phase trailers);
-    at = ap (λ (body : AwsChunkedBody F G). body.phase) is ∙ after_is old.phase on;
+        (ap counted (omega (arith, ap (λ (body : AwsChunkedBody F G). body.came.taken) is, data_trailers old.came.phase trailers))) (idle_trailers old.came.phase trailers);
+    at = ap (λ (body : AwsChunkedBody F G). body.came.phase) is ∙ after_is old.came.phase on;
     keeps = from_kept old new from source_is waits faults
-        (is ∙ ap (λ (body : AwsChunkedBody F G). record old { source = body.source; phase = body.phase; sent = body.sent; taken = body.taken; trailers = body.trailers; ready = body.ready }) (sym is));
-    same = ap (λ (body : AwsChunkedBody F G). body.sent) is;
+        (is ∙ ap (λ (body : AwsChunkedBody F G). record old { source = body.source; came = body.came; pieces = body.pieces; chunks = record old.chunks { ready = body.chunks.ready } }) (sym is));
+    same = ap (λ (body : AwsChunkedBody F G). body.pieces.sent) is;
   }
     where
       source_is : new.source ≡ from
@@ -518,14 +633,14 @@ module _ {F G : Type 0} (source : FrameSource.Ghosts F) where
   pub trailers_lost : (old new : AwsChunkedBody F G) (from : F) (trailers : List Trailer)
       → TakesFrame (frame.Trailers trailers) (source.left old.source) (source.left from)
       → source.waits old.source ≤ source.waits from → source.faults old.source ≤ source.faults from
-      → new ≡ record old { source = from; phase = phase.Trailers; trailers = new.trailers } → PassesOn source (AreFew (Err fault.NoMemory)) old new (Err fault.NoMemory)
+      → new ≡ record old { source = from; came = record old.came { phase = phase.Trailers; trailers = new.came.trailers } } → AnswersStep source (AreIdleInStep (Err fault.NoMemory)) old new (Err fault.NoMemory)
   trailers_lost old new from trailers gives waits faults is = record {
     takes = tt;
     cause = tt;
     turns = one_taken (λ n. n ≤ 1) old new (frame.Trailers trailers) (takes_new (frame.Trailers trailers) old new from source_is gives)
-        (ap counted (omega (arith, ap (λ (body : AwsChunkedBody F G). body.taken) is, data_trailers old.phase trailers))) (omega (arith, idle_trailers old.phase trailers));
+        (ap counted (omega (arith, ap (λ (body : AwsChunkedBody F G). body.came.taken) is, data_trailers old.came.phase trailers))) (omega (arith, idle_trailers old.came.phase trailers));
     keeps = from_kept old new from source_is waits faults
-        (is ∙ ap (λ (body : AwsChunkedBody F G). record old { source = body.source; phase = body.phase; sent = body.sent; taken = body.taken; trailers = new.trailers; ready = body.ready }) (sym is));
+        (is ∙ ap (λ (body : AwsChunkedBody F G). record old { source = body.source; came = record { phase = body.came.phase; taken = body.came.taken; trailers = new.came.trailers }; pieces = body.pieces; chunks = record old.chunks { ready = body.chunks.ready } }) (sym is));
   }
     where
       source_is : new.source ≡ from
@@ -534,48 +649,49 @@ module _ {F G : Type 0} (source : FrameSource.Ghosts F) where
   -- a source that gave nothing
   asked : (P : ℕ → Type 0) (old : AwsChunkedBody F G) (from : F) (answer : Result ChunkNext AwsChunkedBodyError) → source.left from ≡ source.left old.source
       → source.waits old.source ≤ source.waits from → source.faults old.source ≤ source.faults from → P 0
-      → TakesPiece source old (record old { source = from }) answer → PassCauses source old (record old { source = from }) answer
-      → PassesOn source P old (record old { source = from }) answer
+      → TakesPiece source old (record old { source = from }) answer → PieceCauses source old (record old { source = from }) answer
+      → AnswersStep source P old (record old { source = from }) answer
   asked P old from answer left waits faults few takes cause = record {
     takes = takes;
     cause = cause;
     turns = record {
       frames = [];
       taken = sym left ∙ left_none (source.left from);
-      turns = subst P (sym (idle_none old.phase)) few;
-      data_count = ap counted (omega (arith, data_none old.phase));
+      turns = subst P (sym (idle_none old.came.phase)) few;
+      data_count = ap counted (omega (arith, data_none old.came.phase));
     };
     keeps = record { waits = waits; faults = faults; others = refl };
   }
 
   pub asked_early : (old : AwsChunkedBody F G) (from : F) → source.left from ≡ source.left old.source
       → source.waits old.source ≤ source.waits from → source.faults old.source ≤ source.faults from → RoseOrStands (source.waits old.source) (source.waits from)
-      → PassesOn source (AreFew (Ok next.NotYet)) old (record old { source = from }) (Ok next.NotYet)
-  asked_early old from left waits faults rose =
-      asked (λ n. n ≡ 0) old from (Ok next.NotYet) left waits faults refl (ap (option_map (pieces_with old)) left) rose
+      → IsCompared old
+      → AnswersStep source (AreIdleInStep (Ok next.NotYet)) old (record old { source = from }) (Ok next.NotYet)
+  asked_early old from left waits faults rose compared =
+      asked (λ n. n ≡ 0) old from (Ok next.NotYet) left waits faults refl (ap (option_map (pieces_with old)) left) (rose, compared)
 
   pub asked_failing : (old : AwsChunkedBody F G) (from : F) → source.left from ≡ source.left old.source
       → source.waits old.source ≤ source.waits from → source.faults old.source ≤ source.faults from → RoseOrStands (source.faults old.source) (source.faults from)
-      → PassesOn source (AreFew (Err fault.SourceFault)) old (record old { source = from }) (Err fault.SourceFault)
+      → AnswersStep source (AreIdleInStep (Err fault.SourceFault)) old (record old { source = from }) (Err fault.SourceFault)
   asked_failing old from left waits faults rose = asked (λ n. n ≡ 0) old from (Err fault.SourceFault) left waits faults refl tt rose
 
   pub asked_vainly : (old : AwsChunkedBody F G) (from : F) → source.left from ≡ source.left old.source
       → source.waits old.source ≤ source.waits from → source.faults old.source ≤ source.faults from
-      → PassesOn source (AreFew (Err fault.NoMemory)) old (record old { source = from }) (Err fault.NoMemory)
+      → AnswersStep source (AreIdleInStep (Err fault.NoMemory)) old (record old { source = from }) (Err fault.NoMemory)
   asked_vainly old from left waits faults = asked (λ n. n ≤ 1) old from (Err fault.NoMemory) left waits faults (omega arith) tt tt
 
   -- ---- one step after others
 
-  keeps_joined : (old mid new : AwsChunkedBody F G) → PassKeeps source old mid → PassKeeps source mid new → PassKeeps source old new
+  keeps_joined : (old mid new : AwsChunkedBody F G) → KeepsCountsUnsigned source old mid → KeepsCountsUnsigned source mid new → KeepsCountsUnsigned source old new
   keeps_joined old mid new first second = record {
     waits = omega (arith, first.waits, second.waits);
     faults = omega (arith, first.faults, second.faults);
     others = second.others
-        ∙ ap (λ (body : AwsChunkedBody F G). record body { source = new.source; phase = new.phase; sent = new.sent; taken = new.taken; trailers = new.trailers; ready = new.ready }) first.others;
+        ∙ ap (λ (body : AwsChunkedBody F G). record body { source = new.source; came = new.came; pieces = new.pieces; chunks = record body.chunks { ready = new.chunks.ready } }) first.others;
   }
 
   takes_later : (old mid new : AwsChunkedBody F G) (answer : Result ChunkNext AwsChunkedBodyError) → pieces_due source mid ≡ pieces_due source old
-      → (mid.phase ≡ phase.Closed → old.phase ≡ phase.Closed) → TakesPiece source mid new answer → TakesPiece source old new answer
+      → (mid.came.phase ≡ phase.Closed → old.came.phase ≡ phase.Closed) → TakesPiece source mid new answer → TakesPiece source old new answer
   takes_later old mid new (Ok (next.Frame bytes)) due closed takes = (takes.0, takes.1, takes.2, sym due ∙ takes.3, takes.4)
   takes_later old mid new (Ok next.NotYet) due closed takes = takes ∙ due
   takes_later old mid new (Ok next.OutOfTurns) due closed takes = takes ∙ due
@@ -587,63 +703,63 @@ module _ {F G : Type 0} (source : FrameSource.Ghosts F) where
 
   cause_later : (old mid new : AwsChunkedBody F G) (answer : Result ChunkNext AwsChunkedBodyError) → pieces_due source mid ≡ pieces_due source old
       → source.waits old.source ≤ source.waits mid.source → source.faults old.source ≤ source.faults mid.source
-      → PassCauses source mid new answer → PassCauses source old new answer
+      → PieceCauses source mid new answer → PieceCauses source old new answer
   cause_later old mid new (Ok (next.Frame bytes)) due waits faults cause = tt
   cause_later old mid new (Ok next.NotYet) due waits faults cause =
-      rose_before (source.waits old.source) (source.waits mid.source) (source.waits new.source) waits cause
+      (rose_before (source.waits old.source) (source.waits mid.source) (source.waits new.source) waits cause.0, cause.1)
   cause_later old mid new (Ok next.OutOfTurns) due waits faults cause = tt
   cause_later old mid new (Ok next.End) due waits faults cause = tt
   cause_later old mid new (Err (fault.StreamLengthMismatch actual expected)) due waits faults cause =
       (cause.0, cause.1, cause.2, cause.3, cause.4, next_later old mid cause.3 due cause.5)
   cause_later old mid new (Err (fault.ReportedTrailerLengthMismatch actual expected)) due waits faults cause =
-      (cause.0, cause.1, next_later old mid (last_lines (listed new.trailers)) due cause.2)
+      (cause.0, cause.1, next_later old mid (last_lines (listed new.came.trailers)) due cause.2)
   cause_later old mid new (Err (fault.FailedToSign why)) due waits faults cause = cause
   cause_later old mid new (Err fault.SourceFault) due waits faults cause =
       rose_before (source.faults old.source) (source.faults mid.source) (source.faults new.source) faults cause
   cause_later old mid new (Err fault.NoMemory) due waits faults cause = tt
 
-  frames_joined : (P Q : ℕ → Type 0) (count : ℕ) (old mid new : AwsChunkedBody F G) → Idles source count old mid → PassesFrames source P mid new
-      → ((n : ℕ) → P n → Q (count + n)) → PassesFrames source Q old new
+  frames_joined : (P Q : ℕ → Type 0) (count : ℕ) (old mid new : AwsChunkedBody F G) → TakesOnlyIdleFrames source count old mid → TakesCountedFrames source P mid new
+      → ((n : ℕ) → P n → Q (count + n)) → TakesCountedFrames source Q old new
   frames_joined P Q count old mid new idles turns is = record {
     frames = idles.turns.frames ++ turns.frames;
     taken = left_more idles.turns.frames turns.frames (source.left old.source) (source.left mid.source) (source.left new.source) idles.turns.taken turns.taken;
     turns = subst Q
-        (sym (idle_more old.phase idles.turns.frames turns.frames ∙ (λ i. idles.turns.turns i + idle_frames (sym idles.at i) turns.frames)))
-        (is (idle_frames mid.phase turns.frames) turns.turns);
+        (sym (idle_more old.came.phase idles.turns.frames turns.frames ∙ (λ i. idles.turns.turns i + idle_frames (sym idles.at i) turns.frames)))
+        (is (idle_frames mid.came.phase turns.frames) turns.turns);
     data_count = omega (
       arith,
       turns.data_count,
       idles.turns.data_count,
-      data_more old.phase idles.turns.frames turns.frames,
+      data_more old.came.phase idles.turns.frames turns.frames,
       ap (λ (at : Phase). length (data_left at turns.frames)) idles.at,
     );
   }
 
-  later : (P Q : ℕ → Type 0) (count : ℕ) (old mid new : AwsChunkedBody F G) (answer : Result ChunkNext AwsChunkedBodyError) → Idles source count old mid
-      → PassesOn source P mid new answer → ((n : ℕ) → P n → Q (count + n)) → PassesOn source Q old new answer
+  later : (P Q : ℕ → Type 0) (count : ℕ) (old mid new : AwsChunkedBody F G) (answer : Result ChunkNext AwsChunkedBodyError) → TakesOnlyIdleFrames source count old mid
+      → AnswersStep source P mid new answer → ((n : ℕ) → P n → Q (count + n)) → AnswersStep source Q old new answer
   later P Q count old mid new answer idles passes is = record {
-    takes = takes_later old mid new answer idles.due (λ closed. never_closed old.phase idles.turns.frames (sym idles.at ∙ closed)) passes.takes;
+    takes = takes_later old mid new answer idles.due (λ closed. never_closed old.came.phase idles.turns.frames (sym idles.at ∙ closed)) passes.takes;
     cause = cause_later old mid new answer idles.due idles.keeps.waits idles.keeps.faults passes.cause;
     turns = frames_joined P Q count old mid new idles passes.turns is;
     keeps = keeps_joined old mid new idles.keeps passes.keeps;
   }
 
-  pub idles_more : (count more : ℕ) (old mid new : AwsChunkedBody F G) → Idles source count old mid → Idles source more mid new → Idles source (count + more) old new
+  pub idles_more : (count more : ℕ) (old mid new : AwsChunkedBody F G) → TakesOnlyIdleFrames source count old mid → TakesOnlyIdleFrames source more mid new → TakesOnlyIdleFrames source (count + more) old new
   unfolding frames_joined
   idles_more count more old mid new first second = record {
     due = second.due ∙ first.due;
     turns = frames_joined (λ n. n ≡ more) (λ n. n ≡ count + more) count old mid new first second.turns (λ n is. ap (λ m. count + m) is);
-    at = second.at ∙ ap (λ (at : Phase). phase_after at second.turns.frames) first.at ∙ sym (phase_more old.phase first.turns.frames second.turns.frames);
+    at = second.at ∙ ap (λ (at : Phase). phase_after at second.turns.frames) first.at ∙ sym (phase_more old.came.phase first.turns.frames second.turns.frames);
     keeps = keeps_joined old mid new first.keeps second.keeps;
     same = second.same ∙ first.same;
   }
 
-  pub idles_none : (body : AwsChunkedBody F G) → Idles source 0 body body
+  pub idles_none : (body : AwsChunkedBody F G) → TakesOnlyIdleFrames source 0 body body
   unfolding none_taken
   idles_none body = record {
     due = refl;
     turns = none_taken (λ n. n ≡ 0) body body refl refl refl;
-    at = sym (by body.phase);
+    at = sym (by body.came.phase);
     keeps = none_kept body body refl refl;
     same = refl;
   }
@@ -655,18 +771,18 @@ module _ {F G : Type 0} (source : FrameSource.Ghosts F) where
       by phase.Closed = refl
 
   -- a frame was passed on, or none was for a reason, after others without data
-  pub passed_later : (count : ℕ) (old mid new : AwsChunkedBody F G) (answer : Result ChunkNext AwsChunkedBodyError) → count < 65536 → Idles source count old mid
-      → PassesOn source (AreFew answer) mid new answer → PassesOn source (AreTurns answer) old new answer
+  pub passed_later : (count : ℕ) (old mid new : AwsChunkedBody F G) (answer : Result ChunkNext AwsChunkedBodyError) → count < 65536 → TakesOnlyIdleFrames source count old mid
+      → AnswersStep source (AreIdleInStep answer) mid new answer → AnswersStep source (AreTurns answer) old new answer
   passed_later count old mid new answer low idles passes =
-      later (AreFew answer) (AreTurns answer) count old mid new answer idles passes (λ n few. few_turns answer count n low few)
+      later (AreIdleInStep answer) (AreTurns answer) count old mid new answer idles passes (λ n few. few_turns answer count n low few)
 
   -- a piece was made, or none was for a reason, after others without data
-  pub made_later : (count : ℕ) (old mid new : AwsChunkedBody F G) (answer : Result ChunkNext AwsChunkedBodyError) → count < 65536 → Idles source count old mid
-      → PassesOn source (AreNone answer) mid new answer → PassesOn source (AreTurns answer) old new answer
+  pub made_later : (count : ℕ) (old mid new : AwsChunkedBody F G) (answer : Result ChunkNext AwsChunkedBodyError) → count < 65536 → TakesOnlyIdleFrames source count old mid
+      → AnswersStep source (AreNoneTaken answer) mid new answer → AnswersStep source (AreTurns answer) old new answer
   made_later count old mid new answer low idles passes =
-      later (AreNone answer) (AreTurns answer) count old mid new answer idles passes (λ n none. few_turns answer count n low (none_few answer n none))
+      later (AreNoneTaken answer) (AreTurns answer) count old mid new answer idles passes (λ n none. few_turns answer count n low (none_few answer n none))
 
-  pub gives_up : (count : ℕ) (old new : AwsChunkedBody F G) → count ≡ 65536 → Idles source count old new → PassesOn source (AreTurns (Ok next.OutOfTurns)) old new (Ok next.OutOfTurns)
+  pub gives_up : (count : ℕ) (old new : AwsChunkedBody F G) → count ≡ 65536 → TakesOnlyIdleFrames source count old new → AnswersStep source (AreTurns (Ok next.OutOfTurns)) old new (Ok next.OutOfTurns)
   gives_up count old new many idles = record {
     takes = idles.due;
     cause = tt;
@@ -679,46 +795,58 @@ module _ {F G : Type 0} (source : FrameSource.Ghosts F) where
   pub made_at_end : (old new : AwsChunkedBody F G) (from : F) (answer : Result ChunkNext AwsChunkedBodyError) → MayReadOn old
       → source.left from ≡ source.left old.source → IsDrained (source.left from)
       → source.waits old.source ≤ source.waits from → source.faults old.source ≤ source.faults from
-      → PassesOn source (AreNone answer) (record old { source = from; phase = phase.Ended }) new answer → PassesOn source (AreFew answer) old new answer
+      → AnswersStep source (AreNoneTaken answer) (record old { source = from; came = record old.came { phase = phase.Ended } }) new answer → AnswersStep source (AreIdleInStep answer) old new answer
   made_at_end old new from answer on left drained waits faults passes = record {
     takes = takes_later old mid new answer due (λ ended. (let no : phase.Ended ≡ phase.Closed = ended in cc)) passes.takes;
     cause = cause_later old mid new answer due waits faults passes.cause;
     turns = record {
       frames = [];
       taken = sym left ∙ passes.turns.taken ∙ ap (λ (frames : List FramePart). option_map (λ (rest : List FramePart). frames ++ rest) (source.left new.source)) none;
-      turns = subst (AreFew answer) (sym (idle_none old.phase))
-          (subst (AreFew answer) (none_ended answer (idle_frames phase.Ended passes.turns.frames) passes.turns.turns)
+      turns = subst (AreIdleInStep answer) (sym (idle_none old.came.phase))
+          (subst (AreIdleInStep answer) (none_ended answer (idle_frames phase.Ended passes.turns.frames) passes.turns.turns)
           (none_few answer (idle_frames phase.Ended passes.turns.frames) passes.turns.turns));
-      data_count = passes.turns.data_count ∙ ap (λ (n : ℕ). counted (old.taken + n)) (sym (data_none old.phase));
+      data_count = passes.turns.data_count ∙ ap (λ (n : ℕ). counted (old.came.taken + n)) (sym (data_none old.came.phase));
     };
     keeps = keeps_joined old mid new (record { waits = waits; faults = faults; others = refl }) passes.keeps;
   }
     where
       mid : AwsChunkedBody F G
-      mid = record old { source = from; phase = phase.Ended }
+      mid = record old { source = from; came = record old.came { phase = phase.Ended } }
 
       none : passes.turns.frames ≡ []
       none = ended_none passes.turns.frames (none_ended answer (idle_frames phase.Ended passes.turns.frames) passes.turns.turns)
 
       due : pieces_due source mid ≡ pieces_due source old
       due =
-          same_drained (pieces_with old) (pieces_with (record old { source = from; phase = phase.Ended })) (source.left old.source) (source.left from) left drained
-          (end_same old.sent old.phase old.options.stream_length old.trailers on)
+          same_drained (pieces_with old) (pieces_with (record old { source = from; came = record old.came { phase = phase.Ended } })) (source.left old.source) (source.left from) left drained
+          (end_same old.pieces.sent old.came.phase old.options.stream_length old.came.trailers on)
 
   -- ---- what a step answered
 
-  pub data_steps : (old new : AwsChunkedBody F G) (from : F) (piece : List ℕ) (found : Option (List ℕ)) → (old.sent ≡ sent.Nothing → ⊥)
+  pub data_steps : (old : AwsChunkedBody F G) (from : F) (after : Arrivals) (piece : List ℕ) (found : Option (List ℕ)) → (old.pieces.sent ≡ sent.Nothing → ⊥)
       → TakesFrame (frame.Data piece) (source.left old.source) (source.left from)
-      → source.waits old.source ≤ source.waits from → source.faults old.source ≤ source.faults from
-      → PassesData (record old { source = from }) new piece (Ok found) → Steps source (Idles source 1 old new) AreFew old new (Ok found)
-  data_steps old new from piece None begun gives waits faults passes = data_idles old new from piece gives waits faults passes
-  data_steps old new from piece (Some bytes) begun gives waits faults passes = data_passed old new from piece bytes begun gives waits faults passes
+      → source.waits old.source ≤ source.waits from → source.faults old.source ≤ source.faults from → PassesDataOn old.options old.came after piece (Ok found)
+      → Steps source (TakesOnlyIdleFrames source 1 old (record old { source = from; came = after })) AreIdleInStep old (record old { source = from; came = after }) (Ok found)
+  data_steps old from after piece None begun gives waits faults passes =
+      data_idles old (record old { source = from; came = after }) from piece gives waits faults (passes_here old from after piece (Ok None) passes)
+  data_steps old from after piece (Some bytes) begun gives waits faults passes =
+      data_passed old (record old { source = from; came = after }) from piece bytes begun gives waits faults (passes_here old from after piece (Ok (Some bytes)) passes)
 
-  pub idles_at : (count : ℕ) (old mid new : AwsChunkedBody F G) → Idles source count old mid → new ≡ mid → Idles source count old new
-  idles_at count old mid new idles is = subst (λ (body : AwsChunkedBody F G). Idles source count old body) (sym is) idles
+  pub data_lacks : (old : AwsChunkedBody F G) (from : F) (after : Arrivals) (piece : List ℕ) (error : AwsChunkedBodyError) → (old.pieces.sent ≡ sent.Nothing → ⊥)
+      → TakesFrame (frame.Data piece) (source.left old.source) (source.left from)
+      → source.waits old.source ≤ source.waits from → source.faults old.source ≤ source.faults from → PassesDataOn old.options old.came after piece (Err error)
+      → AnswersStep source (AreIdleInStep (Err error)) old (record old { source = from; came = after }) (Err error)
+  data_lacks old from after piece error begun gives waits faults passes =
+      data_refused old (record old { source = from; came = after }) from piece error begun gives waits faults (passes_here old from after piece (Err error) passes)
+
+  pub stays_open : (count : ℕ) (old mid : AwsChunkedBody F G) → TakesOnlyIdleFrames source count old mid → IsBodyOpen old → IsBodyOpen mid
+  stays_open count old mid idles on closed = on (never_closed old.came.phase idles.turns.frames (sym idles.at ∙ closed))
+
+  pub idles_at : (count : ℕ) (old mid new : AwsChunkedBody F G) → TakesOnlyIdleFrames source count old mid → new ≡ mid → TakesOnlyIdleFrames source count old new
+  idles_at count old mid new idles is = subst (λ (body : AwsChunkedBody F G). TakesOnlyIdleFrames source count old body) (sym is) idles
 
   pub step_some : (More : Type 0) (AreSo : Result ChunkNext AwsChunkedBodyError → ℕ → Type 0) (old new : AwsChunkedBody F G) (found : Option (List ℕ)) (bytes : List ℕ)
-      → found ≡ Some bytes → Steps source More AreSo old new (Ok found) → PassesOn source (AreSo (Ok (next.Frame bytes))) old new (Ok (next.Frame bytes))
+      → found ≡ Some bytes → Steps source More AreSo old new (Ok found) → AnswersStep source (AreSo (Ok (next.Frame bytes))) old new (Ok (next.Frame bytes))
   step_some More AreSo old new found bytes is steps = subst (λ (f : Option (List ℕ)). Steps source More AreSo old new (Ok f)) is steps
 
   pub step_none : (More : Type 0) (AreSo : Result ChunkNext AwsChunkedBodyError → ℕ → Type 0) (old new : AwsChunkedBody F G) (found : Option (List ℕ))

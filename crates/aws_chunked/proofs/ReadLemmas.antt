@@ -10,17 +10,17 @@ use Rattle.aws_chunked.specs.Reading.{Expects, Led, TellsWhere}
 use Rattle.aws_chunked.specs.Rests.{IsData, IsHeadEnd, IsSignedBy, ReadsData, ReadsHeadEnd, signature_texts}
 use Rattle.aws_chunked.specs.Text.{crlf, signature_text}
 use Rattle.aws_chunked.specs.declared.decode.chunks.Chunks.{Chunks}
-use Rattle.aws_chunked.specs.declared.decode.fault.ReadFault.{ReadFault}
-use Rattle.aws_chunked.specs.declared.decode.fault.ReadFault.TheVariants.{Bad}
+use Rattle.aws_chunked.specs.declared.decode.fault.PartFault.{PartFault}
+use Rattle.aws_chunked.specs.declared.decode.fault.PartFault.TheVariants.{Bad}
 use Rattle.aws_chunked.proofs.PlaceLemmas.{stops_first, stops_next}
 use Rattle.aws_chunked.proofs.RunLemmas.{same_word}
-use Rattle.aws_chunked.proofs.SignatureLemmas.{signed_some, zeros, zeros_sound}
+use Rattle.aws_chunked.proofs.SignatureLemmas.{signature_long, signed_some, zeros, zeros_sound}
 
 -- what is told of a fault is told of the answer that passes it on
-pub err_exit : {T : Type 0} (Reads : Result T ReadFault → Type 0) (result : Result T ReadFault) (fault : ReadFault) → IsErrAnd result (λ f. f ≡ fault) → Reads (Err fault)
+pub err_exit : {T : Type 0} (Reads : Result T PartFault → Type 0) (result : Result T PartFault) (fault : PartFault) → IsErrAnd result (λ f. f ≡ fault) → Reads (Err fault)
     → Reads result
 err_exit Reads (Ok x) fault is told = absurd is
-err_exit Reads (Err other) fault is told = subst (λ (f : ReadFault). Reads (Err f)) (sym is) told
+err_exit Reads (Err other) fault is told = subst (λ (f : PartFault). Reads (Err f)) (sym is) told
 
 -- ## Data
 
@@ -44,7 +44,7 @@ data_short n bytes short =
           omega (arith, short, ap length led.3, length-append led.0 led.1, ap length data_.2, length-append data_.0 crlf, data_.1),
     )
 
-pub data_read : (n : ℕ) (bytes data_ rest old new : List ℕ) (result : Result (Bor (List ℕ)) ReadFault) → bytes ≡ data_ ++ rest → length data_ ≡ n → new ≡ old ++ data_
+pub data_read : (n : ℕ) (bytes data_ rest old new : List ℕ) (result : Result (Bor (List ℕ)) PartFault) → bytes ≡ data_ ++ rest → length data_ ≡ n → new ≡ old ++ data_
     → Expects crlf rest result → ReadsData n bytes old new result
 data_read n bytes data_ rest old new (Ok behind) parted long grown ended =
     (data_, long, parted ∙ ap (λ (t : List ℕ). data_ ++ t) ended ∙ sym (append_assoc data_ crlf behind.now), grown)
@@ -76,7 +76,7 @@ plain_word false word is end = by end.0 end.1 end.2
     by None signed same = same
     by (Some signature) signed same = absurd signed
 
-pub plain_head : (bytes : List ℕ) (chunks : Chunks) (result : Result (Bor (List ℕ)) ReadFault) → chunks.is_signed ≡ false → Expects crlf bytes result
+pub plain_head : (bytes : List ℕ) (chunks : Chunks) (result : Result (Bor (List ℕ)) PartFault) → chunks.is_signed ≡ false → Expects crlf bytes result
     → ReadsHeadEnd bytes chunks chunks result
 plain_head bytes chunks (Ok rest) plain ended =
     (None, plain_none chunks.is_signed plain, ended, sym (append-nil (signature_texts chunks.signatures.items)), refl, refl)
@@ -122,7 +122,7 @@ led_signed is_signed text is led =
     )
 
 -- no mark of a signature
-pub mark_stops : (bytes : List ℕ) (chunks : Chunks) (fault : ReadFault) → chunks.is_signed ≡ true
+pub mark_stops : (bytes : List ℕ) (chunks : Chunks) (fault : PartFault) → chunks.is_signed ≡ true
     → TellsWhere (λ word. word ≡ codes ";chunk-signature=") (Led (λ word. word ≡ codes ";chunk-signature=")) bytes fault
     → TellsWhere (IsHeadEnd chunks.is_signed) (Led (IsHeadEnd chunks.is_signed)) bytes fault
 unfolding mark
@@ -139,7 +139,7 @@ mark_stops bytes chunks fault signed told =
     told
 
 -- no signature
-pub signature_stops : (bytes before : List ℕ) (chunks : Chunks) (fault : ReadFault) → chunks.is_signed ≡ true → bytes ≡ codes ";chunk-signature=" ++ before
+pub signature_stops : (bytes before : List ℕ) (chunks : Chunks) (fault : PartFault) → chunks.is_signed ≡ true → bytes ≡ codes ";chunk-signature=" ++ before
     → TellsWhere IsSignature (Led IsSignature) before fault → TellsWhere (IsHeadEnd chunks.is_signed) (Led (IsHeadEnd chunks.is_signed)) bytes fault
 unfolding mark IsSigned
 signature_stops bytes before chunks fault signed first told =
@@ -151,7 +151,7 @@ signature_stops bytes before chunks fault signed first told =
     (stops_first IsSignature (Led IsSignature) IsSigned (Led IsSignature) before fault (λ word is. (crlf, (word, is, refl))) (λ all led. led) told)
 
 -- a signature, and what stands behind it
-pub signed_head : (bytes before behind signature : List ℕ) (old new : Chunks) (text : String Global) (result : Result (Bor (List ℕ)) ReadFault) → old.is_signed ≡ true
+pub signed_head : (bytes before behind signature : List ℕ) (old new : Chunks) (text : String Global) (result : Result (Bor (List ℕ)) PartFault) → old.is_signed ≡ true
     → bytes ≡ codes ";chunk-signature=" ++ before → string_bytes text ≡ signature → IsSignature signature → before ≡ signature ++ behind → Expects crlf behind result
     → new.signatures.items ≡ old.signatures.items ++ text ∷ [] → new.is_signed ≡ old.is_signed → new.body ≡ old.body → ReadsHeadEnd bytes old new result
 unfolding mark
@@ -171,5 +171,5 @@ signed_head bytes before behind signature old new text (Err fault) signed first 
     (λ rest ended. word_signed old.is_signed ((mark ++ signature) ++ rest) signature signed sound (ap (λ (t : List ℕ). (mark ++ signature) ++ t) ended))
     (λ rest led.
     let found = led_signed old.is_signed (signature ++ rest) signed (subst (Led (IsHeadEnd old.is_signed)) (append_assoc mark signature rest) led) in
-    (crlf, found.1, refl, (same_word signature found.0 rest (crlf ++ found.1) (omega (arith, sound.0, found.2.0)) found.3).1))
+    (crlf, found.1, refl, (same_word signature found.0 rest (crlf ++ found.1) (omega (arith, signature_long signature sound, signature_long found.0 found.2)) found.3).1))
     told

@@ -26,16 +26,16 @@ use Rattle.aws_chunked.specs.declared.body.ChunkNext.{ChunkNext}
 use Rattle.aws_chunked.specs.declared.body.ChunkNext.TheVariants as next
 use Rattle.aws_chunked.specs.declared.error.AwsChunkedBodyError.{AwsChunkedBodyError}
 use Rattle.aws_chunked.proofs.LawLemmas.{signed_long}
+use Rattle.aws_chunked.proofs.SignatureLemmas.{signature_from}
 
 -- ## Signatures
 
 text_sealed : (signer : Signer) (t : Instant) (text : List ℕ) → IsSignature (text_signature signer t text)
 unfolding mac mac_of_block
 text_sealed signer t text =
-    let code = mac (signing_key signer t) text in (
-      length-encode_with lower_digits code ∙ ap (λ (n : ℕ). 2 * n) (length-mac (signing_key signer t) text),
-      AllPass-from_list_all is_lower_digit (encode_lower code) (encoded_digits code (sha256-bytes _)),
-    )
+    let code = mac (signing_key signer t) text in
+    signature_from (encode_lower code) (length-encode_with lower_digits code ∙ ap (λ (n : ℕ). 2 * n) (length-mac (signing_key signer t) text))
+    (AllPass-from_list_all is_lower_digit (encode_lower code) (encoded_digits code (sha256-bytes _)))
 
 chunk_sealed : (piece : List ℕ) (signer : Signer) (t : Instant) (before : List ℕ) → IsSignature (chunk_signature piece signer t before)
 unfolding chunk_signature

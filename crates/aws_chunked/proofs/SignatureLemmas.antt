@@ -1,17 +1,33 @@
 -- Signatures that are read.
-use Rattle.std.proofs.Common.{◌≡◌, ℕ, ◌+◌, ◌-◌, ◌<◌, ◌≤◌, Bool, true, false, List, [], ◌∷◌, ◌++◌, length, get_or, replicate, Option, Some, None, refl, ap, sym, subst, ◌∙◌, arith, append_assoc}
+use Rattle.std.proofs.Common.{◌≡◌, ℕ, ◌+◌, ◌-◌, ◌<◌, ◌≤◌, ◌==◌, Bool, true, false, List, [], ◌∷◌, ◌++◌, length, get_or, replicate, Option, Some, None, refl, ap, sym, subst, ◌∙◌, arith, append_assoc}
 use Rattle.std.specs.Prelude.{All, IsTrue}
-use Rattle.std.proofs.lemmas.Bool.{false≢true}
+use Rattle.std.specs.List.{list_all}
+use Rattle.std.proofs.lemmas.Bool.{and_parts, eqb-true, false≢true}
 use Rattle.std.proofs.lemmas.List.{get_or_append_left, length-append, length-replicate}
 use Rattle.std.proofs.lemmas.List.Elements.{All-append, All-push, All-replicate}
-use Rattle.sigv4.specs.Signature.{is_lower_digit}
+use Rattle.std.proofs.lemmas.List.Sums.{AllPass-from_list_all, list_all-from_AllPass}
+use Rattle.sigv4.specs.Signature.{is_lower_digit, is_signature}
 use Rattle.sigv4.proofs.DigitLemmas.{digit_low}
 use Rattle.aws_chunked.specs.Decoded.{CanGoOn, IsSignature}
 use Rattle.aws_chunked.specs.Reading.{Led, RefusesNext, TellsWhere}
 use Rattle.aws_chunked.specs.Rests.{IsSignedBy}
-use Rattle.aws_chunked.specs.declared.decode.fault.ReadFault.{ReadFault}
-use Rattle.aws_chunked.specs.declared.decode.fault.ReadFault.TheVariants.{Bad}
+use Rattle.aws_chunked.specs.declared.decode.fault.PartFault.{PartFault}
+use Rattle.aws_chunked.specs.declared.decode.fault.PartFault.TheVariants.{Bad}
 use Rattle.aws_chunked.proofs.StopLemmas.{byte_behind, empty_list, stops_behind}
+
+-- ## What a signature is
+
+pub signature_from : (text : List ℕ) → length text ≡ 64 → All (λ byte. IsTrue (is_lower_digit byte)) text → IsSignature text
+unfolding is_signature
+signature_from text long digits = rw (long, list_all-from_AllPass is_lower_digit text digits) refl
+
+pub signature_long : (text : List ℕ) → IsSignature text → length text ≡ 64
+unfolding is_signature
+signature_long text is = eqb-true (length text) 64 (and_parts (length text == 64) (list_all is_lower_digit text) is).0
+
+pub signature_digits : (text : List ℕ) → IsSignature text → All (λ byte. IsTrue (is_lower_digit byte)) text
+unfolding is_signature
+signature_digits text is = AllPass-from_list_all is_lower_digit text (and_parts (length text == 64) (list_all is_lower_digit text) is).1
 
 -- ## There are signatures
 
@@ -20,7 +36,7 @@ zeros = replicate 64 48
 
 pub zeros_sound : IsSignature zeros
 unfolding zeros
-zeros_sound = (length-replicate {A = ℕ} 64 48, All-replicate (λ byte. IsTrue (is_lower_digit byte)) 64 48 refl)
+zeros_sound = signature_from (replicate 64 48) (length-replicate {A = ℕ} 64 48) (All-replicate (λ byte. IsTrue (is_lower_digit byte)) 64 48 refl)
 
 -- a signature, where the text is signed
 pub some_signature : Bool → Option (List ℕ)
@@ -59,21 +75,20 @@ digits_read byte text now more are pushed ascii is =
 pub begins_signature : (front : List ℕ) → length front ≤ 64 → All (λ byte. IsTrue (is_lower_digit byte)) front → CanGoOn IsSignature front
 begins_signature front low are = (
   replicate (64 - length front) 48,
-  (
-    omega (arith, low, length-append front (replicate (64 - length front) 48), length-replicate {A = ℕ} (64 - length front) 48),
-    All-append (λ byte. IsTrue (is_lower_digit byte)) front (replicate (64 - length front) 48) are
-        (All-replicate (λ byte. IsTrue (is_lower_digit byte)) (64 - length front) 48 refl),
-  ),
+  signature_from (front ++ replicate (64 - length front) 48)
+      (omega (arith, low, length-append front (replicate (64 - length front) 48), length-replicate {A = ℕ} (64 - length front) 48))
+      (All-append (λ byte. IsTrue (is_lower_digit byte)) front (replicate (64 - length front) 48) are
+      (All-replicate (λ byte. IsTrue (is_lower_digit byte)) (64 - length front) 48 refl)),
 )
 
-pub signature_ends : (bytes front rest : List ℕ) (i : ℕ) (fault : ReadFault) → i < 64 → length front ≡ i → All (λ byte. IsTrue (is_lower_digit byte)) front
+pub signature_ends : (bytes front rest : List ℕ) (i : ℕ) (fault : PartFault) → i < 64 → length front ≡ i → All (λ byte. IsTrue (is_lower_digit byte)) front
     → bytes ≡ front ++ rest → length rest ≡ 0 → fault ≡ Bad (length rest) → TellsWhere IsSignature (Led IsSignature) bytes fault
 signature_ends bytes front rest i fault low long are read none told =
     stops_behind IsSignature (Led IsSignature) bytes front rest fault told read (begins_signature front (omega (arith, low, long)) are)
     (subst (RefusesNext (Led IsSignature) front) (sym (empty_list rest none)) (λ led.
-    omega (arith, low, long, ap length led.3, length-append led.0 led.1, led.2.0)))
+    omega (arith, low, long, ap length led.3, length-append led.0 led.1, signature_long led.0 led.2)))
 
-pub signature_differs : (bytes front rest others : List ℕ) (i byte : ℕ) (fault : ReadFault) → i < 64 → length front ≡ i → All (λ byte. IsTrue (is_lower_digit byte)) front
+pub signature_differs : (bytes front rest others : List ℕ) (i byte : ℕ) (fault : PartFault) → i < 64 → length front ≡ i → All (λ byte. IsTrue (is_lower_digit byte)) front
     → bytes ≡ front ++ rest → rest ≡ byte ∷ others → is_lower_digit byte ≡ false → fault ≡ Bad (length rest) → TellsWhere IsSignature (Led IsSignature) bytes fault
 signature_differs bytes front rest others i byte fault low long are read first other told =
     stops_behind IsSignature (Led IsSignature) bytes front rest fault told read (begins_signature front (omega (arith, low, long)) are)
@@ -81,5 +96,5 @@ signature_differs bytes front rest others i byte fault low long are read first o
     let led = begins.1 in
     let same : byte ≡ get_or led.0 i 0 =
     sym (byte_behind front byte begins.0 i long) ∙ ap (λ (xs : List ℕ). get_or xs i 0) led.3
-    ∙ get_or_append_left led.0 led.1 0 i (omega (arith, low, led.2.0)) in
-    false≢true (sym other ∙ ap is_lower_digit same ∙ led.2.1 i 0 (omega (arith, low, led.2.0)))))
+    ∙ get_or_append_left led.0 led.1 0 i (omega (arith, low, signature_long led.0 led.2)) in
+    false≢true (sym other ∙ ap is_lower_digit same ∙ signature_digits led.0 led.2 i 0 (omega (arith, low, signature_long led.0 led.2)))))

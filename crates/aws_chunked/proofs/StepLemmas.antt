@@ -10,12 +10,12 @@ use Rattle.aws_chunked.specs.Reading.{BeginsOther, IsEndedLength, IsLength, Led,
 use Rattle.aws_chunked.specs.Rests.{ChunkRest, ChunksThen, DataThen, FirstRest, FollowsFront, HeadEndThen, IsData, IsHeadEnd, IsSignedBy, IsTail, LengthThen, NextRest, Said, TextSays, TailSays, WholeSays, begins_with, one_or_none, most_after}
 use Rattle.aws_chunked.specs.TailRests.{EndsRun}
 use Rattle.aws_chunked.specs.Text.{crlf, length_text, signature_text}
-use Rattle.aws_chunked.specs.declared.decode.fault.ReadFault.{ReadFault}
+use Rattle.aws_chunked.specs.declared.decode.fault.PartFault.{PartFault}
 use Rattle.aws_chunked.proofs.FollowLemmas.{follows_as, follows_both, says_same, stops_part, stops_rest}
 use Rattle.aws_chunked.proofs.LengthTextLemmas.{AreDigits, text_digits, text_value}
 use Rattle.aws_chunked.proofs.PieceLemmas.{after_bound, follows_whole}
 use Rattle.aws_chunked.proofs.RunLemmas.{same_begin, same_first, same_run, same_word}
-use Rattle.aws_chunked.proofs.SignatureLemmas.{some_signature, some_signed}
+use Rattle.aws_chunked.proofs.SignatureLemmas.{signature_long, some_signature, some_signed}
 
 -- ## There are rests
 
@@ -119,7 +119,7 @@ ended_other most n [] all low is other = absurd other
 ended_other most n (byte ∷ rest) all low is other =
     (length_text n ++ byte ∷ [], rest, (n, byte, low, other, refl), is ∙ sym (append_assoc (length_text n) (byte ∷ []) rest))
 
-stops_length : (most : ℕ) (Rest : ℕ → TextSays) (bytes : List ℕ) (fault : ReadFault) → ((m : ℕ) → IsSome (Rest m)) → AllOther Rest
+stops_length : (most : ℕ) (Rest : ℕ → TextSays) (bytes : List ℕ) (fault : PartFault) → ((m : ℕ) → IsSome (Rest m)) → AllOther Rest
     → TellsWhere (IsLength most) (Led (IsEndedLength most)) bytes fault → TellsWhere (Said (LengthThen most Rest)) (Said (LengthThen most Rest)) bytes fault
 stops_length most Rest bytes fault some all_other told =
     stops_part (IsLength most) (Led (IsEndedLength most)) (Said (LengthThen most Rest)) bytes fault
@@ -171,8 +171,8 @@ same_end true (Some one) (Some two) rest more first second same =
     let found = same_word ((mark ++ one) ++ crlf) ((mark ++ two) ++ crlf) rest more
     (omega (
       arith,
-      first.0,
-      second.0,
+      signature_long one first,
+      signature_long two second,
       length-append (mark ++ one) crlf,
       length-append (mark ++ two) crlf,
       length-append mark one,
@@ -197,7 +197,7 @@ follows_head is_signed Rest signature rest signed = record {
       );
 }
 
-stops_head : (is_signed : Bool) (Rest : TextSays) (bytes : List ℕ) (fault : ReadFault) → IsSome Rest → TellsWhere (IsHeadEnd is_signed) (Led (IsHeadEnd is_signed)) bytes fault
+stops_head : (is_signed : Bool) (Rest : TextSays) (bytes : List ℕ) (fault : PartFault) → IsSome Rest → TellsWhere (IsHeadEnd is_signed) (Led (IsHeadEnd is_signed)) bytes fault
     → TellsWhere (Said (HeadEndThen is_signed Rest)) (Said (HeadEndThen is_signed Rest)) bytes fault
 stops_head is_signed Rest bytes fault more told =
     stops_part (IsHeadEnd is_signed) (Led (IsHeadEnd is_signed)) (Said (HeadEndThen is_signed Rest)) bytes fault
@@ -264,7 +264,7 @@ follows_data n Rest piece rest long = record {
       );
 }
 
-stops_data : (n : ℕ) (Rest : TextSays) (bytes : List ℕ) (fault : ReadFault) → IsSome Rest → TellsWhere (IsData n) (Led (IsData n)) bytes fault
+stops_data : (n : ℕ) (Rest : TextSays) (bytes : List ℕ) (fault : PartFault) → IsSome Rest → TellsWhere (IsData n) (Led (IsData n)) bytes fault
     → TellsWhere (Said (DataThen n Rest)) (Said (DataThen n Rest)) bytes fault
 stops_data n Rest bytes fault more told =
     stops_part (IsData n) (Led (IsData n)) (Said (DataThen n Rest)) bytes fault
@@ -300,7 +300,7 @@ at_next Mid Rest bytes body more all_body signatures others all_signatures next 
       at.follows follows;
 }
 
-pub at_stops : (Rest : TextSays) (bytes body : List ℕ) (signatures : List (List ℕ)) (rest : List ℕ) (fault : ReadFault) → At Rest bytes body signatures rest
+pub at_stops : (Rest : TextSays) (bytes body : List ℕ) (signatures : List (List ℕ)) (rest : List ℕ) (fault : PartFault) → At Rest bytes body signatures rest
     → TellsWhere (Said Rest) (Said Rest) rest fault → TellsWhere (Said IsTextOf) (Said IsTextOf) bytes fault
 at_stops Rest bytes body signatures rest fault at told = stops_rest IsTextOf Rest body signatures at.front bytes rest fault at.parted at.follows told
 
@@ -322,7 +322,7 @@ first_some n =
 first_other : AllOther FirstRest
 first_other n b s t text is = head_other is.0 (ChunkRest is.0 n n) b s t text is.1
 
-pub first_length_stops : (bytes : List ℕ) (fault : ReadFault) → TellsWhere (IsLength 4294967295) (Led (IsEndedLength 4294967295)) bytes fault
+pub first_length_stops : (bytes : List ℕ) (fault : PartFault) → TellsWhere (IsLength 4294967295) (Led (IsEndedLength 4294967295)) bytes fault
     → TellsWhere (Said IsTextOf) (Said IsTextOf) bytes fault
 first_length_stops bytes fault told =
     at_stops WholeSays bytes [] [] bytes fault (at_whole bytes) (stops_length 4294967295 FirstRest bytes fault first_some first_other told)
@@ -335,7 +335,7 @@ at_first is_signed n bytes rest low parted other shows =
     (at_next WholeSays (FirstRest n) bytes [] [] [] [] [] [] (length_text n) bytes rest refl refl parted
     (follows_length 4294967295 n FirstRest rest (omega arith) low other first_other) (at_whole bytes))
 
-pub first_head_stops : (is_signed : Bool) (n : ℕ) (bytes rest : List ℕ) (fault : ReadFault) → n ≤ 4294967295 → bytes ≡ length_text n ++ rest → BeginsOther rest
+pub first_head_stops : (is_signed : Bool) (n : ℕ) (bytes rest : List ℕ) (fault : PartFault) → n ≤ 4294967295 → bytes ≡ length_text n ++ rest → BeginsOther rest
     → is_signed ≡ begins_with 59 rest → TellsWhere (IsHeadEnd is_signed) (Led (IsHeadEnd is_signed)) rest fault → TellsWhere (Said IsTextOf) (Said IsTextOf) bytes fault
 first_head_stops is_signed n bytes rest fault low parted other shows told =
     at_stops (HeadEndThen is_signed (ChunkRest is_signed n n)) bytes [] [] rest fault (at_first is_signed n bytes rest low parted other shows)
@@ -368,7 +368,7 @@ at_data bytes size n is_signed body signatures rest reached some =
     at_next (ChunkRest is_signed size n) (DataThen n (NextRest is_signed size n)) bytes body [] body signatures [] signatures [] rest rest (sym (append-nil body)) (sym (append-nil signatures)) refl
     (follows_next is_signed size n rest some) reached.at
 
-pub data_stops : (bytes : List ℕ) (size n : ℕ) (is_signed : Bool) (body : List ℕ) (signatures : List (List ℕ)) (rest : List ℕ) (fault : ReadFault)
+pub data_stops : (bytes : List ℕ) (size n : ℕ) (is_signed : Bool) (body : List ℕ) (signatures : List (List ℕ)) (rest : List ℕ) (fault : PartFault)
     → Reached bytes size n is_signed body signatures rest → 0 < n → TellsWhere (IsData n) (Led (IsData n)) rest fault → TellsWhere (Said IsTextOf) (Said IsTextOf) bytes fault
 data_stops bytes size n is_signed body signatures rest fault reached some told =
     at_stops (DataThen n (NextRest is_signed size n)) bytes body signatures rest fault (at_data bytes size n is_signed body signatures rest reached some)
@@ -384,7 +384,7 @@ at_next_length bytes size n is_signed body now signatures piece rest behind reac
 next_other : (is_signed : Bool) (size : ℕ) → AllOther (λ m. HeadEndThen is_signed (ChunkRest is_signed size m))
 next_other is_signed size m b s t text is = head_other is_signed (ChunkRest is_signed size m) b s t text is
 
-pub length_stops : (bytes : List ℕ) (size n : ℕ) (is_signed : Bool) (body now : List ℕ) (signatures : List (List ℕ)) (piece rest behind : List ℕ) (fault : ReadFault)
+pub length_stops : (bytes : List ℕ) (size n : ℕ) (is_signed : Bool) (body now : List ℕ) (signatures : List (List ℕ)) (piece rest behind : List ℕ) (fault : PartFault)
     → Reached bytes size n is_signed body signatures rest → 0 < n → length piece ≡ n → rest ≡ (piece ++ crlf) ++ behind → now ≡ body ++ piece
     → TellsWhere (IsLength (most_after size n)) (Led (IsEndedLength (most_after size n))) behind fault → TellsWhere (Said IsTextOf) (Said IsTextOf) bytes fault
 length_stops bytes size n is_signed body now signatures piece rest behind fault reached some long read grown told =
@@ -402,7 +402,7 @@ at_head bytes size n m is_signed body now signatures piece rest behind after rea
     (next_other is_signed size))
     (at_next_length bytes size n is_signed body now signatures piece rest behind reached some long read grown)
 
-pub head_stops : (bytes : List ℕ) (size n m : ℕ) (is_signed : Bool) (body now : List ℕ) (signatures : List (List ℕ)) (piece rest behind after : List ℕ) (fault : ReadFault)
+pub head_stops : (bytes : List ℕ) (size n m : ℕ) (is_signed : Bool) (body now : List ℕ) (signatures : List (List ℕ)) (piece rest behind after : List ℕ) (fault : PartFault)
     → Reached bytes size n is_signed body signatures rest → 0 < n → length piece ≡ n → rest ≡ (piece ++ crlf) ++ behind → now ≡ body ++ piece
     → m ≤ most_after size n → behind ≡ length_text m ++ after → BeginsOther after → TellsWhere (IsHeadEnd is_signed) (Led (IsHeadEnd is_signed)) after fault
     → TellsWhere (Said IsTextOf) (Said IsTextOf) bytes fault

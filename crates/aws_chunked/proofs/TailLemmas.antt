@@ -17,14 +17,14 @@ use Rattle.aws_chunked.specs.Rests.{FollowsFront, IsSignedBy, IsTail, Said, Text
 use Rattle.aws_chunked.specs.Signing.{has_signature}
 use Rattle.aws_chunked.specs.TailRests.{IsLine, IsSplit, is_name_byte, last_trailer}
 use Rattle.aws_chunked.specs.Text.{crlf, last_line, trailer_line}
-use Rattle.aws_chunked.specs.declared.decode.fault.ReadFault.{ReadFault}
-use Rattle.aws_chunked.specs.declared.decode.fault.ReadFault.TheVariants.{Bad}
+use Rattle.aws_chunked.specs.declared.decode.fault.PartFault.{PartFault}
+use Rattle.aws_chunked.specs.declared.decode.fault.PartFault.TheVariants.{Bad}
 use Rattle.aws_chunked.proofs.FollowLemmas.{follows_as, follows_both, stops_part, stops_rest}
 use Rattle.aws_chunked.proofs.LineLemmas.{a_name, cr_ends, name_bytes, same_line}
 use Rattle.aws_chunked.proofs.PieceLemmas.{takes_given, takes_is}
 use Rattle.aws_chunked.proofs.RunLemmas.{same_begin, same_word}
 use Rattle.sigv4.proofs.DigitLemmas.{digit_low}
-use Rattle.aws_chunked.proofs.SignatureLemmas.{some_signature, some_signed}
+use Rattle.aws_chunked.proofs.SignatureLemmas.{signature_digits, some_signature, some_signed}
 
 -- ## The signature of trailers is one
 
@@ -39,8 +39,8 @@ signature_trailer : (signature : List ℕ) → IsSignature signature → IsTrail
 signature_trailer signature is = (
   ((omega arith, signature_name), omega arith),
   refl,
-  IsUtf8-from_ascii signature (IsAscii-from_all signature (All-weaker (λ b. IsTrue (is_lower_digit b)) (λ b. b < 128) digit_low signature is.1)),
-  All-weaker (λ b. IsTrue (is_lower_digit b)) (λ b. IsTrue (is_value_byte b)) signature_value signature is.1,
+  IsUtf8-from_ascii signature (IsAscii-from_all signature (All-weaker (λ b. IsTrue (is_lower_digit b)) (λ b. b < 128) digit_low signature (signature_digits signature is))),
+  All-weaker (λ b. IsTrue (is_lower_digit b)) (λ b. IsTrue (is_value_byte b)) signature_value signature (signature_digits signature is),
 )
 
 -- ## Lines
@@ -185,7 +185,7 @@ follows_tail_lines is_signed lines rest are =
     follows_both (TailSays is_signed) (LinesSay is_signed []) (LinesSay is_signed lines) [] [] [] [] [] [] [] (flat_map trailer_line lines) (flat_map trailer_line lines)
     (flat_map trailer_line lines ++ rest) rest refl refl refl refl (follows_lines_none is_signed (flat_map trailer_line lines ++ rest)) (follows_lines is_signed [] lines rest are)
 
-pub lines_stop : (is_signed : Bool) (lines : List Trailer) (bytes rest : List ℕ) (fault : ReadFault) → AllByRecursion IsTrailer lines
+pub lines_stop : (is_signed : Bool) (lines : List Trailer) (bytes rest : List ℕ) (fault : PartFault) → AllByRecursion IsTrailer lines
     → bytes ≡ flat_map trailer_line lines ++ rest → TellsWhere (Said (LinesSay is_signed lines)) (Said (LinesSay is_signed lines)) rest fault
     → TellsWhere (Said (TailSays is_signed)) (Said (TailSays is_signed)) bytes fault
 lines_stop is_signed lines bytes rest fault are parted told =
@@ -227,7 +227,7 @@ begins_lines is_signed lines =
     (trailer_line line ++ more.0, more.1)
 
 -- a line that stops
-pub line_stops : (is_signed : Bool) (lines : List Trailer) (rest : List ℕ) (fault : ReadFault) → begins_with 13 rest ≡ false → TellsWhere IsLine (Led IsLine) rest fault
+pub line_stops : (is_signed : Bool) (lines : List Trailer) (rest : List ℕ) (fault : PartFault) → begins_with 13 rest ≡ false → TellsWhere IsLine (Led IsLine) rest fault
     → TellsWhere (Said (LinesSay is_signed lines)) (Said (LinesSay is_signed lines)) rest fault
 unfolding LinesSay
 line_stops is_signed lines rest fault other told =
@@ -245,7 +245,7 @@ line_stops is_signed lines rest fault other told =
 -- ## The end
 
 -- the lines are no trailers and their signature
-pub split_stops : (is_signed : Bool) (lines : List Trailer) (rest : List ℕ) (fault : ReadFault) → IsTrue (begins_with 13 rest)
+pub split_stops : (is_signed : Bool) (lines : List Trailer) (rest : List ℕ) (fault : PartFault) → IsTrue (begins_with 13 rest)
     → ((trailers : List Trailer) (last : Option (List ℕ)) → IsSplit is_signed lines trailers last → ⊥) → fault ≡ Bad (length rest)
     → TellsWhere (Said (LinesSay is_signed lines)) (Said (LinesSay is_signed lines)) rest fault
 unfolding LinesSay
@@ -263,7 +263,7 @@ split_stops is_signed lines rest fault begins none told =
     refuses (b ∷ back) cr = λ begins_. not (b ∷ begins_.0) cr begins_.1
 
 -- no end of the line
-pub end_stops : (is_signed : Bool) (lines trailers : List Trailer) (last : Option (List ℕ)) (rest : List ℕ) (fault : ReadFault) → IsTrue (begins_with 13 rest)
+pub end_stops : (is_signed : Bool) (lines trailers : List Trailer) (last : Option (List ℕ)) (rest : List ℕ) (fault : PartFault) → IsTrue (begins_with 13 rest)
     → IsSplit is_signed lines trailers last → TellsWhere (λ word. word ≡ crlf) (Led (λ word. word ≡ crlf)) rest fault
     → TellsWhere (Said (LinesSay is_signed lines)) (Said (LinesSay is_signed lines)) rest fault
 unfolding LinesSay
@@ -278,7 +278,7 @@ end_stops is_signed lines trailers last rest fault cr split told =
     told
 
 -- something behind the end
-pub more_stops : (is_signed : Bool) (lines trailers : List Trailer) (last : Option (List ℕ)) (rest final : List ℕ) (fault : ReadFault)
+pub more_stops : (is_signed : Bool) (lines trailers : List Trailer) (last : Option (List ℕ)) (rest final : List ℕ) (fault : PartFault)
     → IsSplit is_signed lines trailers last → rest ≡ crlf ++ final → (length final ≡ 0 → ⊥) → fault ≡ Bad (length final)
     → TellsWhere (Said (LinesSay is_signed lines)) (Said (LinesSay is_signed lines)) rest fault
 unfolding LinesSay

@@ -86,15 +86,15 @@ on_after at after on (inl is) = is
 on_after at after (inl on) (inr ended) = absurd (let no : phase.Data ≡ phase.Ended = sym on ∙ ended in cc)
 on_after at after (inr on) (inr ended) = absurd (let no : phase.Trailers ≡ phase.Ended = sym on ∙ ended in cc)
 
-abbrev pub NearsBy : Phase → ℕ → List ℕ → List ℕ → Type 0
-NearsBy now idle old new =
+abbrev pub CountsOrBringsBy : Phase → ℕ → List ℕ → List ℕ → Type 0
+CountsOrBringsBy now idle old new =
     ((idle ≡ 1) × (length old ≤ length new)) ⊎ ((idle ≡ 0) × (length old < length new)) ⊎ ((idle ≡ 0) × (now ≡ phase.Ended) × (length old ≤ length new))
 
 pub none_idle : (b : Bool) (n : ℕ) → (suc n == 0) ≡ b → ◌≡◌ {A = ℕ} (if b then 1 else 0) 0
 none_idle true n is = absurd (omega (arith, eqb-true (suc n) 0 is))
 none_idle false n is = refl
 
-pub nears_data : (at now : Phase) (idle : ℕ) (old new piece : List ℕ) → idle ≡ idle_in at piece → new ≡ held_after at old piece → NearsBy now idle old new
+pub nears_data : (at now : Phase) (idle : ℕ) (old new piece : List ℕ) → idle ≡ idle_in at piece → new ≡ held_after at old piece → CountsOrBringsBy now idle old new
 nears_data phase.Data now idle old new [] one held = inl (one, omega (arith, ap length held, length-append old []))
 nears_data phase.Data now idle old new (byte ∷ bytes) none held =
     inr (inl (none ∙ none_idle (suc (length bytes) == 0) (length bytes) refl, omega (arith, ap length held, length-append old (byte ∷ bytes))))
@@ -102,7 +102,7 @@ nears_data phase.Trailers now idle old new piece one held = inl (one, omega (ari
 nears_data phase.Ended now idle old new piece one held = inl (one, omega (arith, ap length held))
 nears_data phase.Closed now idle old new piece one held = inl (one, omega (arith, ap length held))
 
-pub few_idle : (now : Phase) (idle : ℕ) (old new : List ℕ) → NearsBy now idle old new → idle ≤ 1
+pub few_idle : (now : Phase) (idle : ℕ) (old new : List ℕ) → CountsOrBringsBy now idle old new → idle ≤ 1
 few_idle now idle old new (inl one) = omega (arith, one.0)
 few_idle now idle old new (inr (inl none)) = omega (arith, none.0)
 few_idle now idle old new (inr (inr none)) = omega (arith, none.0)
@@ -119,7 +119,7 @@ still_most phase.Ended = omega arith
 still_most phase.Closed = omega arith
 
 pub goes_nearer : (at now : Phase) (idle more : ℕ) (old new : List ℕ) → (at ≡ phase.Data) ⊎ (at ≡ phase.Trailers) → idle < 65536 → length old < 4294967296
-    → NearsBy now more old new
+    → CountsOrBringsBy now more old new
     → (65536 - (idle + more)) + (8589934592 - length new) + still now < (65536 - idle) + (8589934592 - length old) + still at
 goes_nearer at now idle more old new on few short nears = by (still_is on) nears
   where
@@ -127,7 +127,7 @@ goes_nearer at now idle more old new on few short nears = by (still_is on) nears
     still_is (inl is) = ap still is
     still_is (inr is) = ap still is
 
-    by : still at ≡ 1 → NearsBy now more old new
+    by : still at ≡ 1 → CountsOrBringsBy now more old new
         → (65536 - (idle + more)) + (8589934592 - length new) + still now < (65536 - idle) + (8589934592 - length old) + still at
     by one (inl idles) = omega (arith, one, idles.0, idles.1, still_most now)
     by one (inr (inl brings)) = omega (arith, one, brings.0, brings.1, still_most now)

@@ -10,14 +10,16 @@ use Rattle.aws_chunked.specs.Options.{Options, counted, declared_length}
 use Rattle.sigv4.specs.declared.chunk_signer.SignChunk as SignChunk
 use Rattle.aws_chunked.specs.Signing.{FailsPart, MakesPart, has_signature}
 use Rattle.aws_chunked.specs.Text.{Part, chunk, parts_of, tail, trailer_line}
+use Rattle.aws_chunked.specs.declared.arrivals.Arrivals.{Arrivals}
 use Rattle.aws_chunked.specs.declared.body.AwsChunkedBody.{AwsChunkedBody}
 use Rattle.aws_chunked.specs.declared.body.ChunkNext.{ChunkNext}
 use Rattle.aws_chunked.specs.declared.body.ChunkNext.TheVariants.{Frame, NotYet, OutOfTurns, End}
+use Rattle.aws_chunked.specs.declared.chunk_engine.ChunkEngine.{ChunkEngine}
 use Rattle.aws_chunked.specs.declared.error.AwsChunkedBodyError.{AwsChunkedBodyError}
 use Rattle.aws_chunked.specs.declared.error.AwsChunkedBodyError.TheVariants.{FailedToSign, NoMemory, ReportedTrailerLengthMismatch, SourceFault, StreamLengthMismatch}
 use Rattle.aws_chunked.specs.declared.phase.Phase.{Phase}
 use Rattle.aws_chunked.specs.declared.phase.Phase.TheVariants as phase
-use Rattle.aws_chunked.specs.declared.sent.Sent.TheVariants as sent
+use Rattle.aws_chunked.specs.declared.piece_engine.Sent.TheVariants as sent
 use Rattle.aws_chunked.specs.declared.stop.Stop.{Stop}
 use Rattle.aws_chunked.specs.declared.stop.Stop.TheVariants as stop
 
@@ -84,10 +86,12 @@ abbrev pub parts_left : Phase → ℕ → List ℕ → Option (List Trailer) →
 parts_left phase.Closed size held kept frames = []
 parts_left at size held kept frames = parts_of size (held ++ data_left at frames) (listed (trailers_left at kept frames))
 
--- the text that was made and isn't answered yet, the parts that aren't made yet, and how much data there is in all
+-- the text that was made and isn't answered yet, the parts that aren't made yet, all trailers, once some came, and how much data there
+-- is in all
 pub record TextLeft : Type 0 where
   pub ready : List ℕ
   pub parts : List Part
+  pub trailers : Option (List Trailer)
   pub total : ℕ
 
 -- these bytes are the front of the text that was due, and the rest is due now
@@ -111,7 +115,6 @@ TakesDue before now (Err error) = Unit {0}
 
 -- why nothing can be made, as an answer
 abbrev pub stop_answer : Stop → Result ChunkNext AwsChunkedBodyError
-stop_answer stop.End = Ok End
 stop_answer stop.NotYet = Ok NotYet
 stop_answer stop.OutOfTurns = Ok OutOfTurns
 stop_answer (stop.Fault error) = Err error
@@ -166,6 +169,56 @@ CanMake phase.Trailers size held = 0 < length held
 CanMake phase.Ended size held = Unit {0}
 CanMake phase.Closed size held = ⊥
 
+-- ## What has come of a source
+
+-- the data has the declared length, or it is told which one it has
+abbrev pub HasLength : Arrivals → Options → Result (Unit {0}) AwsChunkedBodyError → Type 0
+HasLength came options (Ok _) = came.taken ≡ options.stream_length
+HasLength came options (Err error) = (error ≡ StreamLengthMismatch came.taken options.stream_length) × (came.taken ≡ options.stream_length → ⊥)
+
+-- for HTTP 1.x: the lines of the trailers, where some came, have the declared lengths, or it is told which one they have
+abbrev pub HasTrailerLengthsIfAny : Arrivals → Options → Result (Unit {0}) AwsChunkedBodyError → Type 0
+HasTrailerLengthsIfAny came options (Ok _) =
+    IfSome came.trailers (λ trailers. counted (actual_length options.is_signed trailers) ≡ counted (declared_length options.trailer_lengths))
+HasTrailerLengthsIfAny came options (Err error) = (trailers : List Trailer) × (came.trailers ≡ Some trailers)
+    × (error ≡ ReportedTrailerLengthMismatch (counted (actual_length options.is_signed trailers)) (counted (declared_length options.trailer_lengths)))
+    × (counted (actual_length options.is_signed trailers) ≡ counted (declared_length options.trailer_lengths) → ⊥)
+
+-- for HTTP 0.x: the lines of the trailers, of which there are none where none came, have the declared lengths, or it is told which one
+-- they have
+abbrev pub HasTrailerLengthsAlways : Arrivals → Options → Result (Unit {0}) AwsChunkedBodyError → Type 0
+HasTrailerLengthsAlways came options (Ok _) = counted (lines_length (listed came.trailers)) ≡ counted (declared_length options.trailer_lengths)
+HasTrailerLengthsAlways came options (Err error) =
+    (error ≡ ReportedTrailerLengthMismatch (counted (lines_length (listed came.trailers))) (counted (declared_length options.trailer_lengths)))
+    × (counted (lines_length (listed came.trailers)) ≡ counted (declared_length options.trailer_lengths) → ⊥)
+
+-- ## The text for HTTP 1.x
+
+-- the first piece of the data that is held
+abbrev pub first_piece : ℕ → List ℕ → List ℕ
+first_piece size held = take (min (length held) size) held
+
+module _ {G : Type 0} (signer : SignChunk.Ghosts G) where
+  -- a chunk of the data that is held is made, or there is none for a reason
+  abbrev pub MakesChunk : Options → ChunkEngine G → ChunkEngine G → Result (Unit {0}) AwsChunkedBodyError → Type 0
+  MakesChunk options old new (Ok _) =
+      MakesPart signer options.is_signed (chunk (first_piece options.chunk_size old.held.bytes)) old.signer new.ready new.signer
+      × (old.held.bytes ≡ first_piece options.chunk_size old.held.bytes ++ new.held.bytes)
+  MakesChunk options old new (Err error) =
+      (error ≡ NoMemory) ⊎ FailsPart signer options.is_signed (chunk (first_piece options.chunk_size old.held.bytes)) old.signer error new.signer
+
+  -- the end of the text is made, where the lines of the trailers have the declared lengths, or there is none for a reason: nothing is
+  -- signed where the lengths differ
+  abbrev pub MakesTail : Options → Arrivals → ChunkEngine G → ChunkEngine G → Result (Unit {0}) AwsChunkedBodyError → Type 0
+  MakesTail options came old new (Ok _) =
+      MakesPart signer options.is_signed (tail (listed came.trailers)) old.signer new.ready new.signer
+      × HasTrailerLengthsIfAny came options (Ok tt)
+      × (new ≡ record old { signer = new.signer; ready = new.ready })
+  MakesTail options came old new (Err error) =
+      ((error ≡ NoMemory) ⊎ (HasTrailerLengthsIfAny came options (Err error) × (new.signer ≡ old.signer))
+      ⊎ (HasTrailerLengthsIfAny came options (Ok tt) × FailsPart signer options.is_signed (tail (listed came.trailers)) old.signer error new.signer))
+      × (new ≡ record old { signer = new.signer; ready = new.ready })
+
 -- ## A body
 
 module _ {F G : Type 0} where
@@ -179,122 +232,99 @@ module _ {F G : Type 0} where
 
   -- how much data is held
   abbrev pub held_bytes : AwsChunkedBody F G → List ℕ
-  held_bytes body = body.held.bytes
+  held_bytes body = body.chunks.held.bytes
 
   -- the text that was made and isn't answered yet
   abbrev pub ready_bytes : AwsChunkedBody F G → List ℕ
-  ready_bytes body = body.ready
+  ready_bytes body = body.chunks.ready
 
   -- nothing more is read, nor answered
   pub record IsBodyClosed (body : AwsChunkedBody F G) : Type 0 where
-    pub over : body.phase ≡ phase.Closed
+    pub over : body.came.phase ≡ phase.Closed
     pub answered : ready_bytes body ≡ []
 
   -- a body that has taken nothing
   pub record IsNewBody (source : F) (options : Options) (body : AwsChunkedBody F G) : Type 0 where
     pub reads_from : body.source ≡ source
     pub encoded : body.options ≡ options
-    pub no_signer : body.signer ≡ None
-    pub starts : body.phase ≡ phase.Data
+    pub no_signer : body.chunks.signer ≡ None
+    pub starts : body.came.phase ≡ phase.Data
     pub nothing_held : held_bytes body ≡ []
     pub nothing_ready : ready_bytes body ≡ []
-    pub nothing_counted : body.taken ≡ 0
-    pub no_trailers : body.trailers ≡ None
-    pub nothing_sent : body.sent ≡ sent.Nothing
+    pub nothing_counted : body.came.taken ≡ 0
+    pub no_trailers : body.came.trailers ≡ None
+    pub nothing_sent : body.pieces.sent ≡ sent.Nothing
+
+  -- a body with this signer
+  abbrev pub signed_by : G → AwsChunkedBody F G → AwsChunkedBody F G
+  signed_by signer body = record body { chunks = record body.chunks { signer = Some signer } }
+
+  -- a body after a stop: after a fault it is closed
+  abbrev pub after_stop : Stop → AwsChunkedBody F G → AwsChunkedBody F G
+  after_stop stop.NotYet body = body
+  after_stop stop.OutOfTurns body = body
+  after_stop (stop.Fault error) body = record body { came = record body.came { phase = phase.Closed }; chunks = record body.chunks { ready = [] } }
+
+  -- a body that was closed answers the end, and stays as it is
+  abbrev pub StaysClosed : AwsChunkedBody F G → AwsChunkedBody F G → Result ChunkNext AwsChunkedBodyError → Type 0
+  StaysClosed old new result = IsBodyClosed old → (result ≡ Ok End) × (new ≡ old)
 
   -- what is left of a body whose source has these frames left
   abbrev pub text_to_come_with : AwsChunkedBody F G → List FramePart → TextLeft
   text_to_come_with body frames = record {
     ready = ready_bytes body;
-    parts = parts_left body.phase body.options.chunk_size (held_bytes body) body.trailers frames;
-    total = counted (body.taken + length (data_left body.phase frames));
+    parts = parts_left body.came.phase body.options.chunk_size (held_bytes body) body.came.trailers frames;
+    trailers = trailers_left body.came.phase body.came.trailers frames;
+    total = counted (body.came.taken + length (data_left body.came.phase frames));
   }
 
   -- only the source, the data that is held and the trailers change, and how far the body has come
   abbrev pub OthersStay : AwsChunkedBody F G → AwsChunkedBody F G → Type 0
-  OthersStay old new = new ≡ record old { source = new.source; phase = new.phase; held = new.held; taken = new.taken; trailers = new.trailers }
-
-  -- only the signer changes
-  abbrev pub ChangesSigner : AwsChunkedBody F G → AwsChunkedBody F G → Type 0
-  ChangesSigner old new = new ≡ record old { signer = new.signer }
+  OthersStay old new = new ≡ record old { source = new.source; came = new.came; chunks = record old.chunks { held = new.chunks.held } }
 
   -- a body after a piece of data
   abbrev pub with_data : AwsChunkedBody F G → List ℕ → AwsChunkedBody F G
-  with_data body piece = record body { taken = taken_after body.phase body.taken piece }
+  with_data body piece = record body { came = record body.came { taken = taken_after body.came.phase body.came.taken piece } }
 
   -- a body that may read on
   abbrev pub MayReadOn : AwsChunkedBody F G → Type 0
-  MayReadOn body = (body.phase ≡ phase.Data) ⊎ (body.phase ≡ phase.Trailers)
+  MayReadOn body = (body.came.phase ≡ phase.Data) ⊎ (body.came.phase ≡ phase.Trailers)
 
   -- a body that isn't closed
   abbrev pub IsBodyOpen : AwsChunkedBody F G → Type 0
-  IsBodyOpen body = body.phase ≡ phase.Closed → ⊥
+  IsBodyOpen body = body.came.phase ≡ phase.Closed → ⊥
 
   -- a part of the text can be made
   abbrev pub IsAtHand : AwsChunkedBody F G → Type 0
-  IsAtHand body = CanMake body.phase body.options.chunk_size (held_bytes body)
-
-  -- the data has the declared length, or it is told which one it has
-  abbrev pub HasLength : AwsChunkedBody F G → Result (Unit {0}) AwsChunkedBodyError → Type 0
-  HasLength body (Ok _) = body.taken ≡ body.options.stream_length
-  HasLength body (Err error) =
-      (error ≡ StreamLengthMismatch body.taken body.options.stream_length) × (body.taken ≡ body.options.stream_length → ⊥)
+  IsAtHand body = CanMake body.came.phase body.options.chunk_size (held_bytes body)
 
   -- the data has ended
   abbrev pub HasEnded : AwsChunkedBody F G → Type 0
-  HasEnded body = (body.phase ≡ phase.Trailers) ⊎ (body.phase ≡ phase.Ended)
+  HasEnded body = (body.came.phase ≡ phase.Trailers) ⊎ (body.came.phase ≡ phase.Ended)
 
-  -- all of the data was taken, it is in the parts that were made, and it doesn't have the declared length
-  abbrev pub LacksLength : AwsChunkedBody F G → ℕ → ℕ → Type 0
-  LacksLength body actual expected =
-      (actual ≡ body.taken) × (expected ≡ body.options.stream_length) × (actual ≡ expected → ⊥) × (held_bytes body ≡ [])
+  -- data that has ended has the declared length
+  abbrev pub IsCompared : AwsChunkedBody F G → Type 0
+  IsCompared body = HasEnded body → body.came.taken ≡ body.options.stream_length
 
   -- whether a part can be made, or why there is none: before the end of the text the length of the data is compared
   abbrev pub TestsPart : AwsChunkedBody F G → Result Bool AwsChunkedBodyError → Type 0
-  TestsPart body (Ok true) = IsAtHand body × (0 < body.options.chunk_size) × (held_bytes body ≡ [] → body.taken ≡ body.options.stream_length)
-  TestsPart body (Ok false) = (length (held_bytes body) < body.options.chunk_size) × (body.options.chunk_size ≤ 4294967295) × MayReadOn body
-  TestsPart body (Err (StreamLengthMismatch actual expected)) = LacksLength body actual expected × HasEnded body
-  TestsPart body (Err error) = ⊥
-
-  -- the lines of the trailers, where some came, have the declared lengths, or it is told which one they have
-  abbrev pub HasTrailerLengths : AwsChunkedBody F G → Result (Unit {0}) AwsChunkedBodyError → Type 0
-  HasTrailerLengths body (Ok _) =
-      IfSome body.trailers (λ trailers. counted (actual_length body.options.is_signed trailers) ≡ counted (declared_length body.options.trailer_lengths))
-  HasTrailerLengths body (Err error) = (trailers : List Trailer) × (body.trailers ≡ Some trailers)
-      × (error ≡ ReportedTrailerLengthMismatch (counted (actual_length body.options.is_signed trailers)) (counted (declared_length body.options.trailer_lengths)))
-      × (counted (actual_length body.options.is_signed trailers) ≡ counted (declared_length body.options.trailer_lengths) → ⊥)
-
-  -- the first piece of the data that is held
-  abbrev pub first_piece : AwsChunkedBody F G → List ℕ
-  first_piece body = take (min (length (held_bytes body)) body.options.chunk_size) (held_bytes body)
-
-  -- the end of the text comes only where the data and the lines of the trailers have the declared lengths
-  abbrev pub HasLengths : Part → AwsChunkedBody F G → Type 0
-  HasLengths (chunk piece) body = Unit {0}
-  HasLengths (tail trailers) body = (body.taken ≡ body.options.stream_length) × HasTrailerLengths body (Ok tt)
+  TestsPart body (Ok true) = IsAtHand body × (0 < body.options.chunk_size) × (held_bytes body ≡ [] → body.came.taken ≡ body.options.stream_length)
+  TestsPart body (Ok false) =
+      (length (held_bytes body) < body.options.chunk_size) × (body.options.chunk_size ≤ 4294967295) × MayReadOn body × IsCompared body
+  TestsPart body (Err error) = HasLength body.came body.options (Err error) × (held_bytes body ≡ []) × HasEnded body
 
   module _ (signer : SignChunk.Ghosts G) where
-    -- a chunk of the data that is held is made, or there is none for a reason
-    abbrev pub MakesChunk : AwsChunkedBody F G → AwsChunkedBody F G → Result (Unit {0}) AwsChunkedBodyError → Type 0
-    MakesChunk old new (Ok _) =
-        MakesPart signer old.options.is_signed (chunk (first_piece old)) old.signer (ready_bytes new) new.signer
-        × (held_bytes old ≡ first_piece old ++ held_bytes new)
-        × (new ≡ record old { signer = new.signer; held = new.held; ready = new.ready })
-    MakesChunk old new (Err error) =
-        ((error ≡ NoMemory) ⊎ FailsPart signer old.options.is_signed (chunk (first_piece old)) old.signer error new.signer)
-        × (new ≡ record old { signer = new.signer; held = new.held; ready = new.ready })
+    -- a chunk is made, and the rest of the body stays
+    abbrev pub MakesNextChunk : AwsChunkedBody F G → AwsChunkedBody F G → Result (Unit {0}) AwsChunkedBodyError → Type 0
+    MakesNextChunk old new result = MakesChunk signer old.options old.chunks new.chunks result × (new ≡ record old { chunks = new.chunks })
 
-    -- the end of the text is made, where the lines of the trailers have the declared lengths, or there is none for a reason: nothing is
-    -- signed where the lengths differ
-    abbrev pub MakesTail : AwsChunkedBody F G → AwsChunkedBody F G → Result (Unit {0}) AwsChunkedBodyError → Type 0
-    MakesTail old new (Ok _) =
-        MakesPart signer old.options.is_signed (tail (listed old.trailers)) old.signer (ready_bytes new) new.signer
-        × HasTrailerLengths old (Ok tt)
-        × (new ≡ record old { signer = new.signer; phase = phase.Closed; ready = new.ready })
-    MakesTail old new (Err error) =
-        ((error ≡ NoMemory) ⊎ (HasTrailerLengths old (Err error) × (new.signer ≡ old.signer))
-        ⊎ FailsPart signer old.options.is_signed (tail (listed old.trailers)) old.signer error new.signer)
-        × (new ≡ record old { signer = new.signer; ready = new.ready })
+    -- the end is made, and all of the text then
+    abbrev pub MakesEnd : AwsChunkedBody F G → AwsChunkedBody F G → Result (Unit {0}) AwsChunkedBodyError → Type 0
+    MakesEnd old new (Ok _) =
+        MakesTail signer old.options old.came old.chunks new.chunks (Ok tt)
+        × (new ≡ record old { came = record old.came { phase = phase.Closed }; chunks = new.chunks })
+    MakesEnd old new (Err error) =
+        MakesTail signer old.options old.came old.chunks new.chunks (Err error) × (new ≡ record old { chunks = new.chunks })
 
   module _ (source : FrameSource.Ghosts F) where
     -- what is left of a body, where its source tells its frames
@@ -308,10 +338,24 @@ module _ {F G : Type 0} where
     abbrev pub total_of : AwsChunkedBody F G → Option ℕ
     total_of body = option_map (λ (rest : TextLeft). rest.total) (text_to_come body)
 
+    -- all trailers, once some came, with those that the frames still bring
+    abbrev pub trailers_due : AwsChunkedBody F G → Option (Option (List Trailer))
+    trailers_due body = option_map (λ (rest : TextLeft). rest.trailers) (text_to_come body)
+
+    -- all trailers that the source had left have come, and no others
+    abbrev pub HaveAllCome : AwsChunkedBody F G → AwsChunkedBody F G → Type 0
+    HaveAllCome old new = IfSome (trailers_due old) (λ trailers. new.came.trailers ≡ trailers)
+
+    -- the end of the text comes only where all trailers have come, and the data and the lines of the trailers have the declared lengths
+    abbrev pub HasLengths : AwsChunkedBody F G → Part → AwsChunkedBody F G → Type 0
+    HasLengths old (chunk piece) new = Unit {0}
+    HasLengths old (tail trailers) new = (new.came.taken ≡ new.options.stream_length) × HasTrailerLengthsIfAny new.came new.options (Ok tt) × HaveAllCome old new
+
     -- what is taken of the source is still left
     pub record KeepsText (old new : AwsChunkedBody F G) : Type 0 where
       pub rest : text_to_come new ≡ text_to_come old
       pub others : OthersStay old new
+      pub held : length (held_bytes old) ≤ length (held_bytes new)
       pub waits : source.waits old.source ≤ source.waits new.source
       pub faults : source.faults old.source ≤ source.faults new.source
 
@@ -325,44 +369,58 @@ module _ {F G : Type 0} where
     pub record TakesIdleFrames (AreSo : ℕ → Type 0) (old new : AwsChunkedBody F G) : Type 0 where
       pub frames : List FramePart
       pub taken : source.left old.source ≡ option_map (λ rest. frames ++ rest) (source.left new.source)
-      pub turns : AreSo (idle_frames old.phase frames)
+      pub turns : AreSo (idle_frames old.came.phase frames)
 
     -- a frame without data counts, and another brings some, or the source has ended
-    abbrev pub Nears : ℕ → AwsChunkedBody F G → AwsChunkedBody F G → Type 0
-    Nears idle old new =
+    abbrev pub CountsOrBrings : ℕ → AwsChunkedBody F G → AwsChunkedBody F G → Type 0
+    CountsOrBrings idle old new =
         ((idle ≡ 1) × (length (held_bytes old) ≤ length (held_bytes new)))
         ⊎ ((idle ≡ 0) × (length (held_bytes old) < length (held_bytes new)))
-        ⊎ ((idle ≡ 0) × (new.phase ≡ phase.Ended) × (length (held_bytes old) ≤ length (held_bytes new)))
+        ⊎ ((idle ≡ 0) × (new.came.phase ≡ phase.Ended) × (length (held_bytes old) ≤ length (held_bytes new)))
 
     -- frames are taken, so many of them without data, and what they bring is still left
     pub record TakesSourceFrames (frames : List FramePart) (old new : AwsChunkedBody F G) : Type 0 where
       pub keeps : KeepsText old new
       pub taken : source.left old.source ≡ option_map (λ rest. frames ++ rest) (source.left new.source)
-      pub at : (new.phase ≡ phase_after old.phase frames) ⊎ (new.phase ≡ phase.Ended)
+      pub at : (new.came.phase ≡ phase_after old.came.phase frames) ⊎ (new.came.phase ≡ phase.Ended)
       pub on : IsBodyOpen new
 
-    -- why nothing can be made
+    -- the source waited, less than a chunk is held, and data that has ended has the declared length
+    pub record HasWaited (old new : AwsChunkedBody F G) : Type 0 where
+      pub rose : RoseOrStands (source.waits old.source) (source.waits new.source)
+      pub short : length (held_bytes new) < new.options.chunk_size
+      pub compared : IsCompared new
+
+    -- the data has ended, none of it was held, of the parts only the end is left, and the data doesn't have the declared length
+    pub record LacksLength (old new : AwsChunkedBody F G) (actual expected : ℕ) : Type 0 where
+      pub counts : actual ≡ new.came.taken
+      pub declared : expected ≡ new.options.stream_length
+      pub differs : actual ≡ expected → ⊥
+      pub none_held : held_bytes old ≡ []
+      pub total : IfSome (total_of old) (λ total. total ≡ counted actual)
+      pub parts : IfSome (parts_due old) (λ parts. (trailers : List Trailer) × (parts ≡ tail trailers ∷ []))
+
+    -- why no part is at hand
     abbrev pub StopsFor : AwsChunkedBody F G → AwsChunkedBody F G → Stop → Type 0
-    StopsFor old new stop.End = ⊥
-    StopsFor old new stop.NotYet =
-        KeepsText old new × RoseOrStands (source.waits old.source) (source.waits new.source) × (length (held_bytes new) < new.options.chunk_size)
+    StopsFor old new stop.NotYet = KeepsText old new × HasWaited old new
     StopsFor old new stop.OutOfTurns = KeepsText old new
     StopsFor old new (stop.Fault SourceFault) = RoseOrStands (source.faults old.source) (source.faults new.source)
-    StopsFor old new (stop.Fault (StreamLengthMismatch actual expected)) = KeepsText old new × LacksLength new actual expected × HasEnded new
+    StopsFor old new (stop.Fault (StreamLengthMismatch actual expected)) = LacksLength old new actual expected
     StopsFor old new (stop.Fault NoMemory) = Unit {0}
     StopsFor old new (stop.Fault error) = ⊥
 
     -- a frame is taken, if the source has one, and what it brings is still left; or none is taken for a reason
     abbrev pub PullsFrame : AwsChunkedBody F G → AwsChunkedBody F G → Result ℕ Stop → Type 0
-    PullsFrame old new (Ok idle) = (frames : List FramePart) × TakesSourceFrames frames old new × (idle ≡ idle_frames old.phase frames) × Nears idle old new
+    PullsFrame old new (Ok idle) = (frames : List FramePart) × TakesSourceFrames frames old new × (idle ≡ idle_frames old.came.phase frames) × CountsOrBrings idle old new
     PullsFrame old new (Err stop.OutOfTurns) = ⊥
+    PullsFrame old new (Err (stop.Fault (StreamLengthMismatch actual expected))) = ⊥
     PullsFrame old new (Err (stop.Fault NoMemory)) = KeepsCounts old new × TakesIdleFrames (λ count. count ≤ 1) old new
     PullsFrame old new (Err why) = KeepsCounts old new × StopsFor old new why × TakesIdleFrames (λ count. count ≡ 0) old new
 
     -- frames are taken until a part can be made, and what they bring is still left; or none can be made for a reason
     abbrev pub Gathers : AwsChunkedBody F G → AwsChunkedBody F G → Result (Unit {0}) Stop → Type 0
     Gathers old new (Ok _) =
-        KeepsText old new × IsAtHand new × (0 < new.options.chunk_size) × (held_bytes new ≡ [] → new.taken ≡ new.options.stream_length)
+        KeepsText old new × IsAtHand new × (0 < new.options.chunk_size) × (held_bytes new ≡ [] → new.came.taken ≡ new.options.stream_length)
         × TakesIdleFrames (λ count. count < 65536) old new
     Gathers old new (Err why) = KeepsCounts old new × StopsFor old new why × TakesIdleFrames (AreTurns (stop_answer why)) old new
 
@@ -370,16 +428,17 @@ module _ {F G : Type 0} where
     -- the text of the first part that is due is made, with its signatures where the body is signed
     pub record MakesFirst (old new : AwsChunkedBody F G) (text : List ℕ) : Type 0 where
       pub part : Part
-      pub made : MakesPart signer old.options.is_signed part old.signer text new.signer
+      pub made : MakesPart signer old.options.is_signed part old.chunks.signer text new.chunks.signer
       pub parts : parts_due source old ≡ option_map (λ rest. part ∷ rest) (parts_due source new)
       pub total : total_of source new ≡ total_of source old
-      pub lengths : HasLengths part new
+      pub trailers : trailers_due source new ≡ trailers_due source old
+      pub lengths : HasLengths source old part new
 
     -- what a call answers: bytes of text that was made, or, where there is none, of that of the first part; where nothing comes the
     -- frames that were taken are still due; the end changes nothing
     abbrev pub AnswersFrame : AwsChunkedBody F G → AwsChunkedBody F G → Result ChunkNext AwsChunkedBodyError → Type 0
     AnswersFrame old new (Ok (Frame bytes)) = (text : List ℕ) × (text ≡ bytes ++ ready_bytes new)
-        × (((text ≡ ready_bytes old) × (new ≡ record old { ready = ready_bytes new })) ⊎ ((ready_bytes old ≡ []) × MakesFirst old new text))
+        × (((text ≡ ready_bytes old) × (new ≡ record old { chunks = record old.chunks { ready = ready_bytes new } })) ⊎ ((ready_bytes old ≡ []) × MakesFirst old new text))
     AnswersFrame old new (Ok NotYet) = KeepsText source old new
     AnswersFrame old new (Ok OutOfTurns) = KeepsText source old new
     AnswersFrame old new (Ok End) = new ≡ old
@@ -389,18 +448,18 @@ module _ {F G : Type 0} where
     abbrev pub IsFirstPart : AwsChunkedBody F G → Part → Type 0
     IsFirstPart body part = IfSome (parts_due source body) (λ parts. (rest : List Part) × (parts ≡ part ∷ rest))
 
-    -- why a call gives no more: where the lines of the trailers don't have the declared lengths, nothing was signed
+    -- why a call gives no more: of data that doesn't have the declared length all was answered; where the lines of the trailers don't
+    -- have the declared lengths nothing was signed, and what is signed at the end has all lengths
     abbrev pub Causes : AwsChunkedBody F G → AwsChunkedBody F G → Result ChunkNext AwsChunkedBodyError → Type 0
-    Causes old new (Ok NotYet) =
-        RoseOrStands (source.waits old.source) (source.waits new.source) × (length (held_bytes new) < new.options.chunk_size)
+    Causes old new (Ok NotYet) = HasWaited source old new
     Causes old new (Err SourceFault) = RoseOrStands (source.faults old.source) (source.faults new.source)
-    Causes old new (Err (StreamLengthMismatch actual expected)) =
-        LacksLength new actual expected × IfSome (total_of source old) (λ total. total ≡ counted actual)
+    Causes old new (Err (StreamLengthMismatch actual expected)) = (ready_bytes old ≡ []) × LacksLength source old new actual expected
     Causes old new (Err (ReportedTrailerLengthMismatch actual expected)) =
-        HasTrailerLengths new (Err (ReportedTrailerLengthMismatch actual expected)) × (new.taken ≡ new.options.stream_length)
-        × IsFirstPart old (tail (listed new.trailers)) × (new.signer ≡ old.signer)
+        HasTrailerLengthsIfAny new.came new.options (Err (ReportedTrailerLengthMismatch actual expected)) × (new.came.taken ≡ new.options.stream_length)
+        × HaveAllCome source old new × IsFirstPart old (tail (listed new.came.trailers)) × (new.chunks.signer ≡ old.chunks.signer)
     Causes old new (Err (FailedToSign why)) =
-        (part : Part) × FailsPart signer old.options.is_signed part old.signer (FailedToSign why) new.signer × IsFirstPart old part
+        (part : Part) × FailsPart signer old.options.is_signed part old.chunks.signer (FailedToSign why) new.chunks.signer × IsFirstPart old part
+        × HasLengths source old part new
     Causes old new result = Unit {0}
 
     -- what a call takes of its source, and why it gives no more
@@ -408,10 +467,9 @@ module _ {F G : Type 0} where
     HasCause old new result = KeepsCounts source old new × Causes old new result
 
     -- some text is ready, or none can be made for a reason
-    abbrev pub Readies : AwsChunkedBody F G → AwsChunkedBody F G → Result (Unit {0}) Stop → Type 0
-    Readies old new (Ok _) =
+    abbrev pub HasTextOrStops : AwsChunkedBody F G → AwsChunkedBody F G → Result (Unit {0}) Stop → Type 0
+    HasTextOrStops old new (Ok _) =
         KeepsCounts source old new × (0 < length (ready_bytes new)) × TakesIdleFrames source (λ count. count < 65536) old new
         × ((new ≡ old) ⊎ ((ready_bytes old ≡ []) × MakesFirst old new (ready_bytes new)))
-    Readies old new (Err stop.End) = (new ≡ old) × IsBodyClosed new
-    Readies old new (Err (stop.Fault error)) = HasCause old new (Err error) × TakesIdleFrames source (AreTurns (Err error)) old new
-    Readies old new (Err why) = KeepsText source old new × HasCause old new (stop_answer why) × TakesIdleFrames source (AreTurns (stop_answer why)) old new
+    HasTextOrStops old new (Err (stop.Fault error)) = HasCause old new (Err error) × TakesIdleFrames source (AreTurns (Err error)) old new
+    HasTextOrStops old new (Err why) = KeepsText source old new × HasCause old new (stop_answer why) × TakesIdleFrames source (AreTurns (stop_answer why)) old new

@@ -1,10 +1,10 @@
 -- What a whole text says, and where bytes stop being one.
-use Rattle.std.specs.Prelude.{◌≡◌, ℕ, ◌+◌, ◌<◌, ◌⊎◌, Bool, true, false, List, [], ◌∷◌, ◌++◌, length, take, map, All, IsTrue, Option, Some, None, Result, Ok, Err, string_bytes, IsUtf8, codes}
+use Rattle.std.specs.Prelude.{◌≡◌, ℕ, ◌+◌, ◌<◌, ◌⊎◌, Bool, true, false, List, [], ◌∷◌, ◌++◌, length, take, map, IsTrue, Option, Some, None, Result, Ok, Err, string_bytes, IsUtf8, codes}
 use Rattle.std.specs.Fmt.{decimal}
 use Rattle.std.specs.List.{AllByRecursion}
 use Rattle.smithy_core.specs.HeaderGrammar.{IsHeaderName, IsHeaderValue}
 use Rattle.smithy_core.specs.TextPairs.{lower}
-use Rattle.sigv4.specs.Signature.{is_lower_digit}
+use Rattle.sigv4.specs.Signature.{is_signature}
 use Rattle.aws_chunked.specs.Body.{Trailer}
 use Rattle.aws_chunked.specs.Options.{IsChunkSize}
 use Rattle.aws_chunked.specs.Signing.{has_signature}
@@ -17,7 +17,7 @@ use Rattle.aws_chunked.specs.declared.decode.Decoded.{Decoded}
 
 -- 64 hexadecimal digits in lower case
 abbrev pub IsSignature : List ℕ → Type 0
-IsSignature text = (length text ≡ 64) × All (λ byte. IsTrue (is_lower_digit byte)) text
+IsSignature text = IsTrue (is_signature text)
 
 -- a header with its name in lower case
 abbrev pub IsTrailer : Trailer → Type 0
@@ -85,6 +85,11 @@ IsOnly bytes decoded = (body : List ℕ) (signatures : List (List ℕ)) (trailer
 abbrev pub DecodesOnly : List ℕ → Result Decoded DecodeFault → Type 0
 DecodesOnly bytes (Ok decoded) = IsOnly bytes decoded
 DecodesOnly bytes (Err fault) = Unit {0}
+
+-- the same data, signatures and trailers
+abbrev pub IsSameDecoded : Decoded → Decoded → Type 0
+IsSameDecoded decoded copy =
+    (copy.body ≡ decoded.body) × (map string_bytes copy.signatures.items ≡ map string_bytes decoded.signatures.items) × (copy.trailers ≡ decoded.trailers)
 
 -- what a fault is printed as
 abbrev pub decode_fault_text : DecodeFault → List ℕ

@@ -64,12 +64,12 @@ module _ {F G : Type 0} (source : FrameSource.Ghosts F) (signer : SignChunk.Ghos
   -- the text that is due of a body, where its source tells its frames and, of a signed one, its signer signs over a signature at a
   -- moment in the years
   unfoldable pub due : AwsChunkedBody F G → Option (List ℕ)
-  due body = text_due (writing body.options.is_signed (told_of_chunks signer body.signer)) (ready_bytes body) (parts_due source body)
+  due body = text_due (writing body.options.is_signed (told_of_chunks signer body.chunks.signer)) (ready_bytes body) (parts_due source body)
 
   -- of a signed body that had taken nothing, once it has such a signer, the signed text of the data before the first trailers and of
   -- the trailers is due
   abbrev pub StartsSealed : AwsChunkedBody F G → AwsChunkedBody F G → Type 0
   StartsSealed old new = (from : F) (options : Options) (before : List ℕ) (who : Signer) (t : Instant)
-      → IsNewBody from options old → options.is_signed ≡ true → told_of_chunks signer new.signer ≡ sealed before who t → IsTrue (is_in_years t)
+      → IsNewBody from options old → options.is_signed ≡ true → told_of_chunks signer new.chunks.signer ≡ sealed before who t → IsTrue (is_in_years t)
       → due new
       ≡ option_map (λ frames. sealed_chunked_text who t before options.chunk_size (data_before frames) (listed (trailers_from None frames))) (source.left from)

@@ -5,9 +5,10 @@ use Rattle.smithy_core.specs.Outside.{RoseOrStands}
 use Rattle.smithy_core.specs.declared.outside.frame_part.FramePart.{FramePart}
 use Rattle.smithy_core.specs.declared.outside.frame_part.FramePart.TheVariants as frame
 use Rattle.smithy_core.specs.declared.outside.frame_source.FrameSource as FrameSource
-use Rattle.aws_chunked.specs.Body.{AreTurns, MayReadOn, HasLength, Trailer, stop_answer, data_left, idle_frames, lines_length, listed, phase_after, trailers_left}
-use Rattle.aws_chunked.specs.Options.{counted, declared_length}
+use Rattle.aws_chunked.specs.Body.{AreTurns, HasLength, HasTrailerLengthsAlways, IsCompared, MayReadOn, Trailer, stop_answer, data_left, idle_frames, listed, phase_after, trailers_left}
+use Rattle.aws_chunked.specs.Options.{Options, counted}
 use Rattle.aws_chunked.specs.Text.{crlf, head_text, trailer_line}
+use Rattle.aws_chunked.specs.declared.arrivals.Arrivals.{Arrivals}
 use Rattle.aws_chunked.specs.declared.body.AwsChunkedBody.{AwsChunkedBody}
 use Rattle.aws_chunked.specs.declared.body.ChunkNext.{ChunkNext}
 use Rattle.aws_chunked.specs.declared.body.ChunkNext.TheVariants.{Frame, NotYet, OutOfTurns, End}
@@ -15,10 +16,10 @@ use Rattle.aws_chunked.specs.declared.error.AwsChunkedBodyError.{AwsChunkedBodyE
 use Rattle.aws_chunked.specs.declared.error.AwsChunkedBodyError.TheVariants.{FailedToSign, NoMemory, ReportedTrailerLengthMismatch, SourceFault, StreamLengthMismatch}
 use Rattle.aws_chunked.specs.declared.phase.Phase.{Phase}
 use Rattle.aws_chunked.specs.declared.phase.Phase.TheVariants as phase
-use Rattle.aws_chunked.specs.declared.sent.Sent.{Sent}
-use Rattle.aws_chunked.specs.declared.sent.Sent.TheVariants as sent
+use Rattle.aws_chunked.specs.declared.piece_engine.PieceEngine.{PieceEngine}
+use Rattle.aws_chunked.specs.declared.piece_engine.Sent.{Sent}
+use Rattle.aws_chunked.specs.declared.piece_engine.Sent.TheVariants as sent
 use Rattle.aws_chunked.specs.declared.stop.Stop.{Stop}
-use Rattle.aws_chunked.specs.declared.stop.Stop.TheVariants as stop
 
 -- ## The text
 
@@ -83,15 +84,15 @@ pieces_to_come was phase.Closed n kept frames = []
 pieces_to_come was at n kept frames = pieces_of was n (filled_left at frames) (listed (trailers_left at kept frames))
 
 -- how many frames without data a step takes
-abbrev pub AreFew : Result ChunkNext AwsChunkedBodyError → ℕ → Type 0
-AreFew (Ok OutOfTurns) count = ⊥
-AreFew (Err NoMemory) count = count ≤ 1
-AreFew result count = count ≡ 0
+abbrev pub AreIdleInStep : Result ChunkNext AwsChunkedBodyError → ℕ → Type 0
+AreIdleInStep (Ok OutOfTurns) count = ⊥
+AreIdleInStep (Err NoMemory) count = count ≤ 1
+AreIdleInStep result count = count ≡ 0
 
 -- it takes none
-abbrev pub AreNone : Result ChunkNext AwsChunkedBodyError → ℕ → Type 0
-AreNone (Ok OutOfTurns) count = ⊥
-AreNone result count = count ≡ 0
+abbrev pub AreNoneTaken : Result ChunkNext AwsChunkedBodyError → ℕ → Type 0
+AreNoneTaken (Ok OutOfTurns) count = ⊥
+AreNoneTaken result count = count ≡ 0
 
 -- the data may have another length than declared where this is the next piece: at the end of the data, and, where none was declared,
 -- at the first
@@ -101,63 +102,52 @@ MayLack (passed bytes) expected = expected ≡ 0
 MayLack empty_chunk expected = Unit {0}
 MayLack (last_lines trailers) expected = Unit {0}
 
+-- ## The engine
+
+-- the end of the data is made, where it has the declared length, or it is told which one it has
+abbrev pub MakesEmptyChunk : Options → Arrivals → PieceEngine → PieceEngine → Result (List ℕ) AwsChunkedBodyError → Type 0
+MakesEmptyChunk options came old new (Ok bytes) =
+    (bytes ≡ piece_text empty_chunk) × HasLength came options (Ok tt) × (new ≡ record { sent = sent.EmptyChunk })
+MakesEmptyChunk options came old new (Err error) = HasLength came options (Err error) × (new ≡ old)
+
+-- the trailers are made, where all lengths are the declared ones, or there are none for a reason
+abbrev pub MakesLastLines : Options → Arrivals → Result (List ℕ) AwsChunkedBodyError → Type 0
+MakesLastLines options came (Ok bytes) =
+    (bytes ≡ piece_text (last_lines (listed came.trailers))) × HasLength came options (Ok tt) × HasTrailerLengthsAlways came options (Ok tt)
+MakesLastLines options came (Err error) =
+    (error ≡ NoMemory) ⊎ HasLength came options (Err error) ⊎ (HasLength came options (Ok tt) × HasTrailerLengthsAlways came options (Err error))
+
+-- a piece of data is counted and passed on, or has nothing to pass on, or may not come where none is declared
+abbrev pub PassesDataOn : Options → Arrivals → Arrivals → List ℕ → Result (Option (List ℕ)) AwsChunkedBodyError → Type 0
+PassesDataOn options old new piece (Ok None) = (old.phase ≡ phase.Data → piece ≡ []) × (new ≡ old)
+PassesDataOn options old new piece (Ok (Some bytes)) = (bytes ≡ piece) × (old.phase ≡ phase.Data) × (0 < length piece) × (0 < options.stream_length)
+    × (new ≡ record old { taken = counted (old.taken + length piece) })
+PassesDataOn options old new piece (Err error) = (old.phase ≡ phase.Data) × (0 < length piece) × (options.stream_length ≡ 0) × HasLength new options (Err error)
+    × (new ≡ record old { taken = counted (old.taken + length piece) })
+
 -- ## A body
 
 module _ {F G : Type 0} where
   -- the pieces that aren't answered yet of a body whose source has these frames left
   abbrev pub pieces_with : AwsChunkedBody F G → List FramePart → List Piece
-  pieces_with body frames = pieces_to_come body.sent body.phase body.options.stream_length body.trailers frames
+  pieces_with body frames = pieces_to_come body.pieces.sent body.came.phase body.options.stream_length body.came.trailers frames
 
-  -- the line of the declared length was answered, and more frames are to be taken
+  -- the line of the declared length was answered, data that has ended has that length, and more frames are to be taken
   abbrev pub AsksSource : AwsChunkedBody F G → Type 0
-  AsksSource body = MayReadOn body × (body.sent ≡ sent.Nothing → ⊥)
-
-  -- the lines of the trailers, of which there are none where none came, have the declared lengths, or it is told which one they have
-  abbrev pub HasLineLengths : AwsChunkedBody F G → Result (Unit {0}) AwsChunkedBodyError → Type 0
-  HasLineLengths body (Ok _) = counted (lines_length (listed body.trailers)) ≡ counted (declared_length body.options.trailer_lengths)
-  HasLineLengths body (Err error) =
-      (error ≡ ReportedTrailerLengthMismatch (counted (lines_length (listed body.trailers))) (counted (declared_length body.options.trailer_lengths)))
-      × (counted (lines_length (listed body.trailers)) ≡ counted (declared_length body.options.trailer_lengths) → ⊥)
+  AsksSource body = MayReadOn body × (body.pieces.sent ≡ sent.Nothing → ⊥) × IsCompared body
 
   -- data is passed on only where some is declared, its end comes only where it has the declared length, and the trailers where their
   -- lines have theirs too
   abbrev pub FitsPiece : Piece → AwsChunkedBody F G → Type 0
   FitsPiece (length_line n) body = Unit {0}
   FitsPiece (passed bytes) body = 0 < body.options.stream_length
-  FitsPiece empty_chunk body = body.taken ≡ body.options.stream_length
-  FitsPiece (last_lines trailers) body = (body.taken ≡ body.options.stream_length) × HasLineLengths body (Ok tt)
-
-  -- the end of the data is made, where it has the declared length, or it is told which one it has
-  abbrev pub MakesEmptyChunk : AwsChunkedBody F G → AwsChunkedBody F G → Result (List ℕ) AwsChunkedBodyError → Type 0
-  MakesEmptyChunk old new (Ok bytes) =
-      (bytes ≡ piece_text empty_chunk) × HasLength old (Ok tt) × (new ≡ record old { sent = sent.EmptyChunk })
-  MakesEmptyChunk old new (Err error) = HasLength old (Err error) × (new ≡ old)
-
-  -- the trailers are made, where all lengths are the declared ones, or there are none for a reason
-  abbrev pub MakesLastLines : AwsChunkedBody F G → AwsChunkedBody F G → Result (List ℕ) AwsChunkedBodyError → Type 0
-  MakesLastLines old new (Ok bytes) =
-      (bytes ≡ piece_text (last_lines (listed old.trailers))) × HasLength old (Ok tt) × HasLineLengths old (Ok tt) × (new ≡ record old { phase = phase.Closed })
-  MakesLastLines old new (Err error) =
-      ((error ≡ NoMemory) ⊎ HasLength old (Err error) ⊎ (HasLength old (Ok tt) × HasLineLengths old (Err error))) × (new ≡ old)
-
-  -- a piece of data is counted and passed on, or has nothing to pass on, or may not come where none is declared
-  abbrev pub PassesData : AwsChunkedBody F G → AwsChunkedBody F G → List ℕ → Result (Option (List ℕ)) AwsChunkedBodyError → Type 0
-  PassesData old new piece (Ok None) = (old.phase ≡ phase.Data → piece ≡ []) × (new ≡ old)
-  PassesData old new piece (Ok (Some bytes)) = (bytes ≡ piece) × (old.phase ≡ phase.Data) × (0 < length piece) × (0 < old.options.stream_length)
-      × (new ≡ record old { taken = counted (old.taken + length piece) })
-  PassesData old new piece (Err error) = (old.phase ≡ phase.Data) × (0 < length piece) × (old.options.stream_length ≡ 0) × HasLength new (Err error)
-      × (new ≡ record old { taken = counted (old.taken + length piece) })
-
-  -- a body after a stop: it is closed where nothing more comes
-  abbrev pub after_stop : Stop → AwsChunkedBody F G → AwsChunkedBody F G
-  after_stop stop.NotYet body = body
-  after_stop stop.OutOfTurns body = body
-  after_stop _ body = record body { phase = phase.Closed; ready = [] }
+  FitsPiece empty_chunk body = body.came.taken ≡ body.options.stream_length
+  FitsPiece (last_lines trailers) body = (body.came.taken ≡ body.options.stream_length) × HasTrailerLengthsAlways body.came body.options (Ok tt)
 
   -- only the source, the data's count and the trailers change, and how far the body and its text have come
   abbrev pub OthersPass : AwsChunkedBody F G → AwsChunkedBody F G → Type 0
   OthersPass old new =
-      new ≡ record old { source = new.source; phase = new.phase; sent = new.sent; taken = new.taken; trailers = new.trailers; ready = new.ready }
+      new ≡ record old { source = new.source; came = new.came; pieces = new.pieces; chunks = record old.chunks { ready = new.chunks.ready } }
 
   module _ (source : FrameSource.Ghosts F) where
     -- the pieces that aren't answered yet, where the source tells its frames
@@ -174,57 +164,57 @@ module _ {F G : Type 0} where
         × (pieces_due old ≡ option_map (λ rest. piece ∷ rest) (pieces_due new)) × FitsPiece piece new
     TakesPiece old new (Ok NotYet) = pieces_due new ≡ pieces_due old
     TakesPiece old new (Ok OutOfTurns) = pieces_due new ≡ pieces_due old
-    TakesPiece old new (Ok End) = (pieces_due new ≡ pieces_due old) × (old.phase ≡ phase.Closed)
+    TakesPiece old new (Ok End) = (pieces_due new ≡ pieces_due old) × (old.came.phase ≡ phase.Closed)
     TakesPiece old new (Err error) = Unit {0}
 
     -- why a call passes no more on
-    abbrev pub PassCauses : AwsChunkedBody F G → AwsChunkedBody F G → Result ChunkNext AwsChunkedBodyError → Type 0
-    PassCauses old new (Ok NotYet) = RoseOrStands (source.waits old.source) (source.waits new.source)
-    PassCauses old new (Err SourceFault) = RoseOrStands (source.faults old.source) (source.faults new.source)
-    PassCauses old new (Err (StreamLengthMismatch actual expected)) =
-        (actual ≡ new.taken) × (expected ≡ new.options.stream_length) × (actual ≡ expected → ⊥)
+    abbrev pub PieceCauses : AwsChunkedBody F G → AwsChunkedBody F G → Result ChunkNext AwsChunkedBodyError → Type 0
+    PieceCauses old new (Ok NotYet) = RoseOrStands (source.waits old.source) (source.waits new.source) × IsCompared new
+    PieceCauses old new (Err SourceFault) = RoseOrStands (source.faults old.source) (source.faults new.source)
+    PieceCauses old new (Err (StreamLengthMismatch actual expected)) =
+        (actual ≡ new.came.taken) × (expected ≡ new.options.stream_length) × (actual ≡ expected → ⊥)
         × (piece : Piece) × MayLack piece expected × IsNextPiece old piece
-    PassCauses old new (Err (ReportedTrailerLengthMismatch actual expected)) =
-        HasLineLengths new (Err (ReportedTrailerLengthMismatch actual expected)) × (new.taken ≡ new.options.stream_length)
-        × IsNextPiece old (last_lines (listed new.trailers))
-    PassCauses old new (Err (FailedToSign why)) = ⊥
-    PassCauses old new result = Unit {0}
+    PieceCauses old new (Err (ReportedTrailerLengthMismatch actual expected)) =
+        HasTrailerLengthsAlways new.came new.options (Err (ReportedTrailerLengthMismatch actual expected)) × (new.came.taken ≡ new.options.stream_length)
+        × IsNextPiece old (last_lines (listed new.came.trailers))
+    PieceCauses old new (Err (FailedToSign why)) = ⊥
+    PieceCauses old new result = Unit {0}
 
     -- frames are taken, so many of them have no data, and the data of all of them is counted
-    pub record PassesFrames (AreSo : ℕ → Type 0) (old new : AwsChunkedBody F G) : Type 0 where
+    pub record TakesCountedFrames (AreSo : ℕ → Type 0) (old new : AwsChunkedBody F G) : Type 0 where
       pub frames : List FramePart
       pub taken : source.left old.source ≡ option_map (λ rest. frames ++ rest) (source.left new.source)
-      pub turns : AreSo (idle_frames old.phase frames)
-      pub data_count : counted new.taken ≡ counted (old.taken + length (data_left old.phase frames))
+      pub turns : AreSo (idle_frames old.came.phase frames)
+      pub data_count : counted new.came.taken ≡ counted (old.came.taken + length (data_left old.came.phase frames))
 
     -- what is counted of the source never falls; nothing is signed, and the rest stays
-    pub record PassKeeps (old new : AwsChunkedBody F G) : Type 0 where
+    pub record KeepsCountsUnsigned (old new : AwsChunkedBody F G) : Type 0 where
       pub waits : source.waits old.source ≤ source.waits new.source
       pub faults : source.faults old.source ≤ source.faults new.source
       pub others : OthersPass old new
 
     -- a step, with so many frames without data
-    pub record PassesOn (AreSo : ℕ → Type 0) (old new : AwsChunkedBody F G) (result : Result ChunkNext AwsChunkedBodyError) : Type 0 where
+    pub record AnswersStep (AreSo : ℕ → Type 0) (old new : AwsChunkedBody F G) (result : Result ChunkNext AwsChunkedBodyError) : Type 0 where
       pub takes : TakesPiece old new result
-      pub cause : PassCauses old new result
-      pub turns : PassesFrames AreSo old new
-      pub keeps : PassKeeps old new
+      pub cause : PieceCauses old new result
+      pub turns : TakesCountedFrames AreSo old new
+      pub keeps : KeepsCountsUnsigned old new
 
     -- so many frames without data are taken, and what is due stays
-    pub record Idles (count : ℕ) (old new : AwsChunkedBody F G) : Type 0 where
+    pub record TakesOnlyIdleFrames (count : ℕ) (old new : AwsChunkedBody F G) : Type 0 where
       pub due : pieces_due new ≡ pieces_due old
-      pub turns : PassesFrames (λ n. n ≡ count) old new
-      pub at : new.phase ≡ phase_after old.phase turns.frames
-      pub keeps : PassKeeps old new
-      pub same : new.sent ≡ old.sent
+      pub turns : TakesCountedFrames (λ n. n ≡ count) old new
+      pub at : new.came.phase ≡ phase_after old.came.phase turns.frames
+      pub keeps : KeepsCountsUnsigned old new
+      pub same : new.pieces.sent ≡ old.pieces.sent
 
     -- a piece goes out, or there is none for a reason, or else more frames are to be taken
     abbrev pub Steps : Type 0 → (Result ChunkNext AwsChunkedBodyError → ℕ → Type 0) → AwsChunkedBody F G → AwsChunkedBody F G → Result (Option (List ℕ)) Stop → Type 0
     Steps More AreSo old new (Ok None) = More
-    Steps More AreSo old new (Ok (Some bytes)) = PassesOn (AreSo (Ok (Frame bytes))) old new (Ok (Frame bytes))
-    Steps More AreSo old new (Err why) = PassesOn (AreSo (stop_answer why)) old new (stop_answer why)
+    Steps More AreSo old new (Ok (Some bytes)) = AnswersStep (AreSo (Ok (Frame bytes))) old new (Ok (Frame bytes))
+    Steps More AreSo old new (Err why) = AnswersStep (AreSo (stop_answer why)) old new (stop_answer why)
 
     -- a piece goes out, or there is none for a reason
-    abbrev pub Passes : AwsChunkedBody F G → AwsChunkedBody F G → Result (List ℕ) Stop → Type 0
-    Passes old new (Ok bytes) = PassesOn (AreTurns (Ok (Frame bytes))) old new (Ok (Frame bytes))
-    Passes old new (Err why) = PassesOn (AreTurns (stop_answer why)) old new (stop_answer why)
+    abbrev pub AnswersPiece : AwsChunkedBody F G → AwsChunkedBody F G → Result (List ℕ) Stop → Type 0
+    AnswersPiece old new (Ok bytes) = AnswersStep (AreTurns (Ok (Frame bytes))) old new (Ok (Frame bytes))
+    AnswersPiece old new (Err why) = AnswersStep (AreTurns (stop_answer why)) old new (stop_answer why)

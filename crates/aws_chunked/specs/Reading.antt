@@ -6,8 +6,8 @@ use Rattle.std.specs.Int.{is_in_range}
 use Rattle.std.specs.declared.alloc.Global.{Global}
 use Rattle.aws_chunked.specs.Decoded.{CanGoOn, IsSignature}
 use Rattle.aws_chunked.specs.Text.{length_text}
-use Rattle.aws_chunked.specs.declared.decode.fault.ReadFault.{ReadFault}
-use Rattle.aws_chunked.specs.declared.decode.fault.ReadFault.TheVariants.{Bad, NoMemory}
+use Rattle.aws_chunked.specs.declared.decode.fault.PartFault.{PartFault}
+use Rattle.aws_chunked.specs.declared.decode.fault.PartFault.TheVariants.{Bad, NoMemory}
 
 -- ## Where reading stops
 
@@ -26,13 +26,13 @@ Stops IsWord Is bytes left =
     (front back : List ℕ) × (bytes ≡ front ++ back) × (length back ≡ left) × CanGoOn IsWord front × RefusesNext Is front back
 
 -- what a fault tells of bytes: where they stop, but where memory ran out
-abbrev pub TellsWhere : (List ℕ → Type 0) → (List ℕ → Type 0) → List ℕ → ReadFault → Type 0
+abbrev pub TellsWhere : (List ℕ → Type 0) → (List ℕ → Type 0) → List ℕ → PartFault → Type 0
 TellsWhere IsWord Is bytes (Bad left) = Stops IsWord Is bytes left
 TellsWhere IsWord Is bytes NoMemory = Unit {0}
 
 -- ## Fixed bytes
 
-abbrev pub Expects : List ℕ → List ℕ → Result (Bor (List ℕ)) ReadFault → Type 0
+abbrev pub Expects : List ℕ → List ℕ → Result (Bor (List ℕ)) PartFault → Type 0
 Expects wanted bytes (Ok rest) = bytes ≡ wanted ++ rest.now
 Expects wanted bytes (Err fault) = TellsWhere (λ word. word ≡ wanted) (Led (λ word. word ≡ wanted)) bytes fault
 
@@ -65,16 +65,16 @@ abbrev pub BeginsOther : List ℕ → Type 0
 BeginsOther [] = ⊥
 BeginsOther (byte ∷ bytes) = is_length_digit byte ≡ false
 
-abbrev pub ReadsFirstDigit : ℕ → List ℕ → Result (ℕ × Bor (List ℕ)) ReadFault → Type 0
+abbrev pub ReadsFirstDigit : ℕ → List ℕ → Result (ℕ × Bor (List ℕ)) PartFault → Type 0
 ReadsFirstDigit most bytes (Ok (digit, rest)) = (digit < 16) × (digit ≤ most) × (bytes ≡ length_text digit ++ rest.now)
 ReadsFirstDigit most bytes (Err fault) = TellsWhere (IsLength most) (Led (IsEndedLength most)) bytes fault
 
-abbrev pub ReadsLength : ℕ → List ℕ → Result (ℕ × Bor (List ℕ)) ReadFault → Type 0
+abbrev pub ReadsLength : ℕ → List ℕ → Result (ℕ × Bor (List ℕ)) PartFault → Type 0
 ReadsLength most bytes (Ok (n, rest)) = (n ≤ most) × (bytes ≡ length_text n ++ rest.now) × BeginsOther rest.now
 ReadsLength most bytes (Err fault) = TellsWhere (IsLength most) (Led (IsEndedLength most)) bytes fault
 
 -- ## Signatures
 
-abbrev pub ReadsSignature : List ℕ → Result (String Global × Bor (List ℕ)) ReadFault → Type 0
+abbrev pub ReadsSignature : List ℕ → Result (String Global × Bor (List ℕ)) PartFault → Type 0
 ReadsSignature bytes (Ok (text, rest)) = IsSignature (string_bytes text) × (bytes ≡ string_bytes text ++ rest.now)
 ReadsSignature bytes (Err fault) = TellsWhere IsSignature (Led IsSignature) bytes fault

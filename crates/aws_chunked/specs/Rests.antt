@@ -10,7 +10,7 @@ use Rattle.aws_chunked.specs.Signing.{has_signature}
 use Rattle.aws_chunked.specs.Text.{crlf, last_line, length_text, signature_text, trailer_line}
 use Rattle.aws_chunked.specs.declared.decode.Decoded.{Decoded}
 use Rattle.aws_chunked.specs.declared.decode.chunks.Chunks.{Chunks}
-use Rattle.aws_chunked.specs.declared.decode.fault.ReadFault.{ReadFault}
+use Rattle.aws_chunked.specs.declared.decode.fault.PartFault.{PartFault}
 
 -- ## What texts say
 
@@ -123,7 +123,7 @@ WholeSays = LengthThen 4294967295 FirstRest
 -- ## Calls
 
 -- what stands behind a length is read
-abbrev pub ReadsHeadEnd : List ℕ → Chunks → Chunks → Result (Bor (List ℕ)) ReadFault → Type 0
+abbrev pub ReadsHeadEnd : List ℕ → Chunks → Chunks → Result (Bor (List ℕ)) PartFault → Type 0
 ReadsHeadEnd bytes old new (Ok rest) =
     (signature : Option (List ℕ)) × IsSignedBy old.is_signed signature × (bytes ≡ (signature_text signature ++ crlf) ++ rest.now)
     × (signature_texts new.signatures.items ≡ signature_texts old.signatures.items ++ one_or_none signature)
@@ -131,26 +131,26 @@ ReadsHeadEnd bytes old new (Ok rest) =
 ReadsHeadEnd bytes old new (Err fault) = TellsWhere (IsHeadEnd old.is_signed) (Led (IsHeadEnd old.is_signed)) bytes fault
 
 -- data of this length is read, and the end of its line
-abbrev pub ReadsData : ℕ → List ℕ → List ℕ → List ℕ → Result (Bor (List ℕ)) ReadFault → Type 0
+abbrev pub ReadsData : ℕ → List ℕ → List ℕ → List ℕ → Result (Bor (List ℕ)) PartFault → Type 0
 ReadsData n bytes old new (Ok rest) = (piece : List ℕ) × (length piece ≡ n) × (bytes ≡ (piece ++ crlf) ++ rest.now) × (new ≡ old ++ piece)
 ReadsData n bytes old new (Err fault) = TellsWhere (IsData n) (Led (IsData n)) bytes fault
 
 -- chunks are read up to the tail
-abbrev pub ReadsChunks : List ℕ → Result (Chunks × Bor (List ℕ)) ReadFault → Type 0
+abbrev pub ReadsChunks : List ℕ → Result (Chunks × Bor (List ℕ)) PartFault → Type 0
 ReadsChunks bytes (Ok (chunks, rest)) =
     (front : List ℕ) × (bytes ≡ front ++ rest.now)
     × FollowsFront IsTextOf (TailSays chunks.is_signed) chunks.body.items (signature_texts chunks.signatures.items) front rest.now
 ReadsChunks bytes (Err fault) = TellsWhere (Said IsTextOf) (Said IsTextOf) bytes fault
 
 -- the tail is read: it is one of these trailers with these signatures, and of no others
-abbrev pub ReadsTail : Bool → List ℕ → List (List ℕ) → List (List ℕ) → Result (List Trailer) ReadFault → Type 0
+abbrev pub ReadsTail : Bool → List ℕ → List (List ℕ) → List (List ℕ) → Result (List Trailer) PartFault → Type 0
 ReadsTail is_signed bytes old new (Ok trailers) =
     (signatures : List (List ℕ)) × (new ≡ old ++ signatures) × IsTail is_signed signatures trailers bytes
     × ((s : List (List ℕ)) (t : List Trailer) → IsTail is_signed s t bytes → (s ≡ signatures) × (t ≡ trailers))
 ReadsTail is_signed bytes old new (Err fault) = TellsWhere (Said (TailSays is_signed)) (Said (TailSays is_signed)) bytes fault
 
 -- the whole is read: it is the text of what is answered, and of nothing else
-abbrev pub ReadsWhole : List ℕ → Result Decoded ReadFault → Type 0
+abbrev pub ReadsWhole : List ℕ → Result Decoded PartFault → Type 0
 ReadsWhole bytes (Ok decoded) =
     IsTextOf decoded.body (map string_bytes decoded.signatures.items) decoded.trailers bytes × IsOnly bytes decoded
 ReadsWhole bytes (Err fault) = TellsWhere IsText IsText bytes fault

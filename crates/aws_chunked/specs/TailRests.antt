@@ -14,7 +14,7 @@ use Rattle.aws_chunked.specs.Reading.{Led, TellsWhere}
 use Rattle.aws_chunked.specs.Rests.{IsSignedBy, Said, TailSays, begins_with}
 use Rattle.aws_chunked.specs.Signing.{has_signature}
 use Rattle.aws_chunked.specs.Text.{crlf, trailer_line}
-use Rattle.aws_chunked.specs.declared.decode.fault.ReadFault.{ReadFault}
+use Rattle.aws_chunked.specs.declared.decode.fault.PartFault.{PartFault}
 
 -- a byte of a name in lower case
 abbrev pub is_name_byte : ℕ → Bool
@@ -42,7 +42,7 @@ EndsRun test [] = Unit {0}
 EndsRun test (byte ∷ bytes) = test byte ≡ false
 
 -- a name is read, and the colon behind it
-abbrev pub ReadsName : List ℕ → Result (Bor (List ℕ) × Bor (List ℕ)) ReadFault → Type 0
+abbrev pub ReadsName : List ℕ → Result (Bor (List ℕ) × Bor (List ℕ)) PartFault → Type 0
 ReadsName bytes (Ok (name, rest)) = IsHeaderName name.now × (lower name.now ≡ name.now) × (bytes ≡ name.now ++ codes ":" ++ rest.now)
 ReadsName bytes (Err fault) = TellsWhere IsNamePart (Led IsNamePart) bytes fault
 
@@ -55,17 +55,17 @@ pub record IsLongestFront (value : List ℕ) (n : ℕ) : Type 0 where
   pub stops : n < length value → (behind : List ℕ) → IsUtf8 ((take n value ++ slice_index value n ∷ []) ++ behind) → ⊥
 
 -- a value is read, behind which no byte of one stands
-abbrev pub ReadsValue : List ℕ → Result (Bor (List ℕ) × Bor (List ℕ)) ReadFault → Type 0
+abbrev pub ReadsValue : List ℕ → Result (Bor (List ℕ) × Bor (List ℕ)) PartFault → Type 0
 ReadsValue bytes (Ok (value, rest)) = IsUtf8 value.now × IsHeaderValue value.now × (bytes ≡ value.now ++ rest.now) × EndsRun is_value_byte rest.now
 ReadsValue bytes (Err fault) = TellsWhere IsValuePart (Led IsValuePart) bytes fault
 
 -- a trailer's line is read
-abbrev pub ReadsLine : List ℕ → Result ((Bor (List ℕ) × Bor (List ℕ)) × Bor (List ℕ)) ReadFault → Type 0
+abbrev pub ReadsLine : List ℕ → Result ((Bor (List ℕ) × Bor (List ℕ)) × Bor (List ℕ)) PartFault → Type 0
 ReadsLine bytes (Ok (line, rest)) = IsTrailer (pair_texts line) × (bytes ≡ trailer_line (pair_texts line) ++ rest.now)
 ReadsLine bytes (Err fault) = TellsWhere IsLine (Led IsLine) bytes fault
 
 -- lines of trailers are read, up to a line that begins with a CR
-abbrev pub ReadsLines : List ℕ → Result (Vec (Bor (List ℕ) × Bor (List ℕ)) Global × Bor (List ℕ)) ReadFault → Type 0
+abbrev pub ReadsLines : List ℕ → Result (Vec (Bor (List ℕ) × Bor (List ℕ)) Global × Bor (List ℕ)) PartFault → Type 0
 ReadsLines bytes (Ok (lines, rest)) =
     AllByRecursion IsTrailer (map pair_texts lines.items) × (bytes ≡ flat_map trailer_line (map pair_texts lines.items) ++ rest.now)
     × IsTrue (begins_with 13 rest.now)

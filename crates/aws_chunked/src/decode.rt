@@ -11,11 +11,11 @@ mod trailer_lines;
 mod trailers;
 
 use crate::decode::chunks::{Chunks, read_chunks};
-use crate::decode::fault::ReadFault;
+use crate::decode::fault::PartFault;
 use crate::decode::trailers::read_trailers;
 use crate::text::shared;
 use bytes::Bytes;
-use smithy_core::Headers;
+use smithy_core::{Headers, Mem};
 use std::alloc::Global;
 use std::fmt;
 
@@ -29,6 +29,23 @@ pub struct Decoded {
     pub signatures: Vec<String>,
     /// The trailers in order, without their signature.
     pub trailers: Headers,
+}
+
+impl Decoded {
+    ghost use Rattle.std.specs.Prelude.{IfOk};
+    ghost use Rattle.aws_chunked.specs.Decoded.{IsSameDecoded};
+
+    /// An equal value, which shares its data.
+    #[tactic(auto, using(sigv4::proofs::CopyLemmas::texts_copied))]
+    pub fn try_clone(&self) -> Mem<Decoded>
+        ensures { IfOk result (IsSameDecoded self.now) }
+    {
+        Ok(Decoded {
+            body: self.body.clone()?,
+            signatures: self.signatures.clone()?,
+            trailers: self.trailers.try_clone()?,
+        })
+    }
 }
 
 /// Why bytes aren't read.
@@ -48,6 +65,10 @@ pub enum DecodeFault {
 /// So `3\r\nhel\r\n2\r\nlo\r\n0\r\n\r\n` says `hello`, with neither signatures nor trailers, and of `5\r\nhelloX` the byte at the place 8
 /// is told: where the end of the chunk's line has to be.
 ///
+/// It takes time and memory in proportion to the text: the data once, and for each trailer, whose line has 4 bytes at least, some 110
+/// bytes beside its name and value. A text of nothing but the shortest trailers takes up to 30 times its length, so a text from a
+/// stranger is bounded before it is read.
+///
 /// # Errors
 ///
 /// [`DecodeFault::BadChunk`] exactly where the bytes aren't a whole text.
@@ -58,13 +79,13 @@ pub fn decode_chunked(alloc: Global, bytes: &[u8]) -> Result<Decoded, DecodeFaul
 {
     match decode(alloc, bytes) {
         Ok(decoded) => Ok(decoded),
-        Err(ReadFault::Bad { left }) => Err(DecodeFault::BadChunk(bytes.len() - left)),
-        Err(ReadFault::NoMemory) => Err(DecodeFault::NoMemory),
+        Err(PartFault::Bad { left }) => Err(DecodeFault::BadChunk(bytes.len() - left)),
+        Err(PartFault::NoMemory) => Err(DecodeFault::NoMemory),
     }
 }
 
 // Reads a whole text, or tells where it stops.
-fn decode(alloc: Global, bytes: &[u8]) -> Result<Decoded, ReadFault>
+fn decode(alloc: Global, bytes: &[u8]) -> Result<Decoded, PartFault>
     ensures { ReadsWhole bytes.now result }
 {
     let (chunks, rest) = read_chunks(alloc, bytes)?;

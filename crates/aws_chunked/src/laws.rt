@@ -6,7 +6,8 @@ ghost use Rattle.aws_chunked.specs.Body.{Trailer, actual_length};
 ghost use Rattle.aws_chunked.specs.Decoded.{Decodes, DecodesOnly, IsTextOf, IsTrailer};
 ghost use Rattle.aws_chunked.specs.Due.{sealed_chunked_text, sealed_signatures};
 ghost use Rattle.aws_chunked.specs.Laws.{AnswersDecoded, IsSignedLengthOf, TakeDue, answered_bytes};
-ghost use Rattle.aws_chunked.specs.Options.{IsChunkSize, Options, declared_length, encoded_length};
+ghost use Rattle.aws_chunked.specs.Lengths.{IsPassedLengthOf};
+ghost use Rattle.aws_chunked.specs.Options.{IsChunkSize, Options, data_length, declared_length, encoded_length};
 ghost use Rattle.aws_chunked.specs.Text.{chunked_text, pieces_of_size};
 ghost use Rattle.aws_chunked.specs.declared.body.ChunkNext.{ChunkNext};
 ghost use Rattle.aws_chunked.specs.declared.body.ChunkNext.TheVariants.{End};
@@ -35,6 +36,13 @@ pub fn texts_are_whole()
 pub fn whole_texts_are_decoded()
     ensures { (bytes body : List ℕ) (signatures : List (List ℕ)) (trailers : List Trailer) (result : Result Decoded DecodeFault)
         → IsTextOf body signatures trailers bytes → Decodes bytes result → DecodesOnly bytes result → AnswersDecoded body signatures trailers result }
+{}
+
+/// The text for HTTP 0.x is as long as its options tell ([`crate::AwsChunkedBody::data_size_hint`]): for data of the declared length
+/// in any pieces, and for trailers of the declared lengths.
+#[tactic(auto, using(crate::proofs::PassedLengthLemmas::passed_long))]
+pub fn passed_texts_are_as_long()
+    ensures { (options : Options) → IsPassedLengthOf options (data_length options) }
 {}
 
 /// A signed text is as long as its options tell.

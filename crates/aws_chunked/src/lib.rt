@@ -4,23 +4,25 @@
 //! (`specs/Text.antt`), whatever the pieces in which the data comes: each call answers the front of the text that is due and leaves
 //! the rest, or tells why there is none (`specs/Body.antt`); in the text of a signed body each signature is made over the one before
 //! it (`specs/Due.antt`). Those of [`AwsChunkedBody::poll_data`] are the pieces of the form for HTTP 0.x, one by one
-//! (`specs/Passing.antt`). [`AwsChunkedBodyOptions::encoded_length`] is how long the text is (`specs/Options.antt`).
+//! (`specs/Passing.antt`). A body has an engine for each of the two texts, and one record of what has come of its source, which both
+//! read. [`AwsChunkedBodyOptions::encoded_length`] is how long the text is (`specs/Options.antt`).
 //! [`decode_chunked`] reads a whole text back, or tells the least place where the bytes stop being one (`specs/Decoded.antt`).
 #![tactic(auto)]
 
+mod arrivals;
 mod body;
+mod chunk_engine;
 mod decode;
 mod error;
 mod laws;
 mod made_text;
 mod options;
 mod phase;
+mod piece_engine;
 mod poll_data;
 mod poll_frame;
-mod sent;
 mod signing;
 mod stop;
-mod taking;
 mod text;
 mod trailers;
 
@@ -28,8 +30,8 @@ pub use crate::body::{AwsChunkedBody, ChunkNext};
 pub use crate::decode::{DecodeFault, Decoded, decode_chunked};
 pub use crate::error::AwsChunkedBodyError;
 pub use crate::laws::{
-    frames_make_up_the_text, sealed_texts_are_as_long, sealed_texts_are_whole,
-    signed_texts_are_as_long, texts_are_whole, whole_texts_are_decoded,
+    frames_make_up_the_text, passed_texts_are_as_long, sealed_texts_are_as_long,
+    sealed_texts_are_whole, signed_texts_are_as_long, texts_are_whole, whole_texts_are_decoded,
 };
 pub use crate::options::AwsChunkedBodyOptions;
 

@@ -1,17 +1,16 @@
-ghost use Rattle.std.specs.Prelude.{◌≡◌, ◌<◌, ◌≤◌, [], ◌++◌, length, option_map, string_bytes, OnErr, OnOk, Ok};
-ghost use Rattle.aws_chunked.specs.Body.{AnswersFrame, AreTurns, Gathers, MayReadOn, HasCause, IsBodyClosed, IsBodyOpen, MakesChunk, MakesTail, PullsFrame, Readies, TakesDue, TakesIdleFrames, TestsPart, held_bytes, listed, ready_bytes};
+ghost use Rattle.std.specs.Prelude.{◌≡◌, ◌<◌, ◌≤◌, ◌+◌, ◌^◌, [], length, OnErr, Ok};
+ghost use Rattle.aws_chunked.specs.Body.{AnswersFrame, AreTurns, Gathers, MayReadOn, HasCause, IsBodyClosed, IsBodyOpen, IsCompared, MakesEnd, MakesNextChunk, PullsFrame, HasTextOrStops, StaysClosed, TakesDue, TakesIdleFrames, TestsPart, held_after, held_bytes, idle_in, ready_bytes, with_data};
 ghost use Rattle.aws_chunked.specs.Due.{due};
-ghost use Rattle.aws_chunked.specs.Text.{chunk_text, tail_text};
 ghost use Rattle.aws_chunked.specs.declared.body.ChunkNext.TheVariants as next;
+ghost use Rattle.aws_chunked.specs.declared.phase.Phase.TheVariants as phase;
 
 use crate::body::{AwsChunkedBody, ChunkNext};
 use crate::error::AwsChunkedBodyError;
 use crate::phase::Phase;
 use crate::stop::Stop;
-use crate::text::{CRLF, as_text, head, shared, tail};
 use bytes::Bytes;
 use sigv4::SignChunk;
-use smithy_core::{FrameSource, Mem, Polled};
+use smithy_core::{FrameSource, Polled};
 
 /// How many frames without data a call takes at most.
 pub(crate) const MOST_IDLE: u32 = 65_536;
@@ -20,9 +19,13 @@ impl<F: FrameSource, G: SignChunk> AwsChunkedBody<F, G> {
     /// The next bytes of the text in the form for HTTP 1.x: chunks of the size that is set, whatever the pieces in which the data
     /// comes, an empty one, the trailers, and an empty line.
     ///
-    /// [`ChunkNext::NotYet`] comes only where the source waited, and only while less than a chunk is held, and
-    /// [`ChunkNext::OutOfTurns`] where this call took 65,536 frames without data, of which each frame after the first trailers
-    /// counts as one. Data after the first trailers is ignored.
+    /// [`ChunkNext::NotYet`] comes only where the source waited, and only while less than a chunk is held; where the data has ended
+    /// its length was compared then. [`ChunkNext::OutOfTurns`] comes where this call took 65,536 frames without data, of which each
+    /// frame after the first trailers counts as one. Data after the first trailers is ignored. A closed body answers
+    /// [`ChunkNext::End`], and stays as it is.
+    ///
+    /// The first frame of trailers is kept as it is. Each trailer of a further frame is looked up among all trailers so far, so that
+    /// n trailers in further frames take some n² steps: a source that hands on a stranger's trailers bounds their number.
     ///
     /// # Errors
     ///
@@ -31,7 +34,8 @@ impl<F: FrameSource, G: SignChunk> AwsChunkedBody<F, G> {
     ///   declared one;
     /// - [`AwsChunkedBodyError::ReportedTrailerLengthMismatch`] where the source has ended after trailers, and their lines
     ///   don't have the declared lengths;
-    /// - [`AwsChunkedBodyError::FailedToSign`] where the signer refuses, or a signed body has none;
+    /// - [`AwsChunkedBodyError::FailedToSign`] where the signer refuses, or a signed body has none; at the end of the text only
+    ///   where all lengths are the declared ones;
     /// - [`AwsChunkedBodyError::SourceFault`] where the source failed.
     pub fn poll_frame(&mut self) -> Result<ChunkNext, AwsChunkedBodyError>
         ensures due { TakesDue (due F.FrameSource G.SignChunk self.old) (due F.FrameSource G.SignChunk self.new) result }
@@ -40,39 +44,24 @@ impl<F: FrameSource, G: SignChunk> AwsChunkedBody<F, G> {
         ensures turns { TakesIdleFrames F.FrameSource (AreTurns result) self.old self.new }
         ensures closed { OnErr result (IsBodyClosed self.new) }
         ensures end { result ≡ Ok next.End → IsBodyClosed self.new }
+        ensures stays { StaysClosed self.old self.new result }
     {
-        match self.next_frame() {
-            Ok(next) => Ok(next),
-            Err(error) => {
-                self.close();
-                Err(error)
-            }
+        if self.is_end_stream() {
+            return Ok(ChunkNext::End);
         }
-    }
-
-    // As `poll_frame`, but after a fault the body isn't closed: the caller does that.
-    fn next_frame(&mut self) -> Result<ChunkNext, AwsChunkedBodyError>
-        ensures due { TakesDue (due F.FrameSource G.SignChunk self.old) (due F.FrameSource G.SignChunk self.new) result }
-        ensures answers { AnswersFrame F.FrameSource G.SignChunk self.old self.new result }
-        ensures cause { HasCause F.FrameSource G.SignChunk self.old self.new result }
-        ensures turns { TakesIdleFrames F.FrameSource (AreTurns result) self.old self.new }
-        ensures end { result ≡ Ok next.End → IsBodyClosed self.new }
-    {
         match self.fill() {
-            Ok(()) => Ok(ChunkNext::Frame(self.take_ready())),
-            Err(stop) => stop.answered(),
+            Ok(()) => Ok(ChunkNext::Frame(self.chunks.take_ready())),
+            Err(stop) => self.stopped(stop),
         }
     }
 
     // Makes text, where none is ready, or tells why none can be made.
     fn fill(&mut self) -> Result<(), Stop>
-        ensures { Readies F.FrameSource G.SignChunk self.old self.new result }
+        requires { IsBodyClosed self.old → ⊥ }
+        ensures { HasTextOrStops F.FrameSource G.SignChunk self.old self.new result }
     {
-        if !self.ready.is_empty() {
+        if !self.chunks.ready.is_empty() {
             return Ok(());
-        }
-        if let Phase::Closed = self.phase {
-            return Err(Stop::End);
         }
         self.gather()?;
         Ok(self.make()?)
@@ -99,18 +88,18 @@ impl<F: FrameSource, G: SignChunk> AwsChunkedBody<F, G> {
         requires { IsBodyOpen self.now }
         ensures { TestsPart self.now result }
     {
-        let held = self.held.remaining();
+        let held = self.chunks.held.remaining();
         let size = self.options.chunk_size();
-        match self.phase {
+        match self.came.phase {
             Phase::Data => Ok(held >= size),
             Phase::Closed => unreachable!(),
             _ if held > 0 => Ok(true),
             Phase::Trailers => {
-                self.test_stream_length()?;
+                self.came.test_stream_length(&self.options)?;
                 Ok(false)
             }
             Phase::Ended => {
-                self.test_stream_length()?;
+                self.came.test_stream_length(&self.options)?;
                 Ok(true)
             }
         }
@@ -121,18 +110,19 @@ impl<F: FrameSource, G: SignChunk> AwsChunkedBody<F, G> {
         requires short { length (held_bytes self.old) < self.old.options.chunk_size }
         requires bound { self.old.options.chunk_size ≤ 4294967295 }
         requires goes_on { MayReadOn self.old }
+        requires compared { IsCompared self.old }
         ensures { PullsFrame F.FrameSource self.old self.new result }
     {
-        self.held.reserve_one()?;
+        self.chunks.held.reserve_one()?;
         match self.source.poll_frame() {
             Polled::Data(piece) => Ok(self.take_data(piece)),
             Polled::Trailers(trailers) => {
-                self.take_trailers(trailers)?;
+                self.came.take_trailers(self.alloc, trailers)?;
                 Ok(1)
             }
             Polled::NotYet => Err(Stop::NotYet),
             Polled::End => {
-                self.phase = Phase::Ended;
+                self.came.phase = Phase::Ended;
                 Ok(0)
             }
             Polled::Failed => Err(Stop::Fault(AwsChunkedBodyError::SourceFault)),
@@ -143,81 +133,43 @@ impl<F: FrameSource, G: SignChunk> AwsChunkedBody<F, G> {
     // Makes the part that is at hand.
     fn make(&mut self) -> Result<(), AwsChunkedBodyError>
         requires { ready_bytes self.old ≡ [] }
-        ensures chunk { 0 < length (held_bytes self.old) → MakesChunk G.SignChunk self.old self.new result }
-        ensures tail { held_bytes self.old ≡ [] → MakesTail G.SignChunk self.old self.new result }
+        ensures chunk { 0 < length (held_bytes self.old) → MakesNextChunk G.SignChunk self.old self.new result }
+        ensures tail { held_bytes self.old ≡ [] → MakesEnd G.SignChunk self.old self.new result }
     {
-        if self.held.remaining() > 0 {
-            self.make_chunk()
-        } else {
-            self.make_tail()
+        if self.chunks.held.remaining() > 0 {
+            return self.chunks.make_chunk(self.alloc, &self.options);
         }
-    }
-
-    // Makes a chunk of the data that is held.
-    fn make_chunk(&mut self) -> Result<(), AwsChunkedBodyError>
-        requires { ready_bytes self.old ≡ [] }
-        ensures { MakesChunk G.SignChunk self.old self.new result }
-    {
-        let count = self.held.remaining().min(self.options.chunk_size());
-        let piece = self.held.copy_to_bytes(count)?;
-        let signature = self.sign_chunk(&piece)?;
-        Ok(self.push_chunk(piece, &signature)?)
-    }
-
-    // Makes the end of the text, once the lengths of the trailers were compared.
-    fn make_tail(&mut self) -> Result<(), AwsChunkedBodyError>
-        requires { ready_bytes self.old ≡ [] }
-        ensures { MakesTail G.SignChunk self.old self.new result }
-    {
-        self.test_trailer_lengths()?;
-        let signature = self.sign_chunk(&Bytes::new())?;
-        let last = self.sign_trailers()?;
-        self.push_tail(&signature, &last)?;
-        self.phase = Phase::Closed;
+        self.chunks
+            .make_tail(self.alloc, &self.options, &self.came)?;
+        self.came.phase = Phase::Closed;
         Ok(())
     }
 }
 
 impl<F, G> AwsChunkedBody<F, G> {
-    // Takes the first of the text that was made.
-    fn take_ready(&mut self) -> Bytes
-        requires { 0 < length (ready_bytes self.old) }
-        ensures front { ready_bytes self.old ≡ result ++ ready_bytes self.new }
-        ensures some { 0 < length result }
-        ensures others { self.new ≡ record self.old { ready = ready_bytes self.new } }
+    // Holds data, and counts it; after the first trailers it is ignored. Tells how many frames without data that is.
+    fn take_data(&mut self, piece: Bytes) -> u32
+        requires room { 1 ≤ self.old.chunks.held.spare }
+        requires fits { length (held_bytes self.old) + length piece < 2 ^ 64 }
+        ensures taken { self.new ≡ record (with_data self.old piece) { chunks = record self.old.chunks { held = self.new.chunks.held } } }
+        ensures held { held_bytes self.new ≡ held_after self.old.came.phase (held_bytes self.old) piece }
+        ensures idle { result ≡ idle_in self.old.came.phase piece }
     {
-        match self.ready.pop() {
-            Some(piece) => piece,
-            None => unreachable!(),
+        match self.came.phase {
+            Phase::Data => {
+                let idle = idle_in(&piece);
+                self.came.count(piece.len());
+                self.chunks.held.push(piece);
+                idle
+            }
+            _ => 1,
         }
     }
+}
 
-    // Makes the text of a chunk.
-    #[tactic(auto, unfolding(crate::specs::Text::chunk_text))]
-    fn push_chunk(&mut self, piece: Bytes, signature: &Option<String>) -> Mem<()>
-        requires { ready_bytes self.old ≡ [] }
-        ensures text { OnOk result (ready_bytes self.new ≡ chunk_text (option_map string_bytes signature.now) piece) }
-        ensures others { self.new ≡ record self.old { ready = ready_bytes self.new } }
-    {
-        let head = head(self.alloc, piece.len(), as_text(signature))?;
-        self.ready.push(shared(head)?)?;
-        self.ready.push(piece)?;
-        self.ready.push(Bytes::from_static(CRLF))
-    }
-
-    // Makes the text of the end.
-    fn push_tail(&mut self, signature: &Option<String>, last: &Option<String>) -> Mem<()>
-        requires { ready_bytes self.old ≡ [] }
-        ensures text { OnOk result (ready_bytes self.new
-            ≡ tail_text (option_map string_bytes signature.now) (listed self.old.trailers) (option_map string_bytes last.now)) }
-        ensures others { self.new ≡ record self.old { ready = ready_bytes self.new } }
-    {
-        let text = tail(
-            self.alloc,
-            as_text(signature),
-            self.trailers.as_ref(),
-            as_text(last),
-        )?;
-        self.ready.push(shared(text)?)
-    }
+// How many frames without data a piece is: one where it is empty.
+fn idle_in(piece: &Bytes) -> u32
+    ensures { result ≡ idle_in phase.Data piece.now }
+{
+    if piece.is_empty() { 1 } else { 0 }
 }

@@ -17,7 +17,8 @@ pub(crate) fn with_frame(alloc: Global, kept: Option<Headers>, trailers: Headers
     }
 }
 
-// The trailers with those of a later frame: the first of a name replaces all of that name, and the further ones come behind.
+// The trailers with those of a later frame: the first of a name replaces all of that name, and the further ones come behind. Each is
+// looked up among all, so that n of them take n² steps.
 fn merged(alloc: Global, mut kept: Headers, trailers: &Headers) -> Mem<Headers>
     ensures { IfOk result (λ all. all ≡ merged kept trailers.now) }
 {

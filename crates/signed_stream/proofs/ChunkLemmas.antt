@@ -73,10 +73,10 @@ module _ {F G : Type 0} (source : FrameSource.Ghosts F) (signer : SignChunk.Ghos
 
   -- ---- a call
 
-  totals_same : (body : AwsChunkedBody F G) (ready : List ℕ) → total_of source (record body { ready = ready }) ≡ total_of source body
+  totals_same : (body : AwsChunkedBody F G) (ready : List ℕ) → total_of source (record body { chunks = record body.chunks { ready = ready } }) ≡ total_of source body
   totals_same body ready = by (source.left body.source)
     where
-      by : (left : Option (List FramePart)) → option_map (λ (rest : TextLeft). rest.total) (option_map (text_to_come_with (record body { ready = ready })) left)
+      by : (left : Option (List FramePart)) → option_map (λ (rest : TextLeft). rest.total) (option_map (text_to_come_with (record body { chunks = record body.chunks { ready = ready } })) left)
           ≡ option_map (λ (rest : TextLeft). rest.total) (option_map (text_to_come_with body) left)
       by None = refl
       by (Some frames) = refl

@@ -2,7 +2,7 @@ ghost use Rattle.std.specs.Prelude.{◌≡◌, ◌≤◌};
 ghost use Rattle.aws_chunked.specs.Rests.{ReadsChunks, ReadsData, ReadsHeadEnd, most_after};
 
 use crate::decode::expecting::{begins_with, expect};
-use crate::decode::fault::ReadFault;
+use crate::decode::fault::PartFault;
 use crate::decode::length::read_length;
 use crate::decode::signature::read_signature;
 use crate::text::CRLF;
@@ -21,7 +21,7 @@ pub(crate) struct Chunks {
 
 // Reads the chunks up to the empty one, and its line: what they say, and what stands behind it. Whether the text is signed shows behind
 // the first length.
-pub(crate) fn read_chunks(alloc: Global, bytes: &[u8]) -> Result<(Chunks, &[u8]), ReadFault>
+pub(crate) fn read_chunks(alloc: Global, bytes: &[u8]) -> Result<(Chunks, &[u8]), PartFault>
     ensures { ReadsChunks bytes.now result }
 {
     let (size, rest) = read_length(bytes, MOST_SIZE)?;
@@ -53,7 +53,7 @@ fn read_head_end<'a>(
     alloc: Global,
     bytes: &'a [u8],
     chunks: &mut Chunks,
-) -> Result<&'a [u8], ReadFault>
+) -> Result<&'a [u8], PartFault>
     ensures { ReadsHeadEnd bytes.now chunks.old chunks.new result }
 {
     if !chunks.is_signed {
@@ -66,11 +66,11 @@ fn read_head_end<'a>(
 }
 
 // Reads data of this length and the end of its line: what stands behind it.
-fn read_data<'a>(bytes: &'a [u8], length: usize, body: &mut Vec<u8>) -> Result<&'a [u8], ReadFault>
+fn read_data<'a>(bytes: &'a [u8], length: usize, body: &mut Vec<u8>) -> Result<&'a [u8], PartFault>
     ensures { ReadsData length bytes.now body.old.items body.new.items result }
 {
     if bytes.len() < length {
-        return Err(ReadFault::Bad { left: 0 });
+        return Err(PartFault::Bad { left: 0 });
     }
     let (data, rest) = bytes.split_at(length);
     body.extend_from_slice(data)?;

@@ -2,10 +2,10 @@ ghost use Rattle.std.specs.Prelude.{◌≡◌};
 ghost use Rattle.aws_chunked.specs.Reading.{Expects};
 ghost use Rattle.aws_chunked.specs.Rests.{begins_with};
 
-use crate::decode::fault::{ReadFault, bad_at};
+use crate::decode::fault::{PartFault, bad_at};
 
 // Reads these bytes: what stands behind them.
-pub(crate) fn expect<'a>(bytes: &'a [u8], wanted: &[u8]) -> Result<&'a [u8], ReadFault>
+pub(crate) fn expect<'a>(bytes: &'a [u8], wanted: &[u8]) -> Result<&'a [u8], PartFault>
     ensures { Expects wanted.now bytes.now result }
 {
     let mut rest = bytes;

@@ -1,11 +1,11 @@
 ghost use Rattle.std.specs.Prelude.{◌≡◌, length};
-ghost use Rattle.aws_chunked.specs.declared.decode.fault.ReadFault.TheVariants.{Bad};
+ghost use Rattle.aws_chunked.specs.declared.decode.fault.PartFault.TheVariants.{Bad};
 
 use std::alloc::{AllocError, AllocFailed};
 
 // Why a part of a text isn't read.
 #[derive(Drop)]
-pub(crate) enum ReadFault {
+pub(crate) enum PartFault {
     // No text goes on with the bytes of which so many are left.
     Bad { left: usize },
     // Memory ran out.
@@ -13,30 +13,30 @@ pub(crate) enum ReadFault {
 }
 
 // No text goes on with these bytes.
-pub(crate) fn bad_at(rest: &[u8]) -> ReadFault
+pub(crate) fn bad_at(rest: &[u8]) -> PartFault
     ensures { result ≡ Bad (length rest.now) }
 {
-    ReadFault::Bad { left: rest.len() }
+    PartFault::Bad { left: rest.len() }
 }
 
-impl From<AllocError> for ReadFault {
+impl From<AllocError> for PartFault {
     ghost use Rattle.std.specs.Prelude.{◌≡◌};
-    ghost use Rattle.aws_chunked.specs.declared.decode.fault.ReadFault.TheVariants.{NoMemory};
+    ghost use Rattle.aws_chunked.specs.declared.decode.fault.PartFault.TheVariants.{NoMemory};
 
     ghost from_gives = { λ _ fault. fault ≡ NoMemory };
 
-    fn from(_e: AllocError) -> ReadFault {
-        ReadFault::NoMemory
+    fn from(_e: AllocError) -> PartFault {
+        PartFault::NoMemory
     }
 }
 
-impl<T: Drop> From<AllocFailed<T>> for ReadFault {
+impl<T: Drop> From<AllocFailed<T>> for PartFault {
     ghost use Rattle.std.specs.Prelude.{◌≡◌};
-    ghost use Rattle.aws_chunked.specs.declared.decode.fault.ReadFault.TheVariants.{NoMemory};
+    ghost use Rattle.aws_chunked.specs.declared.decode.fault.PartFault.TheVariants.{NoMemory};
 
     ghost from_gives = { λ _ fault. fault ≡ NoMemory };
 
-    fn from(_e: AllocFailed<T>) -> ReadFault {
-        ReadFault::NoMemory
+    fn from(_e: AllocFailed<T>) -> PartFault {
+        PartFault::NoMemory
     }
 }

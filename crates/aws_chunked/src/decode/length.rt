@@ -1,11 +1,11 @@
 ghost use Rattle.std.specs.Prelude.{◌≡◌, ◌+◌, ◌*◌, ◌≤◌, ◌<◌};
 ghost use Rattle.aws_chunked.specs.Reading.{ReadsFirstDigit, ReadsLength, TellsDigit, TellsLonger};
 
-use crate::decode::fault::{ReadFault, bad_at};
+use crate::decode::fault::{PartFault, bad_at};
 
 // Reads a length of at most so many bytes: the length, and what stands behind its digits. They are hexadecimal, in upper case, and
 // no zero stands before others.
-pub(crate) fn read_length(bytes: &[u8], most: usize) -> Result<(usize, &[u8]), ReadFault>
+pub(crate) fn read_length(bytes: &[u8], most: usize) -> Result<(usize, &[u8]), PartFault>
     requires { most ≤ 4294967295 }
     ensures { ReadsLength most bytes.now result }
 {
@@ -24,7 +24,7 @@ pub(crate) fn read_length(bytes: &[u8], most: usize) -> Result<(usize, &[u8]), R
 }
 
 // Reads the first digit of a length of at most so many bytes: its value, and what stands behind it.
-fn first_digit(bytes: &[u8], most: usize) -> Result<(usize, &[u8]), ReadFault>
+fn first_digit(bytes: &[u8], most: usize) -> Result<(usize, &[u8]), PartFault>
     requires { most ≤ 4294967295 }
     ensures { ReadsFirstDigit most bytes.now result }
 {

@@ -1,9 +1,7 @@
-ghost use Rattle.std.specs.Prelude.{◌↔◌, IsTrue};
 ghost use Rattle.sigv4.specs.Signature.{is_lower_digit};
-ghost use Rattle.aws_chunked.specs.Decoded.{IsSignature};
 ghost use Rattle.aws_chunked.specs.Reading.{ReadsSignature};
 
-use crate::decode::fault::{ReadFault, bad_at};
+use crate::decode::fault::{PartFault, bad_at};
 use sigv4::parts::is_lower_digit;
 use std::alloc::Global;
 
@@ -11,7 +9,7 @@ use std::alloc::Global;
 const SIGNATURE_DIGITS: usize = 64;
 
 // Reads a signature: its text, and what stands behind it.
-pub(crate) fn read_signature(alloc: Global, bytes: &[u8]) -> Result<(String, &[u8]), ReadFault>
+pub(crate) fn read_signature(alloc: Global, bytes: &[u8]) -> Result<(String, &[u8]), PartFault>
     ensures { ReadsSignature bytes.now result }
 {
     let mut signature = String::new(alloc);
@@ -26,11 +24,4 @@ pub(crate) fn read_signature(alloc: Global, bytes: &[u8]) -> Result<(String, &[u
         }
     }
     Ok((signature, rest))
-}
-
-// Whether the text is a signature.
-pub(crate) fn is_signature(text: &str) -> bool
-    ensures { IsTrue result ↔ IsSignature text.now }
-{
-    text.len() == SIGNATURE_DIGITS && text.as_bytes().iter().all(|digit| is_lower_digit(*digit))
 }

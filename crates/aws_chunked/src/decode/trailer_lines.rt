@@ -6,7 +6,7 @@ ghost use Rattle.http_header.specs.Token.{is_value_byte};
 ghost use Rattle.aws_chunked.specs.TailRests.{IsLongestFront, ReadsLine, ReadsLines, ReadsName, ReadsValue, is_name_byte};
 
 use crate::decode::expecting::{begins_with, expect};
-use crate::decode::fault::{ReadFault, bad_at};
+use crate::decode::fault::{PartFault, bad_at};
 use crate::text::CRLF;
 use http_header::is_token_char;
 use std::alloc::Global;
@@ -14,13 +14,13 @@ use std::str;
 use std::str::Utf8Error;
 
 // The most bytes of a trailer's name.
-const MOST_NAME: usize = 65_535;
+const MOST_TRAILER_NAME: usize = 65_535;
 
 // Reads the lines of trailers up to one that begins with a CR: the trailers, and that line and what stands behind it.
 pub(crate) fn read_lines<'a>(
     alloc: Global,
     bytes: &'a [u8],
-) -> Result<(Vec<(&'a str, &'a str)>, &'a [u8]), ReadFault>
+) -> Result<(Vec<(&'a str, &'a str)>, &'a [u8]), PartFault>
     ensures { ReadsLines bytes.now result }
 {
     let mut lines = Vec::new(alloc);
@@ -34,7 +34,7 @@ pub(crate) fn read_lines<'a>(
 }
 
 // Reads a trailer's line: its name and value, and what stands behind it.
-fn read_line(bytes: &[u8]) -> Result<((&str, &str), &[u8]), ReadFault>
+fn read_line(bytes: &[u8]) -> Result<((&str, &str), &[u8]), PartFault>
     ensures { ReadsLine bytes.now result }
 {
     let (name, rest) = read_name(bytes)?;
@@ -44,7 +44,7 @@ fn read_line(bytes: &[u8]) -> Result<((&str, &str), &[u8]), ReadFault>
 }
 
 // Reads a trailer's name and the colon behind it: the name, and what stands behind the colon.
-fn read_name(bytes: &[u8]) -> Result<(&str, &[u8]), ReadFault>
+fn read_name(bytes: &[u8]) -> Result<(&str, &[u8]), PartFault>
     ensures { ReadsName bytes.now result }
 {
     let (name, rest) = bytes.split_at(name_length(bytes));
@@ -66,7 +66,7 @@ fn name_length(bytes: &[u8]) -> usize
     ensures ends { result < 65535 → result < length bytes.now → is_name_byte (slice_index bytes.now result) ≡ false }
 {
     let mut length = 0;
-    while length < MOST_NAME && length < bytes.len() && is_name_byte(bytes[length]) {
+    while length < MOST_TRAILER_NAME && length < bytes.len() && is_name_byte(bytes[length]) {
         length += 1;
     }
     length
@@ -80,7 +80,7 @@ fn is_name_byte(byte: u8) -> bool
 }
 
 // Reads a trailer's value, which goes as far as bytes may stand in one: the value, and what stands behind it.
-fn read_value(bytes: &[u8]) -> Result<(&str, &[u8]), ReadFault>
+fn read_value(bytes: &[u8]) -> Result<(&str, &[u8]), PartFault>
     ensures { ReadsValue bytes.now result }
 {
     let (value, rest) = bytes.split_at(value_length(bytes));

@@ -6,10 +6,10 @@ ghost use Rattle.aws_chunked.specs.TailRests.{SplitsSignature};
 
 use crate::X_AMZ_TRAILER_SIGNATURE;
 use crate::decode::expecting::expect;
-use crate::decode::fault::{ReadFault, bad_at};
-use crate::decode::signature::is_signature;
+use crate::decode::fault::{PartFault, bad_at};
 use crate::decode::trailer_lines::read_lines;
 use crate::text::CRLF;
+use sigv4::parts::is_signature;
 use smithy_core::{Headers, Mem};
 use std::alloc::Global;
 
@@ -20,7 +20,7 @@ pub(crate) fn read_trailers(
     bytes: &[u8],
     is_signed: bool,
     signatures: &mut Vec<String>,
-) -> Result<Headers, ReadFault>
+) -> Result<Headers, PartFault>
     ensures { ReadsTail is_signed bytes.now (signature_texts signatures.old.items) (signature_texts signatures.new.items) result }
 {
     let (lines, rest) = read_lines(alloc, bytes)?;

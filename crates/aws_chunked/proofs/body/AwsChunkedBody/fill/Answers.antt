@@ -10,10 +10,14 @@ returns-then-not-is_empty g c =
     stays_ready g.F.FrameSource g.G.SignChunk c.args.self.now
     (some_bytes (ready_bytes c.args.self.now) (λ none. false≢true (sym c.if-not-is_empty.true ∙ c.is_empty.ensures.1 none)))
 
+pub gather-requires : goal.gather-requires
+gather-requires g c = λ over. c.requires (record { over = over; answered = c.is_empty.ensures.0 c.if-not-is_empty.false })
+
 pub returns-in_err-gather : goal.returns-in_err-gather
 returns-in_err-gather g c =
     let exit = err_from_is_err_and c.from_residual.result c.from_residual.ensures.1 in
-    rw (exit.1, exit.2) (gathered_not g.F.FrameSource g.G.SignChunk c.args.self.now c.gather.new.self c.in_err-gather.field-0.0 c.in_err-gather.ensures)
+    rw (exit.1, exit.2)
+    (gathered_not g.F.FrameSource g.G.SignChunk c.args.self.now c.gather.new.self c.in_err-gather.field-0.0 (c.is_empty.ensures.0 c.if-not-is_empty.false) c.in_err-gather.ensures)
 
 pub make-requires : goal.make-requires
 make-requires g c =

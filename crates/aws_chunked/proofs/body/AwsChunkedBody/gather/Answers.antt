@@ -1,6 +1,15 @@
 use Rattle.std.proofs.lemmas.Result.{err_from_is_err_and}
-use Rattle.aws_chunked.proofs.PullLemmas.{gathers_stops, tests_goes_on, turned_more}
+use Rattle.aws_chunked.proofs.PullLemmas.{gathers_lacks, gathers_stops, tests_compared, tests_goes_on, turned_more}
 use Rattle.aws_chunked.proofs.body.AwsChunkedBody.gather.Goals as goal
+
+pub pull-requires-clause-compared : goal.pull-requires-clause-compared
+pull-requires-clause-compared g c = tests_compared c.frames.self _ c.in_ok-is_at_hand.ensures c.if-branch.false
+
+pub returns-in_err-is_at_hand : goal.returns-in_err-is_at_hand
+returns-in_err-is_at_hand g c =
+    let exit = err_from_is_err_and c.from_residual.result c.from_residual.ensures.1 in
+    rw (exit.1, exit.2)
+    (gathers_lacks g.F.FrameSource c.args.self.now c.frames.self c.frames.idle _ c.frames.invariant c.frames-test.true c.in_err-is_at_hand.ensures)
 
 pub returns-in_err-idle : goal.returns-in_err-idle
 returns-in_err-idle g c =

@@ -10,4 +10,4 @@ invariant-frames g l = Turned g.F.FrameSource l.fn.self l.self l.idle
 
 -- a frame without data counts, another brings bytes, of which less than a chunk is held, or the source has ended
 abbrev pub decreases-frames : goal.decreases-frames
-decreases-frames g l = (65536 - l.idle) + (8589934592 - length (held_bytes l.self)) + still l.self.phase
+decreases-frames g l = (65536 - l.idle) + (8589934592 - length (held_bytes l.self)) + still l.self.came.phase

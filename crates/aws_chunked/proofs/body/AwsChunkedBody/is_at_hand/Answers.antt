@@ -10,6 +10,7 @@ returns-in_default g c =
 pub returns-in_ok-test_stream_length-in-Trailers : goal.returns-in_ok-test_stream_length-in-Trailers
 returns-in_ok-test_stream_length-in-Trailers g c =
     tests_more c.args.self.now (cc) c.chunk_size-size.ensures.range.0 c.chunk_size-size.ensures.range.1 (omega (arith, c.if-held-gt0.false, c.remaining-held.ensures))
+    c.in_ok-test_stream_length-in-Trailers.ensures
 
 pub returns-in_ok-test_stream_length-in-Ended : goal.returns-in_ok-test_stream_length-in-Ended
 returns-in_ok-test_stream_length-in-Ended g c =

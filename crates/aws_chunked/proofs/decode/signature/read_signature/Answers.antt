@@ -1,5 +1,6 @@
-use Rattle.std.proofs.Common.{sym}
-use Rattle.aws_chunked.proofs.SignatureLemmas.{digit_long, digit_read, digits_read, signature_differs, signature_ends}
+use Rattle.std.proofs.Common.{arith, sym}
+use Rattle.std.specs.Prelude.{string_bytes}
+use Rattle.aws_chunked.proofs.SignatureLemmas.{digit_long, digit_read, digits_read, signature_differs, signature_ends, signature_from}
 use Rattle.aws_chunked.proofs.decode.signature.read_signature.Goals as goal
 use Rattle.aws_chunked.proofs.decode.signature.read_signature.Goals.{in_default-via-in-Some+else-is_lower_digit, in_default-via-in_default}
 
@@ -12,6 +13,11 @@ returns-in_default c =
       | in_default-via-in_default w ↦
           signature_ends _ _ _ _ _ c.loop-test.true l.long l.digits l.read w.in_default.ensures.cases c.bad_at.ensures
     ]
+
+pub returns : goal.returns
+returns c =
+    let l = c.loop.invariant in
+    (signature_from (string_bytes c.loop.signature) (omega (arith, l.long, c.loop-test.false, c.loop.auto.counter-end)) l.digits, l.read)
 
 pub loop-preserved : goal.loop-preserved
 loop-preserved c =

@@ -1,6 +1,0 @@
-use Rattle.std.proofs.Common.{refl}
-use Rattle.aws_chunked.proofs.PassLemmas.{empty_chunk_is}
-use Rattle.aws_chunked.proofs.body.AwsChunkedBody.make_empty_chunk.Goals as goal
-
-pub returns : goal.returns
-returns g c = (empty_chunk_is c.from_static.result c.from_static.ensures, c.in_ok-test_stream_length.ensures, refl)
