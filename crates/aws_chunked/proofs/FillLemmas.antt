@@ -13,6 +13,7 @@ use Rattle.aws_chunked.specs.Options.{counted, declared_length}
 use Rattle.aws_chunked.specs.Signing.{ChunkAnswers, FailsPart, MakesPart, TrailerAnswers, has_signature}
 use Rattle.aws_chunked.specs.Text.{Part, chunk, chunk_text, crlf, pieces_of_size, cut_within, head_text, last_line, tail, tail_text, trailer_line}
 use Rattle.aws_chunked.specs.declared.body.AwsChunkedBody.{AwsChunkedBody}
+use Rattle.aws_chunked.specs.declared.chunk_engine.ChunkEngine.{ChunkEngine}
 use Rattle.aws_chunked.specs.declared.body.ChunkNext.{ChunkNext}
 use Rattle.aws_chunked.specs.declared.body.ChunkNext.TheVariants as next
 use Rattle.aws_chunked.specs.declared.error.AwsChunkedBodyError.{AwsChunkedBodyError}
@@ -25,7 +26,7 @@ use Rattle.aws_chunked.proofs.BodyLemmas.{parts_chunk, piece_length}
 use Rattle.aws_chunked.proofs.DueLemmas.{closed_due, due_kept, front_due}
 use Rattle.aws_chunked.proofs.PullLemmas.{counts_of, if_parts, if_trailers}
 use Rattle.aws_chunked.proofs.SignLemmas.{signs_error}
-use Rattle.aws_chunked.proofs.TurnLemmas.{idle_none, left_none}
+use Rattle.aws_chunked.proofs.TurnLemmas.{idle_none, left_none, phase_none}
 
 -- a text that ends with the end of a line has some bytes
 ends_some : (text front : List ℕ) → text ≡ front ++ crlf → 0 < length text
@@ -177,11 +178,13 @@ module _ {F G : Type 0} (source : FrameSource.Ghosts F) (signer : SignChunk.Ghos
     lengths = lengths_later old mid new first.part keeps first.lengths;
   }
 
-  turns_kept : (P : ℕ → Type 0) (old mid new : AwsChunkedBody F G) → TakesIdleFrames source P old mid → new.source ≡ mid.source → TakesIdleFrames source P old new
-  turns_kept P old mid new turns source_is = record {
+  turns_kept : (P : ℕ → Type 0) (old mid new : AwsChunkedBody F G) → TakesIdleFrames source P old mid → new.source ≡ mid.source
+      → (new.came.phase ≡ phase.Data → mid.came.phase ≡ phase.Data) → TakesIdleFrames source P old new
+  turns_kept P old mid new turns source_is on = record {
     frames = turns.frames;
     taken = turns.taken ∙ ap (λ (f : F). option_map (λ (rest : List FramePart). turns.frames ++ rest) (source.left f)) (sym source_is);
     turns = turns.turns;
+    goes_on = λ begun. turns.goes_on (on begun);
   }
 
   counts_kept : (old mid new : AwsChunkedBody F G) → KeepsCounts source old mid → new.source ≡ mid.source → new.options ≡ mid.options → KeepsCounts source old new
@@ -190,6 +193,11 @@ module _ {F G : Type 0} (source : FrameSource.Ghosts F) (signer : SignChunk.Ghos
     faults = subst (λ (f : F). source.faults old.source ≤ source.faults f) (sym source_is) counts.faults;
     options = options ∙ counts.options;
   }
+
+  -- a body that is closed goes on to no data
+  over_on : {chunks : ChunkEngine G} (mid new : AwsChunkedBody F G) → new ≡ record mid { came = record mid.came { phase = phase.Closed }; chunks = chunks }
+      → new.came.phase ≡ phase.Data → mid.came.phase ≡ phase.Data
+  over_on mid new is on = absurd (let no : phase.Closed ≡ phase.Data = sym (ap (λ (body : AwsChunkedBody F G). body.came.phase) is) ∙ on in cc)
 
   pub made_ready : (old mid new : AwsChunkedBody F G) → ready_bytes old ≡ [] → Gathers source old mid (Ok tt)
       → (0 < length (held_bytes mid) → MakesNextChunk signer mid new (Ok tt)) → (held_bytes mid ≡ [] → MakesEnd signer mid new (Ok tt))
@@ -205,7 +213,7 @@ module _ {F G : Type 0} (source : FrameSource.Ghosts F) (signer : SignChunk.Ghos
           let source_is : new.source ≡ mid.source = ap (λ (body : AwsChunkedBody F G). body.source) made.1 in (
             counts_kept old mid new (counts_of source old mid gathers.0) source_is (ap (λ (body : AwsChunkedBody F G). body.options) made.1),
             part_some signer mid.options.is_signed (tail (listed mid.came.trailers)) mid.chunks.signer (ready_bytes new) new.chunks.signer made.0.0,
-            turns_kept (λ (count : ℕ). count < 65536) old mid new gathers.4 source_is,
+            turns_kept (λ (count : ℕ). count < 65536) old mid new gathers.4 source_is (over_on mid new made.1),
             inr (none, first_later old mid new (ready_bytes new) gathers.0 (tail_first mid new is gathers.1 gathers.2 gathers.3 made)),
           )
       by (byte ∷ bytes) is =
@@ -214,7 +222,7 @@ module _ {F G : Type 0} (source : FrameSource.Ghosts F) (signer : SignChunk.Ghos
           let source_is : new.source ≡ mid.source = ap (λ (body : AwsChunkedBody F G). body.source) made.1 in (
             counts_kept old mid new (counts_of source old mid gathers.0) source_is (ap (λ (body : AwsChunkedBody F G). body.options) made.1),
             part_some signer mid.options.is_signed (chunk (first_piece mid.options.chunk_size (held_bytes mid))) mid.chunks.signer (ready_bytes new) new.chunks.signer made.0.0,
-            turns_kept (λ (count : ℕ). count < 65536) old mid new gathers.4 source_is,
+            turns_kept (λ (count : ℕ). count < 65536) old mid new gathers.4 source_is (λ on. sym (ap (λ (body : AwsChunkedBody F G). body.came.phase) made.1) ∙ on),
             inr (none, first_later old mid new (ready_bytes new) gathers.0 (chunk_first mid new gathers.1 gathers.2 full made)),
           )
 
@@ -226,6 +234,7 @@ module _ {F G : Type 0} (source : FrameSource.Ghosts F) (signer : SignChunk.Ghos
     frames = [];
     taken = left_none (source.left old.source) ∙ ap (λ (body : AwsChunkedBody F G). option_map (λ (rest : List FramePart). [] ++ rest) (source.left body.source)) (sym is);
     turns = subst P (sym (idle_none old.came.phase)) zero_is;
+    goes_on = λ on. phase_none old.came.phase ∙ sym (ap (λ (body : AwsChunkedBody F G). body.came.phase) is) ∙ on;
   }
 
   counts_not : (old new : AwsChunkedBody F G) → new ≡ old → KeepsCounts source old new
@@ -349,21 +358,23 @@ module _ {F G : Type 0} (source : FrameSource.Ghosts F) (signer : SignChunk.Ghos
       few fault.SourceFault count is = is
       few fault.NoMemory count is = omega (arith, is)
 
-      ends : new.source ≡ mid.source → new.options ≡ mid.options → MayCause old new error → HasTextOrStops source signer old new (Err (stop.Fault error))
-      ends source_is options cause =
-          let turns = turns_kept (λ (count : ℕ). count < 65536) old mid new gathers.4 source_is in (
+      ends : new ≡ record mid { chunks = new.chunks } → MayCause old new error → HasTextOrStops source signer old new (Err (stop.Fault error))
+      ends others cause =
+          let source_is : new.source ≡ mid.source = ap (λ (body : AwsChunkedBody F G). body.source) others in
+          let options : new.options ≡ mid.options = ap (λ (body : AwsChunkedBody F G). body.options) others in
+          let turns = turns_kept (λ (count : ℕ). count < 65536) old mid new gathers.4 source_is (λ on. sym (ap (λ (body : AwsChunkedBody F G). body.came.phase) others) ∙ on) in (
             (counts_kept old mid new (counts_of source old mid gathers.0) source_is options, causes_of old new error cause),
-            record { frames = turns.frames; taken = turns.taken; turns = few error (idle_frames old.came.phase turns.frames) turns.turns },
+            record { frames = turns.frames; taken = turns.taken; turns = few error (idle_frames old.came.phase turns.frames) turns.turns; goes_on = turns.goes_on },
           )
 
       by : (held : List ℕ) → held_bytes mid ≡ held → HasTextOrStops source signer old new (Err (stop.Fault error))
       by [] is =
           let made = as_tail is in
-          ends (ap (λ (body : AwsChunkedBody F G). body.source) made.1) (ap (λ (body : AwsChunkedBody F G). body.options) made.1) (fault_tail old mid new error gathers is made)
+          ends made.1 (fault_tail old mid new error gathers is made)
       by (byte ∷ bytes) is =
           let full : 0 < length (held_bytes mid) = omega (arith, ap length is) in
           let made = as_chunk full in
-          ends (ap (λ (body : AwsChunkedBody F G). body.source) made.1) (ap (λ (body : AwsChunkedBody F G). body.options) made.1) (fault_chunk old mid new error gathers full made)
+          ends made.1 (fault_chunk old mid new error gathers full made)
 
   cause_gathered : (old mid : AwsChunkedBody F G) (error : AwsChunkedBodyError) → ready_bytes old ≡ [] → Gathers source old mid (Err (stop.Fault error))
       → Causes source signer old mid (Err error)
@@ -412,7 +423,7 @@ module _ {F G : Type 0} (source : FrameSource.Ghosts F) (signer : SignChunk.Ghos
 
   closed_turns : (old mid new : AwsChunkedBody F G) (error : AwsChunkedBodyError) → TakesIdleFrames source (AreTurns (Err error)) old mid
       → new ≡ record mid { came = record mid.came { phase = phase.Closed }; chunks = record mid.chunks { ready = [] } } → TakesIdleFrames source (AreTurns (Err error)) old new
-  closed_turns old mid new error turns is = turns_kept (AreTurns (Err error)) old mid new turns (ap (λ (body : AwsChunkedBody F G). body.source) is)
+  closed_turns old mid new error turns is = turns_kept (AreTurns (Err error)) old mid new turns (ap (λ (body : AwsChunkedBody F G). body.source) is) (over_on mid new is)
 
   pub over_cause : (body : AwsChunkedBody F G) → HasCause source signer body body (Ok next.End)
   over_cause body = (counts_not body body refl, tt)
@@ -443,8 +454,8 @@ module _ {F G : Type 0} (source : FrameSource.Ghosts F) (signer : SignChunk.Ghos
 
   pub stopped_turns : (old mid new : AwsChunkedBody F G) (why : Stop) → HasTextOrStops source signer old mid (Err why) → new ≡ after_stop why mid
       → TakesIdleFrames source (AreTurns (stop_answer why)) old new
-  stopped_turns old mid new stop.NotYet told is = turns_kept (AreTurns (Ok next.NotYet)) old mid new told.2 (ap (λ (body : AwsChunkedBody F G). body.source) is)
-  stopped_turns old mid new stop.OutOfTurns told is = turns_kept (AreTurns (Ok next.OutOfTurns)) old mid new told.2 (ap (λ (body : AwsChunkedBody F G). body.source) is)
+  stopped_turns old mid new stop.NotYet told is = turns_kept (AreTurns (Ok next.NotYet)) old mid new told.2 (ap (λ (body : AwsChunkedBody F G). body.source) is) (λ on. sym (ap (λ (body : AwsChunkedBody F G). body.came.phase) is) ∙ on)
+  stopped_turns old mid new stop.OutOfTurns told is = turns_kept (AreTurns (Ok next.OutOfTurns)) old mid new told.2 (ap (λ (body : AwsChunkedBody F G). body.source) is) (λ on. sym (ap (λ (body : AwsChunkedBody F G). body.came.phase) is) ∙ on)
   stopped_turns old mid new (stop.Fault error) told is = closed_turns old mid new error told.1 is
 
   pub stopped_closed : (mid new : AwsChunkedBody F G) (why : Stop) → new ≡ after_stop why mid → OnErr (stop_answer why) (IsBodyClosed new)
@@ -508,4 +519,4 @@ module _ {F G : Type 0} (source : FrameSource.Ghosts F) (signer : SignChunk.Ghos
   pub front_turns : (old mid new : AwsChunkedBody F G) (piece : List ℕ) → HasTextOrStops source signer old mid (Ok tt) → new ≡ record mid { chunks = record mid.chunks { ready = ready_bytes new } }
       → TakesIdleFrames source (AreTurns (Ok (next.Frame piece))) old new
   front_turns old mid new piece readies others =
-      turns_kept (AreTurns (Ok (next.Frame piece))) old mid new readies.2 (ap (λ (body : AwsChunkedBody F G). body.source) others)
+      turns_kept (AreTurns (Ok (next.Frame piece))) old mid new readies.2 (ap (λ (body : AwsChunkedBody F G). body.source) others) (λ on. sym (ap (λ (body : AwsChunkedBody F G). body.came.phase) others) ∙ on)

@@ -26,7 +26,7 @@ use Rattle.aws_chunked.specs.declared.piece_engine.Sent.{Sent}
 use Rattle.aws_chunked.specs.declared.piece_engine.Sent.TheVariants as sent
 use Rattle.aws_chunked.specs.declared.stop.Stop.{Stop}
 use Rattle.aws_chunked.specs.declared.stop.Stop.TheVariants as stop
-use Rattle.aws_chunked.proofs.TurnLemmas.{none_idle, idle_more, idle_none, left_more, left_none, left_one, phase_more, rose_before}
+use Rattle.aws_chunked.proofs.TurnLemmas.{none_idle, idle_more, idle_none, left_more, left_none, left_one, phase_data, phase_more, phase_none, rose_before}
 
 -- ---- the text of a piece
 
@@ -235,12 +235,14 @@ none_ended (Err error) n none = none
 module _ {F G : Type 0} (source : FrameSource.Ghosts F) where
   -- ---- a piece is made of what was taken
 
-  none_taken : (P : ℕ → Type 0) (old new : AwsChunkedBody F G) → new.source ≡ old.source → new.came.taken ≡ old.came.taken → P 0 → TakesCountedFrames source P old new
-  none_taken P old new source_is taken is = record {
+  none_taken : (P : ℕ → Type 0) (old new : AwsChunkedBody F G) → new.source ≡ old.source → new.came.taken ≡ old.came.taken
+      → (new.came.phase ≡ phase.Data → old.came.phase ≡ phase.Data) → P 0 → TakesCountedFrames source P old new
+  none_taken P old new source_is taken on is = record {
     frames = [];
     taken = left_none (source.left old.source) ∙ ap (λ (f : F). option_map (λ (rest : List FramePart). [] ++ rest) (source.left f)) (sym source_is);
     turns = subst P (sym (idle_none old.came.phase)) is;
     data_count = ap counted (omega (arith, taken, data_none old.came.phase));
+    goes_on = λ begun. phase_none old.came.phase ∙ on begun;
   }
 
   none_kept : (old new : AwsChunkedBody F G) → new.source ≡ old.source → OthersPass old new → KeepsCountsUnsigned source old new
@@ -251,10 +253,10 @@ module _ {F G : Type 0} (source : FrameSource.Ghosts F) where
   }
 
   -- the piece that is made was the first that was due
-  piece_made : (old new : AwsChunkedBody F G) (piece : Piece) (bytes : List ℕ) → new.source ≡ old.source → new.came.taken ≡ old.came.taken → OthersPass old new
+  piece_made : (old new : AwsChunkedBody F G) (piece : Piece) (bytes : List ℕ) → new.source ≡ old.source → new.came.taken ≡ old.came.taken → (new.came.phase ≡ phase.Data → old.came.phase ≡ phase.Data) → OthersPass old new
       → ((frames : List FramePart) → pieces_with old frames ≡ piece ∷ pieces_with new frames) → bytes ≡ piece_text piece → 0 < length (piece_text piece)
       → FitsPiece piece new → AnswersStep source (λ count. count ≡ 0) old new (Ok (next.Frame bytes))
-  piece_made old new piece bytes source_is taken others first is some fits = record {
+  piece_made old new piece bytes source_is taken on others first is some fits = record {
     takes = (
       piece,
       is,
@@ -264,7 +266,7 @@ module _ {F G : Type 0} (source : FrameSource.Ghosts F) where
       fits,
     );
     cause = tt;
-    turns = none_taken (λ count. count ≡ 0) old new source_is taken refl;
+    turns = none_taken (λ count. count ≡ 0) old new source_is taken on refl;
     keeps = none_kept old new source_is others;
   }
 
@@ -272,7 +274,7 @@ module _ {F G : Type 0} (source : FrameSource.Ghosts F) where
       → bytes ≡ piece_text (length_line old.options.stream_length) → after ≡ record { sent = sent_after old.options.stream_length }
       → AnswersStep source (λ count. count ≡ 0) old (record old { pieces = after }) (Ok (next.Frame bytes))
   line_made old after bytes on was is same =
-      piece_made old (record old { pieces = after }) (length_line n) bytes refl refl refl
+      piece_made old (record old { pieces = after }) (length_line n) bytes refl refl (λ on. on) refl
       (λ (frames : List FramePart).
       ap (λ (w : Sent). pieces_to_come w old.came.phase n old.came.trailers frames) was
       ∙ line_left old.came.phase n old.came.trailers frames on
@@ -285,7 +287,7 @@ module _ {F G : Type 0} (source : FrameSource.Ghosts F) where
   pub chunk_made : (old : AwsChunkedBody F G) (after : PieceEngine) (bytes : List ℕ) → IsBodyOpen old → (old.came.phase ≡ phase.Data → ⊥) → old.pieces.sent ≡ sent.LengthLine
       → MakesEmptyChunk old.options old.came old.pieces after (Ok bytes) → AnswersStep source (λ count. count ≡ 0) old (record old { pieces = after }) (Ok (next.Frame bytes))
   chunk_made old after bytes on over was made =
-      piece_made old (record old { pieces = after }) empty_chunk bytes refl refl refl
+      piece_made old (record old { pieces = after }) empty_chunk bytes refl refl (λ on. on) refl
       (λ (frames : List FramePart).
       ap (λ (w : Sent). pieces_to_come w old.came.phase old.options.stream_length old.came.trailers frames) was
       ∙ chunk_left old.came.phase old.options.stream_length old.came.trailers frames on over
@@ -300,7 +302,8 @@ module _ {F G : Type 0} (source : FrameSource.Ghosts F) where
       → MakesLastLines old.options old.came (Ok bytes)
       → AnswersStep source (λ count. count ≡ 0) old (record old { came = record old.came { phase = phase.Closed } }) (Ok (next.Frame bytes))
   lines_made old bytes ended was made =
-      piece_made old (record old { came = record old.came { phase = phase.Closed } }) (last_lines (listed old.came.trailers)) bytes refl refl refl
+      piece_made old (record old { came = record old.came { phase = phase.Closed } }) (last_lines (listed old.came.trailers)) bytes refl refl
+      (λ on. absurd (let no : phase.Closed ≡ phase.Data = on in cc)) refl
       (λ (frames : List FramePart). lines_left old frames ended was)
       made.0 (lines_some (listed old.came.trailers)) (made.1, made.2)
 
@@ -311,7 +314,8 @@ module _ {F G : Type 0} (source : FrameSource.Ghosts F) where
   stays old new answer same takes cause = record {
     takes = subst (λ (body : AwsChunkedBody F G). TakesPiece source old body answer) (sym same) takes;
     cause = subst (λ (body : AwsChunkedBody F G). PieceCauses source old body answer) (sym same) cause;
-    turns = none_taken (λ count. count ≡ 0) old new (ap (λ (body : AwsChunkedBody F G). body.source) same) (ap (λ (body : AwsChunkedBody F G). body.came.taken) same) refl;
+    turns = none_taken (λ count. count ≡ 0) old new (ap (λ (body : AwsChunkedBody F G). body.source) same) (ap (λ (body : AwsChunkedBody F G). body.came.taken) same)
+        (λ on. sym (ap (λ (body : AwsChunkedBody F G). body.came.phase) same) ∙ on) refl;
     keeps = none_kept old new (ap (λ (body : AwsChunkedBody F G). body.source) same)
         (same ∙ ap (λ (body : AwsChunkedBody F G). record old { source = body.source; came = body.came; pieces = body.pieces; chunks = record old.chunks { ready = body.chunks.ready } }) (sym same));
   }
@@ -320,7 +324,8 @@ module _ {F G : Type 0} (source : FrameSource.Ghosts F) where
 
   pub over_turns : (old new : AwsChunkedBody F G) → new ≡ record old { came = record old.came { phase = phase.Closed }; chunks = record old.chunks { ready = [] } } → TakesCountedFrames source (AreTurns (Ok next.End)) old new
   over_turns old new is =
-      none_taken (AreTurns (Ok next.End)) old new (ap (λ (body : AwsChunkedBody F G). body.source) is) (ap (λ (body : AwsChunkedBody F G). body.came.taken) is) (omega arith)
+      none_taken (AreTurns (Ok next.End)) old new (ap (λ (body : AwsChunkedBody F G). body.source) is) (ap (λ (body : AwsChunkedBody F G). body.came.taken) is)
+      (λ on. absurd (let no : phase.Closed ≡ phase.Data = sym (ap (λ (body : AwsChunkedBody F G). body.came.phase) is) ∙ on in cc)) (omega arith)
 
   pub over_kept : (old new : AwsChunkedBody F G) → new ≡ record old { came = record old.came { phase = phase.Closed }; chunks = record old.chunks { ready = [] } } → KeepsCountsUnsigned source old new
   over_kept old new is =
@@ -369,7 +374,13 @@ module _ {F G : Type 0} (source : FrameSource.Ghosts F) where
       → TakesCountedFrames source (AreTurns (stop_answer why)) old new
   stopped_turns old mid new why turns is =
       after_parts (λ (body : AwsChunkedBody F G). TakesCountedFrames source (AreTurns (stop_answer why)) old body) mid new why is turns
-      (record { frames = turns.frames; taken = turns.taken; turns = turns.turns; data_count = turns.data_count })
+      (record {
+        frames = turns.frames;
+        taken = turns.taken;
+        turns = turns.turns;
+        data_count = turns.data_count;
+        goes_on = λ on. absurd (let no : phase.Closed ≡ phase.Data = on in cc);
+      })
 
   pub stopped_keeps : (old mid new : AwsChunkedBody F G) (why : Stop) → KeepsCountsUnsigned source old mid → new ≡ after_stop why mid → KeepsCountsUnsigned source old new
   stopped_keeps old mid new why keeps is =
@@ -458,9 +469,21 @@ module _ {F G : Type 0} (source : FrameSource.Ghosts F) where
   takes_new part old new from is gives = subst (λ (f : F). TakesFrame part (source.left old.source) (source.left f)) (sym is) gives
 
   one_taken : (P : ℕ → Type 0) (old new : AwsChunkedBody F G) (part : FramePart) → TakesFrame part (source.left old.source) (source.left new.source)
-      → counted new.came.taken ≡ counted (old.came.taken + length (data_left old.came.phase (part ∷ []))) → P (idle_frames old.came.phase (part ∷ [])) → TakesCountedFrames source P old new
-  one_taken P old new part gives count is =
-      record { frames = part ∷ []; taken = left_one part (source.left old.source) (source.left new.source) gives; turns = is; data_count = count }
+      → (new.came.phase ≡ phase.Data → phase_after old.came.phase (part ∷ []) ≡ phase.Data)
+      → counted new.came.taken ≡ counted (old.came.taken + length (data_left old.came.phase (part ∷ []))) → P (idle_frames old.came.phase (part ∷ []))
+      → TakesCountedFrames source P old new
+  one_taken P old new part gives on count is = record {
+    frames = part ∷ [];
+    taken = left_one part (source.left old.source) (source.left new.source) gives;
+    turns = is;
+    data_count = count;
+    goes_on = on;
+  }
+
+  -- trailers end the data
+  trailers_on : (old new : AwsChunkedBody F G) (trailers : List Trailer) → new.came.phase ≡ phase.Trailers → new.came.phase ≡ phase.Data
+      → phase_after old.came.phase (frame.Trailers trailers ∷ []) ≡ phase.Data
+  trailers_on old new trailers at on = absurd (let no : phase.Trailers ≡ phase.Data = sym at ∙ on in cc)
 
   from_kept : (old new : AwsChunkedBody F G) (from : F) → new.source ≡ from → source.waits old.source ≤ source.waits from → source.faults old.source ≤ source.faults from
       → OthersPass old new → KeepsCountsUnsigned source old new
@@ -496,7 +519,7 @@ module _ {F G : Type 0} (source : FrameSource.Ghosts F) where
         (λ (frames : List FramePart).
         ap (λ (body : AwsChunkedBody F G). pieces_with body frames) passes.1
         ∙ ignored_left old.pieces.sent old.came.phase old.options.stream_length old.came.trailers piece frames passes.0);
-    turns = one_taken (λ n. n ≡ 1) old new (frame.Data piece) gives_new
+    turns = one_taken (λ n. n ≡ 1) old new (frame.Data piece) gives_new (λ on. phase_data old.came.phase piece ∙ sym (ap (λ (body : AwsChunkedBody F G). body.came.phase) passes.1) ∙ on)
         (ap counted (omega (arith, ap (λ (body : AwsChunkedBody F G). body.came.taken) passes.1, data_ignored old.came.phase piece passes.0))) (idle_ignored old.came.phase piece passes.0);
     at = ap (λ (body : AwsChunkedBody F G). body.came.phase) passes.1 ∙ sym (same_phase old.came.phase);
     keeps = from_kept old new from source_is waits faults
@@ -535,7 +558,7 @@ module _ {F G : Type 0} (source : FrameSource.Ghosts F) where
       subst (λ (body : AwsChunkedBody F G). 0 < body.options.stream_length) (sym passes.4) passes.3,
     );
     cause = tt;
-    turns = one_taken (λ n. n ≡ 0) old new (frame.Data piece) gives_new (counts passes.1 passes.4)
+    turns = one_taken (λ n. n ≡ 0) old new (frame.Data piece) gives_new (λ on. phase_data old.came.phase piece ∙ sym (ap (λ (body : AwsChunkedBody F G). body.came.phase) passes.4) ∙ on) (counts passes.1 passes.4)
         (ap (λ (at : Phase). idle_frames at (frame.Data piece ∷ [])) passes.1 ∙ idle_filled piece passes.2);
     keeps = from_kept old new from source_is waits faults
         (passes.4 ∙ ap (λ (body : AwsChunkedBody F G). record old { source = body.source; came = body.came; pieces = body.pieces; chunks = record old.chunks { ready = body.chunks.ready } }) (sym passes.4));
@@ -560,7 +583,7 @@ module _ {F G : Type 0} (source : FrameSource.Ghosts F) where
   data_refused old new from piece error begun gives waits faults passes = record {
     takes = tt;
     cause = subst (λ (e : AwsChunkedBodyError). PieceCauses source old new (Err e)) (sym passes.3.0) (refl, refl, passes.3.1, passed piece, none_declared, first);
-    turns = one_taken (AreIdleInStep (Err error)) old new (frame.Data piece) gives_new (counts passes.0 passes.4) (few error);
+    turns = one_taken (AreIdleInStep (Err error)) old new (frame.Data piece) gives_new (λ on. phase_data old.came.phase piece ∙ sym (ap (λ (body : AwsChunkedBody F G). body.came.phase) passes.4) ∙ on) (counts passes.0 passes.4) (few error);
     keeps = from_kept old new from source_is waits faults
         (passes.4 ∙ ap (λ (body : AwsChunkedBody F G). record old { source = body.source; came = body.came; pieces = body.pieces; chunks = record old.chunks { ready = body.chunks.ready } }) (sym passes.4));
   }
@@ -608,7 +631,7 @@ module _ {F G : Type 0} (source : FrameSource.Ghosts F) where
         (λ (frames : List FramePart).
         ap (λ (body : AwsChunkedBody F G). pieces_with body frames) is
         ∙ trailers_same old.pieces.sent old.came.phase old.options.stream_length old.came.trailers trailers frames on);
-    turns = one_taken (λ n. n ≡ 1) old new (frame.Trailers trailers) gives_new
+    turns = one_taken (λ n. n ≡ 1) old new (frame.Trailers trailers) gives_new (trailers_on old new trailers (ap (λ (body : AwsChunkedBody F G). body.came.phase) is))
         (ap counted (omega (arith, ap (λ (body : AwsChunkedBody F G). body.came.taken) is, data_trailers old.came.phase trailers))) (idle_trailers old.came.phase trailers);
     at = ap (λ (body : AwsChunkedBody F G). body.came.phase) is ∙ after_is old.came.phase on;
     keeps = from_kept old new from source_is waits faults
@@ -637,7 +660,7 @@ module _ {F G : Type 0} (source : FrameSource.Ghosts F) where
   trailers_lost old new from trailers gives waits faults is = record {
     takes = tt;
     cause = tt;
-    turns = one_taken (λ n. n ≤ 1) old new (frame.Trailers trailers) (takes_new (frame.Trailers trailers) old new from source_is gives)
+    turns = one_taken (λ n. n ≤ 1) old new (frame.Trailers trailers) (takes_new (frame.Trailers trailers) old new from source_is gives) (trailers_on old new trailers (ap (λ (body : AwsChunkedBody F G). body.came.phase) is))
         (ap counted (omega (arith, ap (λ (body : AwsChunkedBody F G). body.came.taken) is, data_trailers old.came.phase trailers))) (omega (arith, idle_trailers old.came.phase trailers));
     keeps = from_kept old new from source_is waits faults
         (is ∙ ap (λ (body : AwsChunkedBody F G). record old { source = body.source; came = record { phase = body.came.phase; taken = body.came.taken; trailers = new.came.trailers }; pieces = body.pieces; chunks = record old.chunks { ready = body.chunks.ready } }) (sym is));
@@ -659,6 +682,7 @@ module _ {F G : Type 0} (source : FrameSource.Ghosts F) where
       taken = sym left ∙ left_none (source.left from);
       turns = subst P (sym (idle_none old.came.phase)) few;
       data_count = ap counted (omega (arith, data_none old.came.phase));
+      goes_on = λ on. phase_none old.came.phase ∙ on;
     };
     keeps = record { waits = waits; faults = faults; others = refl };
   }
@@ -733,6 +757,8 @@ module _ {F G : Type 0} (source : FrameSource.Ghosts F) where
       data_more old.came.phase idles.turns.frames turns.frames,
       ap (λ (at : Phase). length (data_left at turns.frames)) idles.at,
     );
+    goes_on = λ on.
+        phase_more old.came.phase idles.turns.frames turns.frames ∙ ap (λ (at : Phase). phase_after at turns.frames) (sym idles.at) ∙ turns.goes_on on;
   }
 
   later : (P Q : ℕ → Type 0) (count : ℕ) (old mid new : AwsChunkedBody F G) (answer : Result ChunkNext AwsChunkedBodyError) → TakesOnlyIdleFrames source count old mid
@@ -758,7 +784,7 @@ module _ {F G : Type 0} (source : FrameSource.Ghosts F) where
   unfolding none_taken
   idles_none body = record {
     due = refl;
-    turns = none_taken (λ n. n ≡ 0) body body refl refl refl;
+    turns = none_taken (λ n. n ≡ 0) body body refl refl (λ on. on) refl;
     at = sym (by body.came.phase);
     keeps = none_kept body body refl refl;
     same = refl;
@@ -786,7 +812,7 @@ module _ {F G : Type 0} (source : FrameSource.Ghosts F) where
   gives_up count old new many idles = record {
     takes = idles.due;
     cause = tt;
-    turns = record { frames = idles.turns.frames; taken = idles.turns.taken; turns = idles.turns.turns ∙ many; data_count = idles.turns.data_count };
+    turns = record { frames = idles.turns.frames; taken = idles.turns.taken; turns = idles.turns.turns ∙ many; data_count = idles.turns.data_count; goes_on = idles.turns.goes_on };
     keeps = idles.keeps;
   }
 
@@ -806,6 +832,7 @@ module _ {F G : Type 0} (source : FrameSource.Ghosts F) where
           (subst (AreIdleInStep answer) (none_ended answer (idle_frames phase.Ended passes.turns.frames) passes.turns.turns)
           (none_few answer (idle_frames phase.Ended passes.turns.frames) passes.turns.turns));
       data_count = passes.turns.data_count ∙ ap (λ (n : ℕ). counted (old.came.taken + n)) (sym (data_none old.came.phase));
+      goes_on = λ on. absurd (let no : phase.Ended ≡ phase.Data = passes.turns.goes_on on in cc);
     };
     keeps = keeps_joined old mid new (record { waits = waits; faults = faults; others = refl }) passes.keeps;
   }

@@ -151,7 +151,8 @@ module _ {F G : Type 0} (source : FrameSource.Ghosts F) where
 
   turns_none : (old : AwsChunkedBody F G) (from : F) (room : Segments) → source.left from ≡ source.left old.source
       → TakesIdleFrames source (λ count. count ≡ 0) old (record old { source = from; chunks = record old.chunks { held = room } })
-  turns_none old from room left = record { frames = []; taken = sym left ∙ left_none (source.left from); turns = idle_none old.came.phase }
+  turns_none old from room left =
+      record { frames = []; taken = sym left ∙ left_none (source.left from); turns = idle_none old.came.phase; goes_on = λ on. phase_none old.came.phase ∙ on }
 
   -- ---- a pull
 
@@ -309,7 +310,7 @@ module _ {F G : Type 0} (source : FrameSource.Ghosts F) where
       → PullsFrame source old (record old { source = from; chunks = record old.chunks { held = room } }) (Err (stop.Fault fault.NoMemory))
   pulls_no_room old from room left waits faults =
       let turns = turns_none old from room left in
-      (record { waits = waits; faults = faults; options = refl }, record { frames = turns.frames; taken = turns.taken; turns = omega (arith, turns.turns) })
+      (record { waits = waits; faults = faults; options = refl }, record { frames = turns.frames; taken = turns.taken; turns = omega (arith, turns.turns); goes_on = turns.goes_on })
 
   pub pulls_no_trailers : (old : AwsChunkedBody F G) (from : F) (room : Segments) (new : AwsChunkedBody F G) (trailers : List Trailer)
       → TakesFrame (frame.Trailers trailers) (source.left old.source) (source.left from)
@@ -327,6 +328,7 @@ module _ {F G : Type 0} (source : FrameSource.Ghosts F) where
       taken = left_one (frame.Trailers trailers) (source.left old.source) (source.left new.source)
           (subst (λ (f : F). TakesFrame (frame.Trailers trailers) (source.left old.source) (source.left f)) (sym from_is) gives);
       turns = few old.came.phase;
+      goes_on = λ on. (let no : phase.Trailers ≡ phase.Data = sym (ap (λ (body : AwsChunkedBody F G). body.came.phase) is) ∙ on in cc);
     },
   )
     where
@@ -389,10 +391,19 @@ module _ {F G : Type 0} (source : FrameSource.Ghosts F) where
     frames = turned.frames ++ turns.frames;
     taken = left_more turned.frames turns.frames (source.left old.source) (source.left between.source) (source.left now.source) turned.takes.taken turns.taken;
     turns = subst Q (sym (counts_join old between idle turned on turns.frames)) (is (idle_frames between.came.phase turns.frames) turns.turns);
+    goes_on = λ begun.
+        phase_more old.came.phase turned.frames turns.frames
+        ∙ ap (λ (p : Phase). phase_after p turns.frames) (sym (on_after between.came.phase (phase_after old.came.phase turned.frames) on turned.takes.at)) ∙ turns.goes_on begun;
   }
 
   turns_now : (Q : ℕ → Type 0) (old now : AwsChunkedBody F G) (idle : ℕ) → Turned old now idle → Q idle → TakesIdleFrames source Q old now
-  turns_now Q old now idle turned is = record { frames = turned.frames; taken = turned.takes.taken; turns = subst Q (sym turned.counts) is }
+  turns_now Q old now idle turned is =
+      record { frames = turned.frames; taken = turned.takes.taken; turns = subst Q (sym turned.counts) is; goes_on = λ on. by turned.takes.at on }
+    where
+      by : (now.came.phase ≡ phase_after old.came.phase turned.frames) ⊎ (now.came.phase ≡ phase.Ended) → now.came.phase ≡ phase.Data
+          → phase_after old.came.phase turned.frames ≡ phase.Data
+      by (inl at) on = sym at ∙ on
+      by (inr ends) on = absurd (let no : phase.Ended ≡ phase.Data = sym ends ∙ on in cc)
 
   pub gathers_part : (old now : AwsChunkedBody F G) (idle : ℕ) → Turned old now idle → idle < 65536 → TestsPart now (Ok true) → Gathers source old now (Ok tt)
   gathers_part old now idle turned few tests =

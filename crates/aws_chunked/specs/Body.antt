@@ -365,11 +365,12 @@ module _ {F G : Type 0} where
       pub faults : source.faults old.source ≤ source.faults new.source
       pub options : new.options ≡ old.options
 
-    -- frames are taken of the source, and so many of them have no data
+    -- frames are taken of the source, and so many of them have no data; a body to which data still comes has taken no trailers
     pub record TakesIdleFrames (AreSo : ℕ → Type 0) (old new : AwsChunkedBody F G) : Type 0 where
       pub frames : List FramePart
       pub taken : source.left old.source ≡ option_map (λ rest. frames ++ rest) (source.left new.source)
       pub turns : AreSo (idle_frames old.came.phase frames)
+      pub goes_on : new.came.phase ≡ phase.Data → phase_after old.came.phase frames ≡ phase.Data
 
     -- a frame without data counts, and another brings some, or the source has ended
     abbrev pub CountsOrBrings : ℕ → AwsChunkedBody F G → AwsChunkedBody F G → Type 0

@@ -180,12 +180,14 @@ module _ {F G : Type 0} where
     PieceCauses old new (Err (FailedToSign why)) = ⊥
     PieceCauses old new result = Unit {0}
 
-    -- frames are taken, so many of them have no data, and the data of all of them is counted
+    -- frames are taken, so many of them have no data, and the data of all of them is counted; a body to which data still comes has
+    -- taken no trailers
     pub record TakesCountedFrames (AreSo : ℕ → Type 0) (old new : AwsChunkedBody F G) : Type 0 where
       pub frames : List FramePart
       pub taken : source.left old.source ≡ option_map (λ rest. frames ++ rest) (source.left new.source)
       pub turns : AreSo (idle_frames old.came.phase frames)
       pub data_count : counted new.came.taken ≡ counted (old.came.taken + length (data_left old.came.phase frames))
+      pub goes_on : new.came.phase ≡ phase.Data → phase_after old.came.phase frames ≡ phase.Data
 
     -- what is counted of the source never falls; nothing is signed, and the rest stays
     pub record KeepsCountsUnsigned (old new : AwsChunkedBody F G) : Type 0 where
