@@ -259,6 +259,10 @@ module _ {F G : Type 0} where
   abbrev pub signed_by : G → AwsChunkedBody F G → AwsChunkedBody F G
   signed_by signer body = record body { chunks = record body.chunks { signer = Some signer } }
 
+  -- a body of whose text that was made this is left
+  abbrev pub with_ready : List ℕ → AwsChunkedBody F G → AwsChunkedBody F G
+  with_ready ready body = record body { chunks = record body.chunks { ready = ready } }
+
   -- a body after a stop: after a fault it is closed
   abbrev pub after_stop : Stop → AwsChunkedBody F G → AwsChunkedBody F G
   after_stop stop.NotYet body = body
@@ -439,7 +443,7 @@ module _ {F G : Type 0} where
     -- frames that were taken are still due; the end changes nothing
     abbrev pub AnswersFrame : AwsChunkedBody F G → AwsChunkedBody F G → Result ChunkNext AwsChunkedBodyError → Type 0
     AnswersFrame old new (Ok (Frame bytes)) = (text : List ℕ) × (text ≡ bytes ++ ready_bytes new)
-        × (((text ≡ ready_bytes old) × (new ≡ record old { chunks = record old.chunks { ready = ready_bytes new } })) ⊎ ((ready_bytes old ≡ []) × MakesFirst old new text))
+        × (((text ≡ ready_bytes old) × (new ≡ with_ready (ready_bytes new) old)) ⊎ ((ready_bytes old ≡ []) × MakesFirst old new text))
     AnswersFrame old new (Ok NotYet) = KeepsText source old new
     AnswersFrame old new (Ok OutOfTurns) = KeepsText source old new
     AnswersFrame old new (Ok End) = new ≡ old

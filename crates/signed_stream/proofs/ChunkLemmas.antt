@@ -10,7 +10,7 @@ use Rattle.smithy_core.specs.declared.outside.frame_part.FramePart.{FramePart}
 use Rattle.smithy_core.specs.declared.outside.frame_part.FramePart.TheVariants as frame
 use Rattle.smithy_core.specs.declared.outside.frame_source.FrameSource as FrameSource
 use Rattle.sigv4.specs.declared.chunk_signer.SignChunk as SignChunk
-use Rattle.aws_chunked.specs.Body.{AnswersFrame, AreTurns, HasCause, IsBodyClosed, IsNewBody, IsNothing, TextLeft, TakesDue, TakesText, TakesIdleFrames, Trailer, data_before, lines_length, listed, parts_due, ready_bytes, text_to_come_with, body_source, total_of, trailers_from}
+use Rattle.aws_chunked.specs.Body.{AnswersFrame, AreTurns, HasCause, IsBodyClosed, IsNewBody, IsNothing, TextLeft, TakesDue, TakesText, TakesIdleFrames, Trailer, data_before, lines_length, listed, parts_due, ready_bytes, text_to_come_with, body_source, total_of, trailers_from, with_ready}
 use Rattle.aws_chunked.specs.Due.{due}
 use Rattle.aws_chunked.specs.Options.{Options, counted, declared_length}
 use Rattle.aws_chunked.specs.Text.{Part, chunk, chunked_text, crlf, pieces_of_size, parts_of, tail, trailer_line}
@@ -73,10 +73,10 @@ module _ {F G : Type 0} (source : FrameSource.Ghosts F) (signer : SignChunk.Ghos
 
   -- ---- a call
 
-  totals_same : (body : AwsChunkedBody F G) (ready : List ℕ) → total_of source (record body { chunks = record body.chunks { ready = ready } }) ≡ total_of source body
+  totals_same : (body : AwsChunkedBody F G) (ready : List ℕ) → total_of source (with_ready ready body) ≡ total_of source body
   totals_same body ready = by (source.left body.source)
     where
-      by : (left : Option (List FramePart)) → option_map (λ (rest : TextLeft). rest.total) (option_map (text_to_come_with (record body { chunks = record body.chunks { ready = ready } })) left)
+      by : (left : Option (List FramePart)) → option_map (λ (rest : TextLeft). rest.total) (option_map (text_to_come_with (with_ready ready body)) left)
           ≡ option_map (λ (rest : TextLeft). rest.total) (option_map (text_to_come_with body) left)
       by None = refl
       by (Some frames) = refl
