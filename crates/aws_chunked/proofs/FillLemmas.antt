@@ -378,7 +378,7 @@ module _ {F G : Type 0} (source : FrameSource.Ghosts F) (signer : SignChunk.Ghos
 
   cause_gathered : (old mid : AwsChunkedBody F G) (error : AwsChunkedBodyError) → ready_bytes old ≡ [] → Gathers source old mid (Err (stop.Fault error))
       → Causes source signer old mid (Err error)
-  cause_gathered old mid (fault.StreamLengthMismatch actual expected) none gathers = (none, gathers.1)
+  cause_gathered old mid (fault.StreamLengthMismatch actual expected) none gathers = (gathers.1, none)
   cause_gathered old mid (fault.ReportedTrailerLengthMismatch actual expected) none gathers = absurd gathers.1
   cause_gathered old mid (fault.FailedToSign why) none gathers = absurd gathers.1
   cause_gathered old mid fault.SourceFault none gathers = gathers.1
@@ -405,17 +405,7 @@ module _ {F G : Type 0} (source : FrameSource.Ghosts F) (signer : SignChunk.Ghos
       counts = record { waits = told.0.waits; faults = told.0.faults; options = told.0.options }
 
       by : (at : AwsChunkedBodyError) → Causes source signer old mid (Err at) → Causes source signer old (record mid { came = record mid.came { phase = phase.Closed }; chunks = record mid.chunks { ready = [] } }) (Err at)
-      by (fault.StreamLengthMismatch actual expected) cause = (
-        cause.0,
-        record {
-          counts = cause.1.counts;
-          declared = cause.1.declared;
-          differs = cause.1.differs;
-          none_held = cause.1.none_held;
-          total = cause.1.total;
-          parts = cause.1.parts;
-        },
-      )
+      by (fault.StreamLengthMismatch actual expected) cause = cause
       by (fault.ReportedTrailerLengthMismatch actual expected) cause = cause
       by (fault.FailedToSign why) cause = (cause.0, cause.1, cause.2, lengths_of old mid cause.0 phase.Closed [] cause.3)
       by fault.SourceFault cause = cause

@@ -294,7 +294,7 @@ module _ {F G : Type 0} (source : FrameSource.Ghosts F) where
   pulls_not_yet old from room left bytes waits faults rose short compared =
       let keeps = keeps_same old from room left bytes waits faults in (
         counts_of old (record old { source = from; chunks = record old.chunks { held = room } }) keeps,
-        (keeps, record { rose = rose; short = omega (arith, short, ap length bytes); compared = compared }),
+        (keeps, (rose, omega (arith, short, ap length bytes), compared)),
         turns_none old from room left,
       )
 
@@ -414,18 +414,18 @@ module _ {F G : Type 0} (source : FrameSource.Ghosts F) where
   gathers_lacks old now idle error turned few tests =
       subst (λ (e : AwsChunkedBodyError). Gathers source old now (Err (stop.Fault e))) (sym tests.0.0) (
         counts_of old now turned.takes.keeps,
-        record {
-          counts = refl;
-          declared = refl;
-          differs = tests.0.1;
-          none_held = none_of (held_bytes old) (omega (arith, turned.takes.keeps.held, ap length tests.1));
-          total = subst (λ (rest : Option TextLeft). IfSome (option_map (λ (r : TextLeft). r.total) rest) (λ (total : ℕ). total ≡ counted now.came.taken)) turned.takes.keeps.rest
+        (
+          refl,
+          refl,
+          tests.0.1,
+          subst (λ (rest : Option TextLeft). IfSome (option_map (λ (r : TextLeft). r.total) rest) (λ (total : ℕ). total ≡ counted now.came.taken)) turned.takes.keeps.rest
               (if_total (text_to_come_with now) (source.left now.source) (λ (total : ℕ). total ≡ counted now.came.taken)
-              (λ (frames : List FramePart). ended_total now.came.phase now.came.taken frames tests.2));
-          parts = subst (λ (rest : Option TextLeft). IfSome (option_map (λ (r : TextLeft). r.parts) rest) OnlyEnd) turned.takes.keeps.rest
+              (λ (frames : List FramePart). ended_total now.came.phase now.came.taken frames tests.2)),
+          none_of (held_bytes old) (omega (arith, turned.takes.keeps.held, ap length tests.1)),
+          subst (λ (rest : Option TextLeft). IfSome (option_map (λ (r : TextLeft). r.parts) rest) OnlyEnd) turned.takes.keeps.rest
               (if_parts (text_to_come_with now) (source.left now.source) OnlyEnd
-              (λ (frames : List FramePart). end_left now.came.phase now.options.chunk_size (held_bytes now) now.came.trailers frames tests.2 tests.1));
-        },
+              (λ (frames : List FramePart). end_left now.came.phase now.options.chunk_size (held_bytes now) now.came.trailers frames tests.2 tests.1)),
+        ),
         turns_now (λ (count : ℕ). count < 65536) old now idle turned few,
       )
     where
@@ -443,11 +443,11 @@ module _ {F G : Type 0} (source : FrameSource.Ghosts F) where
     counts_more old between now (counts_of old between turned.takes.keeps) pulls.0,
     (
       keeps_more old between now turned.takes.keeps pulls.1.0,
-      record {
-        rose = rose_before (source.waits old.source) (source.waits between.source) (source.waits now.source) turned.takes.keeps.waits pulls.1.1.rose;
-        short = pulls.1.1.short;
-        compared = pulls.1.1.compared;
-      },
+      (
+        rose_before (source.waits old.source) (source.waits between.source) (source.waits now.source) turned.takes.keeps.waits pulls.1.1.0,
+        pulls.1.1.1,
+        pulls.1.1.2,
+      ),
     ),
     turns_more (λ (count : ℕ). count ≡ 0) (λ (count : ℕ). count < 65536) old between now idle turned on pulls.2 (λ count none. omega (arith, few, none)),
   )

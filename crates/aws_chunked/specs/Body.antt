@@ -391,19 +391,16 @@ module _ {F G : Type 0} where
       pub on : IsBodyOpen new
 
     -- the source waited, less than a chunk is held, and data that has ended has the declared length
-    pub record HasWaited (old new : AwsChunkedBody F G) : Type 0 where
-      pub rose : RoseOrStands (source.waits old.source) (source.waits new.source)
-      pub short : length (held_bytes new) < new.options.chunk_size
-      pub compared : IsCompared new
+    abbrev pub HasWaited : AwsChunkedBody F G → AwsChunkedBody F G → Type 0
+    HasWaited old new =
+        RoseOrStands (source.waits old.source) (source.waits new.source) × (length (held_bytes new) < new.options.chunk_size) × IsCompared new
 
     -- the data has ended, none of it was held, of the parts only the end is left, and the data doesn't have the declared length
-    pub record LacksLength (old new : AwsChunkedBody F G) (actual expected : ℕ) : Type 0 where
-      pub counts : actual ≡ new.came.taken
-      pub declared : expected ≡ new.options.stream_length
-      pub differs : actual ≡ expected → ⊥
-      pub none_held : held_bytes old ≡ []
-      pub total : IfSome (total_of old) (λ total. total ≡ counted actual)
-      pub parts : IfSome (parts_due old) (λ parts. (trailers : List Trailer) × (parts ≡ tail trailers ∷ []))
+    abbrev pub LacksLength : AwsChunkedBody F G → AwsChunkedBody F G → ℕ → ℕ → Type 0
+    LacksLength old new actual expected =
+        (actual ≡ new.came.taken) × (expected ≡ new.options.stream_length) × (actual ≡ expected → ⊥)
+        × IfSome (total_of old) (λ total. total ≡ counted actual)
+        × (held_bytes old ≡ []) × IfSome (parts_due old) (λ parts. (trailers : List Trailer) × (parts ≡ tail trailers ∷ []))
 
     -- why no part is at hand
     abbrev pub StopsFor : AwsChunkedBody F G → AwsChunkedBody F G → Stop → Type 0
@@ -458,7 +455,7 @@ module _ {F G : Type 0} where
     abbrev pub Causes : AwsChunkedBody F G → AwsChunkedBody F G → Result ChunkNext AwsChunkedBodyError → Type 0
     Causes old new (Ok NotYet) = HasWaited source old new
     Causes old new (Err SourceFault) = RoseOrStands (source.faults old.source) (source.faults new.source)
-    Causes old new (Err (StreamLengthMismatch actual expected)) = (ready_bytes old ≡ []) × LacksLength source old new actual expected
+    Causes old new (Err (StreamLengthMismatch actual expected)) = LacksLength source old new actual expected × (ready_bytes old ≡ [])
     Causes old new (Err (ReportedTrailerLengthMismatch actual expected)) =
         HasTrailerLengthsIfAny new.came new.options (Err (ReportedTrailerLengthMismatch actual expected)) × (new.came.taken ≡ new.options.stream_length)
         × HaveAllCome source old new × IsFirstPart old (tail (listed new.came.trailers)) × (new.chunks.signer ≡ old.chunks.signer)
