@@ -1,5 +1,4 @@
 mod ChunkSignerLemmas
 mod InputsLemmas
-mod KeptKeyLemmas
 pub mod MessageSignerLemmas
 mod SignerLemmas

@@ -13,7 +13,7 @@ use Rattle.eventstream.specs.declared.sign_error.SignMessageError.{SignMessageEr
 use Rattle.sigv4.specs.EventStream.{IsKeyOf}
 use Rattle.sigv4.specs.Params.{signer_of, v4_time}
 use Rattle.sigv4.specs.declared.params.SigningParams.{SigningParams}
-use Rattle.aws_auth.specs.KeptKey.{Kept}
+use Rattle.sigv4.specs.KeptKey.{Kept}
 use Rattle.aws_auth.specs.MessageSigner.{IsOwnKey, SignerParts, SignerState, SignsBytes, SignsClosing, SignsMessage, running_signature, signer_for, signer_in, told_by, told_of, unsigned_by, unsigned_message_by}
 
 -- the key of who signs at a moment is that of parameters for both

@@ -2,7 +2,6 @@ pub mod ChunkSigner
 pub mod Endpoint
 pub mod Error
 pub mod Inputs
-pub mod KeptKey
 pub mod MessageSigner
 pub mod Moment
 pub mod NameOverride

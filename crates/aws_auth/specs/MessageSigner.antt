@@ -13,7 +13,7 @@ use Rattle.eventstream.specs.Link.{link_message, link_signature}
 use Rattle.eventstream.specs.Told.{Told, sealed, untold, encoding_refusal}
 use Rattle.eventstream.specs.declared.sign_error.SignMessageError.{SignMessageError}
 use Rattle.eventstream.specs.declared.sign_error.SignMessageError.TheVariants as refusals
-use Rattle.aws_auth.specs.KeptKey.{Kept, kept_at, no_key}
+use Rattle.sigv4.specs.KeptKey.{Kept, kept_at, no_key}
 
 -- what a signer signs for, which stays
 pub record SignerParts (S : Type 0) : Type 0 where

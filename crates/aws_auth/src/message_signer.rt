@@ -1,10 +1,10 @@
 ghost use Rattle.std.specs.Prelude.{◌≡◌, IfOk, MatchResult, None, OnErr, OnOk, Some};
 ghost use Rattle.sigv4.specs.Params.{signer_of, v4_identity, v4_time};
-ghost use Rattle.aws_auth.specs.KeptKey.{no_key};
+ghost use Rattle.sigv4.specs.KeptKey.{no_key};
 ghost use Rattle.aws_auth.specs.MessageSigner.{GivesKey, IsSameSigner, SignsBytes, derivations, own_key, running_signature, signer_from, signer_in, unsigned_by};
 
-use crate::kept_key::KeptKey;
 use eventstream::{SignMessage, SignMessageError, write_message_to};
+use sigv4::KeptKey;
 use sigv4::event_stream::{SigningParams, sign_bytes_with_key};
 use smithy_core::{Identity, Mem, Message, Moment, Region, SigningName, is_in_years};
 use std::fmt;

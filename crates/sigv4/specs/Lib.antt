@@ -9,6 +9,7 @@ pub mod Error
 pub mod EventStream
 pub mod Host
 pub mod Instructions
+pub mod KeptKey
 pub mod Output
 pub mod Parameters
 pub mod Params

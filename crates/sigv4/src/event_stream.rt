@@ -6,7 +6,7 @@ ghost use Rattle.hex.specs.Hex.{encode_lower};
 ghost use Rattle.smithy_core.specs.Civil.{IsInYears};
 ghost use Rattle.smithy_core.specs.Moment.{floor_secs};
 ghost use Rattle.eventstream.specs.Frame.{frame, spelling, unframed};
-ghost use Rattle.eventstream.specs.Link.{date_header, message_string_to_sign};
+ghost use Rattle.eventstream.specs.Link.{date_header, link_code, message_string_to_sign};
 ghost use Rattle.sigv4.specs.Output.{output_signature, signed_output};
 ghost use Rattle.sigv4.specs.Params.{signer_of, v4_identity, v4_time};
 ghost use Rattle.sigv4.specs.EventStream.{IsKeyOf, Links, failed_encoding, message_refusal, unsignable};
@@ -143,10 +143,34 @@ pub fn sign_bytes_with_key(
     ensures { Links (unsignable (v4_identity params.now) (v4_time params.now))
         params.now last_signature.now bytes.items result }
 {
-    let time = signing_second(params)?;
-    let text = string_to_sign(alloc, bytes.as_slice(), last_signature, params, &time)?;
-    let code = hmac_sha256(key.as_slice(), text.as_slice());
+    let code = link_code_with_key(alloc, bytes.as_slice(), last_signature, params, key)?;
     Ok(link(alloc, bytes, params.time(), code.as_slice())?)
+}
+
+/// The HMAC that [`sign_bytes_with_key`] signs the bytes of a frame with, alone. The SDK has no such public call.
+///
+/// This is for a caller that compares it with one that came, which needs no message. The condition on the key is that of
+/// [`sign_message_with_key`].
+///
+/// # Errors
+///
+/// Those of [`sign_empty_message`].
+pub fn link_code_with_key(
+    alloc: Global,
+    bytes: &[u8],
+    last_signature: &str,
+    params: &SigningParams<'_>,
+    key: &[u8; 32],
+) -> Result<[u8; 32], SigningError>
+    requires { IsKeyOf params.now key.now }
+    ensures { MatchResult result
+        (λ code. (unsignable (v4_identity params.now) (v4_time params.now) ≡ None)
+        × (code ≡ link_code (signer_of params.now) last_signature.now bytes.now (v4_time params.now)))
+        (λ error. (unsignable (v4_identity params.now) (v4_time params.now) ≡ Some error) ⊎ (error ≡ SigningError.NoMemory)) }
+{
+    let time = signing_second(params)?;
+    let text = string_to_sign(alloc, bytes, last_signature, params, &time)?;
+    Ok(hmac_sha256(key.as_slice(), text.as_slice()))
 }
 
 // The frame of a message.

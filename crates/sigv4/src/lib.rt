@@ -34,6 +34,7 @@ mod grammar;
 mod header;
 mod host;
 mod instructions;
+mod kept_key;
 mod key;
 mod laws;
 mod modes;
@@ -63,6 +64,7 @@ pub use crate::chunk_signer::SignChunk;
 pub use crate::error::{SigningError, ValuePlace};
 pub use crate::header::{Header, HeaderPairs};
 pub use crate::instructions::SigningInstructions;
+pub use crate::kept_key::KeptKey;
 pub use crate::laws::{
     instructions_make_the_signed_request, normal_paths_stay, signed_names_ascend,
     signed_requests_sign_alike, trimmed_texts_stay,

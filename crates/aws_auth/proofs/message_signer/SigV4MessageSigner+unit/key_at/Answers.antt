@@ -1,8 +1,8 @@
 use Rattle.std.proofs.Common.{Some, sym, ap, ◌∙◌}
 use Rattle.eventstream.specs.Key.{signing_key}
-use Rattle.aws_auth.specs.KeptKey.{Kept, kept_at}
+use Rattle.sigv4.specs.KeptKey.{Kept, kept_at}
 use Rattle.aws_auth.specs.MessageSigner.{SignerState, signer_in}
-use Rattle.aws_auth.proofs.KeptKeyLemmas.{kept_signer}
+use Rattle.sigv4.proofs.KeptKeyLemmas.{kept_signer}
 use Rattle.aws_auth.proofs.message_signer.SigV4MessageSigner+unit.key_at.Goals as goal
 
 pub invariant_of-self : goal.invariant_of-self

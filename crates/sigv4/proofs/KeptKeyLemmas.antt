@@ -5,8 +5,8 @@ use Rattle.std.proofs.lemmas.Slice.Eq.{bytes_eq-Decides}
 use Rattle.smithy_core.specs.Civil.{date}
 use Rattle.smithy_core.specs.Moment.{Instant}
 use Rattle.eventstream.specs.Key.{Signer, signing_key}
-use Rattle.aws_auth.specs.KeptKey.{IsKeyFor, Kept, derived_at, is_kept, kept_at}
-use Rattle.aws_auth.specs.declared.kept_key.DayKey.{DayKey}
+use Rattle.sigv4.specs.KeptKey.{IsKeyFor, Kept, derived_at, is_kept, kept_at}
+use Rattle.sigv4.specs.declared.kept_key.DayKey.{DayKey}
 
 -- the signing key of a date is that of each of its moments
 key_of_date : (signer : Signer) (t u : Instant) → bytes_eq (date t) (date u) ≡ true → signing_key signer t ≡ signing_key signer u

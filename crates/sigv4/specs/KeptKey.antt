@@ -5,7 +5,7 @@ use Rattle.smithy_core.specs.Calls.{one_more}
 use Rattle.smithy_core.specs.Civil.{IsInYears, date}
 use Rattle.smithy_core.specs.Moment.{Instant}
 use Rattle.eventstream.specs.Key.{Signer, signing_key}
-use Rattle.aws_auth.specs.declared.kept_key.DayKey.{DayKey}
+use Rattle.sigv4.specs.declared.kept_key.DayKey.{DayKey}
 
 -- who signs, and for which region and service, the date of the key that is kept, and how many keys were derived
 pub record Kept : Type 0 where

@@ -1,9 +1,9 @@
 use Rattle.std.proofs.Common.{◌≡◌, true, false, List, ℕ, subst}
 use Rattle.std.specs.Prelude.{MatchOption}
 use Rattle.eventstream.specs.Key.{signing_key}
-use Rattle.aws_auth.specs.KeptKey.{Kept, is_kept}
-use Rattle.aws_auth.proofs.KeptKeyLemmas.{found_key}
-use Rattle.aws_auth.proofs.kept_key.KeptKey.kept_for.Goals as goal
+use Rattle.sigv4.specs.KeptKey.{Kept, is_kept}
+use Rattle.sigv4.proofs.KeptKeyLemmas.{found_key}
+use Rattle.sigv4.proofs.kept_key.KeptKey.kept_for.Goals as goal
 
 pub returns-in-Some : goal.returns-in-Some
 returns-in-Some c =

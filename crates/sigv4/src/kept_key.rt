@@ -1,9 +1,9 @@
 ghost use Rattle.std.specs.Prelude.{◌≡◌, bytes_eq, false, true, IfOk, MatchOption, string_bytes};
 ghost use Rattle.smithy_core.specs.Civil.{IsInYears, date};
 ghost use Rattle.eventstream.specs.Key.{signing_key};
-ghost use Rattle.aws_auth.specs.KeptKey.{derived_at, is_kept, kept_at, no_key};
+ghost use Rattle.sigv4.specs.KeptKey.{derived_at, is_kept, kept_at, no_key};
 
-use sigv4::v4::generate_signing_key;
+use crate::key::generate_signing_key;
 use smithy_core::{Mem, Moment, is_same_day};
 use std::fmt;
 use std::marker::Model;
@@ -43,7 +43,7 @@ struct DayKey {
 impl Model for KeptKey {
     ghost use Rattle.std.specs.Prelude.{option_map, string_bytes};
     ghost use Rattle.smithy_core.specs.Civil.{date};
-    ghost use Rattle.aws_auth.specs.KeptKey.{IsKeyFor, Kept};
+    ghost use Rattle.sigv4.specs.KeptKey.{IsKeyFor, Kept};
 
     ghost Value = { Kept };
 
@@ -152,7 +152,7 @@ impl DayKey {
 // Shows neither the secret nor the key.
 impl fmt::Debug for KeptKey {
     ghost use Rattle.std.specs.Prelude.{Some};
-    ghost use Rattle.aws_auth.specs.KeptKey.{shown_key};
+    ghost use Rattle.sigv4.specs.KeptKey.{shown_key};
 
     ghost debug_output = { λ kept. Some (shown_key kept) };
 
