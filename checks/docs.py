@@ -26,7 +26,7 @@ PATH = re.compile(r"^(?:(\w+)/)?((?:specs|src|proofs)/[\w/]+\.(?:antt|rt))$")
 # What a copy shares with what it was made of: names that the page has together.
 COPIES = re.compile(r"IsSame\w+|Is\w+Copy|IsCopied")
 # Crates whose definitions still lack comments of their own: a name there without one is left out.
-PASSED_OVER = {"aws_chunked", "chain_check", "env_config", "job_text", "signed_stream"}
+PASSED_OVER = {"aws_chunked", "chain_watch", "env_config", "job_text", "signed_stream"}
 
 
 def shown_functions(page):

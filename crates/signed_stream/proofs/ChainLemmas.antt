@@ -20,7 +20,7 @@ use Rattle.eventstream.proofs.LinkLemmas.{link_framed}
 use Rattle.eventstream.proofs.UnframedLemmas.{unframed_fault}
 use Rattle.event_io.specs.Chain.{next_bytes, next_unsigned}
 use Rattle.signed_stream.specs.declared.form.Form.{Form}
-use Rattle.chain_check.specs.Chain.{IsWholeChain}
+use Rattle.chain_watch.specs.Chain.{IsWholeChain}
 use Rattle.signed_stream.specs.Chain.{Refusal, chain_text, fault_at, first_refusal, frames_text, link_text, outside_years, refusal_at, refusal_fault, streamed_text, text_before, unframed_at, unlinked}
 use Rattle.signed_stream.specs.Halt.{Halt, Halts, fails, refuses, unless_refused, wants}
 use Rattle.signed_stream.specs.Sending.{TakesInTurn, IsSignFault, next_refused, sign_halt}

@@ -13,10 +13,10 @@ use Rattle.smithy_core.proofs.GainLemmas.{gains_at_start, gains_front, gains_joi
 use Rattle.eventstream.specs.Frame.{frame, unframed}
 use Rattle.eventstream.specs.Key.{Signer}
 use Rattle.eventstream.specs.Link.{link_signature}
-use Rattle.chain_check.specs.Chain.{IsChainOf, IsWholeChain, carried_moments}
-use Rattle.chain_check.specs.Walk.{AnswersChain, chain_events}
-use Rattle.chain_check.specs.declared.chain_fault.ChainFault.{ChainFault}
-use Rattle.chain_check.specs.declared.chain_fault.ChainFault.TheVariants as chains
+use Rattle.chain_watch.specs.Chain.{IsChainOf, IsWholeChain, carried_moments}
+use Rattle.chain_watch.specs.Walk.{AnswersChain, chain_events}
+use Rattle.chain_watch.specs.declared.chain_fault.ChainFault.{ChainFault}
+use Rattle.chain_watch.specs.declared.chain_fault.ChainFault.TheVariants as chains
 use Rattle.request_check.specs.Sealed.{IsSealed, SealParts}
 use Rattle.request_check.proofs.SealLemmas.{one_seal}
 use Rattle.signed_stream.specs.CheckRecord.{AreFramed, CarriesSeal, ChecksRecord, GoesForSeal, checked_plan, count_line, event_line, shown_events}

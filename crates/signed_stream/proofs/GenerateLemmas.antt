@@ -26,11 +26,11 @@ use Rattle.eventstream.specs.Link.{chain, date_header, link_code, link_message, 
 use Rattle.eventstream.proofs.FrameLemmas.{length-be32, length-frame}
 use Rattle.eventstream.proofs.LinkLemmas.{length-link_code, link_framed, unfit-none}
 use Rattle.aws_auth.specs.MessageSigner.{SignerState, signer_in}
-use Rattle.chain_check.specs.Chain.{IsWholeChain}
-use Rattle.chain_check.specs.Walk.{chain_events}
-use Rattle.chain_check.specs.declared.chain_fault.ChainFault.{ChainFault}
-use Rattle.chain_check.specs.declared.chain_fault.ChainFault.TheVariants as chains
-use Rattle.chain_check.proofs.WrittenLemmas.{written_accepted}
+use Rattle.chain_watch.specs.Chain.{IsWholeChain}
+use Rattle.chain_watch.specs.Walk.{chain_events}
+use Rattle.chain_watch.specs.declared.chain_fault.ChainFault.{ChainFault}
+use Rattle.chain_watch.specs.declared.chain_fault.ChainFault.TheVariants as chains
+use Rattle.chain_watch.proofs.WrittenLemmas.{written_accepted}
 use Rattle.signed_stream.specs.Chain.{unlinked, chain_text, first_refusal, frame_text, frames_text}
 use Rattle.signed_stream.specs.Generate.{AreDrawn, closing_signature, generated_case, generated_moment, generated_signer, generated_stream, shown_stream}
 use Rattle.signed_stream.specs.Generator.{draw_after, drawn_bytes, drawn_event, drawn_events, drawn_len, next_draw}

@@ -21,8 +21,8 @@ use Rattle.env_config.specs.Sections.{FileText}
 use Rattle.signed_stream.specs.declared.form.Form.{Form}
 use Rattle.signed_stream.specs.declared.status.StreamFault.{StreamFault}
 use Rattle.signed_stream.specs.Case.{job_case, request_moment}
-use Rattle.chain_check.specs.Chain.{IsChainOf, IsWholeChain}
-use Rattle.chain_check.proofs.AcceptedLemmas.{accepted_chain}
+use Rattle.chain_watch.specs.Chain.{IsChainOf, IsWholeChain}
+use Rattle.chain_watch.proofs.AcceptedLemmas.{accepted_chain}
 use Rattle.signed_stream.specs.Chain.{Refusal, first_refusal}
 use Rattle.signed_stream.specs.CheckRecord.{CarriesSeal, GaveRecord, GaveRecordParts, IsSoundRecord, check_plan, check_signer, checked_plan, sealed_plan, shown_events}
 use Rattle.signed_stream.specs.ChunkJob.{chunk_plan, shown_chunks}
@@ -35,8 +35,8 @@ use Rattle.job_text.specs.Job.{JobParts, job}
 use Rattle.signed_stream.specs.Plan.{EndsAsPlanned, FilesRead, GoesAsPlanned, Plan, SealRead, sealed_over, unsealed, unsought, TargetSpells, Supplied, TargetRead, accepted, loaded, most_input, stops, unaccepted, unloaded, unread, unreadable, writes}
 use Rattle.job_text.specs.ProfileTexts.{ProfileTexts, profile_texts}
 use Rattle.request_check.specs.Sealed.{SealParts}
-use Rattle.chain_check.specs.Walk.{chain_events}
-use Rattle.chain_check.specs.declared.chain_fault.ChainFault.{ChainFault}
+use Rattle.chain_watch.specs.Walk.{chain_events}
+use Rattle.chain_watch.specs.declared.chain_fault.ChainFault.{ChainFault}
 use Rattle.eventstream.specs.Key.{Signer}
 use Rattle.job_text.specs.Record.{RecordParts, spelled_record}
 use Rattle.job_text.proofs.RecordLemmas.{spelled_bytes}

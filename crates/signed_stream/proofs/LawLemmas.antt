@@ -8,8 +8,8 @@ use Rattle.eventstream.specs.Key.{Signer}
 use Rattle.eventstream.specs.Laws.{IsProper, floored_message}
 use Rattle.eventstream.specs.Link.{chain, link_signature}
 use Rattle.event_io.specs.Laws.{IsChained, ReadsChain}
-use Rattle.chain_check.specs.Chain.{IsWholeChain}
-use Rattle.chain_check.specs.Walk.{chain_events}
+use Rattle.chain_watch.specs.Chain.{IsWholeChain}
+use Rattle.chain_watch.specs.Walk.{chain_events}
 use Rattle.env_config.specs.Sections.{FileText}
 use Rattle.sigv4.specs.Signed.{signature_of}
 use Rattle.signed_stream.specs.Chain.{chain_text, frame_text}

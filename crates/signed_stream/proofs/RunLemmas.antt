@@ -32,8 +32,8 @@ use Rattle.signed_stream.specs.ProfileOptions.{ProfileWanted}
 use Rattle.job_text.specs.Job.{JobParts, job}
 use Rattle.signed_stream.specs.Plan.{EndsAsPlanned, FilesRead, GainsAsPlanned, GoesAsPlanned, Plan, SealRead, Supplied, sealed_over, unsealed, TargetRead, accepted, plan_end, most_input, stops, unaccepted, unloaded, unread, unsought, writes}
 use Rattle.job_text.specs.ProfileTexts.{ProfileTexts, profile_texts}
-use Rattle.chain_check.specs.Walk.{chain_events}
-use Rattle.chain_check.specs.declared.chain_fault.ChainFault.{ChainFault}
+use Rattle.chain_watch.specs.Walk.{chain_events}
+use Rattle.chain_watch.specs.declared.chain_fault.ChainFault.{ChainFault}
 use Rattle.job_text.specs.Record.{RecordParts, spelled_record}
 use Rattle.signed_stream.specs.Running.{EndsAsAsked, Gave, IsOfCommand, KeepsOutput, OfClock, RunsAsPlanned, TakesMoments, TellsInput, Unless, UnlessCommand, When, comes_late, command_plan, may_be_in_years, may_be_of_frame, read_plan, reads_input, IsOfOutput}
 use Rattle.signed_stream.specs.Settings.{Selected}

@@ -9,8 +9,8 @@ use Rattle.smithy_core.specs.Text.{line}
 use Rattle.smithy_core.specs.declared.request.HttpRequest.{HttpRequest}
 use Rattle.eventstream.specs.Frame.{frame, unframed}
 use Rattle.eventstream.specs.Key.{Signer}
-use Rattle.chain_check.specs.Walk.{chain_events}
-use Rattle.chain_check.specs.declared.chain_fault.ChainFault.{ChainFault}
+use Rattle.chain_watch.specs.Walk.{chain_events}
+use Rattle.chain_watch.specs.declared.chain_fault.ChainFault.{ChainFault}
 use Rattle.request_check.specs.Sealed.{IsSealedAt, SealParts}
 use Rattle.sigv4.specs.Query.{Pair}
 use Rattle.env_config.specs.Files.{Place}

@@ -6,7 +6,7 @@ use Rattle.eventstream.specs.Key.{Signer}
 use Rattle.eventstream.specs.Laws.{floored_message}
 use Rattle.eventstream.specs.Reading.{nothing, reading}
 use Rattle.event_io.specs.Laws.{Carry}
-use Rattle.chain_check.specs.Walk.{chain_events}
+use Rattle.chain_watch.specs.Walk.{chain_events}
 
 -- The bytes are read as messages and nothing else, whose frames are these. The payload of each but the last is the frame of its event, which is read as
 -- the event with its moments in whole milliseconds; that of the last is empty.

@@ -5,7 +5,7 @@ use Rattle.smithy_core.specs.Moment.{Instant}
 use Rattle.smithy_core.specs.Outside.{Gains, RoseOrStands}
 use Rattle.env_config.specs.Files.{Place}
 use Rattle.signed_stream.specs.Case.{request_moment}
-use Rattle.chain_check.specs.Chain.{IsChainOf}
+use Rattle.chain_watch.specs.Chain.{IsChainOf}
 use Rattle.signed_stream.specs.CheckRecord.{GaveRecord, IsSoundRecord, check_plan, check_signer, shown_events}
 use Rattle.signed_stream.specs.ChunkJob.{chunk_plan, shown_chunks}
 use Rattle.signed_stream.specs.Command.{Command, Wanted, bad_word, check_record, generate, show_settings, stream, write_chunks}

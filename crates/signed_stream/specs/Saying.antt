@@ -3,8 +3,8 @@ use Rattle.std.specs.Prelude.{◌≡◌, ℕ, ◌⊎◌, List, [], ◌++◌, cod
 use Rattle.std.specs.Fmt.{decimal}
 use Rattle.smithy_core.specs.Outside.{Gains, GainsPrefix, GainsProperPrefix, RoseOrStands}
 use Rattle.smithy_core.specs.Text.{line}
-use Rattle.chain_check.specs.declared.chain_fault.ChainFault.TheVariants.{NotChain, Mismatch, NoMemory}
-use Rattle.chain_check.specs.ChainFault.{chain_part_name}
+use Rattle.chain_watch.specs.declared.chain_fault.ChainFault.TheVariants.{NotChain, Mismatch, NoMemory}
+use Rattle.chain_watch.specs.ChainFault.{chain_part_name}
 use Rattle.signed_stream.specs.declared.status.CheckFault.{CheckFault}
 use Rattle.signed_stream.specs.declared.status.CheckFault.TheVariants.{NoSignature, Chain}
 use Rattle.signed_stream.specs.Status.{Ending, done, bad_words, job_too_large, bad_job, read_fault, could_not_read_file, refused, check_failed, output_fault, no_memory, RunFault, parse_error, missing_credentials, missing_signing_region, moment_out_of_range, invalid_uri, invalid_header_name, invalid_header_value, missing_host, invalid_token_name, missing_expires, invalid_header_name_length, header_value_too_long, timestamp_value_too_large, headers_too_long, payload_too_long, message_too_long, sink_fault, memory_fault}

@@ -8,8 +8,8 @@ use Rattle.env_config.specs.declared.load_fault.EnvConfigFileLoadError.{EnvConfi
 use Rattle.env_config.specs.declared.load_fault.EnvConfigFileLoadError.TheVariants as loads
 use Rattle.signed_stream.specs.declared.settings.SettingsFault.{SettingsFault}
 use Rattle.signed_stream.specs.declared.settings.SettingsFault.TheVariants as settings
-use Rattle.chain_check.specs.declared.chain_fault.ChainFault.{ChainFault}
-use Rattle.chain_check.specs.declared.chain_fault.ChainFault.TheVariants as chains
+use Rattle.chain_watch.specs.declared.chain_fault.ChainFault.{ChainFault}
+use Rattle.chain_watch.specs.declared.chain_fault.ChainFault.TheVariants as chains
 use Rattle.signed_stream.specs.declared.status.CheckFault.{CheckFault}
 use Rattle.signed_stream.specs.declared.status.CheckFault.TheVariants as checks
 use Rattle.signed_stream.specs.declared.status.Status.{Status}

@@ -13,7 +13,7 @@ use Rattle.env_config.specs.Files.{Place}
 use Rattle.env_config.specs.Loading.{selected_profile}
 use Rattle.env_config.specs.Sections.{FileText}
 use Rattle.signed_stream.specs.Case.{job_case, request_moment}
-use Rattle.chain_check.specs.Chain.{IsWholeChain}
+use Rattle.chain_watch.specs.Chain.{IsWholeChain}
 use Rattle.signed_stream.specs.Command.{Wanted}
 use Rattle.job_text.specs.Job.{JobParts, job}
 use Rattle.signed_stream.specs.Plan.{FilesRead, Plan, TargetSpells, Supplied, TargetRead, accepted, loaded, most_input, stops, unaccepted, unread, writes}

@@ -19,7 +19,7 @@ use crate::form::Form;
 use crate::settings::Settings;
 use crate::sources::select;
 use crate::status::{CheckFault, Status, StreamFault, status_of};
-use chain_check::check_chain;
+use chain_watch::check_chain;
 use eventstream::{ErrorKind, write_message_to};
 use job_text::RecordDraft;
 use request_check::seal_of;

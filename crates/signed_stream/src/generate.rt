@@ -20,7 +20,7 @@ use crate::sign::sign_request;
 use crate::status::{Status, StreamFault, status_of};
 use crate::streaming::StreamOptions;
 use aws_auth::{SigV4MessageSigner, SigningOptions};
-use chain_check::{ChainFault, check_chain};
+use chain_watch::{ChainFault, check_chain};
 use job_text::copied_events;
 use smithy_core::{
     ByteSink, CalmSink, Credentials, FixedClock, HttpRequest, Identity, Mem, Message, Moment,

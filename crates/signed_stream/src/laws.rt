@@ -12,7 +12,7 @@ ghost use Rattle.signed_stream.specs.Plan.{TargetRead};
 ghost use Rattle.signed_stream.specs.Stream.{IsValid, valid_case, written_valid};
 ghost use Rattle.signed_stream.specs.declared.form.Form.TheVariants.{Raw};
 
-use chain_check::written_chains_are_accepted;
+use chain_watch::written_chains_are_accepted;
 use event_io::chains_read_back;
 
 /// What `sign_and_stream` wrote in raw form is read, in whatever pieces it comes to a receiver, as the messages of the chain, one

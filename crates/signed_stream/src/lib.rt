@@ -42,6 +42,6 @@ pub use crate::saying::say;
 pub use crate::settings::{Settings, SettingsFault, read_settings};
 pub use crate::status::{CheckFault, Status, StreamFault};
 pub use crate::streaming::{StreamOptions, sign_and_stream};
-pub use chain_check::{ChainFault, ChainPart, check_chain};
+pub use chain_watch::{ChainFault, ChainPart, check_chain};
 pub use job_text::{Job, JobFault, read_job};
 pub use request_check::{CheckRequestFault, Checked, check_request};

@@ -4,7 +4,7 @@ ghost use Rattle.signed_stream.specs.Saying.{SaysEnding, ending_line, failed_at}
 ghost use Rattle.signed_stream.specs.Status.{check_failed, done, ending_of, run_fault, no_memory, refused};
 
 use crate::status::{CheckFault, Status, StreamFault};
-use chain_check::ChainFault;
+use chain_watch::ChainFault;
 use smithy_core::{ByteSink, Mem, SinkError, write_all};
 use std::alloc::Global;
 

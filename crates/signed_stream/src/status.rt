@@ -3,7 +3,7 @@ ghost use Rattle.signed_stream.specs.Halt.{ended};
 ghost use Rattle.signed_stream.specs.Status.{ending_of};
 
 use crate::settings::SettingsFault;
-use chain_check::ChainFault;
+use chain_watch::ChainFault;
 use env_config::{EnvConfigFileLoadError, EnvConfigParseError};
 use sigv4::ValuePlace;
 use smithy_core::{Mem, Moment};

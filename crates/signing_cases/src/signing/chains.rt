@@ -1,7 +1,7 @@
 //! Chains of signed frames that are checked.
 use crate::parts::framed;
 use case_lines::{bytes_of_hex, unknown};
-use chain_check::{ChainFault, check_chain};
+use chain_watch::{ChainFault, check_chain};
 use smithy_core::{Mem, Message};
 use std::alloc::Global;
 

@@ -1,5 +1,0 @@
-use Rattle.chain_check.proofs.AcceptedLemmas.{exactly_chain}
-use Rattle.chain_check.proofs.laws.exactly_chains_are_accepted.Goals as goal
-
-pub returns : goal.returns
-returns c = exactly_chain
