@@ -9,10 +9,12 @@ use Rattle.std.specs.Ordering.{match_ordering}
 use Rattle.std.proofs.lemmas.Bool.{false≢true, le-ltb, lt-ltb}
 use Rattle.std.proofs.lemmas.List.Folds.{list_any-append}
 use Rattle.std.proofs.Math.Bool.{or-false}
+use Rattle.env_config.specs.declared.heading.HeadingForm.{HeadingForm}
+use Rattle.env_config.specs.declared.heading.HeadingForm.TheVariants.{Bare, Prefixed}
 use Rattle.env_config.specs.Latest.{Latest, group_of, is_beaten, put_latest, put_placed, values_in, with_place}
 use Rattle.env_config.specs.Order.{IsRising}
-use Rattle.env_config.specs.ProfileDraft.{IsInOrder, IsLatest, is_among, is_in, latest_of, place_in, value_in_group, latest_with_last}
-use Rattle.env_config.specs.Raw.{Keeps, Last, properties_of, put_property, put_section}
+use Rattle.env_config.specs.ProfileSink.{IsInOrder, IsLatest, is_among, is_in, latest_of, place_in, value_in_group}
+use Rattle.env_config.specs.Raw.{properties_of}
 use Rattle.env_config.specs.Sections.{has_profile_default, heading_of, is_profile_default}
 use Rattle.env_config.specs.Texts.{Named, put, put_named, text_cmp, value_under}
 use Rattle.env_config.proofs.ApartLemmas.{all_more, all_of}
@@ -158,9 +160,6 @@ some_either false x found = refl
 
 -- ## A section that is opened
 
-abbrev pub opened_latest : Keeps → Latest → List ℕ → Latest
-opened_latest keeps latest name = cond (keeps.section name) (with_place latest name) latest
-
 -- properties that are put where they stand
 properties_stay : (sections : Named (List (List ℕ × List ℕ))) (name : List ℕ) (names : List (List ℕ)) (other : List ℕ)
     → properties_of (record { names = names; values = put sections.values name (properties_of sections name) }) other ≡ properties_of sections other
@@ -171,7 +170,7 @@ properties_stay sections name names other =
     by true is = ap (properties_of sections) (sym (tied_same other name is))
     by false is = refl
 
-values_stay : (profile : List ℕ) (sections now : Named (List (List ℕ × List ℕ))) (group : Bool) (key : List ℕ) → ((name : List ℕ) → properties_of now name ≡ properties_of sections name)
+values_stay : (profile : List ℕ) (sections now : Named (List (List ℕ × List ℕ))) (group : HeadingForm) (key : List ℕ) → ((name : List ℕ) → properties_of now name ≡ properties_of sections name)
     → (names : List (List ℕ)) → AllByRecursion (λ (name : List ℕ). value_in_group profile now group key name ≡ value_in_group profile sections group key name) names
 values_stay profile sections now group key same [] = tt
 values_stay profile sections now group key same (name ∷ names) =
@@ -200,9 +199,9 @@ none_there : {X : Type 0} (found : Option X) → is_some found ≡ false → fou
 none_there None is = refl
 none_there (Some x) is = absurd (false≢true (sym is))
 
-pub latest_opened : (keeps : Keeps) (profile : List ℕ) (sections : Named (List (List ℕ × List ℕ))) (latest : Latest) (name : List ℕ) → IsLatest profile sections latest
-    → IsLatest profile (put_section keeps sections name (properties_of sections name)) (opened_latest keeps latest name)
-latest_opened keeps profile sections latest name is = by (keeps.section name)
+pub latest_opened : (profile : List ℕ) (sections : Named (List (List ℕ × List ℕ))) (latest : Latest) (name : List ℕ) → IsLatest profile sections latest
+    → IsLatest profile (put_named sections name (properties_of sections name)) (with_place latest name)
+latest_opened profile sections latest name is = either_way (is_some (value_under latest.places name)) (is_some (value_under sections.values name)) refl refl
   where
     pairs : List (List ℕ × List ℕ)
     pairs = properties_of sections name
@@ -222,7 +221,7 @@ latest_opened keeps profile sections latest name is = by (keeps.section name)
     value_now : (n : List ℕ) → value_under (now true).values n ≡ cond (is_eq (text_cmp n name)) (Some pairs) (value_under sections.values n)
     value_now n = at_put text_cmp nat_list_cmp_total sections.values name pairs n
 
-    stay : (known group : Bool) (key : List ℕ) → AllByRecursion (λ (n : List ℕ). value_in_group profile (now known) group key n ≡ value_in_group profile sections group key n) sections.names
+    stay : (known : Bool) (group : HeadingForm) (key : List ℕ) → AllByRecursion (λ (n : List ℕ). value_in_group profile (now known) group key n ≡ value_in_group profile sections group key n) sections.names
     stay known group key = values_stay profile sections (now known) group key (properties_stay sections name (now known).names) sections.names
 
     known_before : is_some (value_under latest.places name) ≡ true → IsLatest profile (now true) latest
@@ -297,18 +296,18 @@ latest_opened keeps profile sections latest name is = by (keeps.section name)
             let below = is.1 in
             (ap is_some (stays n is.0) ∙ is.0, subst (λ (m : ℕ). place_in fresh n < m) (sym grown) (omega (arith, same, below)))
 
-        rising_now : (group : Bool) → IsRising (values_in fresh group)
-        rising_now true = is.rising true
-        rising_now false = is.rising false
+        rising_now : (group : HeadingForm) → IsRising (values_in fresh group)
+        rising_now Prefixed = is.rising Prefixed
+        rising_now Bare = is.rising Bare
 
-        same_values : (group : Bool) (key : List ℕ) → value_under (values_in fresh group) key ≡ value_under (values_in latest group) key
-        same_values true key = refl
-        same_values false key = refl
+        same_values : (group : HeadingForm) (key : List ℕ) → value_under (values_in fresh group) key ≡ value_under (values_in latest group) key
+        same_values Prefixed key = refl
+        same_values Bare key = refl
 
         nothing : properties_of (now false) name ≡ []
         nothing = properties_stay sections name (now false).names name ∙ ap (λ (found : Option (List (List ℕ × List ℕ))). unwrap_or found []) (none_there (value_under sections.values name) (sym (is.known name) ∙ lacks))
 
-        none_here : (group : Bool) (key : List ℕ) → value_in_group profile (now false) group key name ≡ None
+        none_here : (group : HeadingForm) (key : List ℕ) → value_in_group profile (now false) group key name ≡ None
         none_here group key = ap (λ (pairs : List (List ℕ × List ℕ)). cond (is_in group (group_of profile (heading_of name))) (value_under pairs key) None) nothing ∙ never (is_in group (group_of profile (heading_of name)))
           where
             never : (b : Bool) → cond {A = Option (List ℕ)} b None None ≡ None
@@ -321,71 +320,56 @@ latest_opened keeps profile sections latest name is = by (keeps.section name)
     either_way true false there lacks = absurd (false≢true (sym lacks ∙ sym (is.known name) ∙ there))
     either_way false true lacks there = absurd (false≢true (sym lacks ∙ is.known name ∙ there))
 
-    by : (b : Bool) → IsLatest profile (cond b (put_named sections name pairs) sections) (cond b (with_place latest name) latest)
-    by false = is
-    by true = either_way (is_some (value_under latest.places name)) (is_some (value_under sections.values name)) refl refl
-
 -- ## A property that is put
 
-module _ (keeps : Keeps) (profile : List ℕ) (sections : Named (List (List ℕ × List ℕ))) (latest : Latest) (name : List ℕ) (place : ℕ) (last : Last) where
-  abbrev pub grouped : Option Bool
+module _ (profile : List ℕ) (sections : Named (List (List ℕ × List ℕ))) (latest : Latest) (name : List ℕ) (place : ℕ) (pair : List ℕ × List ℕ) where
+  abbrev pub grouped : Option HeadingForm
   grouped = group_of profile (heading_of name)
 
   abbrev pub pairs_before : List (List ℕ × List ℕ)
   pairs_before = properties_of sections name
 
   abbrev pub pairs_now : List (List ℕ × List ℕ)
-  pairs_now = put_property keeps pairs_before last
+  pairs_now = put pairs_before pair.0 pair.1
 
   abbrev pub sections_now : Bool → Named (List (List ℕ × List ℕ))
   sections_now known = record { names = cond known sections.names (sections.names ++ name ∷ []); values = put sections.values name pairs_now }
 
-  -- whether the property is one of the group's
-  abbrev pub hits : Bool → Option Bool → Bool
-  hits group at = is_in group at && keeps.key last.key
+  abbrev pub values_now : Option HeadingForm → HeadingForm → List (List ℕ × (ℕ × List ℕ))
+  values_now at group = cond (is_in group at) (put_placed (values_in latest group) place pair.0 pair.1) (values_in latest group)
 
-  abbrev pub values_now : Option Bool → Bool → List (List ℕ × (ℕ × List ℕ))
-  values_now at group = cond (hits group at) (put_placed (values_in latest group) place last.key last.value) (values_in latest group)
+  -- the values with that of the section, where it is one of the profile
+  abbrev pub latest_put_in : Option HeadingForm → Latest
+  latest_put_in None = latest
+  latest_put_in (Some group) = put_latest latest group place pair.0 pair.1
 
-  last_is : (at : Option Bool) → record latest { bare = values_now at false; prefixed = values_now at true } ≡ latest_with_last keeps latest place at (Some last)
-  last_is None = refl
-  last_is (Some true) = by (keeps.key last.key)
-    where
-      by : (b : Bool) → record latest { bare = latest.bare; prefixed = cond b (put_placed latest.prefixed place last.key last.value) latest.prefixed } ≡ cond b (put_latest latest true place last.key last.value) latest
-      by true = refl
-      by false = refl
-  last_is (Some false) = by (keeps.key last.key)
-    where
-      by : (b : Bool) → record latest { bare = cond b (put_placed latest.bare place last.key last.value) latest.bare; prefixed = latest.prefixed } ≡ cond b (put_latest latest false place last.key last.value) latest
-      by true = refl
-      by false = refl
+  put_is : (at : Option HeadingForm) → record latest { bare = values_now at Bare; prefixed = values_now at Prefixed } ≡ latest_put_in at
+  put_is None = refl
+  put_is (Some Prefixed) = refl
+  put_is (Some Bare) = refl
 
-  now_gives : (group : Bool) (key : List ℕ) → let found = value_under (values_in latest group) key in
-      value_under (values_now grouped group) key ≡ cond (hits group grouped) (cond (is_eq (text_cmp key last.key)) (beats place last.value found) found) found
-  now_gives group key = by (hits group grouped)
+  now_gives : (group : HeadingForm) (key : List ℕ) → let found = value_under (values_in latest group) key in
+      value_under (values_now grouped group) key ≡ cond (is_in group grouped) (cond (is_eq (text_cmp key pair.0)) (beats place pair.1 found) found) found
+  now_gives group key = by (is_in group grouped)
     where
       by : (b : Bool) → let found = value_under (values_in latest group) key in
-          value_under (cond b (put_placed (values_in latest group) place last.key last.value) (values_in latest group)) key ≡ cond b (cond (is_eq (text_cmp key last.key)) (beats place last.value found) found) found
-      by true = placed_gives (values_in latest group) place last.key last.value key
+          value_under (cond b (put_placed (values_in latest group) place pair.0 pair.1) (values_in latest group)) key ≡ cond b (cond (is_eq (text_cmp key pair.0)) (beats place pair.1 found) found) found
+      by true = placed_gives (values_in latest group) place pair.0 pair.1 key
       by false = refl
 
-  now_rising : ((group : Bool) → IsRising (values_in latest group)) → (group : Bool) → IsRising (values_now grouped group)
-  now_rising rising group = by (hits group grouped)
+  now_rising : ((group : HeadingForm) → IsRising (values_in latest group)) → (group : HeadingForm) → IsRising (values_now grouped group)
+  now_rising rising group = by (is_in group grouped)
     where
-      by : (b : Bool) → IsRising (cond b (put_placed (values_in latest group) place last.key last.value) (values_in latest group))
-      by true = placed_rising (values_in latest group) place last.key last.value (rising group)
+      by : (b : Bool) → IsRising (cond b (put_placed (values_in latest group) place pair.0 pair.1) (values_in latest group))
+      by true = placed_rising (values_in latest group) place pair.0 pair.1 (rising group)
       by false = rising group
 
   -- the value in the section
-  own_now : (group : Bool) (key : List ℕ) → value_under pairs_now key ≡ cond (keeps.key last.key) (cond (is_eq (text_cmp key last.key)) (Some last.value) (value_under pairs_before key)) (value_under pairs_before key)
-  own_now group key = by (keeps.key last.key)
-    where
-      by : (b : Bool) → value_under (cond b (put pairs_before last.key last.value) pairs_before) key ≡ cond b (cond (is_eq (text_cmp key last.key)) (Some last.value) (value_under pairs_before key)) (value_under pairs_before key)
-      by true = at_put text_cmp nat_list_cmp_total pairs_before last.key last.value key
-      by false = refl
+  own_now : (key : List ℕ) → value_under pairs_now key ≡ cond (is_eq (text_cmp key pair.0)) (Some pair.1) (value_under pairs_before key)
+  own_now key = at_put text_cmp nat_list_cmp_total pairs_before pair.0 pair.1 key
 
   -- the value in each section
-  value_at : (group : Bool) (key other : List ℕ)
+  value_at : (group : HeadingForm) (key other : List ℕ)
       → value_in_group profile (sections_now true) group key other ≡ cond (is_eq (text_cmp other name)) (cond (is_in group grouped) (value_under pairs_now key) None) (value_in_group profile sections group key other)
   value_at group key other =
       ap (λ (found : Option (List (List ℕ × List ℕ))). cond (is_in group (group_of profile (heading_of other))) (value_under (unwrap_or found []) key) None) (at_put text_cmp nat_list_cmp_total sections.values name pairs_now other)
@@ -398,7 +382,7 @@ module _ (keeps : Keeps) (profile : List ℕ) (sections : Named (List (List ℕ 
       by false tied = refl
 
   -- the section's value is what it was
-  unchanged : (group : Bool) (key : List ℕ) → cond (is_in group grouped) (value_under pairs_now key) None ≡ value_in_group profile sections group key name
+  unchanged : (group : HeadingForm) (key : List ℕ) → cond (is_in group grouped) (value_under pairs_now key) None ≡ value_in_group profile sections group key name
       → (names : List (List ℕ)) → AllByRecursion (λ (other : List ℕ). value_in_group profile (sections_now true) group key other ≡ value_in_group profile sections group key other) names
   unchanged group key same [] = tt
   unchanged group key same (other ∷ names) = (value_at group key other ∙ by (is_eq (text_cmp other name)) refl, unchanged group key same names)
@@ -407,9 +391,9 @@ module _ (keeps : Keeps) (profile : List ℕ) (sections : Named (List (List ℕ 
       by true tied = same ∙ ap (value_in_group profile sections group key) (sym (tied_same other name tied))
       by false tied = refl
 
-  values_follow : IsLatest profile sections latest → value_under latest.places name ≡ Some place → (group : Bool) (key : List ℕ)
+  values_follow : IsLatest profile sections latest → value_under latest.places name ≡ Some place → (group : HeadingForm) (key : List ℕ)
       → value_under (values_now grouped group) key ≡ latest_of (place_in latest) (value_in_group profile (sections_now true) group key) sections.names
-  values_follow is at group key = now_gives group key ∙ by (is_in group grouped) (keeps.key last.key) (is_eq (text_cmp key last.key)) refl refl refl
+  values_follow is at group key = now_gives group key ∙ by (is_in group grouped) (is_eq (text_cmp key pair.0)) refl refl
     where
       found : Option (ℕ × List ℕ)
       found = value_under (values_in latest group) key
@@ -426,24 +410,20 @@ module _ (keeps : Keeps) (profile : List ℕ) (sections : Named (List (List ℕ 
       as_before : own (is_in group grouped) ≡ value_in_group profile sections group key name → found ≡ latest_of (place_in latest) (value_in_group profile (sections_now true) group key) sections.names
       as_before same = sym (latest_same (place_in latest) (value_in_group profile sections group key) (value_in_group profile (sections_now true) group key) sections.names (unchanged group key same sections.names) ∙ before)
 
-      by : (i k t : Bool) → is_in group grouped ≡ i → keeps.key last.key ≡ k → is_eq (text_cmp key last.key) ≡ t
-          → cond (i && k) (cond t (beats place last.value found) found) found ≡ latest_of (place_in latest) (value_in_group profile (sections_now true) group key) sections.names
-      by false k t i_is k_is t_is = as_before (ap own i_is ∙ sym (ap (λ (i : Bool). cond i (value_under pairs_before key) None) i_is))
-      by true false t i_is k_is t_is =
-          as_before (ap (λ (x : Option (List ℕ)). cond (is_in group grouped) x None) (own_now group key ∙ ap (λ (k : Bool). cond k (cond (is_eq (text_cmp key last.key)) (Some last.value) (value_under pairs_before key)) (value_under pairs_before key)) k_is))
-      by true true false i_is k_is t_is =
-          as_before (ap (λ (x : Option (List ℕ)). cond (is_in group grouped) x None)
-          (own_now group key ∙ ap₂ (λ (k t : Bool). cond k (cond t (Some last.value) (value_under pairs_before key)) (value_under pairs_before key)) k_is t_is))
-      by true true true i_is k_is t_is =
-          let own_is : own (is_in group grouped) ≡ Some last.value =
-          ap own i_is ∙ own_now group key ∙ ap₂ (λ (k t : Bool). cond k (cond t (Some last.value) (value_under pairs_before key)) (value_under pairs_before key)) k_is t_is in
-          sym (latest_put (place_in latest) (value_in_group profile sections group key) (value_in_group profile (sections_now true) group key) sections.names name last.value is.in_order there
+      by : (i t : Bool) → is_in group grouped ≡ i → is_eq (text_cmp key pair.0) ≡ t
+          → cond i (cond t (beats place pair.1 found) found) found ≡ latest_of (place_in latest) (value_in_group profile (sections_now true) group key) sections.names
+      by false t i_is t_is = as_before (ap own i_is ∙ sym (ap (λ (i : Bool). cond i (value_under pairs_before key) None) i_is))
+      by true false i_is t_is =
+          as_before (ap (λ (x : Option (List ℕ)). cond (is_in group grouped) x None) (own_now key ∙ ap (λ (t : Bool). cond t (Some pair.1) (value_under pairs_before key)) t_is))
+      by true true i_is t_is =
+          let own_is : own (is_in group grouped) ≡ Some pair.1 = ap own i_is ∙ own_now key ∙ ap (λ (t : Bool). cond t (Some pair.1) (value_under pairs_before key)) t_is in
+          sym (latest_put (place_in latest) (value_in_group profile sections group key) (value_in_group profile (sections_now true) group key) sections.names name pair.1 is.in_order there
           (λ other. value_at group key other ∙ ap (λ (x : Option (List ℕ)). cond (is_eq (text_cmp other name)) x (value_in_group profile sections group key other)) own_is)
-          ∙ ap₂ (λ (p : ℕ) (f : Option (ℕ × List ℕ)). beats p last.value f) (ap (λ (f : Option ℕ). unwrap_or f 0) at) before)
+          ∙ ap₂ (λ (p : ℕ) (f : Option (ℕ × List ℕ)). beats p pair.1 f) (ap (λ (f : Option ℕ). unwrap_or f 0) at) before)
 
-  section_put : IsLatest profile sections latest → value_under latest.places name ≡ Some place → IsLatest profile (put_named sections name pairs_now) (latest_with_last keeps latest place grouped (Some last))
-  section_put is at =
-      subst₂ (IsLatest profile) (ap sections_now (sym known_is)) (last_is grouped) (record {
+  pub latest_last : IsLatest profile sections latest → value_under latest.places name ≡ Some place → IsLatest profile (put_named sections name pairs_now) (latest_put_in grouped)
+  latest_last is at =
+      subst₂ (IsLatest profile) (ap sections_now (sym known_is)) (put_is grouped) (record {
         known = λ q. is.known q ∙ sym (ap is_some (at_put text_cmp nat_list_cmp_total sections.values name pairs_now q) ∙ known_at q (is_eq (text_cmp q name)) refl);
         among = is.among;
         in_order = is.in_order;
@@ -461,31 +441,19 @@ module _ (keeps : Keeps) (profile : List ℕ) (sections : Named (List (List ℕ 
       known_at q true tied = sym (ap (λ (n : List ℕ). is_some (value_under sections.values n)) (tied_same q name tied) ∙ known_is)
       known_at q false tied = refl
 
-      own_rising : (b : Bool) → IsRising (cond b (put pairs_before last.key last.value) pairs_before)
-      own_rising true = put_rising pairs_before last.key last.value (is.pairs name)
-      own_rising false = is.pairs name
-
       pairs_rising : (n : List ℕ) → IsRising (properties_of (sections_now true) n)
       pairs_rising n =
           subst (λ (found : Option (List (List ℕ × List ℕ))). IsRising (unwrap_or found [])) (sym (at_put text_cmp nat_list_cmp_total sections.values name pairs_now n)) (by (is_eq (text_cmp n name)))
         where
           by : (b : Bool) → IsRising (unwrap_or (cond b (Some pairs_now) (value_under sections.values n)) [])
-          by true = own_rising (keeps.key last.key)
+          by true = put_rising pairs_before pair.0 pair.1 (is.pairs name)
           by false = is.pairs n
 
-      rising_now : (group : Bool) → IsRising (values_in (record latest { bare = values_now grouped false; prefixed = values_now grouped true }) group)
-      rising_now true = now_rising is.rising true
-      rising_now false = now_rising is.rising false
+      rising_now : (group : HeadingForm) → IsRising (values_in (record latest { bare = values_now grouped Bare; prefixed = values_now grouped Prefixed }) group)
+      rising_now Prefixed = now_rising is.rising Prefixed
+      rising_now Bare = now_rising is.rising Bare
 
-      follow : (group : Bool) (key : List ℕ) → value_under (values_in (record latest { bare = values_now grouped false; prefixed = values_now grouped true }) group) key
+      follow : (group : HeadingForm) (key : List ℕ) → value_under (values_in (record latest { bare = values_now grouped Bare; prefixed = values_now grouped Prefixed }) group) key
           ≡ latest_of (place_in latest) (value_in_group profile (sections_now true) group key) sections.names
-      follow true key = values_follow is at true key
-      follow false key = values_follow is at false key
-
-  pub latest_last : (group : Option Bool) → IsLatest profile sections latest → group ≡ cond (keeps.section name) grouped None → (keeps.section name ≡ true → value_under latest.places name ≡ Some place)
-      → IsLatest profile (put_section keeps sections name pairs_now) (latest_with_last keeps latest place group (Some last))
-  latest_last group is group_is at = by (keeps.section name) group_is at
-    where
-      by : (b : Bool) → group ≡ cond b grouped None → (b ≡ true → value_under latest.places name ≡ Some place) → IsLatest profile (cond b (put_named sections name pairs_now) sections) (latest_with_last keeps latest place group (Some last))
-      by false group_is at = subst (λ (g : Option Bool). IsLatest profile sections (latest_with_last keeps latest place g (Some last))) (sym group_is) is
-      by true group_is at = subst (λ (g : Option Bool). IsLatest profile (put_named sections name pairs_now) (latest_with_last keeps latest place g (Some last))) (sym group_is) (section_put is (at refl))
+      follow Prefixed key = values_follow is at Prefixed key
+      follow Bare key = values_follow is at Bare key

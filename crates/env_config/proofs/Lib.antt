@@ -20,8 +20,10 @@ pub mod NarrowMergeLemmas
 pub mod NarrowServiceLemmas
 pub mod LatestLemmas
 pub mod LatestViewLemmas
-pub mod ProfileLemmas
+pub mod ProfileSinkLemmas
+pub mod ReaderLemmas
 pub mod MergedProfileLemmas
+pub mod SectionsSinkLemmas
 pub mod SelectedLemmas
 pub mod SectionLemmas
 pub mod SpreadLemmas

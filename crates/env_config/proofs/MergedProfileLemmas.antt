@@ -6,6 +6,8 @@ use Rattle.std.specs.List.{AllByRecursion}
 use Rattle.std.proofs.Common.{Less}
 use Rattle.std.proofs.lemmas.Bool.{false≢true}
 use Rattle.std.proofs.lemmas.Slice.Eq.{bytes_eq-Decides}
+use Rattle.env_config.specs.declared.heading.HeadingForm.{HeadingForm}
+use Rattle.env_config.specs.declared.heading.HeadingForm.TheVariants.{Bare, Prefixed}
 use Rattle.env_config.specs.declared.parse_fault.ParseFault.{ParseFault}
 use Rattle.env_config.specs.declared.parse_fault.ParseFault.TheVariants.{Parse, NoMemory}
 use Rattle.env_config.specs.declared.sections.EnvConfigSections.{EnvConfigSections}
@@ -13,11 +15,11 @@ use Rattle.env_config.specs.declared.source.EnvConfigFileKind.{EnvConfigFileKind
 use Rattle.env_config.specs.declared.source.EnvConfigFileKind.TheVariants.{Config, Credentials}
 use Rattle.env_config.specs.EnvConfigSections.{TellsLine, sections_of, selected_of}
 use Rattle.env_config.specs.Kept.{has_heading}
-use Rattle.env_config.specs.Latest.{Latest, group_of, group_taken, taken_values, values_in, without_places}
+use Rattle.env_config.specs.Latest.{Latest, form_of, group_of, group_taken, taken_values, values_in, without_places}
 use Rattle.env_config.specs.Laws.{value_in}
 use Rattle.env_config.specs.MergedProfile.{HasSame, MergesProfile, ParsesProfile, with_taken}
 use Rattle.env_config.specs.Order.{IsRising}
-use Rattle.env_config.specs.ProfileDraft.{IsLatest, ReadsLatest, is_in, latest_of, place_in, value_in_group}
+use Rattle.env_config.specs.ProfileSink.{IsLatest, ReadsLatest, is_in, latest_of, place_in, value_in_group}
 use Rattle.env_config.specs.Raw.{Keeps, properties_of, raw}
 use Rattle.env_config.specs.Sections.{FaultyLine, FileText, Heading, Sections, after_file, files_from, has_profile_default, heading_of, is_default, is_identifier, is_profile_default, is_taken_from, no_sections, with_file, with_names, with_raw, with_section}
 use Rattle.env_config.specs.Texts.{Named, text_cmp, value_under}
@@ -84,31 +86,31 @@ module _ (keeps : Keeps) (kind : EnvConfigFileKind) (overridden : Bool) (file : 
 -- ## The sections that are taken
 
 -- whether sections of a group are taken, where these are
-abbrev picks : Option Bool → Option Bool → Bool
+abbrev picks : Option HeadingForm → Option HeadingForm → Bool
 picks None group = false
 picks (Some taken) group = is_in taken group
 
 taken_is : (kind : EnvConfigFileKind) (overridden : Bool) (profile : List ℕ) (prefix : Option (List ℕ)) → (is_some prefix ≡ true → is_default profile ≡ true → overridden ≡ true)
-    → is_taken_from kind overridden prefix profile ≡ picks (group_taken kind overridden profile) (Some (is_some prefix))
+    → is_taken_from kind overridden prefix profile ≡ picks (group_taken kind overridden profile) (Some (form_of prefix))
 taken_is Credentials overridden profile None told = by (is_identifier profile)
   where
-    by : (b : Bool) → b ≡ picks (cond b (Some false) None) (Some false)
+    by : (b : Bool) → b ≡ picks (cond b (Some Bare) None) (Some Bare)
     by true = refl
     by false = refl
 taken_is Credentials overridden profile (Some prefix) told = by (is_identifier profile)
   where
-    by : (b : Bool) → false ≡ picks (cond b (Some false) None) (Some true)
+    by : (b : Bool) → false ≡ picks (cond b (Some Bare) None) (Some Prefixed)
     by true = refl
     by false = refl
 taken_is Config overridden profile None told = by (is_default profile && not overridden) (is_identifier profile)
   where
-    by : (b d : Bool) → b ≡ picks (cond b (Some false) (cond d (Some true) None)) (Some false)
+    by : (b d : Bool) → b ≡ picks (cond b (Some Bare) (cond d (Some Prefixed) None)) (Some Bare)
     by true d = refl
     by false true = refl
     by false false = refl
 taken_is Config overridden profile (Some prefix) told = by (is_default profile) overridden (is_identifier profile) (told refl)
   where
-    by : (b o d : Bool) → (b ≡ true → o ≡ true) → d ≡ picks (cond (b && not o) (Some false) (cond d (Some true) None)) (Some true)
+    by : (b o d : Bool) → (b ≡ true → o ≡ true) → d ≡ picks (cond (b && not o) (Some Bare) (cond d (Some Prefixed) None)) (Some Prefixed)
     by true false d told = absurd (false≢true (told refl))
     by true true true told = refl
     by true true false told = refl
@@ -128,7 +130,7 @@ heading_taken : (kind : EnvConfigFileKind) (overridden : Bool) (profile : List �
     → cond (is_taken_from kind overridden heading.prefix heading.name) (cond (has_heading (codes "profile") profile heading) found None) None ≡ cond (picks (group_taken kind overridden profile) (group_of profile heading)) found None
 heading_taken kind overridden profile heading told found = by (has_heading (codes "profile") profile heading) refl
   where
-    never : (group : Option Bool) → picks group None ≡ false
+    never : (group : Option HeadingForm) → picks group None ≡ false
     never None = refl
     never (Some taken) = refl
 
@@ -137,7 +139,7 @@ heading_taken kind overridden profile heading told found = by (has_heading (code
     nothing false = refl
 
     by : (b : Bool) → has_heading (codes "profile") profile heading ≡ b
-        → cond (is_taken_from kind overridden heading.prefix heading.name) (cond b found None) None ≡ cond (picks (group_taken kind overridden profile) (cond b (Some (is_some heading.prefix)) None)) found None
+        → cond (is_taken_from kind overridden heading.prefix heading.name) (cond b found None) None ≡ cond (picks (group_taken kind overridden profile) (cond b (Some (form_of heading.prefix)) None)) found None
     by false is =
         nothing (is_taken_from kind overridden heading.prefix heading.name)
         ∙ sym (ap (λ (b : Bool). cond b found None) (never (group_taken kind overridden profile)))
@@ -153,7 +155,7 @@ heading_taken kind overridden profile heading told found = by (has_heading (code
         default_told (Some prefix) prefixed some default = ap (λ (b : Bool). b && is_default heading.name) prefixed ∙ default
 
 -- the values of the group that is taken
-abbrev chosen : (List ℕ → ℕ) → List ℕ → Named (List (List ℕ × List ℕ)) → List ℕ → List (List ℕ) → Option Bool → Option (ℕ × List ℕ)
+abbrev chosen : (List ℕ → ℕ) → List ℕ → Named (List (List ℕ × List ℕ)) → List ℕ → List (List ℕ) → Option HeadingForm → Option (ℕ × List ℕ)
 chosen place profile file key names None = None
 chosen place profile file key names (Some group) = latest_of place (value_in_group profile file group key) names
 
@@ -169,7 +171,7 @@ group_gives : (kind : EnvConfigFileKind) (overridden : Bool) (profile : List ℕ
     → latest_of place (taken_value kind overridden profile file key) names ≡ chosen place profile file key names (group_taken kind overridden profile)
 group_gives kind overridden profile file key place [] told = by (group_taken kind overridden profile)
   where
-    by : (group : Option Bool) → None ≡ chosen place profile file key [] group
+    by : (group : Option HeadingForm) → None ≡ chosen place profile file key [] group
     by None = refl
     by (Some group) = refl
 group_gives kind overridden profile file key place (name ∷ names) told =
@@ -178,7 +180,7 @@ group_gives kind overridden profile file key place (name ∷ names) told =
     (heading_taken kind overridden profile (heading_of name) (λ is. told (or_true (is_profile_default (heading_of name).prefix (heading_of name).name) (has_profile_default names) is)) (value_under (properties_of file name) key))
     ∙ by (group_taken kind overridden profile)
   where
-    by : (group : Option Bool)
+    by : (group : Option HeadingForm)
         → option_or (chosen place profile file key names group) (option_map (λ (v : List ℕ). (place name, v)) (cond (picks group (group_of profile (heading_of name))) (value_under (properties_of file name) key) None)) ≡ chosen place profile file key (name ∷ names) group
     by None = refl
     by (Some group) = refl
@@ -197,7 +199,7 @@ without_rising (e ∷ es) rising = (first es rising.0, without_rising es rising.
     first (d ∷ ds) all = (all.0, first ds all.1)
 
 -- the values that are taken go over those before
-taken_gives : (latest : Latest) (file : Named (List (List ℕ × List ℕ))) (before : Sections) (profile key : List ℕ) → IsLatest profile file latest → (group : Option Bool)
+taken_gives : (latest : Latest) (file : Named (List (List ℕ × List ℕ))) (before : Sections) (profile key : List ℕ) → IsLatest profile file latest → (group : Option HeadingForm)
     → value_in (with_taken before profile (option_map (λ g. without_places (values_in latest g)) group)).profiles profile key
     ≡ over key (value_of (chosen (place_in latest) profile file key file.names group)) (value_in before.profiles profile key)
 taken_gives latest file before profile key is None = sym (over_none key (value_in before.profiles profile key))

@@ -1,4 +1,3 @@
-pub mod Draft
 pub mod EnvConfigSections
 pub mod EnvConfigValue
 pub mod Fault
@@ -6,6 +5,7 @@ pub mod Files
 pub mod Heading
 pub mod Home
 pub mod Kept
+pub mod LastProperty
 pub mod Latest
 pub mod LatestView
 pub mod Laws
@@ -17,14 +17,16 @@ pub mod MergedProfile
 pub mod Order
 pub mod ParseFault
 pub mod Profile
-pub mod ProfileDraft
+pub mod ProfileSink
 pub mod Properties
 pub mod PropertiesKey
 pub mod Property
 pub mod Raw
+pub mod Reader
 pub mod Section
 pub mod SectionProperties
 pub mod Sections
+pub mod SectionsSink
 pub mod Selected
 pub mod Source
 pub mod Texts

@@ -6,6 +6,7 @@ use Rattle.env_config.specs.declared.fault.RawFault.{RawFault}
 use Rattle.env_config.specs.declared.fault.RawFault.TheVariants as faults
 use Rattle.env_config.specs.declared.line.PropertyFault.{PropertyFault}
 use Rattle.env_config.specs.declared.line.PropertyFault.TheVariants.{NoEquals, NoName}
+use Rattle.env_config.specs.Fault.{flaw_message}
 use Rattle.env_config.specs.Line.{is_blank, is_skipped, opening_bracket, profile_lines, property_of, section_name, trimmed}
 use Rattle.env_config.specs.Texts.{Named, nothing_named, put, put_named, value_under}
 
@@ -135,5 +136,5 @@ raw keeps text = raw_from keeps 1 start (profile_lines text)
 -- the raw sections, or the number and the message of the first faulty line; out of memory says nothing
 abbrev pub ReadsRaw : Result (Named (List (List ℕ × List ℕ))) (ℕ × List ℕ) → Result (Named (List (List ℕ × List ℕ))) RawFault → Type 0
 ReadsRaw read (Ok sections) = read ≡ Ok sections
-ReadsRaw read (Err (faults.Line number message)) = read ≡ Err (number, message.now)
+ReadsRaw read (Err (faults.Line number flaw)) = read ≡ Err (number, flaw_message flaw)
 ReadsRaw read (Err faults.NoMemory) = Unit {0}

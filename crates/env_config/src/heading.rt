@@ -3,6 +3,7 @@ ghost use Rattle.std.specs.List.{list_all};
 ghost use Rattle.std.specs.String.{string_bytes};
 ghost use Rattle.env_config.specs.Sections.{has_profile_default, heading_of, is_identifier, is_identifier_byte, is_profile_default, is_taken_from};
 ghost use Rattle.env_config.specs.Heading.{heading_seen};
+ghost use Rattle.env_config.specs.Latest.{form_of};
 
 use crate::line::trim;
 use crate::source::EnvConfigFileKind;
@@ -12,6 +13,15 @@ use crate::source::EnvConfigFileKind;
 pub struct Heading<'a> {
     pub prefix: Option<&'a str>,
     pub name: &'a str,
+}
+
+/// Whether a section's name stands behind a prefix.
+#[derive(Clone, Copy, Debug, PartialEq, Eq)]
+pub enum HeadingForm {
+    /// No prefix.
+    Bare,
+    /// A prefix before the name.
+    Prefixed,
 }
 
 impl<'a> Heading<'a> {
@@ -30,6 +40,16 @@ impl<'a> Heading<'a> {
                 prefix: None,
                 name: text,
             },
+        }
+    }
+
+    /// Whether it has a prefix.
+    pub fn form(&self) -> HeadingForm
+        ensures { result ≡ form_of (heading_seen self.now).prefix }
+    {
+        match self.prefix {
+            Some(_) => HeadingForm::Prefixed,
+            None => HeadingForm::Bare,
         }
     }
 

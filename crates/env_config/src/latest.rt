@@ -5,7 +5,7 @@ ghost use Rattle.env_config.specs.LatestView.{placed_of};
 ghost use Rattle.env_config.specs.Sections.{heading_of, is_profile_default};
 ghost use Rattle.env_config.specs.Texts.{value_under};
 
-use crate::heading::Heading;
+use crate::heading::{Heading, HeadingForm};
 use crate::source::EnvConfigFileKind;
 use crate::texts::Texts;
 use smithy_core::Mem;
@@ -64,13 +64,12 @@ impl<'t> Latest<'t> {
     }
 
     /// The value stands at the key, where no later section has one: among the sections with a prefix, or among those without.
-    pub fn put(&mut self, is_prefixed: bool, place: usize, key: String, value: String) -> Mem<()>
-        ensures { OnOk result (self.new ≡ put_latest self.old is_prefixed place (string_bytes key) (string_bytes value)) }
+    pub fn put(&mut self, form: HeadingForm, place: usize, key: String, value: String) -> Mem<()>
+        ensures { OnOk result (self.new ≡ put_latest self.old form place (string_bytes key) (string_bytes value)) }
     {
-        if is_prefixed {
-            put_placed(&mut self.prefixed, place, key, value)
-        } else {
-            put_placed(&mut self.bare, place, key, value)
+        match form {
+            HeadingForm::Bare => put_placed(&mut self.bare, place, key, value),
+            HeadingForm::Prefixed => put_placed(&mut self.prefixed, place, key, value),
         }
     }
 
@@ -84,8 +83,8 @@ impl<'t> Latest<'t> {
         ensures { IfOk result (λ taken. taken ≡ taken_values self.entry kind profile.now) }
     {
         match taken_group(kind, self.overridden, profile) {
-            Some(true) => Ok(Some(without_places(alloc, self.prefixed)?)),
-            Some(false) => Ok(Some(without_places(alloc, self.bare)?)),
+            Some(HeadingForm::Prefixed) => Ok(Some(without_places(alloc, self.prefixed)?)),
+            Some(HeadingForm::Bare) => Ok(Some(without_places(alloc, self.bare)?)),
             None => Ok(None),
         }
     }
@@ -123,8 +122,8 @@ fn is_beaten(values: &BTreeMap<String, (usize, String)>, place: usize, key: &str
     }
 }
 
-// Whether the sections of the profile that are taken have a prefix; nothing where none is taken.
-fn taken_group(kind: EnvConfigFileKind, overridden: bool, profile: &str) -> Option<bool>
+// The form of the headings of the profile whose sections are taken; nothing where none is taken.
+fn taken_group(kind: EnvConfigFileKind, overridden: bool, profile: &str) -> Option<HeadingForm>
     ensures { result ≡ group_taken kind overridden profile.now }
 {
     let bare = Heading {
@@ -132,14 +131,14 @@ fn taken_group(kind: EnvConfigFileKind, overridden: bool, profile: &str) -> Opti
         name: profile,
     };
     if bare.is_taken_from(kind, overridden) {
-        return Some(false);
+        return Some(HeadingForm::Bare);
     }
     let prefixed = Heading {
         prefix: Some("profile"),
         name: profile,
     };
     if prefixed.is_taken_from(kind, overridden) {
-        return Some(true);
+        return Some(HeadingForm::Prefixed);
     }
     None
 }

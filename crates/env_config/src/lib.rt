@@ -3,12 +3,12 @@
 #![tactic(auto)]
 
 mod by_name;
-mod draft;
 mod fault;
 mod files;
 mod heading;
 mod home;
 mod kept;
+mod last_property;
 mod latest;
 mod laws;
 mod line;
@@ -17,15 +17,17 @@ mod loading;
 mod merge;
 mod parse_fault;
 mod profile;
-mod profile_draft;
+mod profile_sink;
 mod properties;
 mod properties_key;
 mod property;
 mod raw;
 mod raw_sections;
+mod reader;
 mod section;
 mod section_properties;
 mod sections;
+mod sections_sink;
 mod service_config;
 mod service_id;
 mod source;

@@ -1,16 +1,16 @@
 ghost use Rattle.std.specs.Prelude.{IfOk};
 ghost use Rattle.env_config.specs.Kept.{keeps_of};
-ghost use Rattle.env_config.specs.ProfileDraft.{ReadsLatest};
+ghost use Rattle.env_config.specs.ProfileSink.{ReadsLatest};
 ghost use Rattle.env_config.specs.Raw.{raw, ReadsRaw};
 ghost use Rattle.env_config.specs.Texts.{IsApart};
 
-use crate::draft::Draft;
 use crate::fault::RawFault;
 use crate::kept::Kept;
 use crate::latest::Latest;
-use crate::line::cut_line;
-use crate::profile_draft::ProfileDraft;
+use crate::profile_sink::ProfileSink;
 use crate::raw_sections::RawSections;
+use crate::reader::read;
+use crate::sections_sink::SectionsSink;
 use std::alloc::Global;
 
 /// The raw sections of a profile text that are kept: each a map from keys to values, under the text between its brackets.
@@ -18,7 +18,6 @@ use std::alloc::Global;
 /// # Errors
 ///
 /// [`RawFault::Line`] with the number of the first line outside the grammar, and the message.
-#[tactic(auto, unfolding(crate::specs::Raw::raw))]
 pub fn read_raw<'t>(
     alloc: Global,
     kept: &Kept<'_>,
@@ -27,21 +26,8 @@ pub fn read_raw<'t>(
     ensures reads { ReadsRaw (raw (keeps_of kept.now) text.now) result }
     ensures apart { IfOk result (λ sections. IsApart sections.names) }
 {
-    let mut draft = Draft::new(alloc);
-    let mut number = 1;
-    let mut rest = text;
-    while !rest.is_empty() {
-        let (line, others) = cut_line(rest);
-        if let Err(fault) = draft.take_line(alloc, kept, line) {
-            return Err(fault.at(number));
-        }
-        rest = others;
-        number += 1;
-    }
-    match draft.into_sections(kept) {
-        Ok(sections) => Ok(sections),
-        Err(_) => Err(RawFault::NoMemory),
-    }
+    let sink = read(alloc, kept, text, SectionsSink::new(alloc, kept))?;
+    Ok(sink.into_sections(alloc)?)
 }
 
 /// The values of the profile that are kept, of those that the raw sections of a profile text give.
@@ -49,7 +35,6 @@ pub fn read_raw<'t>(
 /// # Errors
 ///
 /// [`RawFault::Line`] with the number of the first line outside the grammar, and the message.
-#[tactic(auto, unfolding(crate::specs::Raw::raw))]
 pub fn read_latest<'t>(
     alloc: Global,
     kept: &Kept<'_>,
@@ -58,19 +43,6 @@ pub fn read_latest<'t>(
 ) -> Result<Latest<'t>, RawFault>
     ensures { ReadsLatest profile.now (raw (keeps_of kept.now) text.now) result }
 {
-    let mut draft = ProfileDraft::new(alloc);
-    let mut number = 1;
-    let mut rest = text;
-    while !rest.is_empty() {
-        let (line, others) = cut_line(rest);
-        if let Err(fault) = draft.take_line(alloc, kept, profile, line) {
-            return Err(fault.at(number));
-        }
-        rest = others;
-        number += 1;
-    }
-    match draft.into_latest(kept) {
-        Ok(latest) => Ok(latest),
-        Err(_) => Err(RawFault::NoMemory),
-    }
+    let sink = read(alloc, kept, text, ProfileSink::new(alloc, profile))?;
+    Ok(sink.into_latest())
 }

@@ -1,6 +1,7 @@
 ghost use Rattle.std.specs.Prelude.{◌≡◌, ◌==◌, ℕ, List, [], None, Ok, Some, false, IfOk, OnOk, codes, length, map, option_copied, option_map, unwrap_or};
 ghost use Rattle.std.specs.Ordering.{is_eq};
 ghost use Rattle.std.specs.String.{string_bytes};
+ghost use Rattle.env_config.specs.Fault.{flaw_message};
 ghost use Rattle.env_config.specs.Heading.{heading_seen};
 ghost use Rattle.env_config.specs.Kept.{keeps_of};
 ghost use Rattle.env_config.specs.Latest.{taken_values};
@@ -19,7 +20,7 @@ ghost use Rattle.env_config.specs.Selected.{ParsesSelected, ParsesService};
 ghost use Rattle.env_config.specs.Source.{file_of};
 
 use crate::by_name::ByName;
-use crate::fault::RawFault;
+use crate::fault::{LineFlaw, RawFault};
 use crate::heading::{Heading, has_profile_default};
 use crate::kept::Kept;
 use crate::latest::Latest;
@@ -167,7 +168,7 @@ impl EnvConfigSections {
     {
         match read_latest(alloc, kept, profile, file.contents.as_str()) {
             Ok(latest) => Ok(self.merge_latest(alloc, file.kind, profile, latest)?),
-            Err(RawFault::Line(number, message)) => Err(line_fault(alloc, file, number, message)),
+            Err(RawFault::Line(number, flaw)) => Err(line_fault(alloc, file, number, flaw)),
             Err(RawFault::NoMemory) => Err(ParseFault::NoMemory),
         }
     }
@@ -307,7 +308,7 @@ impl EnvConfigSections {
     {
         match read_raw(alloc, kept, file.contents.as_str()) {
             Ok(raw) => Ok(self.merge_file(alloc, kept, file.kind, raw)?),
-            Err(RawFault::Line(number, message)) => Err(line_fault(alloc, file, number, message)),
+            Err(RawFault::Line(number, flaw)) => Err(line_fault(alloc, file, number, flaw)),
             Err(RawFault::NoMemory) => Err(ParseFault::NoMemory),
         }
     }
@@ -433,10 +434,10 @@ fn taken(alloc: Global, texts: &mut BTreeMap<&str, Texts>, name: &str) -> Texts
 }
 
 // The fault of this line of the file.
-fn line_fault(alloc: Global, file: &File, line_number: usize, message: &str) -> ParseFault
-    ensures { TellsLine (file_of file.now) line_number message.now result }
+fn line_fault(alloc: Global, file: &File, line_number: usize, flaw: LineFlaw) -> ParseFault
+    ensures { TellsLine (file_of file.now) line_number (flaw_message flaw) result }
 {
-    match line_error(alloc, file, line_number, message) {
+    match line_error(alloc, file, line_number, flaw.message()) {
         Ok(error) => ParseFault::Parse(error),
         Err(_) => ParseFault::NoMemory,
     }

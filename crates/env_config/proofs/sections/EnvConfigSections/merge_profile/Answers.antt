@@ -1,7 +1,7 @@
 use Rattle.std.proofs.Common.{Ok, subst, List, ℕ, string_bytes}
 use Rattle.env_config.specs.EnvConfigSections.{sections_of}
 use Rattle.env_config.specs.Kept.{keeps_of}
-use Rattle.env_config.specs.ProfileDraft.{ReadsLatest}
+use Rattle.env_config.specs.ProfileSink.{ReadsLatest}
 use Rattle.env_config.specs.Raw.{raw}
 use Rattle.env_config.specs.Source.{file_of}
 use Rattle.env_config.proofs.MergedProfileLemmas.{profile_merged}

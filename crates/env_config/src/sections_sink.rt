@@ -1,0 +1,93 @@
+ghost use Rattle.std.specs.Prelude.{◌≡◌, [], None, OnOk, IfOk, option_copied};
+ghost use Rattle.env_config.specs.Raw.{properties_of};
+ghost use Rattle.env_config.specs.SectionsSink.{StandsForSections, with_open};
+ghost use Rattle.env_config.specs.Texts.{nothing_named, put_named};
+
+use crate::kept::Kept;
+use crate::raw_sections::RawSections;
+use crate::reader::Sink;
+use crate::texts::Texts;
+use smithy_core::Mem;
+use std::alloc::Global;
+use std::mem;
+
+/// Keeps the sections and all of their properties.
+///
+/// Those of the section that is open stand apart from the others, so that a property costs no search for its section.
+#[derive(Drop)]
+pub struct SectionsSink<'t> {
+    sections: RawSections<'t>,
+    name: Option<&'t str>,
+    properties: Texts,
+    has_few: bool,
+}
+
+impl<'t> SectionsSink<'t> {
+    /// No sections. Where some keys are asked for, each will have few properties.
+    pub fn new(alloc: Global, kept: &Kept<'_>) -> SectionsSink<'t>
+        ensures { StandsForSections result None nothing_named }
+    {
+        SectionsSink {
+            sections: RawSections::new(alloc),
+            name: None,
+            properties: Texts::few(alloc),
+            has_few: !matches!(kept, Kept::All),
+        }
+    }
+
+    /// The sections, where the text is over.
+    pub fn into_sections(mut self, alloc: Global) -> Mem<RawSections<'t>>
+        ensures { IfOk result (λ sections. sections ≡ with_open self.entry.sections (option_copied self.entry.name) self.entry.properties) }
+    {
+        self.close(alloc)?;
+        Ok(self.sections)
+    }
+
+    // The section that is open stands among the others.
+    fn close(&mut self, alloc: Global) -> Mem<()>
+        ensures { OnOk result (self.new.sections ≡ with_open self.old.sections (option_copied self.old.name) self.old.properties) }
+    {
+        if let Some(name) = self.name {
+            let properties = mem::replace(&mut self.properties, Texts::few(alloc));
+            self.sections.replace(name, properties)?;
+        }
+        Ok(())
+    }
+
+    // The properties of the section, to go on with.
+    fn take_properties(&mut self, alloc: Global, name: &'t str) -> Mem<Texts>
+        ensures { IfOk result (λ properties. put_named self.new.sections name.now properties ≡ put_named self.old.sections name.now (properties_of self.old.sections name.now)) }
+    {
+        let before = self.sections.take(name, Texts::few(alloc))?;
+        Ok(before.unwrap_or(no_properties(alloc, self.has_few)))
+    }
+}
+
+impl<'t> Sink<'t> for SectionsSink<'t> {
+    ghost use Rattle.env_config.specs.SectionsSink.{StandsForSections};
+
+    ghost stands = { λ sink _ at sections. StandsForSections sink at sections };
+
+    fn open(&mut self, alloc: Global, name: &'t str) -> Mem<()> {
+        self.close(alloc)?;
+        let properties = self.take_properties(alloc, name)?;
+        self.properties = properties;
+        self.name = Some(name);
+        Ok(())
+    }
+
+    fn put(&mut self, key: String, value: String) -> Mem<()> {
+        self.properties.put(key, value)
+    }
+}
+
+// No properties yet.
+fn no_properties(alloc: Global, are_few: bool) -> Texts
+    ensures { result ≡ [] }
+{
+    if are_few {
+        Texts::few(alloc)
+    } else {
+        Texts::new(alloc)
+    }
+}
