@@ -25,6 +25,7 @@ pub struct Lengths {
 /// The first fault decides: a frame under 16 or over 16,777,216 bytes, [`ErrorKind::InvalidMessageLength`]; a header block of
 /// one byte, of over 131,072 bytes, or longer than the frame, [`ErrorKind::InvalidHeadersLength`];
 /// [`ErrorKind::PreludeChecksumMismatch`].
+#[inline(always)]
 #[tactic(auto, unfolding(crate::specs::Read::read_prelude))]
 pub fn read_prelude(prelude: &[u8; PRELUDE]) -> Result<Lengths, ErrorKind>
     ensures lengths { result ≡ read_prelude prelude.now }
