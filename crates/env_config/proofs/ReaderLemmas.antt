@@ -2,8 +2,8 @@
 use Rattle.std.proofs.Common.{◌≡◌, ℕ, ◌+◌, Bool, true, false, cond, ◌&&◌, List, [], ◌∷◌, refl, sym, ap, ap₂, subst, ◌∙◌}
 use Rattle.std.specs.Prelude.{Option, Some, None, option_map, Result, Ok, Err, OnOk, codes}
 use Rattle.std.proofs.lemmas.Bool.{false≢true}
-use Rattle.env_config.specs.declared.fault.LineFault.{LineFault}
-use Rattle.env_config.specs.declared.fault.LineFault.TheVariants as line
+use Rattle.env_config.specs.declared.fault.GrammarFault.{GrammarFault}
+use Rattle.env_config.specs.declared.fault.GrammarFault.TheVariants as line
 use Rattle.env_config.specs.declared.last_property.LastProperty.{LastProperty}
 use Rattle.env_config.specs.declared.reader.OpenSection.{OpenSection}
 use Rattle.env_config.specs.declared.reader.Reader.{Reader}
@@ -128,7 +128,7 @@ module _ {S : Type 0} (Stands : Standing S) (keeps : Keeps) where
       })
 
   -- a property goes on
-  pub grown_reads : (all : State) (reader : Reader S) (at next : OpenSection) (text : List ℕ) (result : Result (Unit {0}) LineFault) → reader.at ≡ Some at → next.is_kept ≡ at.is_kept
+  pub grown_reads : (all : State) (reader : Reader S) (at next : OpenSection) (text : List ℕ) (result : Result (Unit {0}) GrammarFault) → reader.at ≡ Some at → next.is_kept ≡ at.is_kept
       → TakesStep (given_step (continued_or (option_map last_of at.last) text)) (option_map last_of next.last) result → StandsForLines Stands keeps all reader
       → ReadsStep Stands keeps (within_section keeps all all.open_section (λ at. continued_or at.last text)) (record { sink = reader.sink; at = Some next }) result
   grown_reads all reader at next text result is same takes reads =
@@ -179,7 +179,7 @@ module _ {S : Type 0} (Stands : Standing S) (keeps : Keeps) where
       refused (Ok last) message takes = absurd cc
       refused (Err other) message takes = ap (last_step keeps all section.name) (ap message_or takes)
 
-      by : (result : Result (Unit {0}) LineFault) → TakesStep (given_step (continued_or (option_map last_of at.last) text)) (option_map last_of next.last) result
+      by : (result : Result (Unit {0}) GrammarFault) → TakesStep (given_step (continued_or (option_map last_of at.last) text)) (option_map last_of next.last) result
           → ReadsStep Stands keeps (last_step keeps all section.name (continued_or (option_map last_of at.last) text)) now result
       by (Ok _) takes = taken (option_map last_of at.last) section.state takes
       by (Err (line.Bad flaw)) takes = refused (continued_or (option_map last_of at.last) text) (flaw_message flaw) takes
@@ -204,7 +204,7 @@ module _ {S : Type 0} (Stands : Standing S) (keeps : Keeps) where
       by (Ok next) to_come reads = record { all = next; reads = reads; to_come = to_come }
       by (Err message) to_come reads = absurd reads
 
-  pub line_fails : (number : ℕ) (reader now : Reader S) (text : List ℕ) (lines : List (List ℕ)) (read : Result (Named (List (List ℕ × List ℕ))) (ℕ × List ℕ)) (fault : LineFault) → TextReads number reader (text ∷ lines) read
+  pub line_fails : (number : ℕ) (reader now : Reader S) (text : List ℕ) (lines : List (List ℕ)) (read : Result (Named (List (List ℕ × List ℕ))) (ℕ × List ℕ)) (fault : GrammarFault) → TextReads number reader (text ∷ lines) read
       → ((all : State) → StandsForLines Stands keeps all reader → ReadsStep Stands keeps (profile_line_step keeps all text) now (Err fault)) → ReadsInto Stands read (Err (numbered number fault))
   line_fails number reader now text lines read (line.Bad flaw) before step = sym before.to_come ∙ ap (after_line number (λ next. raw_from keeps (number + 1) next lines)) (step before.all before.reads)
   line_fails number reader now text lines read line.NoMemory before step = tt

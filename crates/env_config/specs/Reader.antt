@@ -1,7 +1,7 @@
 -- A reader's sink stands for what the lines so far gave, but for the property that was begun last.
 use Rattle.std.specs.Prelude.{◌≡◌, ℕ, Bool, true, List, Option, Some, None, option_map, Result, Ok, Err}
-use Rattle.env_config.specs.declared.fault.LineFault.{LineFault}
-use Rattle.env_config.specs.declared.fault.LineFault.TheVariants as line
+use Rattle.env_config.specs.declared.fault.GrammarFault.{GrammarFault}
+use Rattle.env_config.specs.declared.fault.GrammarFault.TheVariants as line
 use Rattle.env_config.specs.declared.fault.RawFault.{RawFault}
 use Rattle.env_config.specs.declared.fault.RawFault.TheVariants as faults
 use Rattle.env_config.specs.declared.reader.OpenSection.{OpenSection}
@@ -57,7 +57,7 @@ abbrev pub StandsForLines : {S : Type 0} → Standing S → Keeps → State → 
 StandsForLines Stands keeps all reader = ReadsAt Stands keeps all reader.sink reader.at
 
 -- the reader stands for what the step gives, or the step refuses with the message; running out of memory says nothing
-abbrev pub ReadsStep : {S : Type 0} → Standing S → Keeps → Result State (List ℕ) → Reader S → Result (Unit {0}) LineFault → Type 0
+abbrev pub ReadsStep : {S : Type 0} → Standing S → Keeps → Result State (List ℕ) → Reader S → Result (Unit {0}) GrammarFault → Type 0
 ReadsStep Stands keeps step now (Err (line.Bad flaw)) = step ≡ Err (flaw_message flaw)
 ReadsStep Stands keeps step now (Err line.NoMemory) = Unit {0}
 ReadsStep Stands keeps (Ok all) now (Ok _) = StandsForLines Stands keeps all now

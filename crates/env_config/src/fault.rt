@@ -41,32 +41,32 @@ impl LineFlaw {
 
 /// Why a line isn't taken.
 #[derive(Clone, Copy, Debug, PartialEq, Eq)]
-pub enum LineFault {
+pub enum GrammarFault {
     /// The line is outside the grammar.
     Bad(LineFlaw),
     NoMemory,
 }
 
-impl LineFault {
+impl GrammarFault {
     /// The fault of the line with this number.
     pub fn at(self, number: usize) -> RawFault
         ensures { result ≡ numbered number self }
     {
         match self {
-            LineFault::Bad(flaw) => RawFault::Line(number, flaw),
-            LineFault::NoMemory => RawFault::NoMemory,
+            GrammarFault::Bad(flaw) => RawFault::Line(number, flaw),
+            GrammarFault::NoMemory => RawFault::NoMemory,
         }
     }
 }
 
-impl From<AllocError> for LineFault {
+impl From<AllocError> for GrammarFault {
     ghost use Rattle.std.specs.Prelude.{◌≡◌};
-    ghost use Rattle.env_config.specs.declared.fault.LineFault.TheVariants.{NoMemory};
+    ghost use Rattle.env_config.specs.declared.fault.GrammarFault.TheVariants.{NoMemory};
 
     ghost from_gives = { λ _ fault. fault ≡ NoMemory };
 
-    fn from(_e: AllocError) -> LineFault {
-        LineFault::NoMemory
+    fn from(_e: AllocError) -> GrammarFault {
+        GrammarFault::NoMemory
     }
 }
 

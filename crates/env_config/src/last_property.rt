@@ -3,7 +3,7 @@ ghost use Rattle.env_config.specs.LastProperty.{MakesLast, TakesStep, TestsSubPr
 ghost use Rattle.env_config.specs.Line.{property_of};
 ghost use Rattle.env_config.specs.Raw.{begun_property, continued};
 
-use crate::fault::{LineFault, LineFlaw};
+use crate::fault::{GrammarFault, LineFlaw};
 use crate::line::{PropertyFault, cut_property, trim};
 use std::alloc::Global;
 
@@ -20,8 +20,8 @@ impl LastProperty {
     ///
     /// # Errors
     ///
-    /// [`LineFault::Bad`] where the line is no property.
-    pub fn read(alloc: Global, line: &str) -> Result<LastProperty, LineFault>
+    /// [`GrammarFault::Bad`] where the line is no property.
+    pub fn read(alloc: Global, line: &str) -> Result<LastProperty, GrammarFault>
         ensures { MakesLast (begun_property (property_of line.now)) result }
     {
         match cut_property(line) {
@@ -30,8 +30,8 @@ impl LastProperty {
                 value: String::from_str(alloc, value)?,
                 is_parent: value.is_empty(),
             }),
-            Err(PropertyFault::NoEquals) => Err(LineFault::Bad(LineFlaw::NoEquals)),
-            Err(PropertyFault::NoName) => Err(LineFault::Bad(LineFlaw::NoName)),
+            Err(PropertyFault::NoEquals) => Err(GrammarFault::Bad(LineFlaw::NoEquals)),
+            Err(PropertyFault::NoName) => Err(GrammarFault::Bad(LineFlaw::NoName)),
         }
     }
 
@@ -39,9 +39,9 @@ impl LastProperty {
     ///
     /// # Errors
     ///
-    /// [`LineFault::Bad`] where the line stands below an empty value and is no property.
+    /// [`GrammarFault::Bad`] where the line stands below an empty value and is no property.
     #[tactic(auto, unfolding(crate::specs::Raw::continued))]
-    pub fn go_on(&mut self, line: &str) -> Result<(), LineFault>
+    pub fn go_on(&mut self, line: &str) -> Result<(), GrammarFault>
         ensures { TakesStep (continued (last_of self.old) line.now) (last_of self.new) result }
     {
         if self.is_parent {
@@ -54,12 +54,12 @@ impl LastProperty {
 }
 
 // Whether the line could stand below an empty value.
-fn test_sub_property(line: &str) -> Result<(), LineFault>
+fn test_sub_property(line: &str) -> Result<(), GrammarFault>
     ensures { TestsSubProperty (property_of line.now) result }
 {
     match cut_property(line) {
         Ok(_) => Ok(()),
-        Err(PropertyFault::NoEquals) => Err(LineFault::Bad(LineFlaw::NoSubEquals)),
-        Err(PropertyFault::NoName) => Err(LineFault::Bad(LineFlaw::NoSubName)),
+        Err(PropertyFault::NoEquals) => Err(GrammarFault::Bad(LineFlaw::NoSubEquals)),
+        Err(PropertyFault::NoName) => Err(GrammarFault::Bad(LineFlaw::NoSubName)),
     }
 }

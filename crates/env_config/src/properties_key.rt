@@ -2,8 +2,7 @@ ghost use Rattle.std.specs.Prelude.{◌≡◌, IfOk, option_map};
 ghost use Rattle.std.specs.String.{string_bytes};
 ghost use Rattle.env_config.specs.PropertiesKey.{BuildsKey, key_of, key_parts, names_of};
 
-use crate::text::copied;
-use smithy_core::Mem;
+use smithy_core::{Mem, copied_text};
 use std::fmt;
 
 /// What stands before the name of a section, and the name.
@@ -117,7 +116,7 @@ impl PropertiesKey {
         Ok(PropertiesKey {
             section: self.section.try_clone()?,
             property_name: self.property_name.clone()?,
-            sub_property_name: copied(&self.sub_property_name)?,
+            sub_property_name: copied_text(&self.sub_property_name)?,
         })
     }
 }
@@ -197,10 +196,10 @@ impl PropertiesKeyBuilder {
         ensures { IfOk result (λ copy. key_parts copy ≡ key_parts self.now) }
     {
         Ok(PropertiesKeyBuilder {
-            section_key: copied(&self.section_key)?,
-            section_name: copied(&self.section_name)?,
-            property_name: copied(&self.property_name)?,
-            sub_property_name: copied(&self.sub_property_name)?,
+            section_key: copied_text(&self.section_key)?,
+            section_name: copied_text(&self.section_name)?,
+            property_name: copied_text(&self.property_name)?,
+            sub_property_name: copied_text(&self.sub_property_name)?,
         })
     }
 

@@ -6,7 +6,7 @@ ghost use Rattle.env_config.specs.Raw.{Keeps, State, begun_property, continued_o
 ghost use Rattle.env_config.specs.Reader.{HandsOn, HasHanded, StandsForLines, ReadsInto, ReadsStep, given_step, with_pending};
 ghost use Rattle.env_config.specs.Texts.{Named, nothing_named};
 
-use crate::fault::{LineFault, LineFlaw, RawFault};
+use crate::fault::{GrammarFault, LineFlaw, RawFault};
 use crate::kept::Kept;
 use crate::last_property::LastProperty;
 use crate::line::{cut_line, is_skipped, section_name};
@@ -84,7 +84,12 @@ pub fn read<'t, S: Sink<'t>>(
 impl<'t, S: Sink<'t>> Reader<S> {
     // Takes a line, and hands on the section that it opens and the property that it ends.
     #[tactic(auto, unfolding(crate::specs::Raw::profile_line_step))]
-    fn take_line(&mut self, alloc: Global, kept: &Kept<'_>, line: &'t str) -> Result<(), LineFault>
+    fn take_line(
+        &mut self,
+        alloc: Global,
+        kept: &Kept<'_>,
+        line: &'t str,
+    ) -> Result<(), GrammarFault>
         ensures { (profile : List ℕ) (all : State) → StandsForLines (λ s. S.stands s profile) (keeps_of kept.now) all self.old → ReadsStep (λ s. S.stands s profile) (keeps_of kept.now) (profile_line_step (keeps_of kept.now) all line.now) self.new result }
     {
         if is_skipped(line) {
@@ -112,12 +117,12 @@ impl<'t, S: Sink<'t>> Reader<S> {
         alloc: Global,
         kept: &Kept<'_>,
         line: &'t str,
-    ) -> Result<(), LineFault>
+    ) -> Result<(), GrammarFault>
         ensures { (profile : List ℕ) (all : State) → StandsForLines (λ s. S.stands s profile) (keeps_of kept.now) all self.old → ReadsStep (λ s. S.stands s profile) (keeps_of kept.now) (section_step (keeps_of kept.now) all (section_name line.now)) self.new result }
     {
         match section_name(line) {
             Some(name) => Ok(self.open(alloc, kept, name)?),
-            None => Err(LineFault::Bad(LineFlaw::NoBracket)),
+            None => Err(GrammarFault::Bad(LineFlaw::NoBracket)),
         }
     }
 
@@ -170,11 +175,11 @@ impl<'t, S: Sink<'t>> Reader<S> {
         alloc: Global,
         kept: &Kept<'_>,
         line: &str,
-    ) -> Result<(), LineFault>
+    ) -> Result<(), GrammarFault>
         ensures { (profile : List ℕ) (all : State) → StandsForLines (λ s. S.stands s profile) (keeps_of kept.now) all self.old → ReadsStep (λ s. S.stands s profile) (keeps_of kept.now) (within_section (keeps_of kept.now) all all.open_section (λ _. begun_property (property_of line.now))) self.new result }
     {
         let Some(at) = self.at.take() else {
-            return Err(LineFault::Bad(LineFlaw::NoSection));
+            return Err(GrammarFault::Bad(LineFlaw::NoSection));
         };
         let OpenSection { is_kept, last } = at;
         let next = LastProperty::read(alloc, line)?;
@@ -186,25 +191,25 @@ impl<'t, S: Sink<'t>> Reader<S> {
         Ok(())
     }
 
-    fn continue_property(&mut self, line: &str) -> Result<(), LineFault>
+    fn continue_property(&mut self, line: &str) -> Result<(), GrammarFault>
         ensures { (keeps : Keeps) (profile : List ℕ) (all : State) → StandsForLines (λ s. S.stands s profile) keeps all self.old → ReadsStep (λ s. S.stands s profile) keeps (within_section keeps all all.open_section (λ at. continued_or at.last line.now)) self.new result }
     {
         match &mut self.at {
             Some(at) => at.continue_property(line),
-            None => Err(LineFault::Bad(LineFlaw::NoSection)),
+            None => Err(GrammarFault::Bad(LineFlaw::NoSection)),
         }
     }
 }
 
 impl OpenSection {
     // The property that was begun last goes on with the line.
-    fn continue_property(&mut self, line: &str) -> Result<(), LineFault>
+    fn continue_property(&mut self, line: &str) -> Result<(), GrammarFault>
         ensures last { TakesStep (given_step (continued_or (option_map last_of self.old.last) line.now)) (option_map last_of self.new.last) result }
         ensures kept { self.new.is_kept ≡ self.old.is_kept }
     {
         match &mut self.last {
             Some(last) => last.go_on(line),
-            None => Err(LineFault::Bad(LineFlaw::NoProperty)),
+            None => Err(GrammarFault::Bad(LineFlaw::NoProperty)),
         }
     }
 }

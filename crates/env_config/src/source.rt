@@ -2,8 +2,7 @@ ghost use Rattle.std.specs.Prelude.{◌≡◌, IfOk, map};
 ghost use Rattle.std.specs.String.{string_bytes};
 ghost use Rattle.env_config.specs.Source.{file_of, kind_name};
 
-use crate::text::copied;
-use smithy_core::Mem;
+use smithy_core::{Mem, copied_text};
 use std::alloc::Global;
 use std::fmt;
 
@@ -94,7 +93,7 @@ impl File {
     {
         Ok(File {
             kind: self.kind,
-            path: copied(&self.path)?,
+            path: copied_text(&self.path)?,
             contents: self.contents.clone()?,
         })
     }

@@ -1,4 +1,4 @@
-ghost use Rattle.std.specs.Prelude.{◌≡◌, ◌++◌, IfOk, option_map};
+ghost use Rattle.std.specs.Prelude.{◌≡◌, ◌++◌, IfOk};
 ghost use Rattle.std.specs.String.{string_bytes};
 
 use smithy_core::Mem;
@@ -11,14 +11,4 @@ pub fn joined(alloc: Global, text: &str, other: &str) -> Mem<String>
     let mut both = String::from_str(alloc, text)?;
     both.push_str(other)?;
     Ok(both)
-}
-
-/// An equal text, where there is one.
-pub fn copied(text: &Option<String>) -> Mem<Option<String>>
-    ensures { IfOk result (λ copy. option_map string_bytes copy ≡ option_map string_bytes text.now) }
-{
-    match text {
-        Some(text) => Ok(Some(text.clone()?)),
-        None => Ok(None),
-    }
 }

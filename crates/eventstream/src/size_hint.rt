@@ -3,7 +3,7 @@ ghost use Rattle.smithy_core.specs.Message.{Parts};
 ghost use Rattle.eventstream.specs.Frame.{frame, unframed};
 ghost use Rattle.eventstream.specs.SizeHint.{header_width, size_hint, value_width};
 
-use crate::write::{LEAST_FRAME, MOST_NAME};
+use crate::write::{LEAST_FRAME, MOST_HEADER_NAME};
 use smithy_core::{Header, HeaderValue, Message};
 
 /// How many bytes a frame is expected to take.
@@ -46,7 +46,7 @@ fn headers_width(headers: &[Header]) -> usize
 fn header_width(header: &Header) -> usize
     ensures { result ≡ min (header_width header.now) (2 ^ 64 - 1) }
 {
-    let name = header.name().as_bytes().len().min(MOST_NAME);
+    let name = header.name().as_bytes().len().min(MOST_HEADER_NAME);
     value_width(header.value()).saturating_add(1 + name + 1)
 }
 

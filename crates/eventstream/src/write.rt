@@ -13,7 +13,7 @@ use smithy_core::{Header, HeaderValue, Mem, Message};
 use std::alloc::Global;
 
 /// The most bytes of a header's name.
-pub(crate) const MOST_NAME: usize = 255;
+pub(crate) const MOST_HEADER_NAME: usize = 255;
 
 /// The most bytes of a header's byte array or text.
 const MOST_VALUE: usize = 32_767;
@@ -108,7 +108,7 @@ fn test_headers(headers: &[Header]) -> Result<(), ErrorKind>
 fn test_header(header: &Header) -> Result<(), ErrorKind>
     ensures { MatchResult result (λ _. unspelled header.now ≡ None) (λ kind. unspelled header.now ≡ Some kind) }
 {
-    if header.name().as_bytes().len() > MOST_NAME {
+    if header.name().as_bytes().len() > MOST_HEADER_NAME {
         return Err(ErrorKind::InvalidHeaderNameLength);
     }
     test_value(header.value())

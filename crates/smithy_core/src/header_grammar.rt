@@ -5,14 +5,14 @@ ghost use Rattle.smithy_core.specs.HeaderGrammar.{IsHeaderName, IsHeaderValue};
 use http_header::is_token;
 
 /// The most bytes of a header's name.
-const MOST_NAME: usize = 65_535;
+const MOST_FIELD_NAME: usize = 65_535;
 
 /// Whether the text may be a header's name (RFC 9110, section 5.1): 1 to 65,535 letters, digits and marks of
 /// ``!#$%&'*+-.^_`|~``.
 pub fn is_header_name(text: &str) -> bool
     ensures { IsTrue result ↔ IsHeaderName text.now }
 {
-    is_token(text.as_bytes()) && text.len() <= MOST_NAME
+    is_token(text.as_bytes()) && text.len() <= MOST_FIELD_NAME
 }
 
 /// Whether the text may be a header's value (RFC 9110, section 5.5): none of the bytes 0 to 8, 10 to 31 and 127.
