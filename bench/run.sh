@@ -1,12 +1,12 @@
 #!/usr/bin/env bash
-# Times each kind of work of the program `bench`: a line for each, with what it did in one second, and for bytes also the
+# Times each kind of work of the program `tool_bench`: a line for each, with what it did in one second, and for bytes also the
 # ratio to the SHA-256 of the same run, since machines differ. The first run builds it.
 set -eu
-cd "$(dirname "$0")/../crates/bench"
+cd "$(dirname "$0")/../crates/tool_bench"
 rt run -- hash 1 1 > /dev/null
 TIMEFORMAT=%U
 seconds_of() {
-  { time ./out/bench "$@" > /dev/null; } 2>&1
+  { time ./out/tool_bench "$@" > /dev/null; } 2>&1
 }
 hash_rate=$(awk -v seconds="$(seconds_of hash 1000 65536)" 'BEGIN { print 65.536 / (seconds + 0.000001) }')
 rate() {

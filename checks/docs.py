@@ -1,7 +1,7 @@
 #!/usr/bin/env python3
 """Tells where a page says what the sources don't: a line for each place, and then the status 1.
 
-docs/CALLING.md: each function that it shows stands so in crates/uses/src.
+docs/CALLING.md: each function that it shows stands so in crates/tool_uses/src.
 docs/DEFINITIONS.md: each name stands in the file that is told for it, and once. A file is told as `crate/specs/File.antt`, or as
 `specs/File.antt` of the crate that was told last in the row; the names that it holds follow behind a colon. What follows the
 heading "Every other name" is made from the sources, by `checks/docs.py --write`: each name that clauses of public functions or
@@ -36,10 +36,10 @@ def shown_functions(page):
 
 
 def calling_faults():
-    sources = [path.read_text() for path in (ROOT / "crates/uses/src").glob("*.rt")]
+    sources = [path.read_text() for path in (ROOT / "crates/tool_uses/src").glob("*.rt")]
     for function in shown_functions((ROOT / "docs/CALLING.md").read_text()):
         if not any(function in source for source in sources):
-            yield f"docs/CALLING.md: crates/uses has no such function: {function.splitlines()[0]}"
+            yield f"docs/CALLING.md: crates/tool_uses has no such function: {function.splitlines()[0]}"
 
 
 def told_names(row):

@@ -6,7 +6,7 @@ use Rattle.smithy_core.specs.Moment.{Instant}
 use Rattle.smithy_core.specs.declared.identity.Identity.{Identity}
 use Rattle.smithy_core.specs.declared.identity.Identity.TheVariants.{Credentials, Token}
 use Rattle.eventstream.specs.Key.{Signer}
-use Rattle.sigv4.specs.ChunkTold.{SignsNext, sealed}
+use Rattle.sigv4.specs.ChunkTold.{SignsNext, signs_over}
 use Rattle.sigv4.specs.EventStream.{unsignable}
 use Rattle.sigv4.specs.declared.error.SigningError.{SigningError}
 use Rattle.sigv4.specs.declared.error.SigningError.TheVariants.{NoMemory}
@@ -23,7 +23,7 @@ told_goes_on part old (Ok answer) new signs = by old.parts.identity signs.0 (ap 
         → chunk_told new ≡ chunk_told_by identity (string_bytes answer) (signer_in old) old.parts.time
         → SignsNext part (chunk_told_by identity (running_signature old) (signer_in old) old.parts.time) (Ok answer) (chunk_told new)
     by (Token token) signed is = is
-    by (Credentials credentials) signed is = (signed, signs.1, is ∙ ap (λ s. sealed s (signer_in old) old.parts.time) signs.1)
+    by (Credentials credentials) signed is = (signed, signs.1, is ∙ ap (λ s. signs_over s (signer_in old) old.parts.time) signs.1)
 told_goes_on part old (Err error) new signs = by old.parts.identity signs.0 (ap chunk_told signs.1)
   where
     by : (identity : Identity) → (unsignable identity old.parts.time ≡ Some error) ⊎ (error ≡ NoMemory)

@@ -8,7 +8,7 @@ use Rattle.smithy_core.specs.declared.identity.Identity.{Identity}
 use Rattle.smithy_core.specs.declared.identity.Identity.TheVariants.{Credentials, Token}
 use Rattle.eventstream.specs.Frame.{frame}
 use Rattle.eventstream.specs.Key.{Signer, signing_key}
-use Rattle.eventstream.specs.Told.{Told, Seals, Signs, SignsEmpty, sealed}
+use Rattle.eventstream.specs.Told.{Told, SignsLink, Signs, SignsEmpty, signs_over}
 use Rattle.eventstream.specs.declared.sign_error.SignMessageError.{SignMessageError}
 use Rattle.sigv4.specs.EventStream.{IsKeyOf}
 use Rattle.sigv4.specs.Params.{signer_of, v4_time}
@@ -46,12 +46,12 @@ told_after refused old bytes t (Err error) new signs =
     ap (λ (p : SignerParts (Unit {0})). told_by p.identity (running_signature new) (signer_for p.identity p.region p.name)) signs.2
 
 -- with credentials bytes are sealed over the last signature
-sealed_after : (refused : Option SignMessageError) (old : SignerState (Unit {0})) (bytes : List ℕ) (t : Instant)
+signed_after : (refused : Option SignMessageError) (old : SignerState (Unit {0})) (bytes : List ℕ) (t : Instant)
     (result : Result Parts SignMessageError) (new : SignerState (Unit {0})) (now : Told)
-    → SignsBytes refused old bytes t result new → now ≡ sealed (running_signature new) (signer_in old)
-    → Seals refused (running_signature old) (signer_in old) bytes t result now
-sealed_after refused old bytes t (Ok answer) new now signs is = (signs.0, signs.1, is ∙ ap (λ s. sealed s (signer_in old)) signs.2)
-sealed_after refused old bytes t (Err error) new now signs is = (signs.0, is ∙ ap (λ s. sealed s (signer_in old)) signs.1)
+    → SignsBytes refused old bytes t result new → now ≡ signs_over (running_signature new) (signer_in old)
+    → SignsLink refused (running_signature old) (signer_in old) bytes t result now
+signed_after refused old bytes t (Ok answer) new now signs is = (signs.0, signs.1, is ∙ ap (λ s. signs_over s (signer_in old)) signs.2)
+signed_after refused old bytes t (Err error) new now signs is = (signs.0, is ∙ ap (λ s. signs_over s (signer_in old)) signs.1)
 
 -- what is told of a signer goes on with each message
 pub message_told : (old : SignerState (Unit {0})) (message : Parts) (t : Instant) (result : Result Parts SignMessageError) (new : SignerState (Unit {0}))
@@ -61,7 +61,7 @@ message_told old message t result new signs = by old.parts.identity signs (told_
       → told_of new ≡ told_by identity (running_signature new) (signer_in old)
       → Signs (told_by identity (running_signature old) (signer_in old)) message t result (told_of new)
   by (Token token) signs is = is
-  by (Credentials credentials) signs is = sealed_after _ old (frame message) t result new (told_of new) signs is
+  by (Credentials credentials) signs is = signed_after _ old (frame message) t result new (told_of new) signs is
 
 -- what is told of a signer goes on with the end
 pub end_told : (old : SignerState (Unit {0})) (t : Instant) (result : Result Parts SignMessageError) (new : SignerState (Unit {0}))
@@ -71,4 +71,4 @@ end_told old t result new signs = by old.parts.identity signs (told_after _ old 
       → told_of new ≡ told_by identity (running_signature new) (signer_in old)
       → SignsEmpty (told_by identity (running_signature old) (signer_in old)) t (Some result) (told_of new)
   by (Token token) signs is = is
-  by (Credentials credentials) signs is = sealed_after _ old [] t result new (told_of new) signs is
+  by (Credentials credentials) signs is = signed_after _ old [] t result new (told_of new) signs is

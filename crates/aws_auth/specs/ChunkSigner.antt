@@ -6,7 +6,7 @@ use Rattle.smithy_core.specs.declared.identity.Identity.{Identity}
 use Rattle.smithy_core.specs.declared.identity.Identity.TheVariants.{Credentials, Token}
 use Rattle.eventstream.specs.Key.{Signer}
 use Rattle.sigv4.specs.Chunk.{chunk_signature, trailer_signature}
-use Rattle.sigv4.specs.ChunkTold.{ChunkTold, sealed, untold}
+use Rattle.sigv4.specs.ChunkTold.{ChunkTold, signs_over, untold}
 use Rattle.sigv4.specs.EventStream.{unsignable}
 use Rattle.sigv4.specs.Query.{Pair}
 use Rattle.sigv4.specs.declared.error.SigningError.{SigningError}
@@ -15,7 +15,7 @@ use Rattle.aws_auth.specs.MessageSigner.{SignerState, running_signature, signer_
 
 -- what is told of a signer of chunks, by who signs
 abbrev pub chunk_told_by : Identity → List ℕ → Signer → Instant → ChunkTold
-chunk_told_by (Credentials credentials) signature signer t = sealed signature signer t
+chunk_told_by (Credentials credentials) signature signer t = signs_over signature signer t
 chunk_told_by (Token token) signature signer t = untold
 
 -- what is told of a signer of chunks: credentials sign over the last signature, at the moment of the request

@@ -10,7 +10,7 @@ use Rattle.smithy_core.specs.declared.identity.Identity.TheVariants.{Credentials
 use Rattle.eventstream.specs.Frame.{frame, unframed}
 use Rattle.eventstream.specs.Key.{Signer, signing_key}
 use Rattle.eventstream.specs.Link.{link_message, link_signature}
-use Rattle.eventstream.specs.Told.{Told, sealed, untold, encoding_refusal}
+use Rattle.eventstream.specs.Told.{Told, signs_over, untold, encoding_refusal}
 use Rattle.eventstream.specs.declared.sign_error.SignMessageError.{SignMessageError}
 use Rattle.eventstream.specs.declared.sign_error.SignMessageError.TheVariants as refusals
 use Rattle.sigv4.specs.KeptKey.{Kept, kept_at, no_key}
@@ -64,7 +64,7 @@ IsOwnKey signer (Some kept) = kept.signer ≡ signer
 
 -- what is told of a signer of messages, by who signs
 abbrev pub told_by : Identity → List ℕ → Signer → Told
-told_by (Credentials credentials) signature signer = sealed signature signer
+told_by (Credentials credentials) signature signer = signs_over signature signer
 told_by (Token token) signature signer = untold
 
 -- what is told of a signer of messages: credentials sign over the last signature

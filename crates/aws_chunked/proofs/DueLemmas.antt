@@ -8,13 +8,13 @@ use Rattle.smithy_core.specs.declared.outside.frame_part.FramePart.{FramePart}
 use Rattle.smithy_core.specs.declared.outside.frame_source.FrameSource as FrameSource
 use Rattle.eventstream.specs.Key.{Signer}
 use Rattle.sigv4.specs.Chunk.{chunk_signature, trailer_signature}
-use Rattle.sigv4.specs.ChunkTold.{ChunkTold, SignsNext, sealed, untold, unsigned_chunk_at, unwired}
+use Rattle.sigv4.specs.ChunkTold.{ChunkTold, SignsNext, signs_over, untold, unsigned_chunk_at, unwired}
 use Rattle.sigv4.specs.declared.chunk_signer.SignChunk as SignChunk
 use Rattle.sigv4.specs.declared.error.SigningError.{SigningError}
 use Rattle.sigv4.specs.declared.error.SigningError.TheVariants.{MomentOutOfRange}
 use Rattle.aws_chunked.specs.Body.{AnswersFrame, IsBodyClosed, IsNewBody, IsNothing, KeepsText, MakesFirst, TextLeft, TakesText, Trailer, data_before, held_bytes, listed, parts_due, parts_left, ready_bytes, text_to_come_with, trailers_from}
 use Rattle.aws_chunked.specs.Options.{Options}
-use Rattle.aws_chunked.specs.Due.{StartsSealed, due, sealed_chunked_text, sealed_text, text_due, told_of_chunks, trailers_signature, writing}
+use Rattle.aws_chunked.specs.Due.{StartsSigned, due, signed_chunked_text, signed_chunks, text_due, told_of_chunks, trailers_signature, writing}
 use Rattle.aws_chunked.specs.Signing.{Answering, ChunkAnswers, MakesPart, SignsWhereSigned, TrailerAnswers, has_signature}
 use Rattle.aws_chunked.specs.Text.{Part, chunk, chunk_text, chunked_text, part_text, parts_of, parts_text, tail, tail_text}
 use Rattle.aws_chunked.specs.declared.body.AwsChunkedBody.{AwsChunkedBody}
@@ -27,8 +27,8 @@ use Rattle.aws_chunked.proofs.NewLemmas.{new_parts}
 
 -- what is told of a signer that made this signature, before and after
 Seals : (Signer → Instant → List ℕ → List ℕ) → ChunkTold → Option (List ℕ) → ChunkTold → Type 0
-Seals next (sealed before who t) signature now =
-    (is_in_years t ≡ true) × (signature ≡ Some (next who t before)) × (now ≡ sealed (next who t before) who t)
+Seals next (signs_over before who t) signature now =
+    (is_in_years t ≡ true) × (signature ≡ Some (next who t before)) × (now ≡ signs_over (next who t before) who t)
 Seals next unwired signature now = ⊥
 Seals next untold signature now = now ≡ untold
 
@@ -42,7 +42,7 @@ in_years t none = by (is_in_years t) none
 seals_next : (next : Signer → Instant → List ℕ → List ℕ) (told : ChunkTold) (answer : String Global) (now : ChunkTold)
     → SignsNext next told (Ok answer) now → Seals next told (Some (string_bytes answer)) now
 unfolding Seals
-seals_next next (sealed before who t) answer now signs = (in_years t signs.0, ap Some signs.1, signs.2)
+seals_next next (signs_over before who t) answer now signs = (in_years t signs.0, ap Some signs.1, signs.2)
 seals_next next unwired answer now signs = absurd signs
 seals_next next untold answer now signs = signs
 
@@ -73,8 +73,8 @@ seals_trailers signer (trailer ∷ trailers) old new signature signs =
 
 -- it is over the signature of the empty chunk, and the signer goes on
 closes_over : (zero : List ℕ) (who : Signer) (t : Instant) (trailers : List Trailer) (signature : Option (List ℕ)) (now : ChunkTold)
-    → SealsTrailers trailers (sealed zero who t) signature now
-    → (signature ≡ trailers_signature who t zero trailers) × ((last : List ℕ) × (now ≡ sealed last who t))
+    → SealsTrailers trailers (signs_over zero who t) signature now
+    → (signature ≡ trailers_signature who t zero trailers) × ((last : List ℕ) × (now ≡ signs_over last who t))
 unfolding SealsTrailers Seals
 closes_over zero who t [] signature now seals = (seals.0, (zero, seals.1))
 closes_over zero who t (trailer ∷ trailers) signature now seals = (seals.1, (trailer_signature (trailer ∷ trailers) who t zero, seals.2))
@@ -142,11 +142,11 @@ chunk_step : (piece : List ℕ) (told now : ChunkTold) (signature : Option (List
     → Seals (chunk_signature piece) told signature now → text ≡ chunk_text signature piece → text ≡ bytes ++ ready
     → before ≡ option_map (λ (rest : List Part). chunk piece ∷ rest) after
     → TakesText bytes (text_due (writing true told) [] before) (text_due (writing true now) ready after)
-unfolding Seals sealed_text
-chunk_step piece (sealed s who t) now signature text bytes ready before after seals is same parts =
+unfolding Seals signed_chunks
+chunk_step piece (signs_over s who t) now signature text bytes ready before after seals is same parts =
     rw (seals.2, seals.0)
-    (step (sealed_text who t s) (sealed_text who t (chunk_signature piece who t s)) (chunk piece) text bytes ready before after same parts
-    (λ rest some. ap (λ (front : List ℕ). front ++ sealed_text who t (chunk_signature piece who t s) rest)
+    (step (signed_chunks who t s) (signed_chunks who t (chunk_signature piece who t s)) (chunk piece) text bytes ready before after same parts
+    (λ rest some. ap (λ (front : List ℕ). front ++ signed_chunks who t (chunk_signature piece who t s) rest)
     (ap (λ (o : Option (List ℕ)). chunk_text o piece) (sym seals.1) ∙ sym is)))
 chunk_step piece unwired now signature text bytes ready before after seals is same parts = absurd seals
 chunk_step piece untold now signature text bytes ready before after seals is same parts = rw seals refl
@@ -155,14 +155,14 @@ tail_step : (trailers : List Trailer) (told mid now : ChunkTold) (signature last
     → Seals (chunk_signature []) told signature mid → SealsTrailers trailers mid last now → text ≡ tail_text signature trailers last → text ≡ bytes ++ ready
     → before ≡ option_map (λ (rest : List Part). tail trailers ∷ rest) after → ((rest : List Part) → after ≡ Some rest → rest ≡ [])
     → TakesText bytes (text_due (writing true told) [] before) (text_due (writing true now) ready after)
-unfolding Seals sealed_text
-tail_step trailers (sealed s who t) mid now signature last text bytes ready before after seals closing is same parts ends =
+unfolding Seals signed_chunks
+tail_step trailers (signs_over s who t) mid now signature last text bytes ready before after seals closing is same parts ends =
     rw (closes.1.1, seals.0)
-    (step (sealed_text who t s) (sealed_text who t closes.1.0) (tail trailers) text bytes ready before after same parts
+    (step (signed_chunks who t s) (signed_chunks who t closes.1.0) (tail trailers) text bytes ready before after same parts
     (λ rest some. (λ i. tail_text (sym seals.1 i) trailers (sym closes.0 i)) ∙ sym is
-    ∙ sym (ap (λ (others : List Part). text ++ sealed_text who t closes.1.0 others) (ends rest some) ∙ append-nil text)))
+    ∙ sym (ap (λ (others : List Part). text ++ signed_chunks who t closes.1.0 others) (ends rest some) ∙ append-nil text)))
   where
-    closes : (last ≡ trailers_signature who t (chunk_signature [] who t s) trailers) × ((s' : List ℕ) × (now ≡ sealed s' who t))
+    closes : (last ≡ trailers_signature who t (chunk_signature [] who t s) trailers) × ((s' : List ℕ) × (now ≡ signs_over s' who t))
     closes = closes_over (chunk_signature [] who t s) who t trailers last now (subst (λ (m : ChunkTold). SealsTrailers trailers m last now) seals.2 closing)
 tail_step trailers unwired mid now signature last text bytes ready before after seals closing is same parts ends = absurd seals
 tail_step trailers untold mid now signature last text bytes ready before after seals closing is same parts ends =
@@ -196,16 +196,16 @@ ready_step (Some text_of) bytes ready now (Some rest) is = ap (λ (front : List 
 -- of no parts there is no text
 writes_none : (is_signed : Bool) (told : ChunkTold) (parts : Option (List Part)) → ((rest : List Part) → parts ≡ Some rest → rest ≡ [])
     → IsNothing (text_due (writing is_signed told) [] parts)
-unfolding sealed_text
+unfolding signed_chunks
 writes_none false told None none = tt
 writes_none false told (Some rest) none = ap parts_text (none rest refl)
-writes_none true (sealed s who t) parts none = by (is_in_years t) parts none
+writes_none true (signs_over s who t) parts none = by (is_in_years t) parts none
   where
     by : (b : Bool) (left : Option (List Part)) → ((rest : List Part) → left ≡ Some rest → rest ≡ [])
-        → IsNothing (text_due (if b then Some (sealed_text who t s) else None) [] left)
+        → IsNothing (text_due (if b then Some (signed_chunks who t s) else None) [] left)
     by false left no_parts = tt
     by true None no_parts = tt
-    by true (Some rest) no_parts = ap (sealed_text who t s) (no_parts rest refl)
+    by true (Some rest) no_parts = ap (signed_chunks who t s) (no_parts rest refl)
 writes_none true unwired parts none = tt
 writes_none true untold parts none = tt
 
@@ -294,11 +294,11 @@ module _ {F G : Type 0} (source : FrameSource.Ghosts F) (signer : SignChunk.Ghos
       by None = refl
       by (Some frames) = refl
 
-  pub starts_sealed : (old new : AwsChunkedBody F G) (given : G) → new ≡ record old { chunks = record old.chunks { signer = Some given } } → StartsSealed source signer old new
-  unfolding due sealed_chunked_text
+  pub starts_sealed : (old new : AwsChunkedBody F G) (given : G) → new ≡ record old { chunks = record old.chunks { signer = Some given } } → StartsSigned source signer old new
+  unfolding due signed_chunked_text
   starts_sealed old new given is from options before who t started signed told years =
       subst (λ (body : AwsChunkedBody F G). text_due (writing body.options.is_signed (told_of_chunks signer new.chunks.signer)) (ready_bytes body) (parts_due source body)
-      ≡ option_map (λ (frames : List FramePart). sealed_chunked_text who t before options.chunk_size (data_before frames) (listed (trailers_from None frames))) (source.left from))
+      ≡ option_map (λ (frames : List FramePart). signed_chunked_text who t before options.chunk_size (data_before frames) (listed (trailers_from None frames))) (source.left from))
       (sym is)
       ((λ i. text_due (writing (encoded i) (told i)) (started.nothing_ready i) (parts i)) ∙ rw years (by (source.left from)))
     where
@@ -314,8 +314,8 @@ module _ {F G : Type 0} (source : FrameSource.Ghosts F) (signer : SignChunk.Ghos
           ≡ option_map (λ (frames : List FramePart). parts_of options.chunk_size (data_before frames) (listed (trailers_from None frames))) (source.left from)
       parts = signer_same (source.left old.source) ∙ new_parts source old from options started
 
-      by : (left : Option (List FramePart)) → option_map (λ (rest : List Part). [] ++ sealed_text who t before rest)
+      by : (left : Option (List FramePart)) → option_map (λ (rest : List Part). [] ++ signed_chunks who t before rest)
           (option_map (λ (frames : List FramePart). parts_of options.chunk_size (data_before frames) (listed (trailers_from None frames))) left)
-          ≡ option_map (λ (frames : List FramePart). sealed_text who t before (parts_of options.chunk_size (data_before frames) (listed (trailers_from None frames)))) left
+          ≡ option_map (λ (frames : List FramePart). signed_chunks who t before (parts_of options.chunk_size (data_before frames) (listed (trailers_from None frames)))) left
       by None = refl
       by (Some frames) = refl

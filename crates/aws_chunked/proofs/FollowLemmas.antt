@@ -2,7 +2,7 @@
 use Rattle.std.proofs.Common.{◌≡◌, ℕ, List, [], ◌∷◌, ◌++◌, refl, ap, sym, subst, ◌∙◌, append_assoc, append-nil}
 use Rattle.aws_chunked.specs.Body.{Trailer}
 use Rattle.aws_chunked.specs.Decoded.{CanGoOn}
-use Rattle.aws_chunked.specs.Reading.{RefusesNext, TellsWhere}
+use Rattle.aws_chunked.specs.Reading.{RefusesNext, StopsWhere}
 use Rattle.aws_chunked.specs.Rests.{FollowsFront, Said, TextSays, first_byte}
 use Rattle.aws_chunked.specs.declared.decode.fault.PartFault.{PartFault}
 use Rattle.aws_chunked.specs.declared.decode.fault.PartFault.TheVariants.{Bad, NoMemory}
@@ -63,7 +63,7 @@ refuses_so Less More (first ∷ front) (byte ∷ back) within refuses = λ begin
 -- a part stops what begins with it: each word of the part goes on to one, and each one whose first byte is that of the bytes at hand leads
 -- with the part
 pub stops_part : (IsPart LedPart IsWhole : List ℕ → Type 0) (bytes : List ℕ) (fault : PartFault) → ((word : List ℕ) → IsPart word → CanGoOn IsWhole word)
-    → ((all : List ℕ) → first_byte all ≡ first_byte bytes → IsWhole all → LedPart all) → TellsWhere IsPart LedPart bytes fault → TellsWhere IsWhole IsWhole bytes fault
+    → ((all : List ℕ) → first_byte all ≡ first_byte bytes → IsWhole all → LedPart all) → StopsWhere IsPart LedPart bytes fault → StopsWhere IsWhole IsWhole bytes fault
 stops_part IsPart LedPart IsWhole bytes NoMemory goes_on within told = tt
 stops_part IsPart LedPart IsWhole bytes (Bad left) goes_on within told =
     let front = told.0 in
@@ -96,7 +96,7 @@ refuses_rest Whole Rest body signatures lead front (byte ∷ back) follows refus
 
 -- the rest stops the whole
 pub stops_rest : (Whole Rest : TextSays) (body : List ℕ) (signatures : List (List ℕ)) (lead bytes rest : List ℕ) (fault : PartFault) → bytes ≡ lead ++ rest
-    → FollowsFront Whole Rest body signatures lead rest → TellsWhere (Said Rest) (Said Rest) rest fault → TellsWhere (Said Whole) (Said Whole) bytes fault
+    → FollowsFront Whole Rest body signatures lead rest → StopsWhere (Said Rest) (Said Rest) rest fault → StopsWhere (Said Whole) (Said Whole) bytes fault
 stops_rest Whole Rest body signatures lead bytes rest NoMemory parted follows told = tt
 stops_rest Whole Rest body signatures lead bytes rest (Bad left) parted follows told =
     let front = told.0 in
@@ -138,7 +138,7 @@ refuses_word Less More word front (byte ∷ back) within refuses = λ begins.
 -- what stands behind a word stops the whole, where the byte behind the word is that at hand
 pub stops_behind_word : (IsRest LedRest IsWhole LedWhole : List ℕ → Type 0) (word bytes rest : List ℕ) (fault : PartFault) → bytes ≡ word ++ rest
     → ((text : List ℕ) → IsRest text → IsWhole (word ++ text)) → ((text : List ℕ) → first_byte text ≡ first_byte rest → LedWhole (word ++ text) → LedRest text)
-    → TellsWhere IsRest LedRest rest fault → TellsWhere IsWhole LedWhole bytes fault
+    → StopsWhere IsRest LedRest rest fault → StopsWhere IsWhole LedWhole bytes fault
 stops_behind_word IsRest LedRest IsWhole LedWhole word bytes rest NoMemory parted goes_on within told = tt
 stops_behind_word IsRest LedRest IsWhole LedWhole word bytes rest (Bad left) parted goes_on within told =
     let front = told.0 in

@@ -9,7 +9,7 @@ use Rattle.std.proofs.lemmas.Fmt.{digits_is_IsNumeral, hex_one_digit}
 use Rattle.std.proofs.lemmas.List.{append-nil, length-append}
 use Rattle.std.proofs.lemmas.Nat.{div-mul-add, mod-mul-add}
 use Rattle.aws_chunked.specs.Decoded.{CanGoOn}
-use Rattle.aws_chunked.specs.Reading.{IsEndedLength, IsLength, Led, RefusesNext, TellsWhere, is_length_digit}
+use Rattle.aws_chunked.specs.Reading.{IsEndedLength, IsLength, Led, RefusesNext, StopsWhere, is_length_digit}
 use Rattle.aws_chunked.specs.Text.{length_text}
 use Rattle.aws_chunked.specs.declared.decode.fault.PartFault.{PartFault}
 use Rattle.aws_chunked.specs.declared.decode.fault.PartFault.TheVariants.{Bad}
@@ -232,13 +232,13 @@ begins_length most n low = ([], (n, low, append-nil (length_text n)))
 -- what reading tells of a length that goes on with such a digit, or ends
 pub stops_at_digit : (most n digit byte : ℕ) (bytes rest others : List ℕ) (fault : PartFault) → most ≤ 4294967295 → n ≤ most → digit < 16 → byte ≡ digit_glyph true digit
     → (n ≡ 0) ⊎ (most < n * 16 + digit) → bytes ≡ length_text n ++ rest → rest ≡ byte ∷ others → fault ≡ Bad (length rest)
-    → TellsWhere (IsLength most) (Led (IsEndedLength most)) bytes fault
+    → StopsWhere (IsLength most) (Led (IsEndedLength most)) bytes fault
 stops_at_digit most n digit byte bytes rest others fault bound low few is why read first told =
     stops_behind (IsLength most) (Led (IsEndedLength most)) bytes (length_text n) rest fault told read (begins_length most n low)
     (subst (RefusesNext (Led (IsEndedLength most)) (length_text n)) (sym (first ∙ (λ i. is i ∷ others))) (refuses_digit most n digit others (omega (arith, bound)) low few why))
 
 pub stops_at_end : (most n : ℕ) (bytes rest : List ℕ) (fault : PartFault) → n ≤ most → bytes ≡ length_text n ++ rest → length rest ≡ 0 → fault ≡ Bad (length rest)
-    → TellsWhere (IsLength most) (Led (IsEndedLength most)) bytes fault
+    → StopsWhere (IsLength most) (Led (IsEndedLength most)) bytes fault
 stops_at_end most n bytes rest fault low read none told =
     stops_behind (IsLength most) (Led (IsEndedLength most)) bytes (length_text n) rest fault told read (begins_length most n low)
     (subst (RefusesNext (Led (IsEndedLength most)) (length_text n)) (sym (empty_list rest none)) (refuses_end most n))
@@ -268,7 +268,7 @@ led_text most bytes led =
     )
 
 pub first_stops_end : (most : ℕ) (bytes : List ℕ) (fault : PartFault) → length bytes ≡ 0 → fault ≡ Bad (length bytes)
-    → TellsWhere (IsLength most) (Led (IsEndedLength most)) bytes fault
+    → StopsWhere (IsLength most) (Led (IsEndedLength most)) bytes fault
 first_stops_end most bytes fault none told =
     stops_behind (IsLength most) (Led (IsEndedLength most)) bytes [] bytes fault told refl (begins_any most)
     (subst (RefusesNext (Led (IsEndedLength most)) []) (sym (empty_list bytes none)) (λ led.
@@ -276,7 +276,7 @@ first_stops_end most bytes fault none told =
     omega (arith, ap length found.3, length-append (length_text found.0) found.1, found.4)))
 
 pub first_stops_other : (most byte : ℕ) (bytes rest : List ℕ) (fault : PartFault) → most ≤ 4294967295 → is_length_digit byte ≡ false → bytes ≡ byte ∷ rest
-    → fault ≡ Bad (length bytes) → TellsWhere (IsLength most) (Led (IsEndedLength most)) bytes fault
+    → fault ≡ Bad (length bytes) → StopsWhere (IsLength most) (Led (IsEndedLength most)) bytes fault
 first_stops_other most byte bytes rest fault bound other first told =
     stops_behind (IsLength most) (Led (IsEndedLength most)) bytes [] bytes fault told refl (begins_any most)
     (subst (RefusesNext (Led (IsEndedLength most)) []) (sym first) (λ begins.
@@ -285,7 +285,7 @@ first_stops_other most byte bytes rest fault bound other first told =
     ∙ first_is_digit (length_text found.0) byte begins.0 found.1 (text_digits found.0) (text_some found.0 (omega (arith, found.2, bound))) found.3)))
 
 pub first_stops_great : (most digit byte : ℕ) (bytes rest : List ℕ) (fault : PartFault) → most ≤ 4294967295 → digit < 16 → byte ≡ digit_glyph true digit → most < digit
-    → bytes ≡ byte ∷ rest → fault ≡ Bad (length bytes) → TellsWhere (IsLength most) (Led (IsEndedLength most)) bytes fault
+    → bytes ≡ byte ∷ rest → fault ≡ Bad (length bytes) → StopsWhere (IsLength most) (Led (IsEndedLength most)) bytes fault
 unfolding AreDigits
 first_stops_great most digit byte bytes rest fault bound few is great first told =
     stops_behind (IsLength most) (Led (IsEndedLength most)) bytes [] bytes fault told refl (begins_any most)

@@ -13,7 +13,7 @@ use Rattle.smithy_core.specs.HeaderGrammar.{IsHeaderName, IsHeaderValue}
 use Rattle.smithy_core.specs.TextPairs.{lower}
 use Rattle.aws_chunked.specs.Body.{Trailer}
 use Rattle.aws_chunked.specs.Decoded.{IsTrailer}
-use Rattle.aws_chunked.specs.Reading.{Led, RefusesNext, TellsWhere}
+use Rattle.aws_chunked.specs.Reading.{Led, RefusesNext, StopsWhere}
 use Rattle.aws_chunked.specs.Rests.{first_byte}
 use Rattle.aws_chunked.specs.TailRests.{EndsRun, IsLine, IsNamePart, IsLongestFront, IsValuePart, is_name_byte}
 use Rattle.aws_chunked.specs.Text.{crlf, trailer_line}
@@ -107,8 +107,8 @@ name_utf8 name some all = IsUtf8-from_token name (some, bytes_token name all)
 -- ## Names
 
 -- no name, where none of its bytes stands first
-pub no_name : (bytes : List ℕ) (fault : PartFault) → EndsRun is_name_byte bytes → fault ≡ Bad (length bytes) → TellsWhere IsNamePart (Led IsNamePart) bytes fault
-no_name bytes fault ends told = subst (TellsWhere IsNamePart (Led IsNamePart) bytes) (sym told) ([], bytes, refl, refl, (codes "a:", (97 ∷ [], a_name.0, a_name.1, refl)), refuses bytes ends)
+pub no_name : (bytes : List ℕ) (fault : PartFault) → EndsRun is_name_byte bytes → fault ≡ Bad (length bytes) → StopsWhere IsNamePart (Led IsNamePart) bytes fault
+no_name bytes fault ends told = subst (StopsWhere IsNamePart (Led IsNamePart) bytes) (sym told) ([], bytes, refl, refl, (codes "a:", (97 ∷ [], a_name.0, a_name.1, refl)), refuses bytes ends)
   where
     none : (text : List ℕ) → EndsRun is_name_byte text → Led IsNamePart text → ⊥
     none text ends_ led =
@@ -139,8 +139,8 @@ name_ends name other text more all ends is same parted =
     empty (z ∷ zs) none = absurd (omega (arith, none))
 
 pub colon_stops : (bytes name rest : List ℕ) (fault : PartFault) → bytes ≡ name ++ rest → 0 < length name → length name ≤ 65535 → All (λ byte. IsTrue (is_name_byte byte)) name
-    → (length name < 65535 → EndsRun is_name_byte rest) → TellsWhere (λ word. word ≡ codes ":") (Led (λ word. word ≡ codes ":")) rest fault
-    → TellsWhere IsNamePart (Led IsNamePart) bytes fault
+    → (length name < 65535 → EndsRun is_name_byte rest) → StopsWhere (λ word. word ≡ codes ":") (Led (λ word. word ≡ codes ":")) rest fault
+    → StopsWhere IsNamePart (Led IsNamePart) bytes fault
 colon_stops bytes name rest fault parted some low all ends told =
     let is = name_is name some low all in
     stops_behind_word (λ word. word ≡ codes ":") (Led (λ word. word ≡ codes ":")) IsNamePart (Led IsNamePart) name bytes rest fault parted
@@ -163,9 +163,9 @@ a_value value text more all other each ends parted =
     same_run is_value_byte value other text (crlf ++ more) all each ends refl (parted ∙ append_assoc other crlf more)
 
 pub value_stops : (bytes value rest : List ℕ) (m : ℕ) (fault : PartFault) → bytes ≡ value ++ rest → All (λ byte. IsTrue (is_value_byte byte)) value
-    → EndsRun is_value_byte rest → (IsUtf8 value → ⊥) → IsLongestFront value m → fault ≡ Bad (length (drop m bytes)) → TellsWhere IsValuePart (Led IsValuePart) bytes fault
+    → EndsRun is_value_byte rest → (IsUtf8 value → ⊥) → IsLongestFront value m → fault ≡ Bad (length (drop m bytes)) → StopsWhere IsValuePart (Led IsValuePart) bytes fault
 value_stops bytes value rest m fault parted all ends not_text sound told =
-    subst (TellsWhere IsValuePart (Led IsValuePart) bytes) (sym told) (
+    subst (StopsWhere IsValuePart (Led IsValuePart) bytes) (sym told) (
       take m bytes,
       drop m bytes,
       sym (take-append-drop m bytes),
@@ -251,7 +251,7 @@ same_line one two rest more is other parted =
 
 pub crlf_stops_line : (bytes name behind value rest : List ℕ) → IsHeaderName name → lower name ≡ name
     → bytes ≡ name ++ codes ":" ++ behind → IsUtf8 value → IsHeaderValue value → behind ≡ value ++ rest → EndsRun is_value_byte rest → (fault : PartFault)
-    → TellsWhere (λ word. word ≡ crlf) (Led (λ word. word ≡ crlf)) rest fault → TellsWhere IsLine (Led IsLine) bytes fault
+    → StopsWhere (λ word. word ≡ crlf) (Led (λ word. word ≡ crlf)) rest fault → StopsWhere IsLine (Led IsLine) bytes fault
 crlf_stops_line bytes name behind value rest is same parted text all read ends fault told =
     stops_behind_word (λ word. word ≡ crlf) (Led (λ word. word ≡ crlf)) IsLine (Led IsLine) ((name ++ codes ":") ++ value) bytes rest fault
     (parted ∙ ap (λ (t : List ℕ). (name ++ codes ":") ++ t) read ∙ sym (append_assoc (name ++ codes ":") value rest))
@@ -266,7 +266,7 @@ crlf_stops_line bytes name behind value rest is same parted text all read ends f
     (crlf, led.1, refl, values.1))
     told
 
-pub name_stops_line : (bytes : List ℕ) (fault : PartFault) → TellsWhere IsNamePart (Led IsNamePart) bytes fault → TellsWhere IsLine (Led IsLine) bytes fault
+pub name_stops_line : (bytes : List ℕ) (fault : PartFault) → StopsWhere IsNamePart (Led IsNamePart) bytes fault → StopsWhere IsLine (Led IsLine) bytes fault
 name_stops_line bytes fault told =
     stops_first IsNamePart (Led IsNamePart) IsLine (Led IsLine) bytes fault
     (λ word is. (
@@ -289,7 +289,7 @@ name_stops_line bytes fault told =
     told
 
 pub value_stops_line : (bytes name behind : List ℕ) (fault : PartFault) → IsHeaderName name → lower name ≡ name → bytes ≡ name ++ codes ":" ++ behind
-    → TellsWhere IsValuePart (Led IsValuePart) behind fault → TellsWhere IsLine (Led IsLine) bytes fault
+    → StopsWhere IsValuePart (Led IsValuePart) behind fault → StopsWhere IsLine (Led IsLine) bytes fault
 value_stops_line bytes name behind fault is same parted told =
     stops_next IsValuePart (Led IsValuePart) IsLine (Led IsLine) (name ++ codes ":") bytes behind fault parted
     (λ text value. (
@@ -329,7 +329,7 @@ all_from bytes name n there all front = subst (λ (x : List ℕ). All (λ byte. 
 
 pub name_none : (bytes name rest : List ℕ) (n : ℕ) (fault : PartFault) → n ≤ length bytes
     → (n < 65535 → n < length bytes → is_name_byte (slice_index bytes n) ≡ false) → length name ≡ n → rest ≡ drop n bytes → length name ≡ 0
-    → fault ≡ Bad (length rest) → TellsWhere IsNamePart (Led IsNamePart) bytes fault
+    → fault ≡ Bad (length rest) → StopsWhere IsNamePart (Led IsNamePart) bytes fault
 name_none bytes name rest n fault there ends long back none told =
     let zero_ : n ≡ 0 = omega (arith, long, none) in
     let whole : rest ≡ bytes = back ∙ ap (λ (k : ℕ). drop k bytes) zero_ in
@@ -338,7 +338,7 @@ name_none bytes name rest n fault there ends long back none told =
 
 pub name_colon : (bytes name rest : List ℕ) (n : ℕ) (fault : PartFault) → n ≤ 65535 → n ≤ length bytes → ((k : ℕ) → k < n → IsTrue (is_name_byte (slice_index bytes k)))
     → (n < 65535 → n < length bytes → is_name_byte (slice_index bytes n) ≡ false) → name ≡ take n bytes → length name ≡ n → rest ≡ drop n bytes
-    → (length name ≡ 0 → ⊥) → TellsWhere (λ word. word ≡ codes ":") (Led (λ word. word ≡ codes ":")) rest fault → TellsWhere IsNamePart (Led IsNamePart) bytes fault
+    → (length name ≡ 0 → ⊥) → StopsWhere (λ word. word ≡ codes ":") (Led (λ word. word ≡ codes ":")) rest fault → StopsWhere IsNamePart (Led IsNamePart) bytes fault
 name_colon bytes name rest n fault most there all ends front long back some told =
     colon_stops bytes name rest fault (sym (take-append-drop n bytes) ∙ (λ i. sym front i ++ sym back i)) (positive (length name) some) (omega (arith, long, most))
     (all_from bytes name n there all front) (λ short. ends_from bytes rest n there ends back (omega (arith, short, long))) told
@@ -376,7 +376,7 @@ value_found bytes value text rest n there all ends front back same is = (
 
 pub value_bad : (bytes value rest : List ℕ) (n m : ℕ) (fault : PartFault) → n ≤ length bytes → ((k : ℕ) → k < n → IsTrue (is_value_byte (slice_index bytes k)))
     → (n < length bytes → is_value_byte (slice_index bytes n) ≡ false) → value ≡ take n bytes → rest ≡ drop n bytes → (IsUtf8 value → ⊥) → IsLongestFront value m
-    → fault ≡ Bad (length (take (length bytes - m) (drop m bytes))) → TellsWhere IsValuePart (Led IsValuePart) bytes fault
+    → fault ≡ Bad (length (take (length bytes - m) (drop m bytes))) → StopsWhere IsValuePart (Led IsValuePart) bytes fault
 value_bad bytes value rest n m fault there all ends front back not sound told =
     value_stops bytes value rest m fault (sym (take-append-drop n bytes) ∙ (λ i. sym front i ++ sym back i)) (value_all bytes value n there all front)
     (subst (EndsRun is_value_byte) (sym back) (run_ended is_value_byte bytes n there ends)) not sound

@@ -2,7 +2,7 @@
 use Rattle.std.proofs.Common.{◌≡◌, ℕ, ◌+◌, ◌-◌, ◌<◌, ◌≤◌, inl, inr, List, [], ◌∷◌, ◌++◌, length, take, drop, ap, sym, subst, ◌∙◌, arith, append_assoc}
 use Rattle.std.proofs.lemmas.List.{append-nil, length-append, take-append-drop, take-append-le, take_at}
 use Rattle.aws_chunked.specs.Decoded.{CanGoOn, IsBadAt, StopsAtByte}
-use Rattle.aws_chunked.specs.Reading.{RefusesNext, Stops, TellsWhere}
+use Rattle.aws_chunked.specs.Reading.{RefusesNext, Stops, StopsWhere}
 use Rattle.aws_chunked.specs.declared.decode.fault.PartFault.{PartFault}
 use Rattle.aws_chunked.specs.declared.decode.fault.PartFault.TheVariants.{Bad, NoMemory}
 
@@ -13,7 +13,7 @@ refuses_less More Less front (byte ∷ back) within refuses = λ begins. refuses
 
 -- the first of two parts stops the whole: each word of the part goes on to one of the whole, and what leads to the whole leads to it
 pub stops_first : (IsPart LedPart IsWhole LedWhole : List ℕ → Type 0) (bytes : List ℕ) (fault : PartFault) → ((word : List ℕ) → IsPart word → CanGoOn IsWhole word)
-    → ((all : List ℕ) → LedWhole all → LedPart all) → TellsWhere IsPart LedPart bytes fault → TellsWhere IsWhole LedWhole bytes fault
+    → ((all : List ℕ) → LedWhole all → LedPart all) → StopsWhere IsPart LedPart bytes fault → StopsWhere IsWhole LedWhole bytes fault
 stops_first IsPart LedPart IsWhole LedWhole bytes NoMemory goes_on within told = tt
 stops_first IsPart LedPart IsWhole LedWhole bytes (Bad left) goes_on within told =
     let front = told.0 in
@@ -35,7 +35,7 @@ refuses_behind LedRest LedWhole word front (byte ∷ back) within refuses = λ b
 -- what stands behind a word stops the whole: it goes on to the whole behind the word, and what leads to the whole leads to it behind the word
 pub stops_next : (IsRest LedRest IsWhole LedWhole : List ℕ → Type 0) (word bytes rest : List ℕ) (fault : PartFault) → bytes ≡ word ++ rest
     → ((text : List ℕ) → IsRest text → IsWhole (word ++ text)) → ((text : List ℕ) → LedWhole (word ++ text) → LedRest text)
-    → TellsWhere IsRest LedRest rest fault → TellsWhere IsWhole LedWhole bytes fault
+    → StopsWhere IsRest LedRest rest fault → StopsWhere IsWhole LedWhole bytes fault
 stops_next IsRest LedRest IsWhole LedWhole word bytes rest NoMemory parted goes_on within told = tt
 stops_next IsRest LedRest IsWhole LedWhole word bytes rest (Bad left) parted goes_on within told =
     let front = told.0 in
@@ -84,5 +84,5 @@ place_told Is bytes left stops =
 pub left_low : (Is : List ℕ → Type 0) (bytes : List ℕ) (left : ℕ) → Stops Is Is bytes left → left ≤ length bytes
 left_low Is bytes left stops = omega (arith, ap length stops.2, length-append stops.0 stops.1, stops.3)
 
-pub place_of : (Is : List ℕ → Type 0) (bytes : List ℕ) (fault : PartFault) (left : ℕ) → fault ≡ Bad left → TellsWhere Is Is bytes fault → IsBadAt Is bytes (length bytes - left)
-place_of Is bytes fault left is told = place_told Is bytes left (subst (TellsWhere Is Is bytes) is told)
+pub place_of : (Is : List ℕ → Type 0) (bytes : List ℕ) (fault : PartFault) (left : ℕ) → fault ≡ Bad left → StopsWhere Is Is bytes fault → IsBadAt Is bytes (length bytes - left)
+place_of Is bytes fault left is told = place_told Is bytes left (subst (StopsWhere Is Is bytes) is told)

@@ -6,7 +6,7 @@ use Rattle.std.specs.declared.alloc.Global.{Global}
 use Rattle.std.proofs.lemmas.Bool.{false≢true}
 use Rattle.std.proofs.lemmas.List.{append_cancel_left, length-replicate, map-append}
 use Rattle.aws_chunked.specs.Decoded.{IsSignature}
-use Rattle.aws_chunked.specs.Reading.{Expects, Led, TellsWhere}
+use Rattle.aws_chunked.specs.Reading.{Expects, Led, StopsWhere}
 use Rattle.aws_chunked.specs.Rests.{IsData, IsHeadEnd, IsSignedBy, ReadsData, ReadsHeadEnd, signature_texts}
 use Rattle.aws_chunked.specs.Text.{crlf, signature_text}
 use Rattle.aws_chunked.specs.declared.decode.chunks.Chunks.{Chunks}
@@ -24,7 +24,7 @@ err_exit Reads (Err other) fault is told = subst (λ (f : PartFault). Reads (Err
 
 -- ## Data
 
-pub data_short : (n : ℕ) (bytes : List ℕ) → length bytes < n → TellsWhere (IsData n) (Led (IsData n)) bytes (Bad 0)
+pub data_short : (n : ℕ) (bytes : List ℕ) → length bytes < n → StopsWhere (IsData n) (Led (IsData n)) bytes (Bad 0)
 data_short n bytes short =
     let more = replicate (n - length bytes) 0 in (
       bytes,
@@ -123,8 +123,8 @@ led_signed is_signed text is led =
 
 -- no mark of a signature
 pub mark_stops : (bytes : List ℕ) (chunks : Chunks) (fault : PartFault) → chunks.is_signed ≡ true
-    → TellsWhere (λ word. word ≡ codes ";chunk-signature=") (Led (λ word. word ≡ codes ";chunk-signature=")) bytes fault
-    → TellsWhere (IsHeadEnd chunks.is_signed) (Led (IsHeadEnd chunks.is_signed)) bytes fault
+    → StopsWhere (λ word. word ≡ codes ";chunk-signature=") (Led (λ word. word ≡ codes ";chunk-signature=")) bytes fault
+    → StopsWhere (IsHeadEnd chunks.is_signed) (Led (IsHeadEnd chunks.is_signed)) bytes fault
 unfolding mark
 mark_stops bytes chunks fault signed told =
     stops_first (λ word. word ≡ mark) (Led (λ word. word ≡ mark)) (IsHeadEnd chunks.is_signed) (Led (IsHeadEnd chunks.is_signed)) bytes fault
@@ -140,7 +140,7 @@ mark_stops bytes chunks fault signed told =
 
 -- no signature
 pub signature_stops : (bytes before : List ℕ) (chunks : Chunks) (fault : PartFault) → chunks.is_signed ≡ true → bytes ≡ codes ";chunk-signature=" ++ before
-    → TellsWhere IsSignature (Led IsSignature) before fault → TellsWhere (IsHeadEnd chunks.is_signed) (Led (IsHeadEnd chunks.is_signed)) bytes fault
+    → StopsWhere IsSignature (Led IsSignature) before fault → StopsWhere (IsHeadEnd chunks.is_signed) (Led (IsHeadEnd chunks.is_signed)) bytes fault
 unfolding mark IsSigned
 signature_stops bytes before chunks fault signed first told =
     stops_next IsSigned (Led IsSignature) (IsHeadEnd chunks.is_signed) (Led (IsHeadEnd chunks.is_signed)) mark bytes before fault first

@@ -19,7 +19,7 @@ use Rattle.aws_chunked.specs.Decoded.{IsPiecesText, IsSignature, IsTextOf, IsTra
 use Rattle.aws_chunked.specs.Laws.{TakeDue, answered_bytes}
 use Rattle.aws_chunked.specs.Options.{IsChunkSize, Options, declared_length, encoded_length}
 use Rattle.aws_chunked.specs.Rests.{one_or_none}
-use Rattle.aws_chunked.specs.Due.{sealed_chunked_text, sealed_signatures, sealed_text, trailers_signature}
+use Rattle.aws_chunked.specs.Due.{signed_chunked_text, chunk_signatures, signed_chunks, trailers_signature}
 use Rattle.aws_chunked.specs.Signing.{has_signature}
 use Rattle.aws_chunked.specs.Text.{chunk, pieces_of_size, tail}
 use Rattle.aws_chunked.specs.declared.body.ChunkNext.{ChunkNext}
@@ -53,8 +53,8 @@ last_taken signer t before [] = (refl, refl)
 last_taken signer t before (trailer ∷ trailers) = (trailers_sealed (trailer ∷ trailers) signer t before, refl)
 
 pieces_sealed : (signer : Signer) (t : Instant) (before : List ℕ) (pieces : List (List ℕ)) (trailers : List Trailer)
-    → IsPiecesText true pieces (sealed_signatures signer t before pieces trailers) trailers (sealed_text signer t before (map chunk pieces ++ tail trailers ∷ []))
-unfolding sealed_text
+    → IsPiecesText true pieces (chunk_signatures signer t before pieces trailers) trailers (signed_chunks signer t before (map chunk pieces ++ tail trailers ∷ []))
+unfolding signed_chunks
 pieces_sealed signer t before [] trailers =
     let signature = chunk_signature [] signer t before in
     let last = trailers_signature signer t signature trailers in
@@ -62,8 +62,8 @@ pieces_sealed signer t before [] trailers =
 pieces_sealed signer t before (piece ∷ pieces) trailers =
     let signature = chunk_signature piece signer t before in (
       Some signature,
-      sealed_signatures signer t signature pieces trailers,
-      sealed_text signer t signature (map chunk pieces ++ tail trailers ∷ []),
+      chunk_signatures signer t signature pieces trailers,
+      signed_chunks signer t signature (map chunk pieces ++ tail trailers ∷ []),
       (chunk_sealed piece signer t before, refl),
       refl,
       pieces_sealed signer t signature pieces trailers,
@@ -71,8 +71,8 @@ pieces_sealed signer t before (piece ∷ pieces) trailers =
 
 pub sealed_whole : (signer : Signer) (t : Instant) (before : List ℕ) (size : ℕ) (body : List ℕ) (trailers : List Trailer)
     → IsChunkSize size → AllByRecursion IsTrailer trailers
-    → IsTextOf body (sealed_signatures signer t before (pieces_of_size size body) trailers) trailers (sealed_chunked_text signer t before size body trailers)
-unfolding sealed_chunked_text
+    → IsTextOf body (chunk_signatures signer t before (pieces_of_size size body) trailers) trailers (signed_chunked_text signer t before size body trailers)
+unfolding signed_chunked_text
 sealed_whole signer t before size body trailers in_range are = record {
   size = size;
   size_in_range = in_range;
@@ -101,13 +101,13 @@ all_answered text (Err error ∷ results) last fine takes = absurd (false≢true
 
 pub sealed_long : (options : Options) (signer : Signer) (t : Instant) (before bytes : List ℕ) (trailers : List Trailer)
     → IsChunkSize options.chunk_size → options.is_signed ≡ true → length bytes ≡ options.stream_length → actual_length true trailers ≡ declared_length options.trailer_lengths
-    → length (sealed_chunked_text signer t before options.chunk_size bytes trailers) ≡ encoded_length options
-unfolding sealed_chunked_text
+    → length (signed_chunked_text signer t before options.chunk_size bytes trailers) ≡ encoded_length options
+unfolding signed_chunked_text
 sealed_long options signer t before bytes trailers in_range signed long declared =
     let size = options.chunk_size in
     omega (
       arith,
       declared,
-      signed_long options in_range signed bytes (sealed_signatures signer t before (pieces_of_size size bytes) trailers) trailers
-          (sealed_text signer t before (map chunk (pieces_of_size size bytes) ++ tail trailers ∷ [])) long (pieces_sealed signer t before (pieces_of_size size bytes) trailers),
+      signed_long options in_range signed bytes (chunk_signatures signer t before (pieces_of_size size bytes) trailers) trailers
+          (signed_chunks signer t before (map chunk (pieces_of_size size bytes) ++ tail trailers ∷ [])) long (pieces_sealed signer t before (pieces_of_size size bytes) trailers),
     )

@@ -9,7 +9,7 @@ use Rattle.std.proofs.lemmas.List.Sums.{AllPass-from_list_all, list_all-from_All
 use Rattle.sigv4.specs.Signature.{is_lower_digit, is_signature}
 use Rattle.sigv4.proofs.DigitLemmas.{digit_low}
 use Rattle.aws_chunked.specs.Decoded.{CanGoOn, IsSignature}
-use Rattle.aws_chunked.specs.Reading.{Led, RefusesNext, TellsWhere}
+use Rattle.aws_chunked.specs.Reading.{Led, RefusesNext, StopsWhere}
 use Rattle.aws_chunked.specs.Rests.{IsSignedBy}
 use Rattle.aws_chunked.specs.declared.decode.fault.PartFault.{PartFault}
 use Rattle.aws_chunked.specs.declared.decode.fault.PartFault.TheVariants.{Bad}
@@ -82,14 +82,14 @@ begins_signature front low are = (
 )
 
 pub signature_ends : (bytes front rest : List ℕ) (i : ℕ) (fault : PartFault) → i < 64 → length front ≡ i → All (λ byte. IsTrue (is_lower_digit byte)) front
-    → bytes ≡ front ++ rest → length rest ≡ 0 → fault ≡ Bad (length rest) → TellsWhere IsSignature (Led IsSignature) bytes fault
+    → bytes ≡ front ++ rest → length rest ≡ 0 → fault ≡ Bad (length rest) → StopsWhere IsSignature (Led IsSignature) bytes fault
 signature_ends bytes front rest i fault low long are read none told =
     stops_behind IsSignature (Led IsSignature) bytes front rest fault told read (begins_signature front (omega (arith, low, long)) are)
     (subst (RefusesNext (Led IsSignature) front) (sym (empty_list rest none)) (λ led.
     omega (arith, low, long, ap length led.3, length-append led.0 led.1, signature_long led.0 led.2)))
 
 pub signature_differs : (bytes front rest others : List ℕ) (i byte : ℕ) (fault : PartFault) → i < 64 → length front ≡ i → All (λ byte. IsTrue (is_lower_digit byte)) front
-    → bytes ≡ front ++ rest → rest ≡ byte ∷ others → is_lower_digit byte ≡ false → fault ≡ Bad (length rest) → TellsWhere IsSignature (Led IsSignature) bytes fault
+    → bytes ≡ front ++ rest → rest ≡ byte ∷ others → is_lower_digit byte ≡ false → fault ≡ Bad (length rest) → StopsWhere IsSignature (Led IsSignature) bytes fault
 signature_differs bytes front rest others i byte fault low long are read first other told =
     stops_behind IsSignature (Led IsSignature) bytes front rest fault told read (begins_signature front (omega (arith, low, long)) are)
     (subst (RefusesNext (Led IsSignature) front) (sym first) (λ begins.

@@ -6,7 +6,7 @@ use Rattle.std.proofs.lemmas.List.{append_cancel_left, append_cancel_right, leng
 use Rattle.std.proofs.lemmas.List.Elements.{All-cons, All-nil}
 use Rattle.aws_chunked.specs.Body.{Trailer}
 use Rattle.aws_chunked.specs.Decoded.{IsTextOf}
-use Rattle.aws_chunked.specs.Reading.{BeginsOther, IsEndedLength, IsLength, Led, TellsWhere, is_length_digit}
+use Rattle.aws_chunked.specs.Reading.{BeginsOther, IsEndedLength, IsLength, Led, StopsWhere, is_length_digit}
 use Rattle.aws_chunked.specs.Rests.{ChunkRest, ChunksThen, DataThen, FirstRest, FollowsFront, HeadEndThen, IsData, IsHeadEnd, IsSignedBy, IsTail, LengthThen, NextRest, Said, TextSays, TailSays, WholeSays, begins_with, one_or_none, most_after}
 use Rattle.aws_chunked.specs.TailRests.{EndsRun}
 use Rattle.aws_chunked.specs.Text.{crlf, length_text, signature_text}
@@ -120,7 +120,7 @@ ended_other most n (byte ∷ rest) all low is other =
     (length_text n ++ byte ∷ [], rest, (n, byte, low, other, refl), is ∙ sym (append_assoc (length_text n) (byte ∷ []) rest))
 
 stops_length : (most : ℕ) (Rest : ℕ → TextSays) (bytes : List ℕ) (fault : PartFault) → ((m : ℕ) → IsSome (Rest m)) → AllOther Rest
-    → TellsWhere (IsLength most) (Led (IsEndedLength most)) bytes fault → TellsWhere (Said (LengthThen most Rest)) (Said (LengthThen most Rest)) bytes fault
+    → StopsWhere (IsLength most) (Led (IsEndedLength most)) bytes fault → StopsWhere (Said (LengthThen most Rest)) (Said (LengthThen most Rest)) bytes fault
 stops_length most Rest bytes fault some all_other told =
     stops_part (IsLength most) (Led (IsEndedLength most)) (Said (LengthThen most Rest)) bytes fault
     (λ word is.
@@ -197,8 +197,8 @@ follows_head is_signed Rest signature rest signed = record {
       );
 }
 
-stops_head : (is_signed : Bool) (Rest : TextSays) (bytes : List ℕ) (fault : PartFault) → IsSome Rest → TellsWhere (IsHeadEnd is_signed) (Led (IsHeadEnd is_signed)) bytes fault
-    → TellsWhere (Said (HeadEndThen is_signed Rest)) (Said (HeadEndThen is_signed Rest)) bytes fault
+stops_head : (is_signed : Bool) (Rest : TextSays) (bytes : List ℕ) (fault : PartFault) → IsSome Rest → StopsWhere (IsHeadEnd is_signed) (Led (IsHeadEnd is_signed)) bytes fault
+    → StopsWhere (Said (HeadEndThen is_signed Rest)) (Said (HeadEndThen is_signed Rest)) bytes fault
 stops_head is_signed Rest bytes fault more told =
     stops_part (IsHeadEnd is_signed) (Led (IsHeadEnd is_signed)) (Said (HeadEndThen is_signed Rest)) bytes fault
     (λ word is. (
@@ -264,8 +264,8 @@ follows_data n Rest piece rest long = record {
       );
 }
 
-stops_data : (n : ℕ) (Rest : TextSays) (bytes : List ℕ) (fault : PartFault) → IsSome Rest → TellsWhere (IsData n) (Led (IsData n)) bytes fault
-    → TellsWhere (Said (DataThen n Rest)) (Said (DataThen n Rest)) bytes fault
+stops_data : (n : ℕ) (Rest : TextSays) (bytes : List ℕ) (fault : PartFault) → IsSome Rest → StopsWhere (IsData n) (Led (IsData n)) bytes fault
+    → StopsWhere (Said (DataThen n Rest)) (Said (DataThen n Rest)) bytes fault
 stops_data n Rest bytes fault more told =
     stops_part (IsData n) (Led (IsData n)) (Said (DataThen n Rest)) bytes fault
     (λ word is. (
@@ -301,7 +301,7 @@ at_next Mid Rest bytes body more all_body signatures others all_signatures next 
 }
 
 pub at_stops : (Rest : TextSays) (bytes body : List ℕ) (signatures : List (List ℕ)) (rest : List ℕ) (fault : PartFault) → At Rest bytes body signatures rest
-    → TellsWhere (Said Rest) (Said Rest) rest fault → TellsWhere (Said IsTextOf) (Said IsTextOf) bytes fault
+    → StopsWhere (Said Rest) (Said Rest) rest fault → StopsWhere (Said IsTextOf) (Said IsTextOf) bytes fault
 at_stops Rest bytes body signatures rest fault at told = stops_rest IsTextOf Rest body signatures at.front bytes rest fault at.parted at.follows told
 
 at_same : (Rest : TextSays) (bytes body other : List ℕ) (signatures texts : List (List ℕ)) (rest : List ℕ) → other ≡ body → texts ≡ signatures
@@ -322,8 +322,8 @@ first_some n =
 first_other : AllOther FirstRest
 first_other n b s t text is = head_other is.0 (ChunkRest is.0 n n) b s t text is.1
 
-pub first_length_stops : (bytes : List ℕ) (fault : PartFault) → TellsWhere (IsLength 4294967295) (Led (IsEndedLength 4294967295)) bytes fault
-    → TellsWhere (Said IsTextOf) (Said IsTextOf) bytes fault
+pub first_length_stops : (bytes : List ℕ) (fault : PartFault) → StopsWhere (IsLength 4294967295) (Led (IsEndedLength 4294967295)) bytes fault
+    → StopsWhere (Said IsTextOf) (Said IsTextOf) bytes fault
 first_length_stops bytes fault told =
     at_stops WholeSays bytes [] [] bytes fault (at_whole bytes) (stops_length 4294967295 FirstRest bytes fault first_some first_other told)
 
@@ -336,7 +336,7 @@ at_first is_signed n bytes rest low parted other shows =
     (follows_length 4294967295 n FirstRest rest (omega arith) low other first_other) (at_whole bytes))
 
 pub first_head_stops : (is_signed : Bool) (n : ℕ) (bytes rest : List ℕ) (fault : PartFault) → n ≤ 4294967295 → bytes ≡ length_text n ++ rest → BeginsOther rest
-    → is_signed ≡ begins_with 59 rest → TellsWhere (IsHeadEnd is_signed) (Led (IsHeadEnd is_signed)) rest fault → TellsWhere (Said IsTextOf) (Said IsTextOf) bytes fault
+    → is_signed ≡ begins_with 59 rest → StopsWhere (IsHeadEnd is_signed) (Led (IsHeadEnd is_signed)) rest fault → StopsWhere (Said IsTextOf) (Said IsTextOf) bytes fault
 first_head_stops is_signed n bytes rest fault low parted other shows told =
     at_stops (HeadEndThen is_signed (ChunkRest is_signed n n)) bytes [] [] rest fault (at_first is_signed n bytes rest low parted other shows)
     (stops_head is_signed (ChunkRest is_signed n n) rest fault (chunk_some is_signed n n) told)
@@ -369,7 +369,7 @@ at_data bytes size n is_signed body signatures rest reached some =
     (follows_next is_signed size n rest some) reached.at
 
 pub data_stops : (bytes : List ℕ) (size n : ℕ) (is_signed : Bool) (body : List ℕ) (signatures : List (List ℕ)) (rest : List ℕ) (fault : PartFault)
-    → Reached bytes size n is_signed body signatures rest → 0 < n → TellsWhere (IsData n) (Led (IsData n)) rest fault → TellsWhere (Said IsTextOf) (Said IsTextOf) bytes fault
+    → Reached bytes size n is_signed body signatures rest → 0 < n → StopsWhere (IsData n) (Led (IsData n)) rest fault → StopsWhere (Said IsTextOf) (Said IsTextOf) bytes fault
 data_stops bytes size n is_signed body signatures rest fault reached some told =
     at_stops (DataThen n (NextRest is_signed size n)) bytes body signatures rest fault (at_data bytes size n is_signed body signatures rest reached some)
     (stops_data n (NextRest is_signed size n) rest fault (next_some is_signed size n) told)
@@ -386,7 +386,7 @@ next_other is_signed size m b s t text is = head_other is_signed (ChunkRest is_s
 
 pub length_stops : (bytes : List ℕ) (size n : ℕ) (is_signed : Bool) (body now : List ℕ) (signatures : List (List ℕ)) (piece rest behind : List ℕ) (fault : PartFault)
     → Reached bytes size n is_signed body signatures rest → 0 < n → length piece ≡ n → rest ≡ (piece ++ crlf) ++ behind → now ≡ body ++ piece
-    → TellsWhere (IsLength (most_after size n)) (Led (IsEndedLength (most_after size n))) behind fault → TellsWhere (Said IsTextOf) (Said IsTextOf) bytes fault
+    → StopsWhere (IsLength (most_after size n)) (Led (IsEndedLength (most_after size n))) behind fault → StopsWhere (Said IsTextOf) (Said IsTextOf) bytes fault
 length_stops bytes size n is_signed body now signatures piece rest behind fault reached some long read grown told =
     at_stops (NextRest is_signed size n) bytes now signatures behind fault (at_next_length bytes size n is_signed body now signatures piece rest behind reached some long read grown)
     (stops_length (most_after size n) (λ m. HeadEndThen is_signed (ChunkRest is_signed size m)) behind fault
@@ -404,8 +404,8 @@ at_head bytes size n m is_signed body now signatures piece rest behind after rea
 
 pub head_stops : (bytes : List ℕ) (size n m : ℕ) (is_signed : Bool) (body now : List ℕ) (signatures : List (List ℕ)) (piece rest behind after : List ℕ) (fault : PartFault)
     → Reached bytes size n is_signed body signatures rest → 0 < n → length piece ≡ n → rest ≡ (piece ++ crlf) ++ behind → now ≡ body ++ piece
-    → m ≤ most_after size n → behind ≡ length_text m ++ after → BeginsOther after → TellsWhere (IsHeadEnd is_signed) (Led (IsHeadEnd is_signed)) after fault
-    → TellsWhere (Said IsTextOf) (Said IsTextOf) bytes fault
+    → m ≤ most_after size n → behind ≡ length_text m ++ after → BeginsOther after → StopsWhere (IsHeadEnd is_signed) (Led (IsHeadEnd is_signed)) after fault
+    → StopsWhere (Said IsTextOf) (Said IsTextOf) bytes fault
 head_stops bytes size n m is_signed body now signatures piece rest behind after fault reached some long read grown low parted other told =
     at_stops (HeadEndThen is_signed (ChunkRest is_signed size m)) bytes now signatures after fault
     (at_head bytes size n m is_signed body now signatures piece rest behind after reached some long read grown low parted other)

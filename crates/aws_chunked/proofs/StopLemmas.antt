@@ -2,15 +2,15 @@
 use Rattle.std.proofs.Common.{◌≡◌, ℕ, ◌<◌, List, [], ◌∷◌, ◌++◌, length, take, drop, get_or, refl, ap, sym, subst, ◌∙◌, arith}
 use Rattle.std.proofs.lemmas.List.{get_or_append_left, get_or_push, length-append, length-take-le, length_push, take-append-drop}
 use Rattle.aws_chunked.specs.Decoded.{CanGoOn}
-use Rattle.aws_chunked.specs.Reading.{Led, RefusesNext, TellsWhere}
+use Rattle.aws_chunked.specs.Reading.{Led, RefusesNext, StopsWhere}
 use Rattle.aws_chunked.specs.declared.decode.fault.PartFault.{PartFault}
 use Rattle.aws_chunked.specs.declared.decode.fault.PartFault.TheVariants.{Bad}
 
 -- behind the first bytes
 pub stops_behind : (IsWord Is : List ℕ → Type 0) (bytes front back : List ℕ) (fault : PartFault) → fault ≡ Bad (length back) → bytes ≡ front ++ back
-    → CanGoOn IsWord front → RefusesNext Is front back → TellsWhere IsWord Is bytes fault
+    → CanGoOn IsWord front → RefusesNext Is front back → StopsWhere IsWord Is bytes fault
 stops_behind IsWord Is bytes front back fault is parted begins refuses =
-    subst (TellsWhere IsWord Is bytes) (sym is) (front, back, parted, refl, begins, refuses)
+    subst (StopsWhere IsWord Is bytes) (sym is) (front, back, parted, refl, begins, refuses)
 
 pub empty_list : {X : Type 0} (xs : List X) → length xs ≡ 0 → xs ≡ []
 empty_list [] none = refl
@@ -27,14 +27,14 @@ pub begins_wanted : (wanted : List ℕ) (i : ℕ) → CanGoOn (λ word. word ≡
 begins_wanted wanted i = (drop i wanted, take-append-drop i wanted)
 
 pub expect_ends : (wanted bytes rest : List ℕ) (i : ℕ) (fault : PartFault) → i < length wanted → bytes ≡ take i wanted ++ rest → length rest ≡ 0
-    → fault ≡ Bad (length rest) → TellsWhere (λ word. word ≡ wanted) (Led (λ word. word ≡ wanted)) bytes fault
+    → fault ≡ Bad (length rest) → StopsWhere (λ word. word ≡ wanted) (Led (λ word. word ≡ wanted)) bytes fault
 expect_ends wanted bytes rest i fault low read none told =
     stops_behind (λ word. word ≡ wanted) (Led (λ word. word ≡ wanted)) bytes (take i wanted) rest fault told read (begins_wanted wanted i)
     (subst (RefusesNext (Led (λ word. word ≡ wanted)) (take i wanted)) (sym (empty_list rest none)) (λ led.
     omega (arith, low, length-take-le i wanted (omega (arith, low)), ap length led.3, length-append led.0 led.1, ap length led.2)))
 
 pub expect_differs : (wanted bytes rest others : List ℕ) (i byte : ℕ) (fault : PartFault) → i < length wanted → bytes ≡ take i wanted ++ rest → rest ≡ byte ∷ others
-    → (byte ≡ get_or wanted i 0 → ⊥) → fault ≡ Bad (length rest) → TellsWhere (λ word. word ≡ wanted) (Led (λ word. word ≡ wanted)) bytes fault
+    → (byte ≡ get_or wanted i 0 → ⊥) → fault ≡ Bad (length rest) → StopsWhere (λ word. word ≡ wanted) (Led (λ word. word ≡ wanted)) bytes fault
 expect_differs wanted bytes rest others i byte fault low read first apart told =
     stops_behind (λ word. word ≡ wanted) (Led (λ word. word ≡ wanted)) bytes (take i wanted) rest fault told read (begins_wanted wanted i)
     (subst (RefusesNext (Led (λ word. word ≡ wanted)) (take i wanted)) (sym first) (λ begins.

@@ -12,7 +12,7 @@ use Rattle.http_header.proofs.TokenLemmas.{AllPass-from_test}
 use Rattle.aws_chunked.specs.Body.{Trailer}
 use Rattle.sigv4.specs.Signature.{is_lower_digit}
 use Rattle.aws_chunked.specs.Decoded.{CanGoOn, IsSignature, IsTrailer, TakesSignature}
-use Rattle.aws_chunked.specs.Reading.{Led, RefusesNext, TellsWhere}
+use Rattle.aws_chunked.specs.Reading.{Led, RefusesNext, StopsWhere}
 use Rattle.aws_chunked.specs.Rests.{FollowsFront, IsSignedBy, IsTail, Said, TextSays, TailSays, begins_with, first_byte, one_or_none}
 use Rattle.aws_chunked.specs.Signing.{has_signature}
 use Rattle.aws_chunked.specs.TailRests.{IsLine, IsSplit, is_name_byte, last_trailer}
@@ -186,8 +186,8 @@ follows_tail_lines is_signed lines rest are =
     (flat_map trailer_line lines ++ rest) rest refl refl refl refl (follows_lines_none is_signed (flat_map trailer_line lines ++ rest)) (follows_lines is_signed [] lines rest are)
 
 pub lines_stop : (is_signed : Bool) (lines : List Trailer) (bytes rest : List ℕ) (fault : PartFault) → AllByRecursion IsTrailer lines
-    → bytes ≡ flat_map trailer_line lines ++ rest → TellsWhere (Said (LinesSay is_signed lines)) (Said (LinesSay is_signed lines)) rest fault
-    → TellsWhere (Said (TailSays is_signed)) (Said (TailSays is_signed)) bytes fault
+    → bytes ≡ flat_map trailer_line lines ++ rest → StopsWhere (Said (LinesSay is_signed lines)) (Said (LinesSay is_signed lines)) rest fault
+    → StopsWhere (Said (TailSays is_signed)) (Said (TailSays is_signed)) bytes fault
 lines_stop is_signed lines bytes rest fault are parted told =
     stops_rest (TailSays is_signed) (LinesSay is_signed lines) [] [] (flat_map trailer_line lines) bytes rest fault parted (follows_tail_lines is_signed lines rest are) told
 
@@ -227,8 +227,8 @@ begins_lines is_signed lines =
     (trailer_line line ++ more.0, more.1)
 
 -- a line that stops
-pub line_stops : (is_signed : Bool) (lines : List Trailer) (rest : List ℕ) (fault : PartFault) → begins_with 13 rest ≡ false → TellsWhere IsLine (Led IsLine) rest fault
-    → TellsWhere (Said (LinesSay is_signed lines)) (Said (LinesSay is_signed lines)) rest fault
+pub line_stops : (is_signed : Bool) (lines : List Trailer) (rest : List ℕ) (fault : PartFault) → begins_with 13 rest ≡ false → StopsWhere IsLine (Led IsLine) rest fault
+    → StopsWhere (Said (LinesSay is_signed lines)) (Said (LinesSay is_signed lines)) rest fault
 unfolding LinesSay
 line_stops is_signed lines rest fault other told =
     stops_part IsLine (Led IsLine) (Said (LinesSay is_signed lines)) rest fault
@@ -247,10 +247,10 @@ line_stops is_signed lines rest fault other told =
 -- the lines are no trailers and their signature
 pub split_stops : (is_signed : Bool) (lines : List Trailer) (rest : List ℕ) (fault : PartFault) → IsTrue (begins_with 13 rest)
     → ((trailers : List Trailer) (last : Option (List ℕ)) → IsSplit is_signed lines trailers last → ⊥) → fault ≡ Bad (length rest)
-    → TellsWhere (Said (LinesSay is_signed lines)) (Said (LinesSay is_signed lines)) rest fault
+    → StopsWhere (Said (LinesSay is_signed lines)) (Said (LinesSay is_signed lines)) rest fault
 unfolding LinesSay
 split_stops is_signed lines rest fault begins none told =
-    subst (TellsWhere (Said (LinesSay is_signed lines)) (Said (LinesSay is_signed lines)) rest) (sym told) ([], rest, refl, refl, begins_lines is_signed lines, refuses rest begins)
+    subst (StopsWhere (Said (LinesSay is_signed lines)) (Said (LinesSay is_signed lines)) rest) (sym told) ([], rest, refl, refl, begins_lines is_signed lines, refuses rest begins)
   where
     not : (text : List ℕ) → IsTrue (begins_with 13 text) → Said (LinesSay is_signed lines) text → ⊥
     not text cr is =
@@ -264,8 +264,8 @@ split_stops is_signed lines rest fault begins none told =
 
 -- no end of the line
 pub end_stops : (is_signed : Bool) (lines trailers : List Trailer) (last : Option (List ℕ)) (rest : List ℕ) (fault : PartFault) → IsTrue (begins_with 13 rest)
-    → IsSplit is_signed lines trailers last → TellsWhere (λ word. word ≡ crlf) (Led (λ word. word ≡ crlf)) rest fault
-    → TellsWhere (Said (LinesSay is_signed lines)) (Said (LinesSay is_signed lines)) rest fault
+    → IsSplit is_signed lines trailers last → StopsWhere (λ word. word ≡ crlf) (Led (λ word. word ≡ crlf)) rest fault
+    → StopsWhere (Said (LinesSay is_signed lines)) (Said (LinesSay is_signed lines)) rest fault
 unfolding LinesSay
 end_stops is_signed lines trailers last rest fault cr split told =
     stops_part (λ word. word ≡ crlf) (Led (λ word. word ≡ crlf)) (Said (LinesSay is_signed lines)) rest fault
@@ -280,10 +280,10 @@ end_stops is_signed lines trailers last rest fault cr split told =
 -- something behind the end
 pub more_stops : (is_signed : Bool) (lines trailers : List Trailer) (last : Option (List ℕ)) (rest final : List ℕ) (fault : PartFault)
     → IsSplit is_signed lines trailers last → rest ≡ crlf ++ final → (length final ≡ 0 → ⊥) → fault ≡ Bad (length final)
-    → TellsWhere (Said (LinesSay is_signed lines)) (Said (LinesSay is_signed lines)) rest fault
+    → StopsWhere (Said (LinesSay is_signed lines)) (Said (LinesSay is_signed lines)) rest fault
 unfolding LinesSay
 more_stops is_signed lines trailers last rest final fault split ended some told =
-    subst (TellsWhere (Said (LinesSay is_signed lines)) (Said (LinesSay is_signed lines)) rest) (sym told) (
+    subst (StopsWhere (Said (LinesSay is_signed lines)) (Said (LinesSay is_signed lines)) rest) (sym told) (
       crlf,
       final,
       ended,

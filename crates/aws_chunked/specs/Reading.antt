@@ -26,15 +26,15 @@ Stops IsWord Is bytes left =
     (front back : List ℕ) × (bytes ≡ front ++ back) × (length back ≡ left) × CanGoOn IsWord front × RefusesNext Is front back
 
 -- what a fault tells of bytes: where they stop, but where memory ran out
-abbrev pub TellsWhere : (List ℕ → Type 0) → (List ℕ → Type 0) → List ℕ → PartFault → Type 0
-TellsWhere IsWord Is bytes (Bad left) = Stops IsWord Is bytes left
-TellsWhere IsWord Is bytes NoMemory = Unit {0}
+abbrev pub StopsWhere : (List ℕ → Type 0) → (List ℕ → Type 0) → List ℕ → PartFault → Type 0
+StopsWhere IsWord Is bytes (Bad left) = Stops IsWord Is bytes left
+StopsWhere IsWord Is bytes NoMemory = Unit {0}
 
 -- ## Fixed bytes
 
 abbrev pub Expects : List ℕ → List ℕ → Result (Bor (List ℕ)) PartFault → Type 0
 Expects wanted bytes (Ok rest) = bytes ≡ wanted ++ rest.now
-Expects wanted bytes (Err fault) = TellsWhere (λ word. word ≡ wanted) (Led (λ word. word ≡ wanted)) bytes fault
+Expects wanted bytes (Err fault) = StopsWhere (λ word. word ≡ wanted) (Led (λ word. word ≡ wanted)) bytes fault
 
 -- ## Lengths
 
@@ -43,14 +43,14 @@ abbrev pub is_length_digit : ℕ → Bool
 is_length_digit byte = is_in_range 48 57 byte || is_in_range 65 70 byte
 
 -- the value of a digit, and none of another byte
-abbrev pub TellsDigit : ℕ → Option ℕ → Type 0
-TellsDigit byte (Some digit) = (digit < 16) × (byte ≡ digit_glyph true digit)
-TellsDigit byte None = is_length_digit byte ≡ false
+abbrev pub ReadsDigit : ℕ → Option ℕ → Type 0
+ReadsDigit byte (Some digit) = (digit < 16) × (byte ≡ digit_glyph true digit)
+ReadsDigit byte None = is_length_digit byte ≡ false
 
 -- a length with one digit more, where that is the length of a number and isn't too long
-abbrev pub TellsLonger : ℕ → ℕ → ℕ → Option ℕ → Type 0
-TellsLonger n digit most (Some longer) = (0 < n) × (longer ≡ n * 16 + digit) × (longer ≤ most)
-TellsLonger n digit most None = (n ≡ 0) ⊎ (most < n * 16 + digit)
+abbrev pub AddsDigit : ℕ → ℕ → ℕ → Option ℕ → Type 0
+AddsDigit n digit most (Some longer) = (0 < n) × (longer ≡ n * 16 + digit) × (longer ≤ most)
+AddsDigit n digit most None = (n ≡ 0) ⊎ (most < n * 16 + digit)
 
 -- the text of a length of at most so much
 abbrev pub IsLength : ℕ → List ℕ → Type 0
@@ -67,14 +67,14 @@ BeginsOther (byte ∷ bytes) = is_length_digit byte ≡ false
 
 abbrev pub ReadsFirstDigit : ℕ → List ℕ → Result (ℕ × Bor (List ℕ)) PartFault → Type 0
 ReadsFirstDigit most bytes (Ok (digit, rest)) = (digit < 16) × (digit ≤ most) × (bytes ≡ length_text digit ++ rest.now)
-ReadsFirstDigit most bytes (Err fault) = TellsWhere (IsLength most) (Led (IsEndedLength most)) bytes fault
+ReadsFirstDigit most bytes (Err fault) = StopsWhere (IsLength most) (Led (IsEndedLength most)) bytes fault
 
 abbrev pub ReadsLength : ℕ → List ℕ → Result (ℕ × Bor (List ℕ)) PartFault → Type 0
 ReadsLength most bytes (Ok (n, rest)) = (n ≤ most) × (bytes ≡ length_text n ++ rest.now) × BeginsOther rest.now
-ReadsLength most bytes (Err fault) = TellsWhere (IsLength most) (Led (IsEndedLength most)) bytes fault
+ReadsLength most bytes (Err fault) = StopsWhere (IsLength most) (Led (IsEndedLength most)) bytes fault
 
 -- ## Signatures
 
 abbrev pub ReadsSignature : List ℕ → Result (String Global × Bor (List ℕ)) PartFault → Type 0
 ReadsSignature bytes (Ok (text, rest)) = IsSignature (string_bytes text) × (bytes ≡ string_bytes text ++ rest.now)
-ReadsSignature bytes (Err fault) = TellsWhere IsSignature (Led IsSignature) bytes fault
+ReadsSignature bytes (Err fault) = StopsWhere IsSignature (Led IsSignature) bytes fault

@@ -5,7 +5,7 @@ use Rattle.std.specs.List.{AllByRecursion, flat_map}
 use Rattle.std.specs.declared.alloc.Global.{Global}
 use Rattle.aws_chunked.specs.Body.{Trailer}
 use Rattle.aws_chunked.specs.Decoded.{IsOnly, IsSignature, IsText, IsTextOf, IsTrailer, TakesSignature}
-use Rattle.aws_chunked.specs.Reading.{Led, TellsWhere}
+use Rattle.aws_chunked.specs.Reading.{Led, StopsWhere}
 use Rattle.aws_chunked.specs.Signing.{has_signature}
 use Rattle.aws_chunked.specs.Text.{crlf, last_line, length_text, signature_text, trailer_line}
 use Rattle.aws_chunked.specs.declared.decode.Decoded.{Decoded}
@@ -128,29 +128,29 @@ ReadsHeadEnd bytes old new (Ok rest) =
     (signature : Option (List ℕ)) × IsSignedBy old.is_signed signature × (bytes ≡ (signature_text signature ++ crlf) ++ rest.now)
     × (signature_texts new.signatures.items ≡ signature_texts old.signatures.items ++ one_or_none signature)
     × (new.is_signed ≡ old.is_signed) × (new.body ≡ old.body)
-ReadsHeadEnd bytes old new (Err fault) = TellsWhere (IsHeadEnd old.is_signed) (Led (IsHeadEnd old.is_signed)) bytes fault
+ReadsHeadEnd bytes old new (Err fault) = StopsWhere (IsHeadEnd old.is_signed) (Led (IsHeadEnd old.is_signed)) bytes fault
 
 -- data of this length is read, and the end of its line
 abbrev pub ReadsData : ℕ → List ℕ → List ℕ → List ℕ → Result (Bor (List ℕ)) PartFault → Type 0
 ReadsData n bytes old new (Ok rest) = (piece : List ℕ) × (length piece ≡ n) × (bytes ≡ (piece ++ crlf) ++ rest.now) × (new ≡ old ++ piece)
-ReadsData n bytes old new (Err fault) = TellsWhere (IsData n) (Led (IsData n)) bytes fault
+ReadsData n bytes old new (Err fault) = StopsWhere (IsData n) (Led (IsData n)) bytes fault
 
 -- chunks are read up to the tail
 abbrev pub ReadsChunks : List ℕ → Result (Chunks × Bor (List ℕ)) PartFault → Type 0
 ReadsChunks bytes (Ok (chunks, rest)) =
     (front : List ℕ) × (bytes ≡ front ++ rest.now)
     × FollowsFront IsTextOf (TailSays chunks.is_signed) chunks.body.items (signature_texts chunks.signatures.items) front rest.now
-ReadsChunks bytes (Err fault) = TellsWhere (Said IsTextOf) (Said IsTextOf) bytes fault
+ReadsChunks bytes (Err fault) = StopsWhere (Said IsTextOf) (Said IsTextOf) bytes fault
 
 -- the tail is read: it is one of these trailers with these signatures, and of no others
 abbrev pub ReadsTail : Bool → List ℕ → List (List ℕ) → List (List ℕ) → Result (List Trailer) PartFault → Type 0
 ReadsTail is_signed bytes old new (Ok trailers) =
     (signatures : List (List ℕ)) × (new ≡ old ++ signatures) × IsTail is_signed signatures trailers bytes
     × ((s : List (List ℕ)) (t : List Trailer) → IsTail is_signed s t bytes → (s ≡ signatures) × (t ≡ trailers))
-ReadsTail is_signed bytes old new (Err fault) = TellsWhere (Said (TailSays is_signed)) (Said (TailSays is_signed)) bytes fault
+ReadsTail is_signed bytes old new (Err fault) = StopsWhere (Said (TailSays is_signed)) (Said (TailSays is_signed)) bytes fault
 
 -- the whole is read: it is the text of what is answered, and of nothing else
 abbrev pub ReadsWhole : List ℕ → Result Decoded PartFault → Type 0
 ReadsWhole bytes (Ok decoded) =
     IsTextOf decoded.body (map string_bytes decoded.signatures.items) decoded.trailers bytes × IsOnly bytes decoded
-ReadsWhole bytes (Err fault) = TellsWhere IsText IsText bytes fault
+ReadsWhole bytes (Err fault) = StopsWhere IsText IsText bytes fault

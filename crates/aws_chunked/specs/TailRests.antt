@@ -10,7 +10,7 @@ use Rattle.smithy_core.specs.HeaderGrammar.{IsHeaderName, IsHeaderValue}
 use Rattle.smithy_core.specs.TextPairs.{lower}
 use Rattle.aws_chunked.specs.Body.{Trailer}
 use Rattle.aws_chunked.specs.Decoded.{IsTrailer}
-use Rattle.aws_chunked.specs.Reading.{Led, TellsWhere}
+use Rattle.aws_chunked.specs.Reading.{Led, StopsWhere}
 use Rattle.aws_chunked.specs.Rests.{IsSignedBy, Said, TailSays, begins_with}
 use Rattle.aws_chunked.specs.Signing.{has_signature}
 use Rattle.aws_chunked.specs.Text.{crlf, trailer_line}
@@ -44,7 +44,7 @@ EndsRun test (byte ∷ bytes) = test byte ≡ false
 -- a name is read, and the colon behind it
 abbrev pub ReadsName : List ℕ → Result (Bor (List ℕ) × Bor (List ℕ)) PartFault → Type 0
 ReadsName bytes (Ok (name, rest)) = IsHeaderName name.now × (lower name.now ≡ name.now) × (bytes ≡ name.now ++ codes ":" ++ rest.now)
-ReadsName bytes (Err fault) = TellsWhere IsNamePart (Led IsNamePart) bytes fault
+ReadsName bytes (Err fault) = StopsWhere IsNamePart (Led IsNamePart) bytes fault
 
 -- so many of the first bytes begin a text of bytes of a value, and no text goes on with the next
 pub record IsLongestFront (value : List ℕ) (n : ℕ) : Type 0 where
@@ -57,19 +57,19 @@ pub record IsLongestFront (value : List ℕ) (n : ℕ) : Type 0 where
 -- a value is read, behind which no byte of one stands
 abbrev pub ReadsValue : List ℕ → Result (Bor (List ℕ) × Bor (List ℕ)) PartFault → Type 0
 ReadsValue bytes (Ok (value, rest)) = IsUtf8 value.now × IsHeaderValue value.now × (bytes ≡ value.now ++ rest.now) × EndsRun is_value_byte rest.now
-ReadsValue bytes (Err fault) = TellsWhere IsValuePart (Led IsValuePart) bytes fault
+ReadsValue bytes (Err fault) = StopsWhere IsValuePart (Led IsValuePart) bytes fault
 
 -- a trailer's line is read
 abbrev pub ReadsLine : List ℕ → Result ((Bor (List ℕ) × Bor (List ℕ)) × Bor (List ℕ)) PartFault → Type 0
 ReadsLine bytes (Ok (line, rest)) = IsTrailer (pair_texts line) × (bytes ≡ trailer_line (pair_texts line) ++ rest.now)
-ReadsLine bytes (Err fault) = TellsWhere IsLine (Led IsLine) bytes fault
+ReadsLine bytes (Err fault) = StopsWhere IsLine (Led IsLine) bytes fault
 
 -- lines of trailers are read, up to a line that begins with a CR
 abbrev pub ReadsLines : List ℕ → Result (Vec (Bor (List ℕ) × Bor (List ℕ)) Global × Bor (List ℕ)) PartFault → Type 0
 ReadsLines bytes (Ok (lines, rest)) =
     AllByRecursion IsTrailer (map pair_texts lines.items) × (bytes ≡ flat_map trailer_line (map pair_texts lines.items) ++ rest.now)
     × IsTrue (begins_with 13 rest.now)
-ReadsLines bytes (Err fault) = (is_signed : Bool) → TellsWhere (Said (TailSays is_signed)) (Said (TailSays is_signed)) bytes fault
+ReadsLines bytes (Err fault) = (is_signed : Bool) → StopsWhere (Said (TailSays is_signed)) (Said (TailSays is_signed)) bytes fault
 
 -- the signature of the trailers as a trailer, where there is one
 abbrev pub last_trailer : Option (List ℕ) → List Trailer

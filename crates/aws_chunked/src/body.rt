@@ -1,6 +1,6 @@
 ghost use Rattle.std.specs.Prelude.{◌≡◌, ◌↔◌, IfSome, IsTrue, None, false, length, option_map};
 ghost use Rattle.aws_chunked.specs.Body.{IsBodyClosed, IsNewBody, data_before, listed, parts_due, signed_by, total_of, trailers_due, trailers_from};
-ghost use Rattle.aws_chunked.specs.Due.{StartsSealed, due};
+ghost use Rattle.aws_chunked.specs.Due.{StartsSigned, due};
 ghost use Rattle.aws_chunked.specs.Lengths.{IsPassedLengthOf};
 ghost use Rattle.aws_chunked.specs.Options.{counted, data_length, encoded_length, fitting};
 ghost use Rattle.aws_chunked.specs.Passing.{filled_before, pieces_due, pieces_of};
@@ -125,7 +125,7 @@ impl<F: FrameSource, G: SignChunk> AwsChunkedBody<F, G> {
     /// With this signer of chunks and trailers. A signed body that has taken nothing has the signed text due then.
     pub fn with_signer(self, signer: G) -> AwsChunkedBody<F, G>
         ensures signer { result ≡ signed_by signer self }
-        ensures due { StartsSealed F.FrameSource G.SignChunk self result }
+        ensures due { StartsSigned F.FrameSource G.SignChunk self result }
     {
         let mut body = self;
         body.chunks.signer = Some(signer);

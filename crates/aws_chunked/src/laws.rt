@@ -4,7 +4,7 @@ ghost use Rattle.smithy_core.specs.Moment.{Instant};
 ghost use Rattle.eventstream.specs.Key.{Signer};
 ghost use Rattle.aws_chunked.specs.Body.{Trailer, actual_length};
 ghost use Rattle.aws_chunked.specs.Decoded.{Decodes, DecodesOnly, IsTextOf, IsTrailer};
-ghost use Rattle.aws_chunked.specs.Due.{sealed_chunked_text, sealed_signatures};
+ghost use Rattle.aws_chunked.specs.Due.{signed_chunked_text, chunk_signatures};
 ghost use Rattle.aws_chunked.specs.Laws.{AnswersDecoded, IsSignedLengthOf, TakeDue, answered_bytes};
 ghost use Rattle.aws_chunked.specs.Lengths.{IsPassedLengthOf};
 ghost use Rattle.aws_chunked.specs.Options.{IsChunkSize, Options, data_length, declared_length, encoded_length};
@@ -57,7 +57,7 @@ pub fn signed_texts_are_as_long()
 pub fn sealed_texts_are_whole()
     ensures { (signer : Signer) (t : Instant) (before : List ℕ) (size : ℕ) (body : List ℕ) (trailers : List Trailer) → IsChunkSize size
         → AllByRecursion IsTrailer trailers
-        → IsTextOf body (sealed_signatures signer t before (pieces_of_size size body) trailers) trailers (sealed_chunked_text signer t before size body trailers) }
+        → IsTextOf body (chunk_signatures signer t before (pieces_of_size size body) trailers) trailers (signed_chunked_text signer t before size body trailers) }
 {}
 
 /// Where the data and the lines of the trailers have the declared lengths, the signed text is as long as its options tell.
@@ -65,5 +65,5 @@ pub fn sealed_texts_are_whole()
 pub fn sealed_texts_are_as_long()
     ensures { (options : Options) (signer : Signer) (t : Instant) (before bytes : List ℕ) (trailers : List Trailer) → IsChunkSize options.chunk_size
         → options.is_signed ≡ true → length bytes ≡ options.stream_length → actual_length true trailers ≡ declared_length options.trailer_lengths
-        → length (sealed_chunked_text signer t before options.chunk_size bytes trailers) ≡ encoded_length options }
+        → length (signed_chunked_text signer t before options.chunk_size bytes trailers) ≡ encoded_length options }
 {}

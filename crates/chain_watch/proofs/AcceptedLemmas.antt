@@ -25,7 +25,7 @@ use Rattle.eventstream.specs.Reading.{First, begins, fault, first_of, leftover, 
 use Rattle.eventstream.specs.declared.error.ErrorKind.{ErrorKind}
 use Rattle.eventstream.proofs.LinkLemmas.{code_header, length-link, link_framed}
 use Rattle.eventstream.proofs.ReadingLemmas.{goes_on, shorter}
-use Rattle.chain_watch.specs.Chain.{IsByte, IsChainOf, TellsChain, carried_moments}
+use Rattle.chain_watch.specs.Chain.{IsByte, IsChainOf, AnswersEvents, carried_moments}
 use Rattle.chain_watch.specs.Walk.{AnswersChain, Passed, after_closing, carried, carried_code, carried_date, chain_events, compared, frame_test, framed_message, if_framed, inner_event, signed_moment, walk_frames, walk_on, walk_outcome, walk_tested}
 use Rattle.chain_watch.specs.declared.chain_fault.ChainFault.{ChainFault}
 use Rattle.chain_watch.specs.declared.chain_fault.ChainFault.TheVariants.{Mismatch, NotChain}
@@ -345,7 +345,7 @@ exactly_chain signer seed bytes events small proper = (accepted_chain signer see
 
 -- the answer of the walk is exact
 pub tells_chain : (signer : Signer) (seed bytes : List ℕ) (result : Result (Vec Parts) ChainFault) → All IsByte bytes
-    → AnswersChain (chain_events signer seed bytes) result → TellsChain signer seed bytes result
+    → AnswersChain (chain_events signer seed bytes) result → AnswersEvents signer seed bytes result
 tells_chain signer seed bytes (Ok events) small answers = accepted_chain signer seed bytes events.items small answers
 tells_chain signer seed bytes (Err told) small (inr none) = inr none
 tells_chain signer seed bytes (Err told) small (inl answers) =

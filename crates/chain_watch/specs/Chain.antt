@@ -39,6 +39,6 @@ abbrev pub IsByte : ℕ → Type 0
 IsByte b = b < 256
 
 -- events are answered where the bytes are their chain; and a fault where they aren't the chain of any events, unless memory ran out
-abbrev pub TellsChain : Signer → List ℕ → List ℕ → Result (Vec Parts) ChainFault → Type 0
-TellsChain signer seed bytes (Ok events) = IsChainOf signer seed bytes events.items
-TellsChain signer seed bytes (Err told) = ((events : List Parts) → All IsProper events → IsChainOf signer seed bytes events → ⊥) ⊎ (told ≡ NoMemory)
+abbrev pub AnswersEvents : Signer → List ℕ → List ℕ → Result (Vec Parts) ChainFault → Type 0
+AnswersEvents signer seed bytes (Ok events) = IsChainOf signer seed bytes events.items
+AnswersEvents signer seed bytes (Err told) = ((events : List Parts) → All IsProper events → IsChainOf signer seed bytes events → ⊥) ⊎ (told ≡ NoMemory)

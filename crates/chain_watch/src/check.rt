@@ -1,4 +1,4 @@
-ghost use Rattle.chain_watch.specs.Chain.{TellsChain};
+ghost use Rattle.chain_watch.specs.Chain.{AnswersEvents};
 ghost use Rattle.chain_watch.specs.Walk.{AnswersChain, chain_events};
 
 use crate::chain_fault::ChainFault;
@@ -39,7 +39,7 @@ pub fn check_chain(
     name: &str,
 ) -> Result<Vec<Message>, ChainFault>
     ensures answer { AnswersChain (chain_events (record { secret = secret.now; region = region.now; name = name.now }) seed.now bytes.now) result }
-    ensures exact { TellsChain (record { secret = secret.now; region = region.now; name = name.now }) seed.now bytes.now result }
+    ensures exact { AnswersEvents (record { secret = secret.now; region = region.now; name = name.now }) seed.now bytes.now result }
 {
     let mut watch = ChainWatch::new(alloc, seed, secret, region, name)?;
     let mut events = Vec::new(alloc);

@@ -13,7 +13,7 @@ use Rattle.env_config.specs.declared.parse_fault.ParseFault.TheVariants.{Parse, 
 use Rattle.env_config.specs.declared.sections.EnvConfigSections.{EnvConfigSections}
 use Rattle.env_config.specs.declared.source.EnvConfigFileKind.{EnvConfigFileKind}
 use Rattle.env_config.specs.declared.source.EnvConfigFileKind.TheVariants.{Config, Credentials}
-use Rattle.env_config.specs.EnvConfigSections.{TellsLine, sections_of, selected_of}
+use Rattle.env_config.specs.EnvConfigSections.{IsLineFault, sections_of, selected_of}
 use Rattle.env_config.specs.Kept.{has_heading}
 use Rattle.env_config.specs.Latest.{Latest, form_of, group_of, group_taken, taken_values, values_in, without_places}
 use Rattle.env_config.specs.Laws.{value_in}
@@ -230,7 +230,7 @@ profile_merged keeps profile (Err fault) file latest before now reads is = reads
 
 -- a faulty line is told
 pub line_told : (keeps : Keeps) (profile : List ℕ) (read : Result (Named (List (List ℕ × List ℕ))) (ℕ × List ℕ)) (file : FileText) (before now : Sections) (number : ℕ) (message : List ℕ) (fault : ParseFault) → read ≡ Err (number, message)
-    → TellsLine file number message fault → MergesProfile keeps profile read file before now (Err fault)
+    → IsLineFault file number message fault → MergesProfile keeps profile read file before now (Err fault)
 line_told keeps profile read file before now number message (Parse error) is tells =
     λ others. ap (after_file file others) is ∙ ap (λ (line : FaultyLine). Err line) (sym tells)
 line_told keeps profile read file before now number message NoMemory is tells = tt

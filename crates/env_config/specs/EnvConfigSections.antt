@@ -54,9 +54,9 @@ MergesText keeps before file now (Err (Parse error)) = (others : Sections → Re
 MergesText keeps before file now (Err NoMemory) = Unit {0}
 
 -- the fault of a file's line
-abbrev pub TellsLine : FileText → ℕ → List ℕ → ParseFault → Type 0
-TellsLine file number message (Parse error) = faulty_line_of error ≡ record { path = unwrap_or file.path []; line_number = number; message = message }
-TellsLine file number message NoMemory = Unit {0}
+abbrev pub IsLineFault : FileText → ℕ → List ℕ → ParseFault → Type 0
+IsLineFault file number message (Parse error) = faulty_line_of error ≡ record { path = unwrap_or file.path []; line_number = number; message = message }
+IsLineFault file number message NoMemory = Unit {0}
 
 -- the sections of the files under the profile's name, or the first faulty line
 abbrev pub ParsesSections : Result Sections FaultyLine → List ℕ → Result EnvConfigSections ParseFault → Type 0

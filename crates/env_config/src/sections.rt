@@ -11,7 +11,7 @@ ghost use Rattle.env_config.specs.Sections.{files_from, heading_of, no_sections,
 ghost use Rattle.env_config.specs.Texts.{IsApart, text_cmp, value_under, words_of};
 ghost use Rattle.env_config.specs.Value.{selected_value};
 ghost use Rattle.env_config.specs.EnvConfigValue.{chosen_of};
-ghost use Rattle.env_config.specs.EnvConfigSections.{AreKeyed, HasCopies, MergesText, ParsesSections, TellsLine, profiles_in, sections_of, selected_of, sessions_in};
+ghost use Rattle.env_config.specs.EnvConfigSections.{AreKeyed, HasCopies, MergesText, ParsesSections, IsLineFault, profiles_in, sections_of, selected_of, sessions_in};
 ghost use Rattle.env_config.specs.ParseFault.{faulty_line_of};
 ghost use Rattle.env_config.specs.Profile.{profile_section, session_section};
 ghost use Rattle.env_config.specs.Properties.{others_of};
@@ -435,7 +435,7 @@ fn taken(alloc: Global, texts: &mut BTreeMap<&str, Texts>, name: &str) -> Texts
 
 // The fault of this line of the file.
 fn line_fault(alloc: Global, file: &File, line_number: usize, flaw: LineFlaw) -> ParseFault
-    ensures { TellsLine (file_of file.now) line_number (flaw_message flaw) result }
+    ensures { IsLineFault (file_of file.now) line_number (flaw_message flaw) result }
 {
     match line_error(alloc, file, line_number, flaw.message()) {
         Ok(error) => ParseFault::Parse(error),

@@ -8,13 +8,13 @@ use Rattle.smithy_core.specs.declared.sdk_error.SdkError.TheVariants.{Constructi
 use Rattle.eventstream.specs.Frame.{frame, unframed}
 use Rattle.eventstream.specs.Key.{Signer}
 use Rattle.eventstream.specs.Link.{begun, link_signature}
-use Rattle.eventstream.specs.Told.{Seals, Signs, SignsEmpty, sealed}
+use Rattle.eventstream.specs.Told.{SignsLink, Signs, SignsEmpty, signs_over}
 use Rattle.eventstream.specs.declared.error.Error.{Error}
 use Rattle.eventstream.specs.declared.marshall.MarshallMessage as MarshallMessage
 use Rattle.eventstream.specs.declared.sign.SignMessage as SignMessage
 use Rattle.eventstream.specs.declared.sign_error.SignMessageError.{SignMessageError}
 use Rattle.eventstream.specs.declared.sign_error.SignMessageError.TheVariants as signing
-use Rattle.event_io.specs.Adapter.{Asks, Frames, Marshals, Polls, PollsOpen, TakesMoment, TellsWant}
+use Rattle.event_io.specs.Adapter.{Asks, Frames, Marshals, Polls, PollsOpen, TakesMoment, NamesSendWant}
 use Rattle.event_io.specs.AdapterFault.{SendError, send_error}
 use Rattle.event_io.specs.Chain.{Chains, ChainsOn, HasSent, IsIdentity, PollsChain, StaysWithinLink, next_bytes, next_unsigned}
 use Rattle.event_io.specs.EventSource.{IsUsedUp, TakesItem}
@@ -60,17 +60,17 @@ module _ {S M EM G E : Type 0} (source : EventSource.Ghosts S Parts E) (marshall
   -- the signer is asked for the next event, or for the end
   next_asked : (events : List Parts) (signature : List ℕ) (old new : MessageStreamAdapter S M EM G) (t : Instant) (signed : Result Parts SignMessageError)
       → Chains source signer who events signature old → Asks source marshaller error_marshaller signer old new t signed
-      → Seals (next_unsigned events t) signature who (next_bytes events) t signed (signer.told new.signer)
-      × ((next : List ℕ) → signer.told new.signer ≡ sealed next who → ChainsOn source signer who events next new)
+      → SignsLink (next_unsigned events t) signature who (next_bytes events) t signed (signer.told new.signer)
+      × ((next : List ℕ) → signer.told new.signer ≡ signs_over next who → ChainsOn source signer who events next new)
   next_asked [] signature old new t signed chains (inl item) =
       absurd (took_none item.item (source.left new.source) (subst (λ left. TakesItem item.item left (source.left new.source)) chains.left item.taken))
   next_asked (event ∷ events) signature old new t signed chains (inl item) =
       let taken = took item.item (Ok event) (map (λ e. Ok e) events) (source.left new.source)
       (subst (λ left. TakesItem item.item left (source.left new.source)) chains.left item.taken) in
       let is : item.message ≡ event = message_is old item.item event item.message taken.0 item.marshalled in
-      let told : Signs (sealed signature who) item.message t signed (signer.told new.signer) =
+      let told : Signs (signs_over signature who) item.message t signed (signer.told new.signer) =
       subst (λ told. Signs told item.message t signed (signer.told new.signer)) chains.told item.told in (
-        subst (λ message. Signs (sealed signature who) message t signed (signer.told new.signer)) is told,
+        subst (λ message. Signs (signs_over signature who) message t signed (signer.told new.signer)) is told,
         λ next after. record { goes_on = item.goes_on; left = taken.1; told = after },
       )
   next_asked [] signature old new t signed chains (inr end) =
@@ -80,14 +80,14 @@ module _ {S M EM G E : Type 0} (source : EventSource.Ghosts S Parts E) (marshall
   module _ {C : Type 0} (clock : Clock.Ghosts C) (before now : C) (old_moments moments : List Instant) where
     -- an adapter that goes on
     polled : (events : List Parts) (signature : List ℕ) (old new : MessageStreamAdapter S M EM G) (result : Result Next SendError)
-        → Chains source signer who events signature old → TellsWant result
+        → Chains source signer who events signature old → NamesSendWant result
         → PollsOpen source marshaller error_marshaller signer clock before now old_moments moments old new result
         → PollsChain source signer clock before now old_moments moments who events signature old new result
     polled events signature old new (Ok (Frame bytes)) chains tells (t, takes, signed, asks, frames) =
         by signed (next_asked events signature old new t signed chains asks) frames where
           by : (signed : Result Parts SignMessageError)
-              → Seals (next_unsigned events t) signature who (next_bytes events) t signed (signer.told new.signer)
-              × ((next : List ℕ) → signer.told new.signer ≡ sealed next who → ChainsOn source signer who events next new)
+              → SignsLink (next_unsigned events t) signature who (next_bytes events) t signed (signer.told new.signer)
+              × ((next : List ℕ) → signer.told new.signer ≡ signs_over next who → ChainsOn source signer who events next new)
               → Frames signed (Ok (Frame bytes)) → PollsChain source signer clock before now old_moments moments who events signature old new (Ok (Frame bytes))
           by (Ok message) (seals, goes) frames =
               (t, takes, seals.0, ap unframed (sym seals.1) ∙ frames.0, frames.1 ∙ ap frame seals.1, goes _ seals.2)
@@ -113,8 +113,8 @@ module _ {S M EM G E : Type 0} (source : EventSource.Ghosts S Parts E) (marshall
     polled events signature old new (Err (ConstructionFailure (Sign error))) chains tells (t, takes, signed, asks, frames) =
         by signed (next_asked events signature old new t signed chains asks) frames where
           by : (signed : Result Parts SignMessageError)
-              → Seals (next_unsigned events t) signature who (next_bytes events) t signed (signer.told new.signer)
-              × ((next : List ℕ) → signer.told new.signer ≡ sealed next who → ChainsOn source signer who events next new)
+              → SignsLink (next_unsigned events t) signature who (next_bytes events) t signed (signer.told new.signer)
+              × ((next : List ℕ) → signer.told new.signer ≡ signs_over next who → ChainsOn source signer who events next new)
               → Frames signed (Err (ConstructionFailure (Sign error)))
               → PollsChain source signer clock before now old_moments moments who events signature old new (Err (ConstructionFailure (Sign error)))
           by (Ok message) asked frames = absurd frames
@@ -123,8 +123,8 @@ module _ {S M EM G E : Type 0} (source : EventSource.Ghosts S Parts E) (marshall
     polled events signature old new (Err (ConstructionFailure (Write error))) chains tells (t, takes, signed, asks, frames) =
         by signed (next_asked events signature old new t signed chains asks) frames where
           by : (signed : Result Parts SignMessageError)
-              → Seals (next_unsigned events t) signature who (next_bytes events) t signed (signer.told new.signer)
-              × ((next : List ℕ) → signer.told new.signer ≡ sealed next who → ChainsOn source signer who events next new)
+              → SignsLink (next_unsigned events t) signature who (next_bytes events) t signed (signer.told new.signer)
+              × ((next : List ℕ) → signer.told new.signer ≡ signs_over next who → ChainsOn source signer who events next new)
               → Frames signed (Err (ConstructionFailure (Write error)))
               → PollsChain source signer clock before now old_moments moments who events signature old new (Err (ConstructionFailure (Write error)))
           by (Ok message) (seals, goes) frames = (t, takes, seals.0, ap unframed (sym seals.1) ∙ frames, goes _ seals.2)
@@ -146,7 +146,7 @@ module _ {S M EM G E : Type 0} (source : EventSource.Ghosts S Parts E) (marshall
 
     -- each call answers the next frame of the chain, or why there is none
     pub chain_polled : (events : List Parts) (signature : List ℕ) (old new : MessageStreamAdapter S M EM G) (result : Result Next SendError)
-        → Chains source signer who events signature old → TellsWant result
+        → Chains source signer who events signature old → NamesSendWant result
         → Polls source marshaller error_marshaller signer clock before now old_moments moments old new result
         → PollsChain source signer clock before now old_moments moments who events signature old new result
     chain_polled events signature old new result chains tells (inl (goes_on, polls)) = polled events signature old new result chains tells polls
@@ -161,8 +161,8 @@ module _ {S M EM G E : Type 0} (source : EventSource.Ghosts S Parts E) (marshall
     open_stays events signature old new chains (left, is, inl (unasked, none)) = rw is (inl (ap signer.told unasked.signer_stays ∙ chains.told))
     open_stays events signature old new chains (left, is, inr (t, takes, signed, asks)) = by signed (next_asked events signature old left t signed chains asks) where
       by : (signed : Result Parts SignMessageError)
-          → Seals (next_unsigned events t) signature who (next_bytes events) t signed (signer.told left.signer)
-          × ((next : List ℕ) → signer.told left.signer ≡ sealed next who → ChainsOn source signer who events next left)
+          → SignsLink (next_unsigned events t) signature who (next_bytes events) t signed (signer.told left.signer)
+          × ((next : List ℕ) → signer.told left.signer ≡ signs_over next who → ChainsOn source signer who events next left)
           → StaysWithinLink source signer clock before now old_moments moments who events signature new
       by (Ok message) (seals, goes) = rw is (inr (t, takes, seals.2))
       by (Err refusal) (seals, goes) = rw is (inl seals.1)
@@ -176,7 +176,7 @@ module _ {S M EM G E : Type 0} (source : EventSource.Ghosts S Parts E) (marshall
 
     -- one frame more, at the moment that the call took
     pub frame_sent : (events : List Parts) (signature : List ℕ) (frames : List (List ℕ)) (sent : List Instant) (old new : MessageStreamAdapter S M EM G) (bytes : List ℕ)
-        → TellsWant (Ok (Frame bytes)) → Polls source marshaller error_marshaller signer clock before now old_moments moments old new (Ok (Frame bytes))
+        → NamesSendWant (Ok (Frame bytes)) → Polls source marshaller error_marshaller signer clock before now old_moments moments old new (Ok (Frame bytes))
         → HasSent source signer who events signature frames sent old
         → (t : Instant) × TakesMoment clock before now old_moments moments t × HasSent source signer who events signature (frames ++ bytes ∷ []) (sent ++ t ∷ []) new
     frame_sent events signature frames sent old new bytes tells polls (inl (left, next, chains, goes)) =

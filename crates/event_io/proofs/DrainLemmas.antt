@@ -15,7 +15,7 @@ use Rattle.eventstream.specs.declared.unmarshall.UnmarshalledMessage.{Unmarshall
 use Rattle.eventstream.proofs.ReadingLemmas.{begin_join, begin_stays, begin_unfinished}
 use Rattle.event_io.specs.Drain.{BeginsWith, Counts, HoldsOnly, IsCauseToStop, ReceivesAll, HoldsNoneFor, drain_stop, drained_by, messages_in, stops}
 use Rattle.event_io.specs.Frames.{TakesFrames, frames_data, idle_count}
-use Rattle.event_io.specs.Receiver.{Begins, Cuts, IsReadOut, KeepsOthers, Reads, Receives, Rest, StopsAt, TellsWantOfMemory, Unmarshals, is_terminated, kept_message, recv_stop, rest_after, rest_of, taken_bytes, terminated, terminates, unread, untold}
+use Rattle.event_io.specs.Receiver.{Begins, Cuts, IsReadOut, KeepsOthers, Reads, Receives, Rest, StopsAt, NamesWantOfMemory, Unmarshals, is_terminated, kept_message, recv_stop, rest_after, rest_of, taken_bytes, terminated, terminates, unread, untold}
 use Rattle.event_io.specs.ResponseFault.{ReceiveError}
 use Rattle.event_io.specs.declared.drain.Drained.{Drained}
 use Rattle.event_io.specs.declared.drain.Drained.TheVariants as drained
@@ -199,7 +199,7 @@ module _ {F U : Type 0} (source : FrameSource.Ghosts F) where
     receives_open : (answer : Result (Received Parts) (ReceiveError Error)) (old new : Receiver F U) (given : List Parts) → old.over ≡ false
         → Reads source (recv_stop answer) (λ message. Unmarshals unmarshaller old.unmarshaller message answer) old new
         → Cuts (recv_stop answer) (terminates answer) (λ message. Unmarshals unmarshaller old.unmarshaller message answer) (rest_of source old) (rest_of source new)
-        → TellsWantOfMemory answer → ReceivesAll source 1 old new given (given ++ messages_in answer) (drained_by answer)
+        → NamesWantOfMemory answer → ReceivesAll source 1 old new given (given ++ messages_in answer) (drained_by answer)
     receives_open (Ok (received.Event message)) old new given going reads cuts want =
         let same : message ≡ cuts.0 = passes old.unmarshaller cuts.0 _ cuts.1 in
         let comes : message ≡ reads.found.0 = passes old.unmarshaller reads.found.0 _ reads.found.1 in
@@ -239,7 +239,7 @@ module _ {F U : Type 0} (source : FrameSource.Ghosts F) where
         → kept_message old ≡ None
         → Receives source unmarshaller (kept_message old) (is_terminated old) old new answer
         → (kept_message old ≡ None → Cuts (recv_stop answer) (terminates answer) (λ message. Unmarshals unmarshaller old.unmarshaller message answer) (rest_of source old) (rest_of source new))
-        → TellsWantOfMemory answer → ReceivesAll source 1 old new given gained (drained_by answer)
+        → NamesWantOfMemory answer → ReceivesAll source 1 old new given gained (drained_by answer)
     receives_answer answer old new given gained appended none receives cuts want = rw appended (by old.over refl)
       where
         at_none : Receives source unmarshaller None old.over old new answer

@@ -24,7 +24,7 @@ use Rattle.eventstream.proofs.FrameLemmas.{frame_again}
 use Rattle.eventstream.proofs.ReadingLemmas.{begin_read, begin_unfinished, frame_read}
 use Rattle.event_io.specs.Drain.{BeginsWith, IsCauseToStop, drain_stop}
 use Rattle.event_io.specs.Frames.{frames_data, idle_count}
-use Rattle.event_io.specs.Laws.{Call, HoldFirst, IsChained, IsEndTold, ReadsChain, TakeEach, Tell, messages_of}
+use Rattle.event_io.specs.Laws.{Call, HoldFirst, IsChained, EndsReading, ReadsChain, TakeEach, Tell, messages_of}
 use Rattle.event_io.specs.Receiver.{EndsAs, IsReadOut, Rest, rest_of, taken_bytes, terminated, terminates, unread, untold}
 use Rattle.event_io.specs.ResponseFault.{ReceiveError}
 use Rattle.event_io.specs.declared.drain.Drained.{Drained}
@@ -146,7 +146,7 @@ end_is read end is = (ap (λ (r : Read). r.messages) is, ap (λ (r : Read). r.en
 
 module _ {F U : Type 0} (source : FrameSource.Ghosts F) where
   end_told : (after : Rest) (idle : ℕ) (old new : Receiver F U) (result : Result Drained (ReceiveError Error)) → IsTold after → IsCauseToStop source after idle old new result
-      → IsEndTold (drain_stop result) (still_read after).messages (still_read after).end
+      → EndsReading (drain_stop result) (still_read after).messages (still_read after).end
       × (still_read (if terminates result then terminated else after) ≡ record { messages = (still_read after).messages; end = if terminates result then nothing else (still_read after).end })
       × IsTold (if terminates result then terminated else after)
   end_told after idle old new (Ok drained.Enough) told cause = (tt, refl, told)
@@ -177,7 +177,7 @@ module _ {F U : Type 0} (source : FrameSource.Ghosts F) where
       let others = tell_rest calls between new (subst IsTold (sym takes.left) ends.2) each in (
         (still_read takes.after).messages,
         ap (λ (r : Read). r.messages) begins.0 ∙ ap (λ (ms : List Parts). ms ++ (still_read takes.after).messages) (sym same),
-        subst (IsEndTold (drain_stop call.result) (still_read takes.after).messages) (sym (ap (λ (r : Read). r.end) begins.0)) ends.0,
+        subst (EndsReading (drain_stop call.result) (still_read takes.after).messages) (sym (ap (λ (r : Read). r.end) begins.0)) ends.0,
         subst (λ (end : First). Tell calls (record { messages = (still_read takes.after).messages; end = if terminates call.result then nothing else end }))
             (sym (ap (λ (r : Read). r.end) begins.0))
             (subst (Tell calls) (ap still_read takes.left ∙ ends.1) others),

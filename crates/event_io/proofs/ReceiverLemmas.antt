@@ -19,7 +19,7 @@ use Rattle.eventstream.proofs.FrontLemmas.{first_bad, first_more, first_whole, s
 use Rattle.event_io.specs.Frames.{TakesFrames, data_in, frames_data, idle_count, most_idle, one_if_idle}
 use Rattle.event_io.specs.Receiver.{IsCause, LacksFrame, Pulls, PullsFront, PullsOne, Reads, StopsAt, TakesTurns, taken_bytes}
 use Rattle.event_io.specs.ResponseFault.{is_want_kind}
-use Rattle.event_io.specs.Stop.{TellsStop, stop_of}
+use Rattle.event_io.specs.Stop.{NamesStopWant, stop_of}
 use Rattle.smithy_core.specs.declared.raw_message.RawMessage.TheVariants.{Decoded, Invalid}
 use Rattle.smithy_core.specs.declared.sdk_error.SdkError.TheVariants.{ConstructionFailure, DispatchFailure, NoMemory, ResponseError, ServiceError}
 use Rattle.eventstream.specs.declared.unmarshall.UnmarshallMessage as UnmarshallMessage
@@ -110,7 +110,7 @@ unfinished_is bytes some less =
         ]
 
 -- no frame comes after less than one, for the reason that is told
-lacks_is : (bytes : List ℕ) (why : Stop) → LacksFrame bytes why → IsUnfinished (first_of bytes) → StopsAt why bytes × TellsStop why × TakesTurnsLess why
+lacks_is : (bytes : List ℕ) (why : Stop) → LacksFrame bytes why → IsUnfinished (first_of bytes) → StopsAt why bytes × NamesStopWant why × TakesTurnsLess why
 lacks_is bytes stop.End lacks less = (lacks, tt, λ count few. few)
 lacks_is bytes (stop.CutOff left) lacks less = (unfinished_is bytes lacks.1 less ∙ ap (λ (b : List ℕ). leftover b) (sym lacks.0), tt, λ count few. few)
 lacks_is bytes stop.NotYet lacks less = (less, tt, λ count few. few)
@@ -124,11 +124,11 @@ pub peeked_none : (bytes : List ℕ) (found : Option (Parts × ℕ)) → PeeksMe
 peeked_none bytes found peeks is = subst (λ (f : Option (Parts × ℕ)). PeeksMessage bytes (Ok f)) is peeks
 
 -- a fault, or memory ran out
-faulty_is : (bytes : List ℕ) (error : Error) → PeeksMessage bytes (Err error) → StopsAt (stop_of error) bytes × TellsStop (stop_of error) × TakesTurnsLess (stop_of error)
+faulty_is : (bytes : List ℕ) (error : Error) → PeeksMessage bytes (Err error) → StopsAt (stop_of error) bytes × NamesStopWant (stop_of error) × TakesTurnsLess (stop_of error)
 faulty_is bytes error peeks = by (is_want_kind (error_kind error)) refl peeks
   where
     by : (want : Bool) → is_want_kind (error_kind error) ≡ want → PeeksMessage bytes (Err error)
-        → (let why : Stop = if want then stop.NoMemory else stop.Faulty error in StopsAt why bytes × TellsStop why × TakesTurnsLess why)
+        → (let why : Stop = if want then stop.NoMemory else stop.Faulty error in StopsAt why bytes × NamesStopWant why × TakesTurnsLess why)
     by true is peeks = (tt, tt, λ count few. few)
     by false is (inl faulty) = (faulty, is, λ count few. few)
     by false is (inr want) = let no : ⊥ = (let also : is_want_kind (error_kind error) ≡ true = ap is_want_kind want in cc) in absurd no

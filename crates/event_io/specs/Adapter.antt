@@ -45,9 +45,9 @@ Frames signed (Err NoMemory) = Unit {0}
 Frames signed result = ⊥
 
 -- a fault that an adapter answers isn't `NoMemory`
-abbrev pub TellsWant : Result Next SendError → Type 0
-TellsWant (Err (ConstructionFailure fault)) = send_error fault ≡ ConstructionFailure fault
-TellsWant result = Unit {0}
+abbrev pub NamesSendWant : Result Next SendError → Type 0
+NamesSendWant (Err (ConstructionFailure fault)) = send_error fault ≡ ConstructionFailure fault
+NamesSendWant result = Unit {0}
 
 -- one moment more, which the clock gave
 abbrev pub TakesMoment : {C : Type 0} → Clock.Ghosts C → C → C → List Instant → List Instant → Instant → Type 0

@@ -9,7 +9,7 @@ use Rattle.eventstream.specs.Error.{error_kind}
 use Rattle.eventstream.specs.Frame.{frame, unframed}
 use Rattle.eventstream.specs.Key.{Signer}
 use Rattle.eventstream.specs.Link.{begun, link_message, link_signature}
-use Rattle.eventstream.specs.Told.{sealed, unsigned_at, unsigned_message}
+use Rattle.eventstream.specs.Told.{signs_over, unsigned_at, unsigned_message}
 use Rattle.eventstream.specs.declared.error.Error.{Error}
 use Rattle.eventstream.specs.declared.marshall.MarshallMessage as MarshallMessage
 use Rattle.eventstream.specs.declared.sign.SignMessage as SignMessage
@@ -41,7 +41,7 @@ module _ {S M EM G E : Type 0} (source : EventSource.Ghosts S Parts E) (signer :
   pub record Chains (who : Signer) (events : List Parts) (signature : List ℕ) (adapter : MessageStreamAdapter S M EM G) : Type 0 where
     pub goes_on : IsOpen adapter
     pub left : source.left adapter.source ≡ Some (map (λ event. Ok event) events)
-    pub told : signer.told adapter.signer ≡ sealed signature who
+    pub told : signer.told adapter.signer ≡ signs_over signature who
 
   -- an adapter after the next event, whose signer signs over this signature, or after the end
   abbrev pub ChainsOn : Signer → List Parts → List ℕ → MessageStreamAdapter S M EM G → Type 0
@@ -78,5 +78,5 @@ module _ {S M EM G E : Type 0} (source : EventSource.Ghosts S Parts E) (signer :
     -- the signer signs over this signature as before, or over that of the next link at a moment of the clock
     abbrev pub StaysWithinLink : List Parts → List ℕ → MessageStreamAdapter S M EM G → Type 0
     StaysWithinLink events signature new =
-        (signer.told new.signer ≡ sealed signature who)
-        ⊎ ((t : Instant) × TakesMoment clock before now old_moments moments t × (signer.told new.signer ≡ sealed (link_signature who signature (next_bytes events) t) who))
+        (signer.told new.signer ≡ signs_over signature who)
+        ⊎ ((t : Instant) × TakesMoment clock before now old_moments moments t × (signer.told new.signer ≡ signs_over (link_signature who signature (next_bytes events) t) who))

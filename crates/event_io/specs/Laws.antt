@@ -59,17 +59,17 @@ pub record Call : Type 0 where
   pub result : Result Drained (ReceiveError Error)
 
 -- where this is told no message is left, and the stream ends so
-abbrev pub IsEndTold : Option Stop → List Parts → First → Type 0
-IsEndTold (Some stop.End) others end = (others ≡ []) × (end ≡ nothing)
-IsEndTold (Some (stop.Faulty error)) others end = (others ≡ []) × (end ≡ fault (error_kind error))
-IsEndTold (Some (stop.CutOff left)) others end = (others ≡ []) × (end ≡ leftover left)
-IsEndTold why others end = Unit {0}
+abbrev pub EndsReading : Option Stop → List Parts → First → Type 0
+EndsReading (Some stop.End) others end = (others ≡ []) × (end ≡ nothing)
+EndsReading (Some (stop.Faulty error)) others end = (others ≡ []) × (end ≡ fault (error_kind error))
+EndsReading (Some (stop.CutOff left)) others end = (others ≡ []) × (end ≡ leftover left)
+EndsReading why others end = Unit {0}
 
 -- the calls answer the messages of a reading in order, and its one fault; after the fault they answer as those of an empty stream
 abbrev pub Tell : List Call → Read → Type 0
 Tell [] read = Unit {0}
 Tell (call ∷ calls) read =
-    (others : List Parts) × (read.messages ≡ call.messages ++ others) × IsEndTold (drain_stop call.result) others read.end
+    (others : List Parts) × (read.messages ≡ call.messages ++ others) × EndsReading (drain_stop call.result) others read.end
     × Tell calls (record { messages = others; end = if terminates call.result then nothing else read.end })
 
 -- the messages that the calls answer

@@ -19,7 +19,7 @@ use Rattle.eventstream.specs.Unmarshall.{PassesMessage}
 use Rattle.event_io.specs.Frames.{TakesFrames, frames_data, idle_count, most_idle, one_if_idle}
 use Rattle.event_io.specs.Received.{is_initial}
 use Rattle.event_io.specs.ResponseFault.{ReceiveError, is_want}
-use Rattle.event_io.specs.Stop.{TellsStop}
+use Rattle.event_io.specs.Stop.{NamesStopWant}
 use Rattle.event_io.specs.declared.received.InitialMessageType.{InitialMessageType}
 use Rattle.event_io.specs.declared.received.Received.{Received}
 use Rattle.event_io.specs.declared.received.Received.TheVariants as received
@@ -79,9 +79,9 @@ terminates (Err (ResponseError refusal raw)) = ends_reading refusal
 terminates _ = false
 
 -- a fault that a receiver answers isn't `NoMemory`
-abbrev pub TellsWantOfMemory : {A E : Type 0} → Result A (ReceiveError E) → Type 0
-TellsWantOfMemory (Err (ResponseError refusal raw)) = is_want refusal ≡ false
-TellsWantOfMemory result = Unit {0}
+abbrev pub NamesWantOfMemory : {A E : Type 0} → Result A (ReceiveError E) → Type 0
+NamesWantOfMemory (Err (ResponseError refusal raw)) = is_want refusal ≡ false
+NamesWantOfMemory result = Unit {0}
 
 -- the bytes at hand hold no message for this reason
 abbrev pub StopsAt : Stop → List ℕ → Type 0
@@ -171,7 +171,7 @@ PassesMessages {U = U} unmarshaller =
 
 -- the answer of which a message is handed over, and which isn't `NoMemory`; or the message, given back
 abbrev pub Hands : {U T E : Type 0} → UnmarshallMessage.Ghosts U T E → U → Parts → Result (Result (Received T) (ReceiveError E)) Parts → Type 0
-Hands unmarshaller by message (Ok answer) = Unmarshals unmarshaller by message answer × TellsWantOfMemory answer
+Hands unmarshaller by message (Ok answer) = Unmarshals unmarshaller by message answer × NamesWantOfMemory answer
 Hands unmarshaller by message (Err back) = back ≡ message
 
 -- a preprocessor that leaves messages as they are, and makes nothing along with them
@@ -290,7 +290,7 @@ module _ {F U : Type 0} where
 -- a message is at the front of the bytes, or there is none for this reason, of which `NoMemory` is told as such
 abbrev pub FindsFront : List ℕ → Result Front Stop → Type 0
 FindsFront bytes (Ok front) = (front.len ≤ length bytes) × (first_of bytes ≡ begins front.message (drop front.len bytes))
-FindsFront bytes (Err why) = StopsAt why bytes × TellsStop why
+FindsFront bytes (Err why) = StopsAt why bytes × NamesStopWant why
 
 -- no frame comes after these bytes for this reason
 abbrev pub LacksFrame : List ℕ → Stop → Type 0

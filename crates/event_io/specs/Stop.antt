@@ -11,9 +11,9 @@ abbrev pub stop_of : Error → Stop
 stop_of error = if is_want_kind (error_kind error) then NoMemory else Faulty error
 
 -- a fault isn't `NoMemory`
-abbrev pub TellsStop : Stop → Type 0
-TellsStop (Faulty error) = is_want_kind (error_kind error) ≡ false
-TellsStop why = Unit {0}
+abbrev pub NamesStopWant : Stop → Type 0
+NamesStopWant (Faulty error) = is_want_kind (error_kind error) ≡ false
+NamesStopWant why = Unit {0}
 
 -- the stream ended, or memory ran out at its end
 abbrev pub IsEnd : Stop → Type 0

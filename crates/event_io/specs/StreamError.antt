@@ -21,10 +21,10 @@ abbrev pub given_metadata : MessageStreamError → ErrorMetadata
 given_metadata error = error.source
 
 -- the metadata that an error tells
-abbrev pub told_metadata : MessageStreamError → ErrorMetadata
-told_metadata error = unwrap_or error.told error.source
+abbrev pub metadata_of : MessageStreamError → ErrorMetadata
+metadata_of error = unwrap_or error.told error.source
 
 -- the errors are of the same metadata, and tell the same
 pub record IsSameStreamError (error copy : MessageStreamError) : Type 0 where
   pub given : IsSameMetadata (given_metadata error) (given_metadata copy)
-  pub told : IsSameMetadata (told_metadata error) (told_metadata copy)
+  pub told : IsSameMetadata (metadata_of error) (metadata_of copy)

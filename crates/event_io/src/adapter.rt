@@ -1,5 +1,5 @@
 ghost use Rattle.std.specs.Prelude.{◌≡◌, ◌≤◌, IfOk, OnErr, OnOk};
-ghost use Rattle.event_io.specs.Adapter.{Frames, FramesMessage, IsAdapterCopy, IsOpen, KeepsMarshallers, Marshals, Polls, PollsOpen, TakesMoment, TellsWant, item_source_of, left_by, new_adapter, adapter_parts};
+ghost use Rattle.event_io.specs.Adapter.{Frames, FramesMessage, IsAdapterCopy, IsOpen, KeepsMarshallers, Marshals, Polls, PollsOpen, TakesMoment, NamesSendWant, item_source_of, left_by, new_adapter, adapter_parts};
 
 use crate::adapter_fault::{AdapterFault, SendError};
 use crate::event_source::{EventPolled, EventSource};
@@ -152,7 +152,7 @@ where
         ensures polls { Polls S.EventSource M.MarshallMessage EM.MarshallMessage G.SignMessage C.Clock clock.old clock.new moments.old.items moments.new.items self.old self.new result }
         ensures waits { S.EventSource.waits (item_source_of self.old) ≤ S.EventSource.waits (item_source_of self.new) }
         ensures kept { KeepsMarshallers self.old self.new }
-        ensures want { TellsWant result }
+        ensures want { NamesSendWant result }
     {
         if self.phase != Phase::Open {
             return Ok(Next::End);
@@ -175,7 +175,7 @@ where
         ensures polls { PollsOpen S.EventSource M.MarshallMessage EM.MarshallMessage G.SignMessage C.Clock clock.old clock.new moments.old.items moments.new.items self.old (left_by result self.new) result }
         ensures waits { S.EventSource.waits (item_source_of self.old) ≤ S.EventSource.waits (item_source_of self.new) }
         ensures kept { KeepsMarshallers self.old self.new }
-        ensures want { TellsWant result }
+        ensures want { NamesSendWant result }
     {
         match self.source.poll_event() {
             EventPolled::Item(item) => {
@@ -212,7 +212,7 @@ where
     // The frame of what the signer answered.
     fn framed(&self, signed: Result<Message, SignMessageError>) -> Result<Next, SendError>
         ensures frames { Frames signed result }
-        ensures want { TellsWant result }
+        ensures want { NamesSendWant result }
     {
         let message = match signed {
             Ok(message) => message,

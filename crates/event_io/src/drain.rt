@@ -1,6 +1,6 @@
 ghost use Rattle.std.specs.Prelude.{◌≡◌, None};
 ghost use Rattle.event_io.specs.Drain.{ReceivesAll, stops};
-ghost use Rattle.event_io.specs.Receiver.{KeepsOthers, TellsWantOfMemory, kept_message};
+ghost use Rattle.event_io.specs.Receiver.{KeepsOthers, NamesWantOfMemory, kept_message};
 
 use crate::received::Received;
 use crate::receiver::Receiver;
@@ -38,7 +38,7 @@ pub fn receive_all<F: FrameSource>(
     ensures receives { ReceivesAll F.FrameSource most receiver.old receiver.new out.old.items out.new.items result }
     ensures kept { kept_message receiver.new ≡ None }
     ensures others { KeepsOthers F.FrameSource receiver.old receiver.new }
-    ensures want { TellsWantOfMemory result }
+    ensures want { NamesWantOfMemory result }
 {
     let mut count = 0;
     'messages: while count < most {
@@ -60,7 +60,7 @@ fn receive_one<F: FrameSource>(
     ensures receives { ReceivesAll F.FrameSource 1 receiver.old receiver.new out.old.items out.new.items result }
     ensures kept { kept_message receiver.new ≡ None }
     ensures others { KeepsOthers F.FrameSource receiver.old receiver.new }
-    ensures want { TellsWantOfMemory result }
+    ensures want { NamesWantOfMemory result }
 {
     out.reserve(1)?;
     match receiver.recv() {

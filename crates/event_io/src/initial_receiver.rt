@@ -1,7 +1,7 @@
 ghost use Rattle.std.specs.Prelude.{◌≡◌, ◌⊎◌, ◌||◌, Err, None, option_copied};
 ghost use Rattle.smithy_core.specs.declared.sdk_error.SdkError.TheVariants.{NoMemory};
 ghost use Rattle.event_io.specs.Received.{first_named, is_initial, is_text};
-ghost use Rattle.event_io.specs.Receiver.{Cuts, KeepsNone, KeepsOthers, LeavesMessage, Reads, TellsWantOfMemory, Tries, TriesFirst, TriesKept, TriesMessage, is_no_memory, is_terminated, kept_by, kept_message, rest_of, terminates, tried_stop, unmarshaller_of};
+ghost use Rattle.event_io.specs.Receiver.{Cuts, KeepsNone, KeepsOthers, LeavesMessage, Reads, NamesWantOfMemory, Tries, TriesFirst, TriesKept, TriesMessage, is_no_memory, is_terminated, kept_by, kept_message, rest_of, terminates, tried_stop, unmarshaller_of};
 
 use crate::received::{InitialMessageType, Tried};
 use crate::receiver::{Receiver, is_last};
@@ -26,7 +26,7 @@ impl<F: FrameSource, U: UnmarshallMessage> Receiver<F, U> {
             (rest_of F.FrameSource self.old) (rest_of F.FrameSource self.new) }
         ensures terminated { is_terminated self.new ≡ (is_terminated self.old || terminates result) }
         ensures others { KeepsOthers F.FrameSource self.old self.new }
-        ensures want { TellsWantOfMemory result }
+        ensures want { NamesWantOfMemory result }
     {
         self.try_recv_initial_with_preprocessor(message_type, left_as_it_is)
     }
@@ -51,7 +51,7 @@ impl<F: FrameSource, U: UnmarshallMessage> Receiver<F, U> {
             (λ message. Tries (λ first answer. P.post preprocessor first answer) message_type message (kept_message self.new) result) (rest_of F.FrameSource self.old) (rest_of F.FrameSource self.new) }
         ensures terminated { is_terminated self.new ≡ (is_terminated self.old || terminates result) }
         ensures others { KeepsOthers F.FrameSource self.old self.new }
-        ensures want { TellsWantOfMemory result }
+        ensures want { NamesWantOfMemory result }
     {
         let answer = self.try_first(message_type, preprocessor);
         self.over |= is_last(&answer);
@@ -70,7 +70,7 @@ impl<F: FrameSource, U: UnmarshallMessage> Receiver<F, U> {
         ensures tries { TriesFirst F.FrameSource (λ message answer. P.post preprocessor message answer) message_type (kept_message self.old) (is_terminated self.old) self.old self.new result }
         ensures open { is_terminated self.new ≡ is_terminated self.old }
         ensures others { KeepsOthers F.FrameSource self.old self.new }
-        ensures want { TellsWantOfMemory result }
+        ensures want { NamesWantOfMemory result }
     {
         match self.kept.take() {
             Some(message) => self.try_kept(message_type, preprocessor, message),
@@ -93,7 +93,7 @@ impl<F: FrameSource, U: UnmarshallMessage> Receiver<F, U> {
         ensures tries { TriesKept (λ first answer. P.post preprocessor first answer) message_type message self.old self.new result }
         ensures open { is_terminated self.new ≡ is_terminated self.old }
         ensures unmarshaller { unmarshaller_of self.new ≡ unmarshaller_of self.old }
-        ensures want { TellsWantOfMemory result }
+        ensures want { NamesWantOfMemory result }
     {
         let answer = tried_message(message_type, preprocessor, &message);
         self.kept = if wants_memory(&answer) {
@@ -118,7 +118,7 @@ impl<F: FrameSource, U: UnmarshallMessage> Receiver<F, U> {
         ensures kept { KeepsNone (tried_stop result) self.new }
         ensures open { is_terminated self.new ≡ is_terminated self.old }
         ensures others { KeepsOthers F.FrameSource self.old self.new }
-        ensures want { TellsWantOfMemory result }
+        ensures want { NamesWantOfMemory result }
     {
         let Front { message, len } = match self.find() {
             Ok(front) => front,
@@ -151,7 +151,7 @@ where
     P: FnOnce(Message) -> Result<(Message, M), Error>,
     requires { P.IsAlwaysCallable preprocessor }
     ensures tries { TriesMessage (λ first answer. P.post preprocessor first answer) message_type message.now result ⊎ (result ≡ Err NoMemory) }
-    ensures want { TellsWantOfMemory result }
+    ensures want { NamesWantOfMemory result }
 {
     match preprocessor(message.try_clone()?) {
         Ok((first, made)) => {

@@ -6,12 +6,12 @@ ghost use Rattle.eventstream.specs.Key.{Signer};
 ghost use Rattle.eventstream.specs.Laws.{IsProper};
 ghost use Rattle.eventstream.specs.Reading.{reading};
 ghost use Rattle.eventstream.specs.declared.error.Error.{Error as Refusal};
-ghost use Rattle.event_io.specs.Adapter.{Polls, TakesMoment, TellsWant};
+ghost use Rattle.event_io.specs.Adapter.{Polls, TakesMoment, NamesSendWant};
 ghost use Rattle.event_io.specs.AdapterFault.{SendError};
 ghost use Rattle.event_io.specs.Chain.{Chains, HasSent, IsIdentity, PollsChain, StaysWithinLink};
 ghost use Rattle.event_io.specs.Drain.{BeginsWith, ReceivesAll, drained_by, messages_in};
 ghost use Rattle.event_io.specs.Laws.{Call, HoldFirst, IsChained, ReadsChain, TakeEach, Tell, messages_of};
-ghost use Rattle.event_io.specs.Receiver.{Cuts, PassesMessages, Receives, Rest, TellsWantOfMemory, Unmarshals, is_terminated, kept_message, recv_stop, rest_of, terminates, unmarshaller_of, unread};
+ghost use Rattle.event_io.specs.Receiver.{Cuts, PassesMessages, Receives, Rest, NamesWantOfMemory, Unmarshals, is_terminated, kept_message, recv_stop, rest_of, terminates, unmarshaller_of, unread};
 ghost use Rattle.event_io.specs.ResponseFault.{ReceiveError as ReceiveRefusal};
 ghost use Rattle.event_io.specs.declared.adapter.MessageStreamAdapter.{MessageStreamAdapter};
 ghost use Rattle.event_io.specs.declared.adapter.Next.{Next};
@@ -55,7 +55,7 @@ pub fn calls_tell_the_reading<
         → kept_message old ≡ None → Receives F.FrameSource U.UnmarshallMessage (kept_message old) (is_terminated old) old new answer
         → (kept_message old ≡ None → Cuts (recv_stop answer) (terminates answer) (λ message. Unmarshals U.UnmarshallMessage (unmarshaller_of old) message answer)
         (rest_of F.FrameSource old) (rest_of F.FrameSource new))
-        → TellsWantOfMemory answer → ReceivesAll F.FrameSource 1 old new given (given ++ messages_in answer) (drained_by answer) }
+        → NamesWantOfMemory answer → ReceivesAll F.FrameSource 1 old new given (given ++ messages_in answer) (drained_by answer) }
 {}
 
 /// Each call of an adapter whose items are messages as they are, and whose signer signs them, answers the next frame of the
@@ -70,7 +70,7 @@ pub fn chain_polled<
 >()
     ensures polled { IsIdentity M.MarshallMessage → (who : Signer) (before now : C) (old_moments moments : List Instant) (events : List Parts) (signature : List ℕ)
         (old new : MessageStreamAdapter S M EM G) (result : Result Next SendError)
-        → Chains S.EventSource G.SignMessage who events signature old → TellsWant result
+        → Chains S.EventSource G.SignMessage who events signature old → NamesSendWant result
         → Polls S.EventSource M.MarshallMessage EM.MarshallMessage G.SignMessage C.Clock before now old_moments moments old new result
         → PollsChain S.EventSource G.SignMessage C.Clock before now old_moments moments who events signature old new result }
     ensures sent { IsIdentity M.MarshallMessage → (who : Signer) (before now : C) (old_moments moments : List Instant) (events : List Parts) (signature : List ℕ)

@@ -3,7 +3,7 @@ ghost use Rattle.smithy_core.specs.Message.{Parts};
 ghost use Rattle.smithy_core.specs.declared.outside.frame_part.FramePart.TheVariants.{Data};
 ghost use Rattle.eventstream.specs.Frame.{most_frame};
 ghost use Rattle.event_io.specs.Frames.{one_if_idle};
-ghost use Rattle.event_io.specs.Receiver.{Cuts, Hands, IsNew, KeepsOthers, LacksFrame, PullsFront, PullsOne, Reads, Receives, ReceivesKept, TellsWantOfMemory, Unmarshals, ends_reading, is_terminated, kept_message, recv_stop, rest_of, taken_bytes, terminates, unmarshaller_of};
+ghost use Rattle.event_io.specs.Receiver.{Cuts, Hands, IsNew, KeepsOthers, LacksFrame, PullsFront, PullsOne, Reads, Receives, ReceivesKept, NamesWantOfMemory, Unmarshals, ends_reading, is_terminated, kept_message, recv_stop, rest_of, taken_bytes, terminates, unmarshaller_of};
 ghost use Rattle.event_io.specs.Stop.{IsEnd};
 
 use crate::received::Received;
@@ -65,7 +65,7 @@ impl<F: FrameSource, U: UnmarshallMessage> Receiver<F, U> {
             (rest_of F.FrameSource self.old) (rest_of F.FrameSource self.new) }
         ensures terminated { is_terminated self.new ≡ (is_terminated self.old || terminates result) }
         ensures others { KeepsOthers F.FrameSource self.old self.new }
-        ensures want { TellsWantOfMemory result }
+        ensures want { NamesWantOfMemory result }
     {
         let answer = self.receive();
         self.over |= is_last(&answer);
@@ -77,7 +77,7 @@ impl<F: FrameSource, U: UnmarshallMessage> Receiver<F, U> {
         ensures receives { Receives F.FrameSource U.UnmarshallMessage (kept_message self.old) (is_terminated self.old) self.old self.new result }
         ensures open { is_terminated self.new ≡ is_terminated self.old }
         ensures others { KeepsOthers F.FrameSource self.old self.new }
-        ensures want { TellsWantOfMemory result }
+        ensures want { NamesWantOfMemory result }
     {
         match self.kept.take() {
             Some(message) => self.receive_kept(message),
@@ -95,7 +95,7 @@ impl<F: FrameSource, U: UnmarshallMessage> Receiver<F, U> {
         ensures receives { ReceivesKept U.UnmarshallMessage message self.old self.new result }
         ensures open { is_terminated self.new ≡ is_terminated self.old }
         ensures unmarshaller { unmarshaller_of self.new ≡ unmarshaller_of self.old }
-        ensures want { TellsWantOfMemory result }
+        ensures want { NamesWantOfMemory result }
     {
         match self.hand(message) {
             Ok(answer) => answer,
@@ -112,7 +112,7 @@ impl<F: FrameSource, U: UnmarshallMessage> Receiver<F, U> {
         ensures kept { kept_message self.new ≡ kept_message self.old }
         ensures open { is_terminated self.new ≡ is_terminated self.old }
         ensures others { KeepsOthers F.FrameSource self.old self.new }
-        ensures want { TellsWantOfMemory result }
+        ensures want { NamesWantOfMemory result }
     {
         let Front { message, len } = match self.find() {
             Ok(front) => front,

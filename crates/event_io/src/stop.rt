@@ -1,8 +1,8 @@
 ghost use Rattle.std.specs.Prelude.{◌≡◌, None, Some};
 ghost use Rattle.smithy_core.specs.declared.raw_message.RawMessage.TheVariants.{Invalid};
-ghost use Rattle.event_io.specs.Receiver.{TellsWantOfMemory, recv_stop, silent_stop, tried_stop};
+ghost use Rattle.event_io.specs.Receiver.{NamesWantOfMemory, recv_stop, silent_stop, tried_stop};
 ghost use Rattle.event_io.specs.ResponseFault.{response_error};
-ghost use Rattle.event_io.specs.Stop.{TellsStop};
+ghost use Rattle.event_io.specs.Stop.{NamesStopWant};
 ghost use Rattle.event_io.specs.declared.response_fault.ResponseFault.TheVariants.{Frame};
 
 use crate::received::{Received, Tried};
@@ -49,9 +49,9 @@ enum Silence {
 impl Stop {
     // As an answer of `recv`.
     pub(crate) fn received<T, E>(self) -> Result<Received<T>, ReceiveError<E>>
-        requires { TellsStop self }
+        requires { NamesStopWant self }
         ensures stop { recv_stop result ≡ Some self }
-        ensures want { TellsWantOfMemory result }
+        ensures want { NamesWantOfMemory result }
     {
         Ok(match self.silence()? {
             Silence::End => Received::End,
@@ -62,9 +62,9 @@ impl Stop {
 
     // As an answer of a call that looks for the first message.
     pub(crate) fn tried<M, E>(self) -> Result<Tried<M>, ReceiveError<E>>
-        requires { TellsStop self }
+        requires { NamesStopWant self }
         ensures stop { tried_stop result ≡ Some self }
-        ensures want { TellsWantOfMemory result }
+        ensures want { NamesWantOfMemory result }
     {
         Ok(match self.silence()? {
             Silence::End => Tried::End,
@@ -75,9 +75,9 @@ impl Stop {
 
     // Why nothing is answered, or the error.
     fn silence<E>(self) -> Result<Silence, ReceiveError<E>>
-        requires { TellsStop self }
+        requires { NamesStopWant self }
         ensures stop { silent_stop result ≡ Some self }
-        ensures want { TellsWantOfMemory result }
+        ensures want { NamesWantOfMemory result }
     {
         match self {
             Stop::End => Ok(Silence::End),

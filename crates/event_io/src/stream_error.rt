@@ -1,5 +1,5 @@
 ghost use Rattle.std.specs.Prelude.{◌≡◌, IfOk};
-ghost use Rattle.event_io.specs.StreamError.{IsSameStreamError, generic_error, given_metadata, told_metadata, unhandled_error};
+ghost use Rattle.event_io.specs.StreamError.{IsSameStreamError, generic_error, given_metadata, metadata_of, unhandled_error};
 
 use smithy_core::{ErrorMetadata, Mem};
 use std::fmt;
@@ -46,7 +46,7 @@ impl MessageStreamError {
 
     /// The metadata that it tells: none after [`MessageStreamError::unhandled`].
     pub fn meta(&self) -> &ErrorMetadata
-        ensures { result.now ≡ told_metadata self.now }
+        ensures { result.now ≡ metadata_of self.now }
     {
         match &self.told {
             Some(told) => told,

@@ -17,7 +17,7 @@ pub data Told : Type 0 where
   -- a signer that answers each message as it is, and none at the end
   plain : Told
   -- it signs over this signature, for who signs, and goes on from the new signature
-  sealed : List ℕ → Signer → Told
+  signs_over : List ℕ → Signer → Told
   -- nothing is told
   untold : Told
 
@@ -35,21 +35,21 @@ unsigned_message message t = option_or (option_map encoding_refusal (unframed me
 
 -- with no reason against it the answer is the link of the bytes over the signature, and the signer goes on from the new one;
 -- else it is the reason, or memory ran out, and the signer stays
-abbrev pub Seals : Option SignMessageError → List ℕ → Signer → List ℕ → Instant → Result Parts SignMessageError → Told → Type 0
-Seals refused signature signer bytes t (Ok answer) now =
-    (refused ≡ None) × (answer ≡ link_message signer signature bytes t) × (now ≡ sealed (link_signature signer signature bytes t) signer)
-Seals refused signature signer bytes t (Err error) now = ((refused ≡ Some error) ⊎ (error ≡ NoMemory)) × (now ≡ sealed signature signer)
+abbrev pub SignsLink : Option SignMessageError → List ℕ → Signer → List ℕ → Instant → Result Parts SignMessageError → Told → Type 0
+SignsLink refused signature signer bytes t (Ok answer) now =
+    (refused ≡ None) × (answer ≡ link_message signer signature bytes t) × (now ≡ signs_over (link_signature signer signature bytes t) signer)
+SignsLink refused signature signer bytes t (Err error) now = ((refused ≡ Some error) ⊎ (error ≡ NoMemory)) × (now ≡ signs_over signature signer)
 
 -- what a signer answers for a message, by what is told of it before and after
 abbrev pub Signs : Told → Parts → Instant → Result Parts SignMessageError → Told → Type 0
 Signs plain message t (Ok answer) now = (answer ≡ message) × (now ≡ plain)
 Signs plain message t (Err error) now = (error ≡ NoMemory) × (now ≡ plain)
-Signs (sealed signature signer) message t result now = Seals (unsigned_message message t) signature signer (frame message) t result now
+Signs (signs_over signature signer) message t result now = SignsLink (unsigned_message message t) signature signer (frame message) t result now
 Signs untold message t result now = now ≡ untold
 
 -- what a signer answers for the empty message at the end, by what is told of it before and after
 abbrev pub SignsEmpty : Told → Instant → Option (Result Parts SignMessageError) → Told → Type 0
 SignsEmpty plain t result now = (result ≡ None) × (now ≡ plain)
-SignsEmpty (sealed signature signer) t None now = ⊥
-SignsEmpty (sealed signature signer) t (Some result) now = Seals (unsigned_at t) signature signer [] t result now
+SignsEmpty (signs_over signature signer) t None now = ⊥
+SignsEmpty (signs_over signature signer) t (Some result) now = SignsLink (unsigned_at t) signature signer [] t result now
 SignsEmpty untold t result now = now ≡ untold

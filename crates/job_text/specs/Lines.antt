@@ -47,10 +47,10 @@ header_of_line (b ∷ bytes) =
 -- ## Answers
 
 -- the text has these lines, or the line at this place is bad
-abbrev pub TellsText : Result (List (List ℕ)) ℕ → Result (Bor (List ℕ)) JobFault → Type 0
-TellsText lines (Ok text) = lines ≡ Ok (job_lines text.now)
-TellsText lines (Err (BadLine place)) = lines ≡ Err place
-TellsText lines (Err NoMemory) = ⊥
+abbrev pub GivesLines : Result (List (List ℕ)) ℕ → Result (Bor (List ℕ)) JobFault → Type 0
+GivesLines lines (Ok text) = lines ≡ Ok (job_lines text.now)
+GivesLines lines (Err (BadLine place)) = lines ≡ Err place
+GivesLines lines (Err NoMemory) = ⊥
 
 -- the texts of a pair
 abbrev pub texts_of_pair : Option (Bor (List ℕ) × Bor (List ℕ)) → Option (List ℕ × List ℕ)

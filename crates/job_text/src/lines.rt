@@ -1,7 +1,7 @@
 //! Lines, and the words in them.
 ghost use Rattle.std.specs.Prelude.{◌≡◌, ◌<◌, ◌==◌, ◌+◌, ◌∷◌, count_by, length};
 ghost use Rattle.smithy_core.specs.Text.{line_feed};
-ghost use Rattle.job_text.specs.Lines.{TakesLines, TellsText, after_word_of, header_of_line, job_lines, text_lines, texts_of_pair, word_of};
+ghost use Rattle.job_text.specs.Lines.{TakesLines, GivesLines, after_word_of, header_of_line, job_lines, text_lines, texts_of_pair, word_of};
 ghost use Rattle.job_text.specs.Pieces.{taken_from};
 
 use crate::fault::{JobFault, LineFault};
@@ -57,7 +57,7 @@ pub fn take_lines<D: TakeLine>(alloc: Global, draft: &mut D, text: &str) -> Resu
 /// [`JobFault::BadLine`] at the line of the first byte that isn't UTF-8.
 #[tactic(auto, unfolding(crate::specs::Lines::text_lines))]
 pub fn text_of(bytes: &[u8]) -> Result<&str, JobFault>
-    ensures { TellsText (text_lines bytes.now) result }
+    ensures { GivesLines (text_lines bytes.now) result }
 {
     match std::str::from_utf8(bytes) {
         Ok(text) => Ok(text),

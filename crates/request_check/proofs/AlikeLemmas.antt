@@ -17,7 +17,7 @@ use Rattle.sigv4.specs.declared.error.SigningError.TheVariants.{InvalidUri}
 use Rattle.sigv4.specs.declared.settings.SignatureLocation.{SignatureLocation}
 use Rattle.sigv4.specs.declared.settings.SignatureLocation.TheVariants.{Headers, QueryParams}
 use Rattle.sigv4.proofs.FitLemmas.{passed}
-use Rattle.request_check.specs.Recomputation.{IsAlike, IsSentOf, IsToldApart, Recomputes, IsSignedAsSent}
+use Rattle.request_check.specs.Recomputation.{IsAlike, IsSentOf, HasFormApart, Recomputes, IsSignedAsSent}
 use Rattle.request_check.specs.Recomputed.{ChecksRequest, RefusesSent, recomputed, unfit_sent}
 use Rattle.request_check.specs.Sealed.{IsSealed, IsUnsealed, SealParts, SealsHeaders, SealsParameters}
 use Rattle.request_check.specs.declared.check.CheckRequestFault.{CheckRequestFault}
@@ -145,7 +145,7 @@ resealed_query c sent signs is of =
 resealed : (c : Case) (sent : HttpRequest) → IsSignedAsSent c → IsSentOf c sent → IsResealed c sent
 resealed c sent is of = by c.settings.signature_location refl is.apart
   where
-    by : (place : SignatureLocation) → c.settings.signature_location ≡ place → IsToldApart place c → IsResealed c sent
+    by : (place : SignatureLocation) → c.settings.signature_location ≡ place → HasFormApart place c → IsResealed c sent
     by Headers here apart =
         resealed_header c sent is (record {
           form = ap is_query here;

@@ -9,7 +9,7 @@ use Rattle.smithy_core.specs.Moment.{floor_secs}
 use Rattle.smithy_core.specs.TextPairs.{AreLower, first_value, inserted, lower, named_values}
 use Rattle.smithy_core.specs.Text.{line}
 use Rattle.eventstream.specs.Key.{scope, signing_key}
-use Rattle.sigv4.specs.Canonical.{added_host, canonical, canonical_headers, canonical_lines, credential, excluded_token, given_headers, header_line, hosted_headers, is_signed, joined_names, names, pairs, path_of, told_payload, token_header, unsigned_in_query_form, unsigned_token, with_optional}
+use Rattle.sigv4.specs.Canonical.{added_host, canonical, canonical_headers, canonical_lines, credential, excluded_token, given_headers, header_line, hosted_headers, is_signed, joined_names, names, pairs, path_of, header_payload, token_header, unsigned_in_query_form, unsigned_token, with_optional}
 use Rattle.sigv4.specs.Host.{host_text}
 use Rattle.sigv4.specs.Instructions.{with_instructions}
 use Rattle.sigv4.specs.Query.{Pair, decoded, query}
@@ -84,7 +84,7 @@ pub record SignsHeaders (c : Case) : Type 0 where
   pub in_years : IsInYears c.at
   pub fit : unfit c ≡ None
   pub token : IsTrimmed c.token
-  pub payload : IsTrimmed (told_payload c.settings.payload_checksum_kind c.payload)
+  pub payload : IsTrimmed (header_payload c.settings.payload_checksum_kind c.payload)
 
 -- the signature's own headers, inserted
 inserted_all : (settings : Settings) (date text : List ℕ) (payload token : Option (List ℕ)) (headers : List Pair)
@@ -98,7 +98,7 @@ inserted_all settings date text (Some payload) (Some token) headers = refl
 
 module _ (c : Case) (is : SignsHeaders c) where
   abbrev told : Option (List ℕ)
-  told = told_payload c.settings.payload_checksum_kind c.payload
+  told = header_payload c.settings.payload_checksum_kind c.payload
 
   abbrev token_name : List ℕ
   token_name = token_header c.settings

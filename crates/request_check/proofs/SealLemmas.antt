@@ -1,4 +1,4 @@
--- Seals that are made of texts, and the one seal of a request.
+-- SignsLink that are made of texts, and the one seal of a request.
 use Rattle.std.proofs.Common.{◌≡◌, ℕ, Bool, Bor, true, false, List, [], ◌++◌, Option, Some, None, refl, sym, ap, ◌∙◌, true≢false, subst, unwrap_or, Ok, Err}
 use Rattle.std.specs.Prelude.{IfOk, Result, codes, string_bytes}
 use Rattle.std.proofs.lemmas.List.{append_cancel_right}
@@ -16,10 +16,10 @@ use Rattle.sigv4.specs.Signed.{authorization_text}
 use Rattle.sigv4.specs.declared.settings.SignatureLocation.{SignatureLocation}
 use Rattle.sigv4.specs.declared.settings.SignatureLocation.TheVariants.{Headers, QueryParams}
 use Rattle.sigv4.specs.Signature.{is_signature}
-use Rattle.request_check.specs.Carried.{CutsScope, IsAuthorization, IsCarried, CarriesFirst, MakesSeal, ReadsAuthorization, ReadsParameters, TellsHeaderSeal, TellsTargetSeal}
+use Rattle.request_check.specs.Carried.{CutsScope, IsAuthorization, IsCarried, CarriesFirst, MakesSeal, ReadsAuthorization, ReadsParameters, FindsHeaderSeal, FindsTargetSeal}
 use Rattle.request_check.specs.Cuts.{CutsEnd}
 use Rattle.request_check.specs.SealTexts.{has_space}
-use Rattle.request_check.specs.Sealed.{HasOneSeal, IsSealedAt, IsUnsealed, SealParts, SealsHeaders, SealsParameters, TellsSeal, sealed_credential}
+use Rattle.request_check.specs.Sealed.{HasOneSeal, IsSealedAt, IsUnsealed, SealParts, SealsHeaders, SealsParameters, FindsSeal, sealed_credential}
 use Rattle.request_check.specs.Stamped.{ReadsStamp}
 use Rattle.request_check.specs.declared.seal.Carried.{Carried}
 use Rattle.request_check.proofs.ReadingLemmas.{read_once}
@@ -98,7 +98,7 @@ carried_so headers region name text carried seal dated here read is =
 
 pub header_seal : (headers : List Pair) (region name text : List ℕ) (carried : Carried) (made : Option SealParts) → first_value headers (codes "x-amz-date") ≡ Some carried.date.now
     → first_value headers (codes "authorization") ≡ Some text → IsAuthorization text carried.credential.now carried.names.now carried.signature.now
-    → MakesSeal Headers region name carried made → TellsHeaderSeal headers region name made
+    → MakesSeal Headers region name carried made → FindsHeaderSeal headers region name made
 header_seal headers region name text carried None dated here read none = λ seal is. none seal (carried_so headers region name text carried seal dated here read is)
 header_seal headers region name text carried (Some seal) dated here read made =
     let is = made.0 in (
@@ -122,10 +122,10 @@ pub one_query : (text : List ℕ) (u v : Uri) → Spells text u → Spells text 
 unfolding decoded
 one_query text u v p q = ap (λ (kept : List ℕ). decoded_pairs (unwrap_or (query_of kept) [])) (Spells_unique text u v p q).2
 
-pub unspelled : (target region name : List ℕ) → SpellsNone target → TellsTargetSeal target region name None
+pub unspelled : (target region name : List ℕ) → SpellsNone target → FindsTargetSeal target region name None
 unspelled target region name none = λ seal here. none (uri_scheme here.0) (uri_authority here.0) (uri_data here.0) here.1
 
-pub uncarried : (target region name : List ℕ) (uri : Uri) → Spells target uri → ReadsParameters (decoded (target_of uri)) None → TellsTargetSeal target region name None
+pub uncarried : (target region name : List ℕ) (uri : Uri) → Spells target uri → ReadsParameters (decoded (target_of uri)) None → FindsTargetSeal target region name None
 uncarried target region name uri spells none = λ seal here.
     none region name seal (rw (sym (one_query target uri here.0 spells here.1)) at here.2)
 
@@ -157,7 +157,7 @@ carried_first pairs region name carried seal first is = record {
 }
 
 pub target_seal : (target region name : List ℕ) (uri : Uri) (carried : Carried) (made : Option SealParts) → Spells target uri → CarriesFirst (decoded (target_of uri)) carried
-    → MakesSeal QueryParams region name carried made → TellsTargetSeal target region name made
+    → MakesSeal QueryParams region name carried made → FindsTargetSeal target region name made
 target_seal target region name uri carried None spells first none = λ seal here.
     none seal (carried_first (decoded (target_of uri)) region name carried seal first (rw (sym (one_query target uri here.0 spells here.1)) at here.2))
 target_seal target region name uri carried (Some seal) spells first made =
@@ -180,13 +180,13 @@ target_seal target region name uri carried (Some seal) spells first made =
 -- ---- the request
 
 -- a seal of headers is the request's
-pub sealed_first : (request : HttpRequest) (region name : List ℕ) (seal : SealParts) → TellsHeaderSeal request.headers region name (Some seal) → TellsSeal request region name (Some seal)
+pub sealed_first : (request : HttpRequest) (region name : List ℕ) (seal : SealParts) → FindsHeaderSeal request.headers region name (Some seal) → FindsSeal request region name (Some seal)
 sealed_first request region name seal tells =
     subst (λ (place : SignatureLocation). IsSealedAt place request.headers (string_bytes request.target) region name seal) (sym tells.1) tells.0
 
 -- where headers have none, that of the target is
-pub sealed_second : (request : HttpRequest) (region name : List ℕ) (found : Option SealParts) → TellsHeaderSeal request.headers region name None
-    → TellsTargetSeal (string_bytes request.target) region name found → TellsSeal request region name found
+pub sealed_second : (request : HttpRequest) (region name : List ℕ) (found : Option SealParts) → FindsHeaderSeal request.headers region name None
+    → FindsTargetSeal (string_bytes request.target) region name found → FindsSeal request region name found
 sealed_second request region name None unsealed none = λ seal is. by_place seal.place refl seal is
   where
     by_place : (place : SignatureLocation) (p : place ≡ place) (seal : SealParts) → IsSealedAt place request.headers (string_bytes request.target) region name seal → ⊥

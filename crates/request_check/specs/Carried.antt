@@ -46,14 +46,14 @@ MakesSeal place region name carried None = (seal : SealParts) → IsCarried regi
 MakesSeal place region name carried (Some seal) = IsCarried region name carried seal × (seal.place ≡ place)
 
 -- the seal of headers, or that they have none
-abbrev pub TellsHeaderSeal : List Pair → List ℕ → List ℕ → Option SealParts → Type 0
-TellsHeaderSeal headers region name None = IsUnsealed headers region name
-TellsHeaderSeal headers region name (Some seal) = SealsHeaders headers region name seal × (seal.place ≡ Headers)
+abbrev pub FindsHeaderSeal : List Pair → List ℕ → List ℕ → Option SealParts → Type 0
+FindsHeaderSeal headers region name None = IsUnsealed headers region name
+FindsHeaderSeal headers region name (Some seal) = SealsHeaders headers region name seal × (seal.place ≡ Headers)
 
 -- the seal of a target, or that it has none
-abbrev pub TellsTargetSeal : List ℕ → List ℕ → List ℕ → Option SealParts → Type 0
-TellsTargetSeal target region name None = (seal : SealParts) → SealsTarget target region name seal → ⊥
-TellsTargetSeal target region name (Some seal) = SealsTarget target region name seal × (seal.place ≡ QueryParams)
+abbrev pub FindsTargetSeal : List ℕ → List ℕ → List ℕ → Option SealParts → Type 0
+FindsTargetSeal target region name None = (seal : SealParts) → SealsTarget target region name seal → ⊥
+FindsTargetSeal target region name (Some seal) = SealsTarget target region name seal × (seal.place ≡ QueryParams)
 
 -- the URI that a text spells, or that it spells none
 abbrev pub SpellsMaybe : List ℕ → Option Uri → Type 0

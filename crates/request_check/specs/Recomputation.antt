@@ -5,7 +5,7 @@ use Rattle.smithy_core.specs.Civil.{IsInYears}
 use Rattle.smithy_core.specs.TextPairs.{AreLower, first_value}
 use Rattle.smithy_core.specs.declared.request.HttpRequest.{HttpRequest}
 use Rattle.eventstream.specs.Key.{Signer}
-use Rattle.sigv4.specs.Canonical.{told_payload, token_parameter}
+use Rattle.sigv4.specs.Canonical.{header_payload, token_parameter}
 use Rattle.sigv4.specs.Parameters.{SpellsParts}
 use Rattle.sigv4.specs.Query.{Pair, decoded}
 use Rattle.sigv4.specs.Refusal.{unfit, unfit_signed_target}
@@ -51,9 +51,9 @@ pub record IsOfStrings (c : Case) : Type 0 where
 
 -- what a signature adds is told from what the request has: in header form the texts that go into headers are trimmed, as headers are, and in query
 -- form no header is `authorization`, and the target's pairs hold no parameter of a signature
-abbrev pub IsToldApart : SignatureLocation → Case → Type 0
-IsToldApart Headers c = IsTrimmed c.token × IsTrimmed (told_payload c.settings.payload_checksum_kind c.payload)
-IsToldApart QueryParams c = (first_value c.headers (codes "authorization") ≡ None) × HaveNone (parameter_keys c.settings) (decoded c.target)
+abbrev pub HasFormApart : SignatureLocation → Case → Type 0
+HasFormApart Headers c = IsTrimmed c.token × IsTrimmed (header_payload c.settings.payload_checksum_kind c.payload)
+HasFormApart QueryParams c = (first_value c.headers (codes "authorization") ≡ None) × HaveNone (parameter_keys c.settings) (decoded c.target)
 
 -- a case that is signed: nothing of it is refused, the usual names aren't signed, and what its signature adds is told apart. The headers of a
 -- request have their names in lower case
@@ -64,7 +64,7 @@ pub record IsSignedAsSent (c : Case) : Type 0 where
   pub in_years : IsInYears c.at
   pub fit : unfit c ≡ None
   pub fits : unfit_signed_target c ≡ None
-  pub apart : IsToldApart c.settings.signature_location c
+  pub apart : HasFormApart c.settings.signature_location c
 
 -- the signed request of a case, whose own target was given by a text
 pub record IsSentOf (c : Case) (sent : HttpRequest) : Type 0 where

@@ -17,7 +17,7 @@ use Rattle.sigv4.specs.declared.error.SigningError.{SigningError}
 use Rattle.sigv4.specs.declared.error.SigningError.TheVariants.{InvalidUri, NoMemory as NoRoom}
 use Rattle.sigv4.specs.declared.settings.SignatureLocation.{SignatureLocation}
 use Rattle.sigv4.specs.declared.settings.SignatureLocation.TheVariants.{Headers, QueryParams}
-use Rattle.request_check.specs.Sealed.{IsSealed, SealParts, TellsSeal}
+use Rattle.request_check.specs.Sealed.{IsSealed, SealParts, FindsSeal}
 use Rattle.request_check.specs.declared.check.CheckRequestFault.{CheckRequestFault}
 use Rattle.request_check.specs.declared.check.CheckRequestFault.TheVariants.{NoMemory, NoSignature, Signing}
 use Rattle.request_check.specs.declared.check.Checked.{Checked}
@@ -79,7 +79,7 @@ pub record Rechecks (sent : HttpRequest) (settings : Settings) (payload : List �
 -- both signatures, or that the request carries no seal, or why it can't be signed
 abbrev pub ChecksRequest : HttpRequest → Settings → List ℕ → Signer → Result Checked CheckRequestFault → Type 0
 ChecksRequest sent settings payload signer (Ok checked) = Rechecks sent settings payload signer checked
-ChecksRequest sent settings payload signer (Err NoSignature) = TellsSeal sent signer.region signer.name None
+ChecksRequest sent settings payload signer (Err NoSignature) = FindsSeal sent signer.region signer.name None
 ChecksRequest sent settings payload signer (Err (Signing error)) =
     (seal : SealParts) × IsSealed sent signer.region signer.name seal × RefusesSent sent error
 ChecksRequest sent settings payload signer (Err NoMemory) = Unit {0}

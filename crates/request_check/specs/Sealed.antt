@@ -64,9 +64,9 @@ abbrev pub IsSealed : HttpRequest → List ℕ → List ℕ → SealParts → Ty
 IsSealed request region name seal = IsSealedAt seal.place request.headers (string_bytes request.target) region name seal
 
 -- the seal of the request, or that it carries none
-abbrev pub TellsSeal : HttpRequest → List ℕ → List ℕ → Option SealParts → Type 0
-TellsSeal request region name None = (seal : SealParts) → IsSealed request region name seal → ⊥
-TellsSeal request region name (Some seal) = IsSealed request region name seal
+abbrev pub FindsSeal : HttpRequest → List ℕ → List ℕ → Option SealParts → Type 0
+FindsSeal request region name None = (seal : SealParts) → IsSealed request region name seal → ⊥
+FindsSeal request region name (Some seal) = IsSealed request region name seal
 
 -- a request carries one seal at most
 abbrev pub HasOneSeal : HttpRequest → List ℕ → List ℕ → Type 0

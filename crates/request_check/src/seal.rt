@@ -1,8 +1,8 @@
 ghost use Rattle.std.specs.Prelude.{◌≡◌, true, string_bytes, IfOk};
 ghost use Rattle.smithy_core.specs.TextPairs.{text_pairs};
 ghost use Rattle.sigv4.specs.Signature.{is_signature};
-ghost use Rattle.request_check.specs.Carried.{MakesSeal, ReadsParameters, TellsHeaderSeal, TellsTargetSeal};
-ghost use Rattle.request_check.specs.Sealed.{TellsSeal};
+ghost use Rattle.request_check.specs.Carried.{MakesSeal, ReadsParameters, FindsHeaderSeal, FindsTargetSeal};
+ghost use Rattle.request_check.specs.Sealed.{FindsSeal};
 
 use crate::authorization::{key_id_before, read_authorization};
 use crate::parameters::{first_value, query_pairs, spelled_uri};
@@ -125,7 +125,7 @@ impl fmt::Debug for Seal {
 /// ```
 #[tactic(auto, using(crate::proofs::SealLemmas::sealed_first, crate::proofs::SealLemmas::sealed_second))]
 pub fn seal_of(alloc: Global, request: &HttpRequest, region: &str, name: &str) -> Mem<Option<Seal>>
-    ensures { IfOk result (TellsSeal request.now region.now name.now) }
+    ensures { IfOk result (FindsSeal request.now region.now name.now) }
 {
     match header_seal(alloc, &request.headers, region, name)? {
         Some(seal) => Ok(Some(seal)),
@@ -149,7 +149,7 @@ pub(crate) struct Carried<'a> {
 // The seal of headers.
 #[tactic(auto, using(crate::proofs::SealLemmas::unsealed_dateless, crate::proofs::SealLemmas::unsealed_bare, crate::proofs::SealLemmas::unsealed_other, crate::proofs::SealLemmas::header_seal))]
 fn header_seal(alloc: Global, headers: &Headers, region: &str, name: &str) -> Mem<Option<Seal>>
-    ensures { IfOk result (TellsHeaderSeal headers.now region.now name.now) }
+    ensures { IfOk result (FindsHeaderSeal headers.now region.now name.now) }
 {
     let Some(date) = headers.get("x-amz-date") else {
         return Ok(None);
@@ -172,7 +172,7 @@ fn header_seal(alloc: Global, headers: &Headers, region: &str, name: &str) -> Me
 // The seal of a target.
 #[tactic(auto, using(crate::proofs::SealLemmas::unspelled, crate::proofs::SealLemmas::uncarried, crate::proofs::SealLemmas::target_seal))]
 fn target_seal(alloc: Global, target: &str, region: &str, name: &str) -> Mem<Option<Seal>>
-    ensures { IfOk result (TellsTargetSeal target.now region.now name.now) }
+    ensures { IfOk result (FindsTargetSeal target.now region.now name.now) }
 {
     let Some(uri) = spelled_uri(alloc, target)? else {
         return Ok(None);

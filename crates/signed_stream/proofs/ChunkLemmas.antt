@@ -17,7 +17,7 @@ use Rattle.aws_chunked.specs.Text.{Part, chunk, chunked_text, crlf, pieces_of_si
 use Rattle.aws_chunked.specs.declared.body.AwsChunkedBody.{AwsChunkedBody}
 use Rattle.aws_chunked.specs.declared.body.ChunkNext.TheVariants as next
 use Rattle.aws_chunked.proofs.DueLemmas.{closed_due, parts_same}
-use Rattle.signed_stream.specs.ChunkJob.{IsBodyOf, IsPartWith, IsSoundBody, text_left, told_text}
+use Rattle.signed_stream.specs.ChunkJob.{IsBodyOf, IsPartWith, IsSoundBody, text_left, text_or_none}
 use Rattle.signed_stream.specs.Halt.{Halt, Halts, Sends, fails, halt_of, refuses, wants}
 use Rattle.signed_stream.specs.declared.status.StreamFault.{StreamFault}
 use Rattle.signed_stream.specs.Plan.{most_input}
@@ -41,7 +41,7 @@ module _ {F G : Type 0} (source : FrameSource.Ghosts F) (signer : SignChunk.Ghos
       → total_of source body ≡ option_map (λ (frames : List FramePart). counted (length (data_before frames))) (source.left from)
       → options.is_signed ≡ false → declared_length options.trailer_lengths ≡ lines_length trailers → options.stream_length ≡ length bytes → length bytes ≤ most_input
       → IsBodyOf source signer (chunked_text options.chunk_size bytes trailers) body
-  new_body options bytes trailers from body left new text parts total unsigned declared long short = (is, ap told_text text_is)
+  new_body options bytes trailers from body left new text parts total unsigned declared long short = (is, ap text_or_none text_is)
     where
       all : bytes ++ [] ≡ bytes
       all = append-nil bytes
@@ -168,7 +168,7 @@ module _ {F G : Type 0} (source : FrameSource.Ghosts F) (signer : SignChunk.Ghos
           frames_are = frames.are;
           few = frames.few;
         },
-        ap told_text sound.text_is ∙ taken ∙ sym (ap (λ (left : Option (List ℕ)). bytes ++ told_text left) now_is),
+        ap text_or_none sound.text_is ∙ taken ∙ sym (ap (λ (left : Option (List ℕ)). bytes ++ text_or_none left) now_is),
         takes.1,
       )
 
@@ -176,7 +176,7 @@ module _ {F G : Type 0} (source : FrameSource.Ghosts F) (signer : SignChunk.Ghos
   pub closed_left : (body : AwsChunkedBody F G) → IsBodyClosed body → text_left source signer body ≡ []
   closed_left body closed = by (due source signer body) (closed_due source signer body closed)
     where
-      by : (left : Option (List ℕ)) → IsNothing left → told_text left ≡ []
+      by : (left : Option (List ℕ)) → IsNothing left → text_or_none left ≡ []
       by None nothing = refl
       by (Some text) nothing = nothing
 

@@ -25,7 +25,7 @@ use Rattle.event_io.specs.declared.adapter_fault.AdapterFault.TheVariants.{Marsh
 use Rattle.event_io.specs.declared.event_source.EventSource as EventSource
 use Rattle.signed_stream.specs.Chain.{first_refusal, frame_text, link_text}
 use Rattle.signed_stream.specs.Halt.{Halt, Halts, halt_of, refuses, unless_refused, wants}
-use Rattle.signed_stream.specs.Sending.{IsChainAnswer, SendsChain, TellsAnswer, next_refused}
+use Rattle.signed_stream.specs.Sending.{IsChainAnswer, SendsChain, GivesEventFrame, next_refused}
 use Rattle.signed_stream.specs.Status.{RunFault}
 use Rattle.signed_stream.specs.declared.form.Form.{Form}
 use Rattle.signed_stream.specs.declared.status.StreamFault.{StreamFault}
@@ -156,7 +156,7 @@ module _ {S M EM G C : Type 0} (source : EventSource.Ghosts S Parts Parts) (sign
         unrefused = front_unrefused who 1 events at.sent [] seed (sym (is_polled.so.refusal []))
 
     -- it halted there
-    pub halts_at : (told : StreamFault) → TellsAnswer place answer (Err told) → HasSentChain clock form who events seed a old_moments start b new_moments now (Err told)
+    pub halts_at : (told : StreamFault) → GivesEventFrame place answer (Err told) → HasSentChain clock form who events seed a old_moments start b new_moments now (Err told)
     halts_at told tells = by_answer answer tells is_polled.polled
       where
         line : Instant → List ℕ
@@ -168,7 +168,7 @@ module _ {S M EM G C : Type 0} (source : EventSource.Ghosts S Parts Parts) (sign
         halts : (t : Instant) {halt : Halt} → halt_of told ≡ halt → Halts (refused t) (unless_refused (refused t) (line t)) b b halt → Halts (refused t) (unless_refused (refused t) (line t)) b b (halt_of told)
         halts t is halted = subst (λ (h : Halt). Halts (refused t) (unless_refused (refused t) (line t)) b b h) (sym is) halted
 
-        by_answer : (answer : Result Next SendError) → TellsAnswer place answer (Err told)
+        by_answer : (answer : Result Next SendError) → GivesEventFrame place answer (Err told)
             → PollsChain source signer clock before now moments new_moments who is_polled.left is_polled.signature old new answer → HasSentChain clock form who events seed a old_moments start b new_moments now (Err told)
         by_answer (Ok next) tells polled = absurd tells
         by_answer (Err (sdk.ConstructionFailure (Sign error))) tells (t, takes, unsigned, on) =

@@ -18,7 +18,7 @@ use Rattle.aws_auth.specs.Error.{override_error}
 use Rattle.aws_auth.specs.Inputs.{ChosenInputs, chosen, chosen_case, chosen_text, given_config}
 use Rattle.aws_auth.specs.NameOverride.{MayAnswer, NameAnswer}
 use Rattle.eventstream.specs.Key.{Signer}
-use Rattle.eventstream.specs.Told.{sealed}
+use Rattle.eventstream.specs.Told.{signs_over}
 use Rattle.sigv4.specs.Signed.{signature_of}
 use Rattle.aws_auth.specs.MessageSigner.{GoesOn, SignerState, told_by}
 use Rattle.aws_auth.specs.Options.{AreSameOverrides, IsSameOptions}
@@ -154,7 +154,7 @@ same_secret (Credentials credentials) (Token token) can same = absurd same
 same_secret (Token token) copy can same = absurd can
 
 -- and seals
-copy_seals : (identity copy : Identity) (signature : List ℕ) (who : Signer) → IsCredentials identity → IsSameIdentity identity copy → told_by copy signature who ≡ sealed signature who
+copy_seals : (identity copy : Identity) (signature : List ℕ) (who : Signer) → IsCredentials identity → IsSameIdentity identity copy → told_by copy signature who ≡ signs_over signature who
 copy_seals (Credentials credentials) (Credentials copy) signature who can same = refl
 copy_seals (Credentials credentials) (Token token) signature who can same = absurd same
 copy_seals (Token token) copy signature who can same = absurd can

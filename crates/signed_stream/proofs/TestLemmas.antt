@@ -3,7 +3,7 @@ use Rattle.std.proofs.Common.{◌≡◌, ℕ, ◌+◌, ◌⊎◌, inl, inr, Bool
 use Rattle.std.specs.Prelude.{if◌then◌else◌, not, ◌&&◌}
 use Rattle.std.specs.Option.{option_or}
 use Rattle.smithy_http.specs.Target.{Target}
-use Rattle.sigv4.specs.Canonical.{has_host, signing_parameters, told_payload}
+use Rattle.sigv4.specs.Canonical.{has_host, signing_parameters, header_payload}
 use Rattle.sigv4.specs.Host.{host_text}
 use Rattle.sigv4.specs.Parameters.{is_asterisk, takes_no_more}
 use Rattle.sigv4.specs.Query.{Pair}
@@ -81,16 +81,16 @@ texts_test c = by_form (is_query_form c.settings)
     headers : Option SigningError
     headers =
         option_or (unfit_optional Token c.token)
-        (option_or (unfit_optional PayloadHash (told_payload c.settings.payload_checksum_kind c.payload)) (unfit_value Authorization (authorization c)))
+        (option_or (unfit_optional PayloadHash (header_payload c.settings.payload_checksum_kind c.payload)) (unfit_value Authorization (authorization c)))
 
     by_form : (query : Bool)
         → GivesParts (if query then unfit_expiry c.settings.expires_in
         else option_or (unfit_optional Token c.token)
-        (option_or (unfit_optional PayloadHash (told_payload c.settings.payload_checksum_kind c.payload)) (unfit_value Authorization (authorization c))))
+        (option_or (unfit_optional PayloadHash (header_payload c.settings.payload_checksum_kind c.payload)) (unfit_value Authorization (authorization c))))
     by_form true = expiry_test c.settings.expires_in
     by_form false =
         either _ _ (optional_test Token c.token)
-        (either _ _ (optional_test PayloadHash (told_payload c.settings.payload_checksum_kind c.payload)) (value_test Authorization (authorization c)))
+        (either _ _ (optional_test PayloadHash (header_payload c.settings.payload_checksum_kind c.payload)) (value_test Authorization (authorization c)))
 
 -- ## The target
 

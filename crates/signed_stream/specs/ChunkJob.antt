@@ -24,9 +24,9 @@ chunk_plan wanted bytes = writes (shown_chunks wanted bytes) done
 -- ## Between the functions of `chunk`: a reader of its plan needs none of it
 
 -- the text, where it is told
-abbrev pub told_text : Option (List ℕ) → List ℕ
-told_text None = []
-told_text (Some text) = text
+abbrev pub text_or_none : Option (List ℕ) → List ℕ
+text_or_none None = []
+text_or_none (Some text) = text
 
 -- a chunk of data, or the end with these trailers
 abbrev pub IsPartWith : List Trailer → Part → Type 0
@@ -51,7 +51,7 @@ pub record IsSoundBody {F G : Type 0} (source : FrameSource.Ghosts F) (signer : 
 
 -- the text of a sound body that is still to be answered
 abbrev pub text_left : {F G : Type 0} → FrameSource.Ghosts F → SignChunk.Ghosts G → AwsChunkedBody F G → List ℕ
-text_left source signer body = told_text (due source signer body)
+text_left source signer body = text_or_none (due source signer body)
 
 -- the body is sound, and its text is this
 abbrev pub IsBodyOf : {F G : Type 0} → FrameSource.Ghosts F → SignChunk.Ghosts G → List ℕ → AwsChunkedBody F G → Type 0

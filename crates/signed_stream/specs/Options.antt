@@ -57,34 +57,34 @@ commanded (Generate words) = generate words.seed words.count
 commanded (OfInput command) = input_commanded command
 
 -- the fault is why the words are no command, unless memory ran out
-abbrev pub TellsWordsFault : Command → WordsFault → Type 0
-TellsWordsFault command (BadWord place) = command ≡ bad_word place
-TellsWordsFault command NoMemory = Unit {0}
+abbrev pub GivesWordsFault : Command → WordsFault → Type 0
+GivesWordsFault command (BadWord place) = command ≡ bad_word place
+GivesWordsFault command NoMemory = Unit {0}
 
 -- the command is the one that the words spell, or they spell none; or memory ran out
 abbrev pub ReadsWords : Command → Result Commanded WordsFault → Type 0
 ReadsWords command (Ok words) = command ≡ commanded words
-ReadsWords command (Err fault) = TellsWordsFault command fault
+ReadsWords command (Err fault) = GivesWordsFault command fault
 
 -- the words of `stream`, likewise
 abbrev pub ReadsStream : Command → Result StreamWords WordsFault → Type 0
 ReadsStream command (Ok words) = command ≡ stream (wanted_of words)
-ReadsStream command (Err fault) = TellsWordsFault command fault
+ReadsStream command (Err fault) = GivesWordsFault command fault
 
 -- the words of `check`, likewise
 abbrev pub ReadsCheck : Command → Result CheckWords WordsFault → Type 0
 ReadsCheck command (Ok words) = command ≡ check_record (check_wanted words)
-ReadsCheck command (Err fault) = TellsWordsFault command fault
+ReadsCheck command (Err fault) = GivesWordsFault command fault
 
 -- the words of `gen`, likewise
 abbrev pub ReadsGenerator : Command → Result GeneratorWords WordsFault → Type 0
 ReadsGenerator command (Ok words) = command ≡ generate words.seed words.count
-ReadsGenerator command (Err fault) = TellsWordsFault command fault
+ReadsGenerator command (Err fault) = GivesWordsFault command fault
 
 -- the words of `settings`, likewise
 abbrev pub ReadsProfile : Command → Result ProfileOptions WordsFault → Type 0
 ReadsProfile command (Ok profile) = command ≡ show_settings (profile_wanted profile)
-ReadsProfile command (Err fault) = TellsWordsFault command fault
+ReadsProfile command (Err fault) = GivesWordsFault command fault
 
 -- what the words so far gave
 abbrev pub given_options : GivenOptions → OptionsGiven
@@ -110,4 +110,4 @@ check_given given = record { name = option_copied given.name; profile = profile_
 -- the words of `chunk`: what they ask for, or the place of the first bad one; or memory ran out
 abbrev pub ReadsChunk : Command → Result ChunkWords WordsFault → Type 0
 ReadsChunk command (Ok words) = command ≡ write_chunks (chunk_wanted words)
-ReadsChunk command (Err fault) = TellsWordsFault command fault
+ReadsChunk command (Err fault) = GivesWordsFault command fault

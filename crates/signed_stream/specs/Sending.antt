@@ -5,7 +5,7 @@ use Rattle.smithy_core.specs.Moment.{Instant}
 use Rattle.smithy_core.specs.declared.sdk_error.SdkError.TheVariants as sdk
 use Rattle.eventstream.specs.Error.{error_kind}
 use Rattle.eventstream.specs.Key.{Signer}
-use Rattle.eventstream.specs.Told.{Told, sealed}
+use Rattle.eventstream.specs.Told.{Told, signs_over}
 use Rattle.eventstream.specs.Write.{IsFrameFault}
 use Rattle.eventstream.specs.declared.sign_error.SignMessageError.{SignMessageError}
 use Rattle.eventstream.specs.declared.sign_error.SignMessageError.TheVariants as signing
@@ -53,21 +53,21 @@ answer_halt place (Err (sdk.ConstructionFailure (Write error))) = refuses (fault
 answer_halt place answer = wants
 
 -- the frame that was answered, or how the answer halts the stream
-abbrev pub TellsAnswer : ℕ → Result Next SendError → Result (List ℕ) StreamFault → Type 0
-TellsAnswer place answer (Ok bytes) = answer ≡ Ok (Frame bytes)
-TellsAnswer place (Ok next) (Err fault) = ⊥
-TellsAnswer place answer (Err fault) = halt_of fault ≡ answer_halt place answer
+abbrev pub GivesEventFrame : ℕ → Result Next SendError → Result (List ℕ) StreamFault → Type 0
+GivesEventFrame place answer (Ok bytes) = answer ≡ Ok (Frame bytes)
+GivesEventFrame place (Ok next) (Err fault) = ⊥
+GivesEventFrame place answer (Err fault) = halt_of fault ≡ answer_halt place answer
 
 -- ## The chain
 
 -- who signs, by what is told of a signer, and over which signature
-abbrev pub sealed_signer : Told → Signer
-sealed_signer (sealed signature who) = who
-sealed_signer told = record { secret = []; region = []; name = [] }
+abbrev pub told_signer : Told → Signer
+told_signer (signs_over signature who) = who
+told_signer told = record { secret = []; region = []; name = [] }
 
-abbrev pub sealed_signature : Told → List ℕ
-sealed_signature (sealed signature who) = signature
-sealed_signature told = []
+abbrev pub told_signature : Told → List ℕ
+told_signature (signs_over signature who) = signature
+told_signature told = []
 
 -- with no fault each event and the closing frame had its moment
 abbrev pub IsWhole : {T : Type 0} → List Parts → List Instant → Result T StreamFault → Type 0

@@ -12,7 +12,7 @@ use Rattle.sigv4.specs.Request.{Case, key_id_of, token_of}
 use Rattle.sigv4.specs.Signed.{signature_of, signed_headers, signed_target}
 use Rattle.sigv4.specs.declared.error.SigningError.{SigningError}
 use Rattle.sigv4.specs.declared.error.SigningError.TheVariants as errors
-use Rattle.eventstream.specs.Told.{sealed}
+use Rattle.eventstream.specs.Told.{signs_over}
 use Rattle.aws_auth.specs.Inputs.{chosen_text}
 use Rattle.aws_auth.specs.MessageSigner.{SignerState, running_signature, signer_in, told_of}
 use Rattle.aws_auth.specs.declared.error.SigV4SigningError.{SigV4SigningError}
@@ -81,7 +81,7 @@ pub record IsSignedFor (c : Case) (old new : HttpRequest) : Type 0 where
 
 -- the signer signs messages for who signs the case, over its signature
 pub record SealsFor (c : Case) (signer : SignerState (Unit {0})) : Type 0 where
-  pub told : told_of signer ≡ sealed (running_signature signer) (signer_in signer)
+  pub told : told_of signer ≡ signs_over (running_signature signer) (signer_in signer)
   pub signature : running_signature signer ≡ signature_of c
   pub who : signer_in signer ≡ c.signer
 

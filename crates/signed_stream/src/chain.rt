@@ -2,14 +2,14 @@ ghost use Rattle.std.specs.Prelude.{◌≡◌, ◌≤◌, ◌+◌, ◌++◌, Lis
 ghost use Rattle.smithy_core.specs.Given.{GivesEach};
 ghost use Rattle.smithy_core.specs.Moment.{Instant};
 ghost use Rattle.smithy_core.specs.Outside.{RoseOrStands};
-ghost use Rattle.eventstream.specs.Told.{sealed};
+ghost use Rattle.eventstream.specs.Told.{signs_over};
 ghost use Rattle.eventstream.specs.Write.{IsFrameFault};
 ghost use Rattle.event_io.specs.Adapter.{adapter_signer, item_source_of};
 ghost use Rattle.event_io.specs.Chain.{Chains};
 ghost use Rattle.aws_auth.specs.MessageSigner.{running_signature, signer_in, told_of};
 ghost use Rattle.signed_stream.specs.Chain.{fault_at, frame_text};
 ghost use Rattle.signed_stream.specs.Halt.{Sends, halt_of, refuses};
-ghost use Rattle.signed_stream.specs.Sending.{IsChainAnswer, IsSignFault, SendsChain, TellsAnswer, sealed_signature, sealed_signer, sign_halt};
+ghost use Rattle.signed_stream.specs.Sending.{IsChainAnswer, IsSignFault, SendsChain, GivesEventFrame, told_signature, told_signer, sign_halt};
 
 use crate::form::Form;
 use crate::own_events::OwnEvents;
@@ -41,7 +41,7 @@ pub fn stream_events<C: Clock, K: ByteSink>(
     sink: &mut K,
     moments: &mut Vec<Moment>,
 ) -> Result<(), StreamFault>
-    requires { told_of signer ≡ sealed (running_signature signer) (signer_in signer) }
+    requires { told_of signer ≡ signs_over (running_signature signer) (signer_in signer) }
     ensures count { K.faults sink.old ≤ K.faults sink.new }
     ensures sends { (taken : List Instant) × (moments.new.items ≡ moments.old.items ++ taken) × GivesEach C.Clock clock.old taken clock.new
         × SendsChain form (signer_in signer) events.items (running_signature signer) (K.held sink.old) (K.held sink.new) taken result }
@@ -71,10 +71,10 @@ fn send_frames<G: SignMessage, C: Clock, K: ByteSink>(
     moments: &mut Vec<Moment>,
 ) -> Result<(), StreamFault>
     requires places { end ≡ length (item_source_of adapter) + 2 }
-    requires chains { Chains ⟦<OwnEvents as EventSource>⟧ G.SignMessage (sealed_signer (G.told (adapter_signer adapter))) (item_source_of adapter) (sealed_signature (G.told (adapter_signer adapter))) adapter }
+    requires chains { Chains ⟦<OwnEvents as EventSource>⟧ G.SignMessage (told_signer (G.told (adapter_signer adapter))) (item_source_of adapter) (told_signature (G.told (adapter_signer adapter))) adapter }
     ensures count { K.faults sink.old ≤ K.faults sink.new }
     ensures sends { (taken : List Instant) × (moments.new.items ≡ moments.old.items ++ taken) × GivesEach C.Clock clock.old taken clock.new
-        × SendsChain form (sealed_signer (G.told (adapter_signer adapter))) (item_source_of adapter) (sealed_signature (G.told (adapter_signer adapter))) (K.held sink.old) (K.held sink.new) taken result }
+        × SendsChain form (told_signer (G.told (adapter_signer adapter))) (item_source_of adapter) (told_signature (G.told (adapter_signer adapter))) (K.held sink.old) (K.held sink.new) taken result }
     ensures failed { IsErrOf result StreamFault.SinkFault → RoseOrStands (K.faults sink.old) (K.faults sink.new) }
     ensures steady { (IsErrOf result StreamFault.SinkFault → ⊥) → K.faults sink.new ≡ K.faults sink.old }
 {
@@ -92,7 +92,7 @@ fn frame_at(
     answer: Result<Next, SdkError<AdapterFault, AdapterFault, RawMessage>>,
 ) -> Result<Bytes, StreamFault>
     requires { IsChainAnswer answer }
-    ensures { TellsAnswer place answer result }
+    ensures { GivesEventFrame place answer result }
 {
     match answer {
         Ok(Next::Frame(bytes)) => Ok(bytes),

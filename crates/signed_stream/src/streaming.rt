@@ -3,7 +3,7 @@ ghost use Rattle.std.specs.String.{string_bytes};
 ghost use Rattle.smithy_core.specs.Given.{Gives, GivesEach};
 ghost use Rattle.smithy_core.specs.Moment.{Instant};
 ghost use Rattle.smithy_core.specs.Outside.{RoseOrStands};
-ghost use Rattle.eventstream.specs.Told.{sealed};
+ghost use Rattle.eventstream.specs.Told.{signs_over};
 ghost use Rattle.env_config.specs.Source.{file_of};
 ghost use Rattle.aws_auth.specs.MessageSigner.{running_signature, signer_in, told_of};
 ghost use Rattle.signed_stream.specs.Halt.{Sends, ended};
@@ -175,7 +175,7 @@ fn stream_signed<C: Clock, K: ByteSink>(
     sink: &mut K,
     moments: &mut Vec<Moment>,
 ) -> Result<(), StreamFault>
-    requires { told_of signer ≡ sealed (running_signature signer) (signer_in signer) }
+    requires { told_of signer ≡ signs_over (running_signature signer) (signer_in signer) }
     ensures count { K.faults sink.old ≤ K.faults sink.new }
     ensures sends { (taken : List Instant) × (moments.new.items ≡ moments.old.items ++ taken) × GivesEach C.Clock clock.old taken clock.new
         × SendsAll form (head_in_form form (string_bytes request.now.method) (string_bytes request.now.target) request.now.headers)

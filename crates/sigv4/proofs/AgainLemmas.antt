@@ -9,7 +9,7 @@ use Rattle.smithy_core.specs.TextPairs.{first_value, inserted, lower, named_valu
 use Rattle.smithy_core.specs.Text.{line}
 use Rattle.smithy_http.specs.Target.{Target}
 use Rattle.sigv4.specs.Again.{HasSameTarget, SignsAgain, again}
-use Rattle.sigv4.specs.Canonical.{added_host, canonical, canonical_headers, canonical_lines, credential, excluded_token, given_headers, has_host, header_line, hosted_headers, is_signed, joined_names, names, pairs, path_of, signed_names, told_payload, token_header, unsigned_in_query_form, unsigned_token, with_optional}
+use Rattle.sigv4.specs.Canonical.{added_host, canonical, canonical_headers, canonical_lines, credential, excluded_token, given_headers, has_host, header_line, hosted_headers, is_signed, joined_names, names, pairs, path_of, signed_names, header_payload, token_header, unsigned_in_query_form, unsigned_token, with_optional}
 use Rattle.sigv4.specs.Host.{host_text}
 use Rattle.sigv4.specs.Instructions.{with_instructions}
 use Rattle.sigv4.specs.Parameters.{target_text_with}
@@ -191,7 +191,7 @@ record HasFitParts (c : Case) : Type 0 where
   headers : unfit_headers 1 c.headers ≡ None
   token_name : unfit_token_name c.settings ≡ None
   token : unfit_optional Token c.token ≡ None
-  payload : unfit_optional PayloadHash (told_payload c.settings.payload_checksum_kind c.payload) ≡ None
+  payload : unfit_optional PayloadHash (header_payload c.settings.payload_checksum_kind c.payload) ≡ None
   authorization : is_value (authorization c) ≡ true
 
 fit_parts : (c : Case) → is_query_form c.settings ≡ false → unfit c ≡ None → HasFitParts c
@@ -202,12 +202,12 @@ fit_parts c form e =
     let after_host = (both_none (unfit_host c.target c.headers) _ headers.1).1 in
     let name = both_none (unfit_token_name c.settings) (unfit_texts c) after_host in
     let token = both_none (unfit_optional Token c.token) _ (sym (otherwise (is_query_form c.settings) _ _ form) ∙ name.1) in
-    let payload = both_none (unfit_optional PayloadHash (told_payload c.settings.payload_checksum_kind c.payload)) (unfit_value Authorization (authorization c)) token.1 in
+    let payload = both_none (unfit_optional PayloadHash (header_payload c.settings.payload_checksum_kind c.payload)) (unfit_value Authorization (authorization c)) token.1 in
     record { headers = headers.0; token_name = name.0; token = token.0; payload = payload.0; authorization = passed (is_value (authorization c)) _ payload.1 }
 
 module _ (c : Case) (form : is_query_form c.settings ≡ false) where
   abbrev told : Option (List ℕ)
-  told = told_payload c.settings.payload_checksum_kind c.payload
+  told = header_payload c.settings.payload_checksum_kind c.payload
 
   instructions_are : instructions c ≡ instructions_for c.settings (stamp c.at) (authorization c) told c.token
   unfolding instructions

@@ -2,7 +2,7 @@
 use Rattle.std.proofs.Common.{◌≡◌, ℕ, Bool, true, false, ◌&&◌, cond, List, [], ◌++◌, Option, Some, None, refl, sym, ap, ◌∙◌, append-nil}
 use Rattle.std.specs.Prelude.{if◌then◌else◌}
 use Rattle.std.specs.Option.{option_or}
-use Rattle.sigv4.specs.Canonical.{credential, joined_names, names, pairs, signed_token, signing_parameters, token_pairs, token_parameter, told_payload}
+use Rattle.sigv4.specs.Canonical.{credential, joined_names, names, pairs, signed_token, signing_parameters, token_pairs, token_parameter, header_payload}
 use Rattle.sigv4.specs.Query.{Pair, decoded}
 use Rattle.sigv4.specs.Refusal.{is_value, unfit, unfit_early_text, unfit_expiry, unfit_headers, unfit_host, unfit_late_texts, unfit_optional, unfit_target, unfit_texts, unfit_token_name, unfit_unhashed, unfit_value, unless}
 use Rattle.sigv4.specs.Request.{Case}
@@ -37,7 +37,7 @@ late c = unfit_late_texts c.settings c.payload (credential c) (joined_names (nam
 texts-split : (c : Case) → unfit_texts c ≡ option_or (unfit_early_text c.settings c.token) (late c)
 texts-split c =
     by_form (is_query_form c.settings) (unfit_expiry c.settings.expires_in) (unfit_optional Token c.token)
-    (unfit_optional PayloadHash (told_payload c.settings.payload_checksum_kind c.payload)) (unfit_value Authorization (authorization c)) _
+    (unfit_optional PayloadHash (header_payload c.settings.payload_checksum_kind c.payload)) (unfit_value Authorization (authorization c)) _
     ((λ i. unless (authorization-value c i) (InvalidHeaderValue Authorization)) ∙ unless-both (is_value (credential c)) (is_value (joined_names (names c))) _)
 
 -- five tests, of which the last is made in two steps

@@ -47,9 +47,9 @@ with_optional name None headers = headers
 with_optional name (Some value) headers = inserted headers name value
 
 -- the text, where the payload's text has a header
-abbrev pub told_payload : PayloadChecksumKind → List ℕ → Option (List ℕ)
-told_payload NoHeader payload = None
-told_payload XAmzSha256 payload = Some payload
+abbrev pub header_payload : PayloadChecksumKind → List ℕ → Option (List ℕ)
+header_payload NoHeader payload = None
+header_payload XAmzSha256 payload = Some payload
 
 -- the headers with those that a signature adds: none in query form, and in header form the date, the token and the payload's text
 abbrev pub with_signing_headers : Settings → List ℕ → Option (List ℕ) → Option (List ℕ) → List Pair → List Pair
@@ -64,7 +64,7 @@ hosted_headers target headers = with_optional (codes "host") (added_host target 
 -- the headers as they can be signed
 unfoldable pub canonical_headers : Case → List Pair
 canonical_headers c =
-    with_signing_headers c.settings (stamp c.at) c.token (told_payload c.settings.payload_checksum_kind c.payload) (hosted_headers c.target c.headers)
+    with_signing_headers c.settings (stamp c.at) c.token (header_payload c.settings.payload_checksum_kind c.payload) (hosted_headers c.target c.headers)
 
 -- the name of a token that isn't signed, for services to whose requests it is added after signing
 abbrev pub excluded_token : SessionTokenMode → List ℕ → List (List ℕ)

@@ -12,7 +12,7 @@ use Rattle.sigv4.specs.declared.error.SigningError.TheVariants.{MomentOutOfRange
 -- what is told of a signer of chunks
 pub data ChunkTold : Type 0 where
   -- it signs over this signature, for who signs, at this moment, and goes on from the new signature
-  sealed : List ℕ → Signer → Instant → ChunkTold
+  signs_over : List ℕ → Signer → Instant → ChunkTold
   -- a signer that waits for another one
   unwired : ChunkTold
   -- nothing is told
@@ -24,14 +24,14 @@ unsigned_chunk_at t = if is_in_years t then None else Some (MomentOutOfRange t)
 
 -- with no reason against it the answer is the next signature, and the signer goes on from it; else it is the reason, or
 -- memory ran out, and the signer stays
-abbrev pub SealsNext : List ℕ → List ℕ → Signer → Instant → Result (String Global) SigningError → ChunkTold → Type 0
-SealsNext next signature signer t (Ok answer) now = (unsigned_chunk_at t ≡ None) × (string_bytes answer ≡ next) × (now ≡ sealed next signer t)
-SealsNext next signature signer t (Err error) now = ((unsigned_chunk_at t ≡ Some error) ⊎ (error ≡ NoMemory)) × (now ≡ sealed signature signer t)
+abbrev pub SignsNextPart : List ℕ → List ℕ → Signer → Instant → Result (String Global) SigningError → ChunkTold → Type 0
+SignsNextPart next signature signer t (Ok answer) now = (unsigned_chunk_at t ≡ None) × (string_bytes answer ≡ next) × (now ≡ signs_over next signer t)
+SignsNextPart next signature signer t (Err error) now = ((unsigned_chunk_at t ≡ Some error) ⊎ (error ≡ NoMemory)) × (now ≡ signs_over signature signer t)
 
 -- what a signer answers for a part that has a signature for who signs, a moment and the signature before it, by what is told of the
 -- signer before and after
 abbrev pub SignsNext : (Signer → Instant → List ℕ → List ℕ) → ChunkTold → Result (String Global) SigningError → ChunkTold → Type 0
-SignsNext next (sealed signature signer t) result now = SealsNext (next signer t signature) signature signer t result now
+SignsNext next (signs_over signature signer t) result now = SignsNextPart (next signer t signature) signature signer t result now
 SignsNext next unwired (Ok answer) now = ⊥
 SignsNext next unwired (Err error) now = (error ≡ SignerNotWired) × (now ≡ unwired)
 SignsNext next untold result now = now ≡ untold

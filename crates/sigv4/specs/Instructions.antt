@@ -15,8 +15,8 @@ pub record Instructions : Type 0 where
   pub params : List Pair
 
 -- the name and the value of a header or parameter that goes out
-abbrev pub told_pair : Instruction → Pair
-told_pair header = (header.name, header.value)
+abbrev pub instruction_pair : Instruction → Pair
+instruction_pair header = (header.name, header.value)
 
 -- the headers after inserting these, in order
 abbrev pub with_instructions : List Pair → List Instruction → List Pair

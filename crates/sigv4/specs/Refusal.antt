@@ -8,7 +8,7 @@ use Rattle.http_header.specs.Token.{is_value_byte}
 use Rattle.smithy_core.specs.TextPairs.{AreLower, lower}
 use Rattle.smithy_core.specs.declared.identity.Identity.{Identity}
 use Rattle.smithy_http.specs.Target.{Target}
-use Rattle.sigv4.specs.Canonical.{added_host, has_host, told_payload}
+use Rattle.sigv4.specs.Canonical.{added_host, has_host, header_payload}
 use Rattle.sigv4.specs.EventStream.{unsignable}
 use Rattle.sigv4.specs.Host.{host_text}
 use Rattle.sigv4.specs.Parameters.{is_asterisk, takes_no_more}
@@ -103,7 +103,7 @@ unfit_texts c =
     if is_query_form c.settings then unfit_expiry c.settings.expires_in
     else
     option_or (unfit_optional Token c.token)
-    (option_or (unfit_optional PayloadHash (told_payload c.settings.payload_checksum_kind c.payload)) (unfit_value Authorization (authorization c)))
+    (option_or (unfit_optional PayloadHash (header_payload c.settings.payload_checksum_kind c.payload)) (unfit_value Authorization (authorization c)))
 
 -- the first test of a request that fails: its target, its headers in order, the host, the token's name, and the signature's own texts
 unfoldable pub unfit : Case → Option SigningError
@@ -141,7 +141,7 @@ abbrev pub unfit_late_texts : Settings → List ℕ → List ℕ → List ℕ �
 unfit_late_texts settings payload credential_text names_text =
     if is_query_form settings then None
     else
-    option_or (unfit_optional PayloadHash (told_payload settings.payload_checksum_kind payload))
+    option_or (unfit_optional PayloadHash (header_payload settings.payload_checksum_kind payload))
     (option_or (unfit_value Authorization credential_text) (unfit_value Authorization names_text))
 
 -- the host that is added to headers with names in lower case, exactly where no test fails that needs no hash

@@ -25,9 +25,9 @@ abbrev pub IsRequestKey : SigningParams → List ℕ → Type 0
 IsRequestKey (V4 params) key = IsKeyOf params key
 
 -- with no refusal the text is the canonical one; with one it is the refusal, or memory ran out
-abbrev pub TellsCanonical : Identity → Case → Result (String Global) SigningError → Type 0
-TellsCanonical identity c (Ok text) = (request_refusal identity c ≡ None) × (string_bytes text ≡ canonical c)
-TellsCanonical identity c (Err error) = (request_refusal identity c ≡ Some error) ⊎ (error ≡ NoMemory)
+abbrev pub GivesCanonical : Identity → Case → Result (String Global) SigningError → Type 0
+GivesCanonical identity c (Ok text) = (request_refusal identity c ≡ None) × (string_bytes text ≡ canonical c)
+GivesCanonical identity c (Err error) = (request_refusal identity c ≡ Some error) ⊎ (error ≡ NoMemory)
 
 -- the headers and the parameters that go out, and the signature
 pub record IsSigned (c : Case) (output : SigningOutput SigningInstructions) : Type 0 where

@@ -1,7 +1,7 @@
 -- The signed request of AWS Signature Version 4, in header form and in query form.
 use Rattle.std.specs.Prelude.{ℕ, Bool, true, false, List, [], ◌∷◌, ◌++◌, codes, Option, Some, None, if◌then◌else◌}
 use Rattle.smithy_core.specs.Civil.{stamp}
-use Rattle.sigv4.specs.Canonical.{canonical, credential, joined_names, names, signing_parameters, told_payload, token_header, token_pairs, token_parameter}
+use Rattle.sigv4.specs.Canonical.{canonical, credential, joined_names, names, signing_parameters, header_payload, token_header, token_pairs, token_parameter}
 use Rattle.sigv4.specs.Instructions.{Instruction, with_instructions}
 use Rattle.sigv4.specs.Parameters.{target_text_with}
 use Rattle.sigv4.specs.Query.{Pair}
@@ -42,7 +42,7 @@ instructions_for settings date authorization payload token =
 unfoldable pub instructions : Case → List Instruction
 instructions c =
     if is_query_form c.settings then []
-    else instructions_for c.settings (stamp c.at) (authorization c) (told_payload c.settings.payload_checksum_kind c.payload) c.token
+    else instructions_for c.settings (stamp c.at) (authorization c) (header_payload c.settings.payload_checksum_kind c.payload) c.token
 
 -- the parameters that go out of a case in query form, in order: those that are signed, the signature, and the token also where it isn't signed
 unfoldable pub parameters : Case → List Pair

@@ -1,7 +1,7 @@
 ghost use Rattle.std.specs.Prelude.{◌≡◌, ℕ, List, [], ◌∷◌, ◌++◌, map, codes, bytes_eq, if◌then◌else◌, option_copied, string_bytes, IfOk, OnOk};
 ghost use Rattle.std.specs.List.{flat_map, list_any};
 ghost use Rattle.smithy_core.specs.TextPairs.{AreLower, inserted, lower, named_values, without};
-ghost use Rattle.sigv4.specs.Canonical.{excluded_token, given_headers, is_signed, joined_names, told_payload, token_header, unsigned_in_query_form, unsigned_token, with_optional, with_signing_headers};
+ghost use Rattle.sigv4.specs.Canonical.{excluded_token, given_headers, is_signed, joined_names, header_payload, token_header, unsigned_in_query_form, unsigned_token, with_optional, with_signing_headers};
 ghost use Rattle.sigv4.specs.CanonicalHeaders.{HoldsHeaders, after_values, before_value, header_pairs, header_texts, next_name, ordered_headers, pair_line, signed_values, signed_value_text};
 ghost use Rattle.sigv4.specs.Query.{Pair};
 ghost use Rattle.sigv4.specs.Settings.{Settings, settings_of};
@@ -92,7 +92,7 @@ pub(crate) fn signed_headers<'a>(
     requires { AreLower headers.now }
     ensures { IfOk result (λ signed. header_texts signed.items ≡ ordered_headers (settings_of settings.now)
         (with_signing_headers (settings_of settings.now) added.now.date.now (option_copied added.now.token)
-        (told_payload settings.now.payload_checksum_kind added.now.payload.now)
+        (header_payload settings.now.payload_checksum_kind added.now.payload.now)
         (with_optional (codes "host") (option_copied added.now.host) (given_headers headers.now)))) }
 {
     let mut signed = Vec::with_capacity(alloc, 16)?;
@@ -145,14 +145,14 @@ fn put_signing_headers<'a>(
     ensures { OnOk result ((pairs : List Pair) → HoldsHeaders (settings_of settings.now) pairs signed.old.items
         → HoldsHeaders (settings_of settings.now)
         (with_signing_headers (settings_of settings.now) added.now.date.now (option_copied added.now.token)
-        (told_payload settings.now.payload_checksum_kind added.now.payload.now) pairs) signed.new.items) }
+        (header_payload settings.now.payload_checksum_kind added.now.payload.now) pairs) signed.new.items) }
 {
     match settings.signature_location {
         SignatureLocation::QueryParams => Ok(()),
         SignatureLocation::Headers => {
             put(settings, signed, "x-amz-date", added.date)?;
             put_optional(settings, signed, token_header(settings), added.token)?;
-            let payload = told_payload(settings, added.payload);
+            let payload = header_payload(settings, added.payload);
             put_optional(settings, signed, "x-amz-content-sha256", payload)?;
             Ok(())
         }
@@ -160,8 +160,8 @@ fn put_signing_headers<'a>(
 }
 
 /// The payload's text, where it has a header in header form.
-pub(crate) fn told_payload<'a>(settings: &SigningSettings, payload: &'a str) -> Option<&'a str>
-    ensures { option_copied result ≡ told_payload settings.now.payload_checksum_kind payload.now }
+pub(crate) fn header_payload<'a>(settings: &SigningSettings, payload: &'a str) -> Option<&'a str>
+    ensures { option_copied result ≡ header_payload settings.now.payload_checksum_kind payload.now }
 {
     match settings.payload_checksum_kind {
         PayloadChecksumKind::XAmzSha256 => Some(payload),

@@ -2,7 +2,7 @@ ghost use Rattle.std.specs.Prelude.{◌≡◌, map, IfOk};
 ghost use Rattle.std.specs.Cow.{cow_str_bytes};
 ghost use Rattle.std.specs.Iterator.{YieldsFirstBy, item_count};
 ghost use Rattle.std.specs.String.{string_bytes};
-ghost use Rattle.sigv4.specs.Instructions.{told_pair};
+ghost use Rattle.sigv4.specs.Instructions.{instruction_pair};
 
 use smithy_core::Mem;
 use std::alloc::Global;
@@ -92,17 +92,17 @@ pub struct HeaderPairs<'a> {
 
 impl<'a> Model for HeaderPairs<'a> {
     ghost use Rattle.std.specs.Prelude.{ℕ, List, map};
-    ghost use Rattle.sigv4.specs.Instructions.{told_pair};
+    ghost use Rattle.sigv4.specs.Instructions.{instruction_pair};
 
     ghost Value = { List (List ℕ × List ℕ) };
 
-    ghost view = { λ pairs. map told_pair pairs.left.now };
+    ghost view = { λ pairs. map instruction_pair pairs.left.now };
 }
 
 impl<'a> HeaderPairs<'a> {
     // Gives these headers.
     pub(crate) fn over(headers: &'a [Header]) -> HeaderPairs<'a>
-        ensures { result ≡ map told_pair headers.now }
+        ensures { result ≡ map instruction_pair headers.now }
     {
         HeaderPairs { left: headers }
     }

@@ -4,7 +4,7 @@ ghost use Rattle.std.specs.String.{string_bytes};
 ghost use Rattle.smithy_core.specs.TextPairs.{text_pairs};
 ghost use Rattle.smithy_http.specs.QueryWriter.{SpellsTarget};
 ghost use Rattle.smithy_http.specs.Target.{target_of};
-ghost use Rattle.sigv4.specs.Instructions.{told_pair, with_instructions};
+ghost use Rattle.sigv4.specs.Instructions.{instruction_pair, with_instructions};
 ghost use Rattle.sigv4.specs.Parameters.{AppliesParams, AppliesTo};
 
 use crate::error::SigningError;
@@ -65,7 +65,7 @@ impl SigningInstructions {
 
     /// The names and the values of the headers, in order.
     pub fn headers(&self) -> HeaderPairs<'_>
-        ensures { result ≡ map told_pair self.now.headers }
+        ensures { result ≡ map instruction_pair self.now.headers }
     {
         HeaderPairs::over(self.headers.as_slice())
     }

@@ -1,11 +1,11 @@
 ghost use Rattle.std.specs.Prelude.{◌≡◌, option_copied, if◌then◌else◌};
 ghost use Rattle.smithy_core.specs.TextPairs.{AreLower};
 ghost use Rattle.smithy_http.specs.Target.{target_of};
-ghost use Rattle.sigv4.specs.Canonical.{added_host, has_host, told_payload};
+ghost use Rattle.sigv4.specs.Canonical.{added_host, has_host, header_payload};
 ghost use Rattle.sigv4.specs.Refusal.{FindsHost, Tests, unfit_early_text, unfit_header, unfit_headers, unfit_host, unfit_late_texts, unfit_optional, unfit_target, unfit_value};
 ghost use Rattle.sigv4.specs.Settings.{settings_of};
 
-use crate::canonical_headers::told_payload;
+use crate::canonical_headers::header_payload;
 use crate::error::{SigningError, ValuePlace};
 use crate::grammar::{is_name, is_value};
 use crate::host::host_text;
@@ -152,7 +152,7 @@ pub(crate) fn test_texts(
     match settings.signature_location {
         SignatureLocation::QueryParams => Ok(()),
         SignatureLocation::Headers => {
-            test_optional(ValuePlace::PayloadHash, told_payload(settings, payload))?;
+            test_optional(ValuePlace::PayloadHash, header_payload(settings, payload))?;
             test_value(ValuePlace::Authorization, credential)?;
             test_value(ValuePlace::Authorization, names)
         }

@@ -4,7 +4,7 @@ ghost use Rattle.sigv4.specs.EventStream.{IsKeyOf};
 ghost use Rattle.sigv4.specs.Params.{signer_of, v4_identity, v4_time};
 ghost use Rattle.sigv4.specs.Refusal.{unfit};
 ghost use Rattle.sigv4.specs.Request.{HasKeys, identity_of, request_case, v4_request_case};
-ghost use Rattle.sigv4.specs.RequestSigning.{IsRequestKey, SignsUnlessRefused, SignsCase, TellsCanonical};
+ghost use Rattle.sigv4.specs.RequestSigning.{IsRequestKey, SignsUnlessRefused, SignsCase, GivesCanonical};
 
 use crate::credentials::credentials_of;
 use crate::error::SigningError;
@@ -159,7 +159,7 @@ pub fn canonical_text(
     request: &SignableRequest<'_>,
     params: &SigningParams<'_>,
 ) -> Result<String, SigningError>
-    ensures { TellsCanonical (identity_of params.now) (request_case request.now params.now) result }
+    ensures { GivesCanonical (identity_of params.now) (request_case request.now params.now) result }
 {
     let SigningParams::V4(params) = params;
     let credentials = credentials_of(params.identity())?;

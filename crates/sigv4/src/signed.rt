@@ -1,6 +1,6 @@
 ghost use Rattle.std.specs.Prelude.{◌≡◌, ◌++◌, [], ◌∷◌, codes, true, false, if◌then◌else◌, IfOk, OnOk, option_copied, string_bytes};
 ghost use Rattle.smithy_core.specs.TextPairs.{text_pairs};
-ghost use Rattle.sigv4.specs.Canonical.{told_payload, token_header, token_pairs, token_parameter};
+ghost use Rattle.sigv4.specs.Canonical.{header_payload, token_header, token_pairs, token_parameter};
 ghost use Rattle.sigv4.specs.Settings.{is_query_form, settings_of};
 ghost use Rattle.sigv4.specs.Signed.{authorization_text, instructions_for, optional_header};
 
@@ -26,7 +26,7 @@ pub(crate) fn instructions(
         if is_query_form (settings_of settings.now) then []
         else instructions_for (settings_of settings.now) (string_bytes texts.scope.stamp)
         (authorization_text (string_bytes texts.credential) (string_bytes texts.names) signature.now)
-        (told_payload settings.now.payload_checksum_kind (string_bytes texts.payload)) (option_copied token.entry))) }
+        (header_payload settings.now.payload_checksum_kind (string_bytes texts.payload)) (option_copied token.entry))) }
     ensures params { IfOk result (λ made. made.params ≡ (
         if is_query_form (settings_of settings.now)
         then text_pairs texts.parameters.items
@@ -56,7 +56,7 @@ fn headers_of(
 ) -> Mem<Vec<Header>>
     ensures { IfOk result (λ headers. headers.items ≡ instructions_for (settings_of settings.now) (string_bytes texts.scope.stamp)
         (authorization_text (string_bytes texts.credential) (string_bytes texts.names) signature.now)
-        (told_payload settings.now.payload_checksum_kind (string_bytes texts.payload)) (option_copied token.entry)) }
+        (header_payload settings.now.payload_checksum_kind (string_bytes texts.payload)) (option_copied token.entry)) }
 {
     let authorization = authorization_of(alloc, &texts, signature)?;
     let SigningTexts { scope, payload, .. } = texts;
@@ -85,7 +85,7 @@ fn authorization_of(alloc: Global, texts: &SigningTexts, signature: &str) -> Mem
 // Appends the header of the payload's text, where that has one.
 fn push_payload(headers: &mut Vec<Header>, settings: &SigningSettings, payload: String) -> Mem<()>
     ensures { OnOk result (headers.new.items ≡ headers.old.items
-        ++ optional_header (codes "x-amz-content-sha256") false (told_payload settings.now.payload_checksum_kind (string_bytes payload))) }
+        ++ optional_header (codes "x-amz-content-sha256") false (header_payload settings.now.payload_checksum_kind (string_bytes payload))) }
 {
     match settings.payload_checksum_kind {
         PayloadChecksumKind::XAmzSha256 => {

@@ -1,5 +1,5 @@
 ghost use Rattle.std.specs.Prelude.{◌≡◌, ◌+◌, ◌*◌, ◌≤◌, ◌<◌};
-ghost use Rattle.aws_chunked.specs.Reading.{ReadsFirstDigit, ReadsLength, TellsDigit, TellsLonger};
+ghost use Rattle.aws_chunked.specs.Reading.{ReadsFirstDigit, ReadsLength, ReadsDigit, AddsDigit};
 
 use crate::decode::fault::{PartFault, bad_at};
 
@@ -40,7 +40,7 @@ fn first_digit(bytes: &[u8], most: usize) -> Result<(usize, &[u8]), PartFault>
 // A length with one digit more, where there may be one.
 fn with_digit(length: usize, digit: usize, most: usize) -> Option<usize>
     requires { (length ≤ 4294967295) × (digit < 16) }
-    ensures { TellsLonger length digit most result }
+    ensures { AddsDigit length digit most result }
 {
     let longer = length * 16 + digit;
     if length > 0 && longer <= most {
@@ -52,7 +52,7 @@ fn with_digit(length: usize, digit: usize, most: usize) -> Option<usize>
 
 // The value of a hexadecimal digit in upper case.
 fn digit_of(byte: u8) -> Option<usize>
-    ensures { TellsDigit byte result }
+    ensures { ReadsDigit byte result }
 {
     match byte {
         b'0'..=b'9' => Some((byte - b'0') as usize),

@@ -7,7 +7,7 @@ use Rattle.sigv4.specs.Body.{payload_text}
 use Rattle.sigv4.specs.Settings.{settings_of}
 use Rattle.sigv4.specs.Signature.{signature}
 use Rattle.request_check.specs.Recomputed.{ChecksRequest, recomputed, sent_text}
-use Rattle.request_check.specs.Sealed.{TellsSeal}
+use Rattle.request_check.specs.Sealed.{FindsSeal}
 use Rattle.request_check.specs.declared.check.CheckRequestFault.TheVariants.{NoSignature}
 use Rattle.request_check.specs.declared.check.Checked.{Checked}
 use Rattle.request_check.proofs.AlikeLemmas.{recomputes}
@@ -42,7 +42,7 @@ pub returns-in_default-clause-recomputes : goal.returns-in_default-clause-recomp
 returns-in_default-clause-recomputes c =
     let sent = c.args.sent.now in
     let signer : Signer = record { secret = c.args.secret.now; region = c.args.region.now; name = c.args.name.now } in
-    let none : TellsSeal sent signer.region signer.name None = rw c.in_default.is at c.in_ok-seal.ensures in
+    let none : FindsSeal sent signer.region signer.name None = rw c.in_default.is at c.in_ok-seal.ensures in
     recomputes sent (settings_of c.args.settings.now) (payload_text c.args.body.now) signer (Err NoSignature) none
 
 pub returns-in_err-uri-clause-recomputes : goal.returns-in_err-uri-clause-recomputes

@@ -2,7 +2,7 @@ use Rattle.std.proofs.Common.{◌++◌, [], ◌∷◌, ap, ◌∙◌}
 use Rattle.std.specs.Prelude.{codes, if◌then◌else◌}
 use Rattle.hex.specs.Hex.{encode_lower}
 use Rattle.mac_core.specs.Mac.{mac}
-use Rattle.sigv4.specs.Canonical.{signing_parameters, told_payload, token_pairs, token_parameter}
+use Rattle.sigv4.specs.Canonical.{signing_parameters, header_payload, token_pairs, token_parameter}
 use Rattle.sigv4.specs.Request.{v4_request_case}
 use Rattle.sigv4.specs.Settings.{is_query_form, settings_of}
 use Rattle.sigv4.specs.Signature.{signature, string_to_sign, string_to_sign_of}
@@ -29,7 +29,7 @@ returns c =
             ∙ (λ i. if is_query_form (settings i) then []
             else
             instructions_for (settings i) (texts.stamp i) (authorization_text (texts.credential i) (texts.names i) (signature_text i))
-            (told_payload (given i).payload_checksum_kind (texts.payload i)) (token i));
+            (header_payload (given i).payload_checksum_kind (texts.payload i)) (token i));
         params = c.in_ok-instructions.ensures.params
             ∙ (λ i. if is_query_form (settings i)
             then texts.parameters i ++ (codes "X-Amz-Signature", signature_text i) ∷ token_pairs (token_parameter (settings i)) (token i) else [])

@@ -1,5 +1,5 @@
 use Rattle.std.proofs.Common.{ap, subst, ◌≤◌, ◌∙◌}
-use Rattle.aws_chunked.specs.Reading.{IsEndedLength, IsLength, Led, TellsWhere}
+use Rattle.aws_chunked.specs.Reading.{IsEndedLength, IsLength, Led, StopsWhere}
 use Rattle.aws_chunked.specs.Rests.{ReadsChunks, signature_texts}
 use Rattle.aws_chunked.proofs.ReadLemmas.{err_exit}
 use Rattle.aws_chunked.proofs.StepLemmas.{data_stops, first_head_stops, first_length_stops, head_stops, length_stops, reached_end, reached_first, reached_next}
@@ -41,7 +41,7 @@ returns-in_err-next c =
     let d = c.in_ok-behind.ensures in
     err_exit (ReadsChunks c.args.bytes.now) _ _ c.from_residual-in_err-next.ensures.1
     (length_stops _ _ _ _ _ _ _ _ _ _ _ c.loop-length.invariant c.loop-length-test.true d.1 d.2 d.3
-    (subst (λ most. TellsWhere (IsLength most) (Led (IsEndedLength most)) c.in_ok-behind.behind.now c.in_err-next.field-0.0) c.most_after.ensures c.in_err-next.ensures))
+    (subst (λ most. StopsWhere (IsLength most) (Led (IsEndedLength most)) c.in_ok-behind.behind.now c.in_err-next.field-0.0) c.most_after.ensures c.in_err-next.ensures))
 
 pub returns-in_err-rest-2 : goal.returns-in_err-rest-2
 returns-in_err-rest-2 c =

@@ -5,7 +5,7 @@ use Rattle.smithy_core.specs.Civil.{stamp}
 use Rattle.smithy_core.specs.TextPairs.{text_pairs}
 use Rattle.smithy_http.specs.Target.{target_of}
 use Rattle.eventstream.specs.Key.{scope}
-use Rattle.sigv4.specs.Canonical.{canonical, canonical_headers, canonical_lines, credential, given_headers, joined_names, names, parameters_for, signed_token, signing_parameters, told_payload, token_pairs, token_parameter, with_optional, with_signing_headers}
+use Rattle.sigv4.specs.Canonical.{canonical, canonical_headers, canonical_lines, credential, given_headers, joined_names, names, parameters_for, signed_token, signing_parameters, header_payload, token_pairs, token_parameter, with_optional, with_signing_headers}
 use Rattle.sigv4.specs.CanonicalHeaders.{header_texts, ordered_headers}
 use Rattle.sigv4.specs.Path.{canonical_path}
 use Rattle.sigv4.specs.Query.{decoded, query}
@@ -31,7 +31,7 @@ returns c =
     let date = c.as_str.ensures.value ∙ stamped in
     let body = c.as_str-2.ensures.value ∙ payload in
     let held = c.in_ok-headers.ensures
-    ∙ (λ i. ordered_headers (settings i) (with_signing_headers (settings i) (date i) (token i) (told_payload (given i).payload_checksum_kind (body i))
+    ∙ (λ i. ordered_headers (settings i) (with_signing_headers (settings i) (date i) (token i) (header_payload (given i).payload_checksum_kind (body i))
     (with_optional (codes "host") (c.requires.host i) (given_headers c.args.request.now.headers.now)))) in
     let set = settings_of c.args.params.now.settings in
     let all = canonical_headers signed in

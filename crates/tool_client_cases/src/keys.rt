@@ -1,0 +1,86 @@
+use crate::texts::given_text;
+use env_config::{PropertiesKey, PropertiesKeyBuilder, PropertiesKeyFault};
+use smithy_core::Mem;
+use std::alloc::{AllocError, Global};
+use tool_case_lines::unknown;
+
+// What the key `SECTION NAME PROPERTY SUB-PROPERTY` prints, or the fault and what that prints, and the same of a copy.
+pub fn answer(alloc: Global, call: &str, words: &[&str]) -> Mem<String> {
+    match words {
+        [key] => answer_of(alloc, call, key),
+        _ => unknown(alloc),
+    }
+}
+
+fn answer_of(alloc: Global, call: &str, key: &str) -> Mem<String> {
+    match call {
+        "print" => told(alloc, key_of(alloc, key)),
+        "copy" => told(alloc, copied(alloc, key)),
+        _ => unknown(alloc),
+    }
+}
+
+fn told(alloc: Global, key: Result<PropertiesKey, KeyFault>) -> Mem<String> {
+    match key {
+        Ok(key) => format!(in alloc; "{key}"),
+        Err(KeyFault::Missing(fault)) => format!(in alloc; "{fault:?}: {fault}"),
+        Err(KeyFault::NoMemory) => Err(AllocError),
+    }
+}
+
+// A copy of the key that a copy of the builder makes.
+fn copied(alloc: Global, word: &str) -> Result<PropertiesKey, KeyFault> {
+    let builder = builder_of(alloc, word)?;
+    let key = builder.try_clone()?.build()?;
+    Ok(key.try_clone()?)
+}
+
+// Why a word gives no key.
+#[derive(Drop)]
+pub enum KeyFault {
+    Missing(PropertiesKeyFault),
+    NoMemory,
+}
+
+impl From<PropertiesKeyFault> for KeyFault {
+    fn from(fault: PropertiesKeyFault) -> KeyFault {
+        KeyFault::Missing(fault)
+    }
+}
+
+impl From<AllocError> for KeyFault {
+    fn from(_e: AllocError) -> KeyFault {
+        KeyFault::NoMemory
+    }
+}
+
+// The key `SECTION NAME PROPERTY SUB-PROPERTY`.
+pub fn key_of(alloc: Global, word: &str) -> Result<PropertiesKey, KeyFault> {
+    Ok(builder_of(alloc, word)?.build()?)
+}
+
+fn builder_of(alloc: Global, word: &str) -> Mem<PropertiesKeyBuilder> {
+    let mut builder = PropertiesKey::builder();
+    for (place, part) in word.split(' ').enumerate() {
+        builder = with_part(alloc, builder, place, part)?;
+    }
+    Ok(builder)
+}
+
+// The builder with one more part, unless that is `-`.
+fn with_part(
+    alloc: Global,
+    builder: PropertiesKeyBuilder,
+    place: usize,
+    part: &str,
+) -> Mem<PropertiesKeyBuilder> {
+    let Some(part) = given_text(alloc, part)? else {
+        return Ok(builder);
+    };
+    Ok(match place {
+        0 => builder.section_key(part),
+        1 => builder.section_name(part),
+        2 => builder.property_name(part),
+        _ => builder.sub_property_name(part),
+    })
+}

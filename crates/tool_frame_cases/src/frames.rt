@@ -1,0 +1,115 @@
+use crate::shown::{digits, message, quoted};
+use crate::words::{bytes_of, headers_of, message_of, shared};
+use bytes::Bytes;
+use eventstream::{
+    Error, MessageSizeHint, frame_of, read_message_from, write_headers_to, write_message_to,
+};
+use smithy_core::{Mem, Message};
+use std::alloc::Global;
+use tool_case_lines::unknown;
+
+pub fn answer(alloc: Global, call: &[&str]) -> Mem<String> {
+    match call {
+        ["read", bytes] => read(alloc, &shared(alloc, bytes)?),
+        ["write_headers", list, headers @ ..] => write_headers(alloc, list, headers),
+        ["write", list, headers @ .., payload] => {
+            write(alloc, list, &message_of(alloc, headers, payload)?)
+        }
+        [call, headers @ .., payload] => {
+            of_message(alloc, call, &message_of(alloc, headers, payload)?)
+        }
+        _ => unknown(alloc),
+    }
+}
+
+fn of_message(alloc: Global, call: &str, message: &Message) -> Mem<String> {
+    match call {
+        "frame_of" => whole(alloc, message),
+        "read_back" => read_back(alloc, message),
+        "size_hint" => format!(in alloc; "{}", message.size_hint()),
+        "write_hinted" => write_hinted(alloc, message),
+        _ => unknown(alloc),
+    }
+}
+
+// The message or the fault, and what is left of the bytes.
+fn read(alloc: Global, bytes: &Bytes) -> Mem<String> {
+    let mut rest = bytes.clone()?;
+    read_part(alloc, bytes.as_slice(), &mut rest)
+}
+
+fn read_part(alloc: Global, bytes: &[u8], rest: &mut Bytes) -> Mem<String> {
+    let read = read_from(alloc, rest)?;
+    if rest.as_slice() == bytes {
+        return format!(in alloc; "{read} | all left");
+    }
+    format!(in alloc; "{read} | {} left", rest.len())
+}
+
+fn read_from(alloc: Global, rest: &mut Bytes) -> Mem<String> {
+    match read_message_from(alloc, rest) {
+        Ok(read) => message(alloc, &read),
+        Err(error) => error.to_string(alloc),
+    }
+}
+
+// The list with what was appended to it.
+fn write(alloc: Global, list: &str, message: &Message) -> Mem<String> {
+    let mut list = bytes_of(alloc, list)?;
+    let written = write_message_to(alloc, message, &mut list);
+    after(alloc, written, list.as_slice())
+}
+
+fn write_headers(alloc: Global, list: &str, headers: &[&str]) -> Mem<String> {
+    let headers = headers_of(alloc, headers)?;
+    let mut list = bytes_of(alloc, list)?;
+    let written = write_headers_to(alloc, headers.as_slice(), &mut list);
+    after(alloc, written, list.as_slice())
+}
+
+// The list, and before it why nothing was written and whether the message itself is at fault.
+fn after(alloc: Global, written: Result<(), Error>, list: &[u8]) -> Mem<String> {
+    match written {
+        Ok(()) => digits(alloc, list),
+        Err(error) => refused(alloc, &error, quoted(alloc, list)),
+    }
+}
+
+fn refused(alloc: Global, error: &Error, list: Mem<String>) -> Mem<String> {
+    let list = list?;
+    let invalid = error.is_invalid_message();
+    format!(in alloc; "{error} | {invalid} | {list}")
+}
+
+// The frame by the call that takes only a message that has one.
+fn whole(alloc: Global, message: &Message) -> Mem<String> {
+    let written = write_message_to(alloc, message, &mut Vec::new(alloc));
+    match written {
+        Ok(()) => digits(alloc, frame_of(alloc, message)?.as_slice()),
+        Err(error) => error.to_string(alloc),
+    }
+}
+
+// What is read of what was written.
+fn read_back(alloc: Global, message: &Message) -> Mem<String> {
+    let mut frame = Vec::new(alloc);
+    match write_message_to(alloc, message, &mut frame) {
+        Ok(()) => read(alloc, &Bytes::from_vec(frame)?),
+        Err(error) => error.to_string(alloc),
+    }
+}
+
+// The room that the hint makes, and the room and the length once the message is written.
+fn write_hinted(alloc: Global, message: &Message) -> Mem<String> {
+    let mut list = Vec::with_capacity(alloc, message.size_hint())?;
+    let room = list.capacity();
+    let written = write_message_to(alloc, message, &mut list);
+    rooms(alloc, room, written, &list)
+}
+
+fn rooms(alloc: Global, room: usize, written: Result<(), Error>, list: &Vec<u8>) -> Mem<String> {
+    match written {
+        Ok(()) => format!(in alloc; "{room} | {} | {}", list.capacity(), list.len()),
+        Err(error) => error.to_string(alloc),
+    }
+}

@@ -1,0 +1,76 @@
+use crate::outside::with_written;
+use crate::steps::answers_of;
+use crate::words::{bytes_of, size_of};
+use smithy_core::{Mem, StdSink, StdSource};
+use std::alloc::Global;
+use std::io;
+use std::io::{ErrorKind, Read, Write};
+use tool_case_lines::unknown;
+
+/// A reader or a writer of which a signal interrupts so many calls before each that goes through.
+#[derive(Drop)]
+struct Interrupted<T> {
+    inner: T,
+    times: usize,
+    left: usize,
+}
+
+impl<T> Interrupted<T> {
+    fn new(inner: T, times: usize) -> Interrupted<T> {
+        Interrupted {
+            inner,
+            times,
+            left: times,
+        }
+    }
+
+    // Tells of a signal, or that the call goes through.
+    fn pass(&mut self) -> io::Result<()> {
+        if self.left > 0 {
+            self.left -= 1;
+            return Err(io::Error::from(ErrorKind::Interrupted));
+        }
+        self.left = self.times;
+        Ok(())
+    }
+}
+
+impl<R: Read> Read for Interrupted<R> {
+    fn read(&mut self, buf: &mut [u8]) -> io::Result<usize> {
+        self.pass()?;
+        self.inner.read(buf)
+    }
+}
+
+impl<W: Write> Write for Interrupted<W> {
+    fn write(&mut self, buf: &[u8]) -> io::Result<usize> {
+        self.pass()?;
+        self.inner.write(buf)
+    }
+
+    fn flush(&mut self) -> io::Result<()> {
+        self.pass()?;
+        self.inner.flush()
+    }
+}
+
+/// What a source over an interrupted reader answers to the steps.
+pub fn source(alloc: Global, words: &[&str]) -> Mem<String> {
+    let [times, content, steps @ ..] = words else {
+        return unknown(alloc);
+    };
+    let content = bytes_of(alloc, content)?;
+    let reader = Interrupted::new(content.as_slice(), size_of(times));
+    answers_of(alloc, &mut StdSource::new(reader), steps)
+}
+
+/// What a sink over an interrupted writer answers to the steps, and what was written.
+pub fn sink(alloc: Global, words: &[&str]) -> Mem<String> {
+    let [times, steps @ ..] = words else {
+        return unknown(alloc);
+    };
+    let mut written = Vec::new(alloc);
+    let writer = Interrupted::new(&mut written, size_of(times));
+    let answers = answers_of(alloc, &mut StdSink::new(writer), steps)?;
+    with_written(alloc, answers, written.as_slice())
+}

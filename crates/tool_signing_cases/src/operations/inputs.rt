@@ -1,0 +1,174 @@
+//! What a request is signed by: its config, the endpoint's fields, and what the inputs have of their own.
+use crate::parts::part_text;
+use aws_auth::{
+    HttpSignatureType, PayloadSigningOverride, SigV4OperationSigningConfig, SigningInputs,
+    SigningOptions,
+};
+use smithy_core::{Document, Mem, Region, SigningName};
+use std::alloc::Global;
+use tool_case_lines::{has_part, number, part};
+
+/// All that the inputs lend.
+#[derive(Drop)]
+pub struct Given {
+    config: Option<SigV4OperationSigningConfig>,
+    endpoint: Option<Document>,
+    name: Option<SigningName>,
+    region: Option<Region>,
+    payload: Option<PayloadSigningOverride>,
+    skew_millis: Option<i64>,
+}
+
+impl Given {
+    /// What `no-config`, `endpoint KEY VALUE`, `input-name N`, `input-region R`, `payload TEXT` and `skew MILLIS` give,
+    /// and the words of the config.
+    pub fn of(alloc: Global, parts: &[&str]) -> Mem<Given> {
+        Ok(Given {
+            skew_millis: skew_of(parts),
+            name: name_of(alloc, parts)?,
+            region: region_of(alloc, parts)?,
+            payload: payload_of(alloc, part(parts, "payload"))?,
+            endpoint: endpoint_of(alloc, parts)?,
+            config: given_config(alloc, parts)?,
+        })
+    }
+
+    /// The inputs.
+    pub fn inputs(&self) -> SigningInputs<'_> {
+        SigningInputs {
+            config: self.config.as_ref(),
+            endpoint: self.endpoint.as_ref(),
+            name: self.name.as_ref(),
+            region: self.region.as_ref(),
+            payload: self.payload.as_ref(),
+            skew_millis: self.skew_millis,
+        }
+    }
+}
+
+fn given_config(alloc: Global, parts: &[&str]) -> Mem<Option<SigV4OperationSigningConfig>> {
+    if has_part(parts, "no-config") {
+        return Ok(None);
+    }
+    Ok(Some(config_of(alloc, parts)?))
+}
+
+/// The config with the region `us-east-1` and the name `service`, or with `no-region` and `no-name`.
+pub fn config_of(alloc: Global, parts: &[&str]) -> Mem<SigV4OperationSigningConfig> {
+    Ok(SigV4OperationSigningConfig {
+        region: config_region(alloc, parts)?,
+        name: config_name(alloc, parts)?,
+        signing_options: options_of(alloc, parts)?,
+    })
+}
+
+fn config_region(alloc: Global, parts: &[&str]) -> Mem<Option<Region>> {
+    if has_part(parts, "no-region") {
+        return Ok(None);
+    }
+    Ok(Some(Region::new(String::from_str(alloc, "us-east-1")?)))
+}
+
+fn config_name(alloc: Global, parts: &[&str]) -> Mem<Option<SigningName>> {
+    if has_part(parts, "no-name") {
+        return Ok(None);
+    }
+    Ok(Some(SigningName::new(String::from_str(alloc, "service")?)))
+}
+
+/// The options: `encode-once`, `sha256`, `keep-path`, `omit-token`, `option-payload TEXT`, `query`, `optional` and
+/// `expires N` change the usual ones.
+pub fn options_of(alloc: Global, parts: &[&str]) -> Mem<SigningOptions> {
+    Ok(SigningOptions {
+        double_uri_encode: !has_part(parts, "encode-once"),
+        content_sha256_header: has_part(parts, "sha256"),
+        normalize_uri_path: !has_part(parts, "keep-path"),
+        omit_session_token: has_part(parts, "omit-token"),
+        payload_override: payload_of(alloc, part(parts, "option-payload"))?,
+        signature_type: signature_type_of(parts),
+        signing_optional: has_part(parts, "optional"),
+        expires_in: expiry_of(parts),
+    })
+}
+
+fn signature_type_of(parts: &[&str]) -> HttpSignatureType {
+    if has_part(parts, "query") {
+        HttpSignatureType::HttpRequestQueryParams
+    } else {
+        HttpSignatureType::HttpRequestHeaders
+    }
+}
+
+fn expiry_of(parts: &[&str]) -> Option<u64> {
+    part(parts, "expires")?.parse().ok()
+}
+
+fn skew_of(parts: &[&str]) -> Option<i64> {
+    Some(number(part(parts, "skew")?))
+}
+
+/// The override of which this is the payload's text, where there is one.
+pub fn payload_of(alloc: Global, text: Option<&str>) -> Mem<Option<PayloadSigningOverride>> {
+    match text {
+        Some(text) => Ok(Some(override_of(alloc, text)?)),
+        None => Ok(None),
+    }
+}
+
+/// The override of which this is the payload's text.
+pub fn override_of(alloc: Global, text: &str) -> Mem<PayloadSigningOverride> {
+    Ok(match text {
+        "UNSIGNED-PAYLOAD" => PayloadSigningOverride::unsigned_payload(),
+        "STREAMING-UNSIGNED-PAYLOAD-TRAILER" => {
+            PayloadSigningOverride::StreamingUnsignedPayloadTrailer
+        }
+        "STREAMING-AWS4-HMAC-SHA256-PAYLOAD-TRAILER" => {
+            PayloadSigningOverride::StreamingSignedPayloadTrailer
+        }
+        digest => PayloadSigningOverride::Precomputed(String::from_str(alloc, digest)?),
+    })
+}
+
+fn name_of(alloc: Global, parts: &[&str]) -> Mem<Option<SigningName>> {
+    match part_text(alloc, parts, "input-name")? {
+        Some(name) => Ok(Some(SigningName::new(name))),
+        None => Ok(None),
+    }
+}
+
+fn region_of(alloc: Global, parts: &[&str]) -> Mem<Option<Region>> {
+    match part_text(alloc, parts, "input-region")? {
+        Some(region) => Ok(Some(Region::new(region))),
+        None => Ok(None),
+    }
+}
+
+// The endpoint with the fields of the parts `endpoint KEY VALUE`, where there are some.
+fn endpoint_of(alloc: Global, parts: &[&str]) -> Mem<Option<Document>> {
+    if !has_part(parts, "endpoint") {
+        return Ok(None);
+    }
+    let mut members = Vec::new(alloc);
+    for part in parts {
+        if let Some(("endpoint", field)) = part.split_once(' ') {
+            members.push(field_of(alloc, field)?)?;
+        }
+    }
+    Ok(Some(Document::Object(members)))
+}
+
+fn field_of(alloc: Global, field: &str) -> Mem<(String, Document)> {
+    let (key, value) = field.split_once(' ').unwrap_or((field, ""));
+    let value = value_of(alloc, value)?;
+    Ok((String::from_str(alloc, key)?, value))
+}
+
+// The value `true`, `false` or `text TEXT`, and else nothing.
+fn value_of(alloc: Global, value: &str) -> Mem<Document> {
+    Ok(match value.split_once(' ').unwrap_or((value, "")) {
+        ("true", _) => Document::Bool(true),
+        ("false", _) => Document::Bool(false),
+        ("text", text) => Document::String(String::from_str(alloc, text)?),
+        _ => Document::Null,
+    })
+}

@@ -1,0 +1,50 @@
+//! Chains of signed frames that are checked.
+use crate::parts::framed;
+use chain_watch::{ChainFault, check_chain};
+use smithy_core::{Mem, Message};
+use std::alloc::Global;
+use tool_case_lines::{bytes_of_hex, unknown};
+
+/// How many events a chain has, with their frames, or the first frame that doesn't pass and why.
+pub fn answer(alloc: Global, words: &[&str]) -> Mem<String> {
+    let [seed, secret, name, frames] = words else {
+        return unknown(alloc);
+    };
+    let bytes = bytes_of_hex(alloc, frames)?;
+    match check_chain(alloc, bytes.as_slice(), seed, secret, "us-east-1", name) {
+        Ok(events) => frames_of(alloc, events.as_slice()),
+        Err(fault) => told(alloc, fault),
+    }
+}
+
+fn frames_of(alloc: Global, events: &[Message]) -> Mem<String> {
+    let mut text = format!(in alloc; "ok {}", events.len())?;
+    for event in events {
+        push_frame(alloc, &mut text, event)?;
+    }
+    Ok(text)
+}
+
+// Appends the frame of an event in hexadecimal, or why it has none.
+fn push_frame(alloc: Global, text: &mut String, event: &Message) -> Mem<()> {
+    let frame = framed(alloc, event)?;
+    write!(text, " {frame}")
+}
+
+fn told(alloc: Global, fault: ChainFault) -> Mem<String> {
+    match fault {
+        ChainFault::NotChain { frame, part } => format!(in alloc; "{frame} {part:?}"),
+        ChainFault::Mismatch {
+            frame,
+            carried,
+            recomputed,
+        } => mismatch(alloc, frame, carried.as_slice(), recomputed.as_slice()),
+        ChainFault::NoMemory => String::from_str(alloc, "NoMemory"),
+    }
+}
+
+fn mismatch(alloc: Global, frame: usize, carried: &[u8], recomputed: &[u8]) -> Mem<String> {
+    let carried = hex::encode(alloc, carried)?;
+    let recomputed = hex::encode(alloc, recomputed)?;
+    format!(in alloc; "{frame} Mismatch {carried} {recomputed}")
+}
