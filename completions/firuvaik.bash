@@ -7,19 +7,20 @@ _firuvaik() {
       mapfile -t COMPREPLY < <(compgen -f -- "$word")
       return
       ;;
-    --name | --service-id | --at | --skew | --expires | --token-name | --size | --trailer)
+    --name | --seed | --service-id | --at | --skew | --expires | --token-name | --size | --trailer)
       COMPREPLY=()
       return
       ;;
   esac
   if ((COMP_CWORD == 1)); then
-    words='stream check settings chunk gen --help --version'
+    words='stream check watch settings chunk gen --help --version'
   else
     case ${COMP_WORDS[1]} in
       stream)
         words="--name --at --skew --raw --query --expires --token-name --omit-token --sha256 --unsigned --single-encode --no-normalize $profile"
         ;;
       check) words="--name $profile" ;;
+      watch) words="--name --seed $profile" ;;
       settings) words=$profile ;;
       chunk) words='--size --trailer' ;;
       *) words= ;;
@@ -27,4 +28,4 @@ _firuvaik() {
   fi
   mapfile -t COMPREPLY < <(compgen -W "$words" -- "$word")
 }
-complete -F _firuvaik firuvaik
+complete -o bashdefault -o default -o filenames -F _firuvaik firuvaik

@@ -43,12 +43,12 @@ passed_same : {A : Type 0} (x y : A) → passing x ≡ passing y → x ≡ y
 passed_same x y is = cc
 
 -- what is there, else the fault
-there : {A B : Type 0} (found : Option A) (told : ChainFault) (others : A → Result B ChainFault) (y : B) → (ok_or found told >>= others) ≡ Ok y
+pub there : {A B : Type 0} (found : Option A) (told : ChainFault) (others : A → Result B ChainFault) (y : B) → (ok_or found told >>= others) ≡ Ok y
     → (x : A) × (found ≡ Some x) × (others x ≡ Ok y)
 there (Some x) told others y is = (x, refl, is)
 there None told others y is = cc
 
-compared_split : (place : ℕ) (code recomputed : List ℕ) (event : Option Parts) (passed : Passed) → compared place code recomputed event ≡ Ok passed
+pub compared_split : (place : ℕ) (code recomputed : List ℕ) (event : Option Parts) (passed : Passed) → compared place code recomputed event ≡ Ok passed
     → (code ≡ recomputed) × (passed ≡ record { event = event; signature = encode_lower recomputed })
 compared_split place code recomputed event passed is = by_test (bytes_eq code recomputed) refl is
   where

@@ -28,7 +28,7 @@ use Rattle.chain_watch.proofs.WalkLemmas.{walk_first, walk_tests}
 -- ## What stands at the front
 
 -- less than a frame is there
-unfinished_stays : (signer : Signer) (signature : List ℕ) (passed : ℕ) (bytes : List ℕ) → IsUnfinished (first_of bytes)
+pub unfinished_stays : (signer : Signer) (signature : List ℕ) (passed : ℕ) (bytes : List ℕ) → IsUnfinished (first_of bytes)
     → walk_frames signer signature passed bytes ≡ stays (unclosed signature passed bytes)
 unfinished_stays signer signature passed bytes less = by_first (first_of bytes) refl less
   where

@@ -1,9 +1,11 @@
 -- What a watch promises of each call: the events of the frames that were tested, each once, and where the walk over the bytes taken is.
-use Rattle.std.specs.Prelude.{◌≡◌, ℕ, suc, ◌+◌, ◌<◌, ◌⊎◌, Bool, true, false, List, [], ◌++◌, codes, length, Result, Ok, Err}
+use Rattle.std.specs.Prelude.{◌≡◌, ℕ, suc, ◌+◌, ◌-◌, ◌<◌, ◌⊎◌, Bool, true, false, nat_lt, if◌then◌else◌, List, [], ◌++◌, codes, length, Result, Ok, Err}
 use Rattle.std.specs.Fmt.{decimal}
 use Rattle.smithy_core.specs.Message.{Parts}
 use Rattle.eventstream.specs.Frame.{most_frame}
 use Rattle.eventstream.specs.Key.{Signer}
+use Rattle.eventstream.specs.Read.{announced}
+use Rattle.seg_buf.specs.Segments.{prelude_len}
 use Rattle.chain_watch.specs.Walk.{Point, Walk, closed, ending, failed, unclosed, seed_point, stays, walk, walk_onto}
 use Rattle.chain_watch.specs.declared.chain_fault.ChainFault.{ChainFault}
 use Rattle.chain_watch.specs.declared.chain_fault.ChainFault.TheVariants.{NoMemory}
@@ -30,6 +32,15 @@ state (failed told) = Err told
 abbrev pub left_over : Point → List ℕ
 left_over (unclosed signature passed left) = left
 left_over at = []
+
+-- how many bytes more the frame has at least that begins with these: those of a prelude, or those that its prelude announces
+abbrev pub frame_wants : List ℕ → ℕ
+frame_wants bytes = if nat_lt (length bytes) prelude_len then prelude_len - length bytes else announced bytes - length bytes
+
+-- how many bytes more the next frame has at least at a point, where one may come
+abbrev pub wanted : Point → ℕ
+wanted (unclosed signature passed left) = frame_wants left
+wanted at = 0
 
 -- the walk's events are handed out, but for those of the rest of it, and each once
 pub record HandsOut (walked : Walk) (old new : List Parts) (rest : Walk) : Type 0 where

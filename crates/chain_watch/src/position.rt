@@ -1,12 +1,13 @@
 ghost use Rattle.std.specs.Prelude.{◌≡◌, ◌+◌, ◌*◌, ◌^◌, ◌<◌, ◌≤◌, drop, length, string_bytes, Err};
 ghost use Rattle.chain_watch.specs.Position.{ClosesAt, FindsFrame, open_at};
 ghost use Rattle.chain_watch.specs.Walk.{ending};
+ghost use Rattle.chain_watch.specs.Watch.{frame_wants};
 
 use crate::chain_fault::{ChainFault, ChainPart};
 use crate::chain_signer::ChainSigner;
 use crate::frame::{CheckedFrame, fault_of, test_frame};
 use eventstream::peek_message;
-use seg_buf::SegBuf;
+use seg_buf::{PRELUDE, SegBuf};
 use std::alloc::Global;
 
 // Where the walk of a watch is: at a position, right behind the closing frame, or at the first fault.
@@ -62,6 +63,20 @@ impl Position {
             frame: self.passed + 2,
             part: ChainPart::AfterClosing,
         })
+    }
+
+    // How many bytes more the next frame has at least.
+    #[tactic(auto, unfolding(eventstream::specs::Read::big_endian))]
+    pub(crate) fn wanted(&self) -> usize
+        ensures { result ≡ frame_wants self.now.left.bytes }
+    {
+        let there = self.left.remaining();
+        if there < PRELUDE {
+            return PRELUDE - there;
+        }
+        let [first, second, third, fourth, ..] = self.left.peek_prelude();
+        let total = u32::from_be_bytes([first, second, third, fourth]) as usize;
+        total.saturating_sub(there)
     }
 
     // Why the chain can't end here.

@@ -1,6 +1,6 @@
 ghost use Rattle.std.specs.Prelude.{◌≡◌, ◌+◌, ◌^◌, ◌<◌, ◌⊎◌, length, IfOk};
 ghost use Rattle.eventstream.specs.Frame.{most_frame};
-ghost use Rattle.chain_watch.specs.Watch.{AnswersState, Feeds, EndsWatch, WalksOn, Puts, StepsOn, left_over, new_watch, state};
+ghost use Rattle.chain_watch.specs.Watch.{AnswersState, Feeds, EndsWatch, WalksOn, Puts, StepsOn, left_over, new_watch, state, wanted};
 
 use crate::chain_fault::{ChainFault, ChainPart};
 use crate::chain_signer::ChainSigner;
@@ -92,6 +92,18 @@ impl ChainWatch {
         ensures { result ≡ self.now.fed }
     {
         self.fed
+    }
+
+    /// How many bytes more the next frame has at least: those of its prelude, or those that its prelude announces. It is 0
+    /// behind the closing frame and after a fault. Whoever reads pieces of a few bytes may gather so many before
+    /// [`ChainWatch::feed`]: no event comes out of fewer.
+    pub fn wanted(&self) -> usize
+        ensures { result ≡ wanted self.now.at }
+    {
+        match self.phase {
+            Phase::Open => self.position.wanted(),
+            Phase::Closed | Phase::Failed(_) => 0,
+        }
     }
 
     /// Takes a piece of the chain, of any length, and appends the events of the frames that are there whole then and pass.

@@ -19,6 +19,12 @@ firuvaik check --name NAME [PROFILE]
   record, and shows the events, or the first frame that doesn't hold.
     (grep ^c job; echo record; cat written) | firuvaik check --name transcribe
 
+firuvaik watch --name NAME --seed HEX [PROFILE]
+  Reads the signed frames of a stream as bytes while they come, and shows each
+  event once its signature was computed again. HEX is the signature before the
+  first frame: that of the request.
+    firuvaik watch --name transcribe --seed HEX < frames
+
 firuvaik settings [PROFILE]
   Shows the profile, the region, the key id and whether there is a token.
     AWS_PROFILE=night firuvaik settings < /dev/null
@@ -40,6 +46,7 @@ isn't UTF-8 or has over 16 MiB counts as empty, without a word. AWS_PROFILE and
 AWS_REGION come before.
 
 All but gen read standard input to its end; at a terminal Control-D ends it.
+watch ends at the first frame that doesn't hold.
 
 A job has these lines; the input of settings has config and credentials alone:
   method METHOD, target TARGET     once each

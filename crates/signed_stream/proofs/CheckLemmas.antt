@@ -1,15 +1,14 @@
 -- How the check of a record ends, and what it writes.
-use Rattle.std.proofs.Common.{◌≡◌, ℕ, ◌+◌, ◌<◌, inl, inr, List, [], ◌∷◌, ◌++◌, length, drop, get_or, Option, Some, None, refl, sym, ap, ◌∙◌, subst, add-one}
+use Rattle.std.proofs.Common.{◌≡◌, ℕ, inl, inr, List, [], ◌∷◌, ◌++◌, length, Option, None, refl, sym, ap, ◌∙◌, subst}
 use Rattle.std.specs.Global.{Vec}
-use Rattle.std.specs.List.{AllByRecursion, flat_map}
+use Rattle.std.specs.List.{AllByRecursion}
 use Rattle.std.specs.Prelude.{Result, Ok, Err, string_bytes}
 use Rattle.std.proofs.lemmas.List.Elements.{All-from_recursion}
-use Rattle.std.proofs.Math.Seq.{drop-cons}
 use Rattle.smithy_core.specs.Message.{Parts}
 use Rattle.smithy_core.specs.Moment.{Instant}
 use Rattle.smithy_core.specs.Outside.{Gains, GainsRest}
 use Rattle.smithy_core.specs.declared.request.HttpRequest.{HttpRequest}
-use Rattle.smithy_core.proofs.GainLemmas.{gains_at_start, gains_front, gains_join, prefix_join, prefix_within}
+use Rattle.smithy_core.proofs.GainLemmas.{gains_at_start, gains_front}
 use Rattle.eventstream.specs.Frame.{frame, unframed}
 use Rattle.eventstream.specs.Key.{Signer}
 use Rattle.eventstream.specs.Link.{link_signature}
@@ -19,13 +18,15 @@ use Rattle.chain_watch.specs.declared.chain_fault.ChainFault.{ChainFault}
 use Rattle.chain_watch.specs.declared.chain_fault.ChainFault.TheVariants as chains
 use Rattle.request_check.specs.Sealed.{IsSealed, SealParts}
 use Rattle.request_check.proofs.SealLemmas.{one_seal}
-use Rattle.signed_stream.specs.CheckRecord.{AreFramed, CarriesSeal, ChecksRecord, GoesForSeal, checked_plan, count_line, event_line, shown_events}
-use Rattle.signed_stream.specs.Halt.{Halt, Halts, Sends, ended, fails, refuses, wants}
+use Rattle.signed_stream.specs.CheckRecord.{CarriesSeal, ChecksRecord, GoesForSeal, checked_plan, shown_events}
+use Rattle.signed_stream.specs.EventLines.{AreFramed, count_line, event_lines}
+use Rattle.signed_stream.specs.Halt.{Halt, Halts, Sends, ended}
 use Rattle.signed_stream.specs.Plan.{GoesAsPlanned, sealed_over, stops, unsought}
 use Rattle.signed_stream.specs.Settings.{Selected}
 use Rattle.signed_stream.specs.Status.{chain_ending, ending_of, no_memory}
 use Rattle.signed_stream.specs.declared.status.Status.{Status}
 use Rattle.signed_stream.specs.declared.status.StreamFault.{StreamFault}
+use Rattle.signed_stream.proofs.EventLineLemmas.{front_halted}
 use Rattle.signed_stream.proofs.SendLemmas.{text_goes}
 
 -- ## The events of a chain
@@ -80,43 +81,13 @@ module _ (request : HttpRequest) (name : List ℕ) (selected : Selected) (chain 
 
 -- ## What is written
 
--- a line, and then the rest
-line_sent : (a b c : Option (List ℕ)) (front rest all : List ℕ) → GainsRest a b (front ++ rest) all → Gains b c front → GainsRest a c rest all
-line_sent a b c front rest all before sends = gains_join a b c rest (front ++ rest) all before (gains_front b c front rest sends)
-
--- a line that isn't sent whole
-line_halted : (a b c : Option (List ℕ)) (front rest all : List ℕ) (halt : Halt) → GainsRest a b (front ++ rest) all → Halts None front b c halt → Halts None all a c halt
-line_halted a b c front rest all halt before halts = by_halt halt halts
-  where
-    by_halt : (halt : Halt) → Halts None front b c halt → Halts None all a c halt
-    by_halt (refuses fault) halts = let wrong : None ≡ Some fault = halts.0 in cc
-    by_halt fails halts = prefix_join a b c (front ++ rest) all before (prefix_within b c front rest halts)
-    by_halt wants halts = prefix_join a b c (front ++ rest) all before (prefix_within b c front rest halts)
-
 -- how many events there are is written first
-pub count_sent : (before now : Option (List ℕ)) (events : List Parts) → Gains before now (count_line (length events)) → GainsRest before now (flat_map event_line events) (shown_events events)
+pub count_sent : (before now : Option (List ℕ)) (events : List Parts) → Gains before now (count_line (length events)) → GainsRest before now (event_lines events) (shown_events events)
 unfolding shown_events
-count_sent before now events sends = gains_front before now (count_line (length events)) (flat_map event_line events) sends
+count_sent before now events sends = gains_front before now (count_line (length events)) (event_lines events) sends
 
 pub count_halted : (before now : Option (List ℕ)) (events : List Parts) (halt : Halt) → Halts None (count_line (length events)) before now halt → Halts None (shown_events events) before now halt
 unfolding shown_events
 count_halted before now events halt halts =
     let front = count_line (length events) in
-    line_halted before before now front (flat_map event_line events) (front ++ flat_map event_line events) halt (gains_at_start before (front ++ flat_map event_line events)) halts
-
--- then the event in front, and then those to come
-event_front : (events : List Parts) (i : ℕ) (event : Parts) → i < length events → event ≡ get_or events i event
-    → flat_map event_line (drop i events) ≡ event_line event ++ flat_map event_line (drop (i + 1) events)
-event_front events i event within is =
-    let front : drop i events ≡ event ∷ drop (i + 1) events = drop-cons events i event within ∙ rw (← is, add-one) refl in
-    ap (flat_map event_line) front
-
-pub event_sent : (a b c : Option (List ℕ)) (events : List Parts) (i : ℕ) (event : Parts) (all : List ℕ) → i < length events → event ≡ get_or events i event
-    → GainsRest a b (flat_map event_line (drop i events)) all → Gains b c (event_line event) → GainsRest a c (flat_map event_line (drop (i + 1) events)) all
-event_sent a b c events i event all within is before sends =
-    line_sent a b c (event_line event) (flat_map event_line (drop (i + 1) events)) all (subst (λ rest. GainsRest a b rest all) (event_front events i event within is) before) sends
-
-pub event_halted : (a b c : Option (List ℕ)) (events : List Parts) (i : ℕ) (event : Parts) (all : List ℕ) (halt : Halt) → i < length events → event ≡ get_or events i event
-    → GainsRest a b (flat_map event_line (drop i events)) all → Halts None (event_line event) b c halt → Halts None all a c halt
-event_halted a b c events i event all halt within is before halts =
-    line_halted a b c (event_line event) (flat_map event_line (drop (i + 1) events)) all halt (subst (λ rest. GainsRest a b rest all) (event_front events i event within is) before) halts
+    front_halted before before now front (event_lines events) (front ++ event_lines events) halt (gains_at_start before (front ++ event_lines events)) halts

@@ -1,13 +1,8 @@
 -- The command `check`: the frames of a record, checked as the chain over the signature that the record's request carries.
-use Rattle.std.specs.Prelude.{◌≡◌, ℕ, ◌≤◌, List, ◌++◌, All, codes, length, Option, None, Result, Ok, Err, string_bytes}
-use Rattle.std.specs.Fmt.{decimal}
+use Rattle.std.specs.Prelude.{◌≡◌, ℕ, ◌≤◌, List, ◌++◌, length, Option, Result, Ok, Err, string_bytes}
 use Rattle.std.specs.Global.{Vec}
-use Rattle.std.specs.List.{flat_map}
-use Rattle.hex.specs.Hex.{encode_lower}
 use Rattle.smithy_core.specs.Message.{Parts}
-use Rattle.smithy_core.specs.Text.{line}
 use Rattle.smithy_core.specs.declared.request.HttpRequest.{HttpRequest}
-use Rattle.eventstream.specs.Frame.{frame, unframed}
 use Rattle.eventstream.specs.Key.{Signer}
 use Rattle.chain_watch.specs.Walk.{chain_events}
 use Rattle.chain_watch.specs.declared.chain_fault.ChainFault.{ChainFault}
@@ -17,6 +12,7 @@ use Rattle.env_config.specs.Files.{Place}
 use Rattle.env_config.specs.Loading.{selected_profile}
 use Rattle.env_config.specs.Sections.{FileText}
 use Rattle.signed_stream.specs.Command.{CheckWanted}
+use Rattle.signed_stream.specs.EventLines.{AreFramed, count_line, event_lines}
 use Rattle.signed_stream.specs.Plan.{FilesRead, GoesAsPlanned, Plan, SealRead, Supplied, loaded, most_input, sealed_over, stops, unsealed, unsought, writes}
 use Rattle.job_text.specs.Record.{RecordParts, spelled_record}
 use Rattle.signed_stream.specs.Settings.{Selected, settings}
@@ -27,17 +23,9 @@ use Rattle.signed_stream.specs.declared.status.Status.{Status}
 
 -- ## What is shown
 
--- how many events there are, as a line
-abbrev pub count_line : ℕ → List ℕ
-count_line count = line (codes "ok " ++ decimal count)
-
--- the frame of an event in hexadecimal, as a line
-abbrev pub event_line : Parts → List ℕ
-event_line event = line (encode_lower (frame event))
-
 -- how many events there are, and then their frames
 unfoldable pub shown_events : List Parts → List ℕ
-shown_events events = count_line (length events) ++ flat_map event_line events
+shown_events events = count_line (length events) ++ event_lines events
 
 -- ## What I/O supplied
 
@@ -105,10 +93,6 @@ pub record IsSoundRecord (gave : List Place → FilesRead → Type 0) (env : Lis
   pub chained : chain_events (check_signer wanted selected) signature read.chain ≡ Ok events
 
 -- ## Between the functions of `check`: a reader of its plan needs none of it
-
--- each event has a frame
-abbrev pub AreFramed : List Parts → Type 0
-AreFramed events = All (λ event. unframed event ≡ None) events
 
 -- there is a seal, or none, for which the answer is as planned
 abbrev pub GoesForSeal : HttpRequest → List ℕ → Selected → List ℕ → Ending → Option (List ℕ) → Option (List ℕ) → Type 0

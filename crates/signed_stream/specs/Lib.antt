@@ -5,6 +5,7 @@ pub mod CheckRecord
 pub mod ChunkJob
 pub mod ChunkWords
 pub mod Command
+pub mod EventLines
 pub mod Generate
 pub mod Generator
 pub mod Halt
@@ -23,4 +24,6 @@ pub mod Sources
 pub mod Status
 pub mod Stream
 pub mod Streaming
+pub mod WatchChain
+pub mod WatchWords
 pub mod Written

@@ -1,5 +1,5 @@
 -- What a run promises.
-use Rattle.std.specs.Prelude.{◌≡◌, ℕ, ◌≤◌, ◌⊎◌, Bool, true, false, List, [], ◌++◌, length, replicate, Option, Some, None}
+use Rattle.std.specs.Prelude.{◌≡◌, ℕ, ◌≤◌, ◌⊎◌, Bool, true, false, if◌then◌else◌, List, [], ◌∷◌, ◌++◌, length, replicate, bytes_eq, codes, Option, Some, None, Result, Ok, Err}
 use Rattle.smithy_core.specs.Civil.{is_in_years}
 use Rattle.smithy_core.specs.Moment.{Instant}
 use Rattle.smithy_core.specs.Outside.{Gains, RoseOrStands}
@@ -8,10 +8,11 @@ use Rattle.signed_stream.specs.Case.{request_moment}
 use Rattle.chain_watch.specs.Chain.{IsChainOf}
 use Rattle.signed_stream.specs.CheckRecord.{GaveRecord, IsSoundRecord, check_plan, check_signer, shown_events}
 use Rattle.signed_stream.specs.ChunkJob.{chunk_plan, shown_chunks}
-use Rattle.signed_stream.specs.Command.{Command, Wanted, bad_word, check_record, generate, show_settings, stream, write_chunks}
+use Rattle.signed_stream.specs.Command.{Command, Wanted, bad_word, check_record, command, generate, show_settings, stream, write_chunks}
 use Rattle.signed_stream.specs.Generate.{generate_plan, shown_stream}
 use Rattle.signed_stream.specs.Generator.{drawn_events}
 use Rattle.job_text.specs.Job.{job}
+use Rattle.job_text.specs.Pieces.{taken_from}
 use Rattle.signed_stream.specs.Plan.{FilesRead, GoesAsPlanned, IsNeeded, Plan, Supplied, most_input, stops, unless_large, unreadable}
 use Rattle.job_text.specs.ProfileTexts.{profile_texts}
 use Rattle.job_text.specs.Record.{spelled_record}
@@ -20,6 +21,8 @@ use Rattle.signed_stream.specs.ShowSettings.{GaveTexts, IsShowable, settings_pla
 use Rattle.signed_stream.specs.Shown.{shown_settings}
 use Rattle.signed_stream.specs.Status.{Ending, RunFault, bad_job, bad_words, could_not_read_file, done, header_value_too_long, headers_too_long, invalid_header_name_length, job_too_large, message_too_long, moment_out_of_range, no_memory, output_fault, payload_too_long, read_fault, refused, timestamp_value_too_large}
 use Rattle.signed_stream.specs.Stream.{GaveReading, IsStreamable, job_plan, streamed}
+use Rattle.signed_stream.specs.WatchChain.{HasWatched, IsWholeInput, NamesUnread, UnlessRead, WatchesInput}
+use Rattle.signed_stream.specs.WatchWords.{WatchWanted, no_watch_given, watch_from, watch_word}
 
 -- ## The plan
 
@@ -229,3 +232,79 @@ pub record Ran (gave : List Place → FilesRead → Type 0) (clock : List Instan
   -- which counts rose
   pub reads : CountsReads answer reads_before reads_now
   pub writes : CountsWrites answer out.faults_before out.faults_now
+
+-- ## What the words ask for
+
+-- what the words ask for
+pub data Asked : Type 0 where
+  -- to watch a chain, for what the words behind `watch` ask, or the first of them that is bad
+  to_watch : Result WatchWanted ℕ → Asked
+  -- a command that goes by a plan for the whole of its input, or none
+  to_run : Command → Asked
+
+-- what the words behind `watch` ask for, or the place of the first bad one
+abbrev pub read_after_watch : List (List ℕ) → Result WatchWanted ℕ
+read_after_watch words = watch_from (taken_from watch_word 2 no_watch_given words)
+
+-- what the words ask for: `watch` reads while it writes, and every other command goes by its plan
+unfoldable pub asked : List (List ℕ) → Asked
+asked [] = to_run (command [])
+asked (word ∷ words) = if bytes_eq word (codes "watch") then to_watch (read_after_watch words) else to_run (command (word ∷ words))
+
+-- the words ask to watch, as these words behind `watch` say, or for something else
+abbrev pub AsksWatch : List (List ℕ) → Option (List (List ℕ)) → Type 0
+AsksWatch words (Some rest) = asked words ≡ to_watch (read_after_watch rest)
+AsksWatch words None = asked words ≡ to_run (command words)
+
+-- where the words are bad
+abbrev pub UnlessAsked : Asked → Type 0 → Type 0
+UnlessAsked (to_run command) P = UnlessCommand command P
+UnlessAsked (to_watch read) P = UnlessRead read P
+
+-- whether what is asked for reads the input
+abbrev pub takes_input : Asked → Bool
+takes_input (to_run command) = reads_input command
+takes_input (to_watch (Err place)) = false
+takes_input (to_watch (Ok wanted)) = true
+
+-- whether what is asked for asks for profile files
+abbrev pub takes_files : Asked → Bool
+takes_files (to_run command) = reads_files command
+takes_files (to_watch (Err place)) = false
+takes_files (to_watch (Ok wanted)) = true
+
+-- the answers that come before the disk is asked; `watch` asks it before the input
+abbrev pub AsksDiskLast : {D : Type 0} → Asked → Ending → D → D → Type 0
+AsksDiskLast (to_run command) answer before now = KeepsDisk answer before now
+AsksDiskLast (to_watch read) answer before now = Unit {0}
+
+-- how a watch went: there is what the files gave, under which the bytes taken were walked
+pub record HasWatchedInput (gave : List Place → FilesRead → Type 0) (env : List (List ℕ × List ℕ)) (wanted : WatchWanted) (all left : Option (List ℕ)) (answer : Ending) (before now : Option (List ℕ)) : Type 0 where
+  pub input : WatchesInput gave env wanted all left answer before now
+  -- where it is done, the bytes are the chain of the events that are shown
+  pub headline : (bytes : List ℕ) → all ≡ Some bytes → answer ≡ done → HasWatched env wanted bytes input.files before now
+  -- a whole chain is shown
+  pub complete : (bytes : List ℕ) → all ≡ Some bytes → IsWholeInput env wanted bytes input.files → Completes answer
+
+-- a watch went so, or a word is bad
+abbrev pub WentWatching : (List Place → FilesRead → Type 0) → List (List ℕ × List ℕ) → Result WatchWanted ℕ → Option (List ℕ) → Option (List ℕ) → Ending → Option (List ℕ) → Option (List ℕ) → Type 0
+WentWatching gave env (Ok wanted) all left answer before now = HasWatchedInput gave env wanted all left answer before now
+WentWatching gave env (Err place) all left answer before now = ((answer ≡ bad_words place) ⊎ (answer ≡ no_memory)) × (left ≡ all) × (now ≡ before)
+
+-- How a watch went for which the words ask: the input had `all` and has `left`, and the clock wasn't asked.
+pub record RanWatch (gave : List Place → FilesRead → Type 0) (clock : List Instant → Type 0) (env : List (List ℕ × List ℕ)) (read : Result WatchWanted ℕ) (all left : Option (List ℕ)) (answer : Ending) (reads_before reads_now : ℕ) (out err : SinkChange) : Type 0 where
+  pub went : WentWatching gave env read all left answer out.held_before out.held_now
+  pub moments : clock []
+  -- a file that couldn't be read is one that the words name
+  pub named : (path : List ℕ) → answer ≡ could_not_read_file path → NamesUnread gave read path
+  -- what `err` gained
+  pub said : SaysEnding answer err.held_before err.held_now err.faults_before err.faults_now
+  -- which counts rose
+  pub reads : CountsReads answer reads_before reads_now
+  pub writes : CountsWrites answer out.faults_before out.faults_now
+
+-- How a run went that the words ask for: there is what I/O supplied for which the headline holds, what can be done is done, and it ended, gained and said
+-- what words, variables, input, files and clock ask for.
+abbrev pub Went : (List Place → FilesRead → Type 0) → (List Instant → Type 0) → List (List ℕ × List ℕ) → Asked → Option (List ℕ) → Option (List ℕ) → Ending → ℕ → ℕ → SinkChange → SinkChange → Type 0
+Went gave clock env (to_run command) all left answer reads_before reads_now out err = (given : Supplied) × Ran gave clock env command all given answer reads_before reads_now out err
+Went gave clock env (to_watch read) all left answer reads_before reads_now out err = RanWatch gave clock env read all left answer reads_before reads_now out err

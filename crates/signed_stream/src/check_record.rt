@@ -1,10 +1,10 @@
 //! The command `check`.
-ghost use Rattle.std.specs.Prelude.{◌≡◌, ◌≤◌, ℕ, List, None, IfOk, IsErrOf};
+ghost use Rattle.std.specs.Prelude.{◌≡◌, ◌≤◌, ℕ, List, None, IsErrOf};
 ghost use Rattle.smithy_core.specs.Outside.{RoseOrStands};
-ghost use Rattle.eventstream.specs.Frame.{frame, unframed};
 ghost use Rattle.signed_stream.specs.Carriers.{GoesForRecord, IsAfterTexts};
-ghost use Rattle.signed_stream.specs.CheckRecord.{AreFramed, ChecksRecord, GoesForSeal, count_line, event_line, shown_events};
+ghost use Rattle.signed_stream.specs.CheckRecord.{ChecksRecord, GoesForSeal, shown_events};
 ghost use Rattle.signed_stream.specs.Command.{check_record};
+ghost use Rattle.signed_stream.specs.EventLines.{AreFramed};
 ghost use Rattle.signed_stream.specs.Halt.{Sends};
 ghost use Rattle.signed_stream.specs.Options.{check_wanted};
 ghost use Rattle.job_text.specs.Record.{record_parts};
@@ -13,18 +13,16 @@ ghost use Rattle.signed_stream.specs.Settings.{selected_in};
 ghost use Rattle.signed_stream.specs.Sources.{DiskGives};
 ghost use Rattle.signed_stream.specs.Status.{could_not_read_file, ending_of, output_fault};
 
-use crate::chain::{write_frame, write_text};
 use crate::command::CheckWords;
-use crate::form::Form;
+use crate::event_lines::{write_count, write_lines};
 use crate::settings::Settings;
 use crate::sources::select;
 use crate::status::{CheckFault, Status, StreamFault, status_of};
 use chain_watch::check_chain;
-use eventstream::{ErrorKind, write_message_to};
 use job_text::RecordDraft;
 use request_check::seal_of;
-use smithy_core::{ByteSink, Disk, Env, HttpRequest, Mem, Message};
-use std::alloc::{AllocError, Global};
+use smithy_core::{ByteSink, Disk, Env, HttpRequest, Message};
+use std::alloc::Global;
 
 /// Checks the frames of a record as the chain over the signature that its request carries, under what its texts select
 /// with the files that the words name, and writes the events of the frames.
@@ -120,48 +118,5 @@ fn write_events<K: ByteSink>(
     ensures steady { (IsErrOf result StreamFault.SinkFault → ⊥) → K.faults out.new ≡ K.faults out.old }
 {
     write_count(alloc, events.len(), out)?;
-    'events: for event in events {
-        write_event(alloc, event, out)?;
-    }
-    Ok(())
-}
-
-// Writes how many events there are.
-#[tactic(auto, using(smithy_core::proofs::GainLemmas::prefix_at_start))]
-fn write_count<K: ByteSink>(alloc: Global, count: usize, out: &mut K) -> Result<(), StreamFault>
-    ensures count { K.faults out.old ≤ K.faults out.new }
-    ensures sends { Sends None (count_line count) (K.held out.old) (K.held out.new) result }
-    ensures failed { IsErrOf result StreamFault.SinkFault → RoseOrStands (K.faults out.old) (K.faults out.new) }
-    ensures steady { (IsErrOf result StreamFault.SinkFault → ⊥) → K.faults out.new ≡ K.faults out.old }
-{
-    let line = format!(in alloc; "ok {count}\n")?;
-    write_text(out, line.as_bytes())
-}
-
-// Writes the frame of an event, which has one.
-#[tactic(auto, using(smithy_core::proofs::GainLemmas::prefix_at_start), unfolding(crate::specs::Chain::frame_text))]
-fn write_event<K: ByteSink>(alloc: Global, event: &Message, out: &mut K) -> Result<(), StreamFault>
-    requires { unframed event.now ≡ None }
-    ensures count { K.faults out.old ≤ K.faults out.new }
-    ensures sends { Sends None (event_line event.now) (K.held out.old) (K.held out.new) result }
-    ensures failed { IsErrOf result StreamFault.SinkFault → RoseOrStands (K.faults out.old) (K.faults out.new) }
-    ensures steady { (IsErrOf result StreamFault.SinkFault → ⊥) → K.faults out.new ≡ K.faults out.old }
-{
-    let frame = frame_of(alloc, event)?;
-    write_frame(alloc, frame.as_slice(), Form::HexLines, out)
-}
-
-// The frame of an event that has one.
-fn frame_of(alloc: Global, event: &Message) -> Mem<Vec<u8>>
-    requires { unframed event.now ≡ None }
-    ensures { IfOk result (λ bytes. bytes.items ≡ frame event.now) }
-{
-    let mut bytes = Vec::new(alloc);
-    match write_message_to(alloc, event, &mut bytes) {
-        Ok(()) => Ok(bytes),
-        Err(error) => match error.kind() {
-            ErrorKind::NoMemory => Err(AllocError),
-            _ => unreachable!(),
-        },
-    }
+    write_lines(alloc, events, out)
 }

@@ -10,6 +10,7 @@ mod chunk;
 mod generator;
 mod options;
 mod profile;
+mod watch;
 
 pub use crate::command::check::CheckWords;
 use crate::command::check::GivenCheck;
@@ -21,6 +22,7 @@ use crate::command::options::GivenOptions;
 pub use crate::command::options::StreamWords;
 use crate::command::profile::GivenProfile;
 pub use crate::command::profile::{NamedFile, ProfileOptions};
+pub use crate::command::watch::{WatchWords, read_watch};
 use job_text::{WordsFault, take_words};
 use std::alloc::Global;
 

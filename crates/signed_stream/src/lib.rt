@@ -17,6 +17,7 @@
 mod chain;
 mod check_record;
 mod command;
+mod event_lines;
 mod form;
 mod generate;
 mod generator;
@@ -33,6 +34,7 @@ mod sources;
 mod status;
 mod stream;
 mod streaming;
+mod watch_chain;
 mod written;
 
 pub use crate::form::Form;

@@ -1,4 +1,4 @@
-ghost use Rattle.std.specs.Prelude.{◌≡◌, ◌≤◌, ℕ, List, length, map};
+ghost use Rattle.std.specs.Prelude.{◌≡◌, ◌≤◌, ℕ, List, length, map, option_map};
 ghost use Rattle.std.specs.String.{string_bytes};
 ghost use Rattle.smithy_core.specs.Outside.{IsAtEnd, IsRestOf, RoseOrStands};
 ghost use Rattle.signed_stream.specs.Carriers.{GoesForBytes, GoesForInput, IsAfterInput};
@@ -6,9 +6,10 @@ ghost use Rattle.signed_stream.specs.Command.{command};
 ghost use Rattle.signed_stream.specs.Options.{input_commanded};
 ghost use Rattle.signed_stream.specs.Plan.{Supplied, most_input};
 ghost use Rattle.smithy_core.specs.Given.{Gives};
-ghost use Rattle.signed_stream.specs.Running.{EndsAsAsked, KeepsDisk, KeepsOutput, NamesUnreadable, Ran, Unless, UnlessCommand, When, comes_late, reads_files, reads_input};
+ghost use Rattle.signed_stream.specs.Running.{AsksDiskLast, EndsAsAsked, KeepsDisk, KeepsOutput, NamesUnreadable, AsksWatch, Ran, RanWatch, Unless, UnlessAsked, UnlessCommand, Went, When, asked, comes_late, read_after_watch, reads_files, reads_input, takes_files, takes_input};
 ghost use Rattle.signed_stream.specs.Sources.{DiskGives};
 ghost use Rattle.signed_stream.specs.Status.{could_not_read_file, done, ending_of, output_fault, read_fault};
+ghost use Rattle.signed_stream.specs.WatchChain.{UnlessRead};
 
 use crate::check_record::check_record;
 use crate::command::{Command, InputCommand, read_words};
@@ -18,12 +19,13 @@ use crate::show_chunked::show_chunked;
 use crate::show_settings::show_settings;
 use crate::status::Status;
 use crate::stream::stream_job;
+use crate::watch_chain::watch;
 use job_text::{JobFault, WordsFault, take_job, take_profile_texts, take_record};
 use smithy_core::{ByteSink, ByteSource, Clock, Disk, Env, ReadFault, read_all};
 use std::alloc::Global;
 
 /// The most bytes of an input.
-const MOST_INPUT: usize = 67_108_864;
+pub const MOST_INPUT: usize = 67_108_864;
 
 /// Does what the words ask for, on I/O objects, and says on `err` how it ended.
 ///
@@ -34,7 +36,8 @@ const MOST_INPUT: usize = 67_108_864;
 /// with `--at N` all of them have the moment N. The request's is shifted by `--skew`. Options say how the request is
 /// signed: `--query` with `--expires N` makes a presigned one. With `--raw` the frames alone are written, as bytes, and
 /// else lines: the head, and each frame in hexadecimal. `settings` writes what was selected to sign with: profile,
-/// region, key id, and whether there is a token.
+/// region, key id, and whether there is a token. `watch --name NAME --seed HEX` reads a chain of frames as bytes, and
+/// writes the frame of each event as soon as it is there whole and has passed, and at last how many there were.
 ///
 /// Key id, secret and token are those of the selected profile, which is that of `AWS_PROFILE` or else `default`, and
 /// the region is the service's own variable, `AWS_REGION`, the service's own setting or the profile's, the first that
@@ -56,23 +59,97 @@ pub fn run<S: ByteSource, D: Disk, C: Clock, K: ByteSink, E: ByteSink>(
     out: &mut K,
     err: &mut E,
 ) -> Status
-    // There is what I/O supplied, for which the headline holds, what can be done is done, and the run ended, gained
-    // and said what words, variables, input, files and clock ask for.
+    // How it went: there is what I/O supplied, for which the headline holds, what can be done is done, and the run ended,
+    // gained and said what words, variables, input, files and clock ask for.
+    ensures headline { Went (DiskGives D.answers D.faults (D.files disk.old) env.now disk.old disk.new)
+        (λ taken. Gives C.Clock clock.old taken clock.new) env.now
+        (asked (map string_bytes words.now)) (S.left input.old) (S.left input.new) (ending_of result) (S.faults input.old) (S.faults input.new)
+        (record { held_before = K.held out.old; held_now = K.held out.new; faults_before = K.faults out.old; faults_now = K.faults out.new })
+        (record { held_before = E.held err.old; held_now = E.held err.new; faults_before = E.faults err.old; faults_now = E.faults err.new }) }
+
+    // Where the words are no command, the output is as it was; and so is the input where they ask for none.
+    ensures untouched { UnlessAsked (asked (map string_bytes words.now)) ((K.held out.new ≡ K.held out.old) × (K.faults out.new ≡ K.faults out.old)) }
+    ensures unread { Unless (takes_input (asked (map string_bytes words.now))) ((S.left input.new ≡ S.left input.old) × (S.faults input.new ≡ S.faults input.old)) }
+
+    // But for `watch`, the disk was asked only once the input was read and is a job; it isn't asked by a command that asks
+    // for no files; and its files are as they were.
+    ensures disk { AsksDiskLast (asked (map string_bytes words.now)) (ending_of result) disk.old disk.new × (D.files disk.new ≡ D.files disk.old) }
+    ensures unasked { Unless (takes_files (asked (map string_bytes words.now))) (disk.new ≡ disk.old) }
+
+    // An input that is read was read to its end, a suffix of it is left, and no count fell.
+    ensures outside { When (takes_input (asked (map string_bytes words.now))) (ending_of result ≡ done → IsAtEnd (S.left input.new)) × IsRestOf (S.left input.old) (S.left input.new)
+        × (S.faults input.old ≤ S.faults input.new) × (D.faults disk.old ≤ D.faults disk.new) × (K.faults out.old ≤ K.faults out.new)
+        × (E.faults err.old ≤ E.faults err.new) }
+{
+    match words_of_watch(words) {
+        Some(rest) => run_watch(alloc, rest, env, input, disk, clock, out, err),
+        None => run_command(alloc, words, env, input, disk, clock, out, err),
+    }
+}
+
+// The words behind `watch`, where that is the first.
+#[tactic(auto, using(crate::proofs::OptionLemmas::asked_empty, crate::proofs::OptionLemmas::asked_first), unfolding(crate::specs::Running::asked))]
+fn words_of_watch(words: &[String]) -> Option<&[String]>
+    ensures { AsksWatch (map string_bytes words.now) (option_map (λ rest. map string_bytes rest.now) result) }
+{
+    let [first, rest @ ..] = words else {
+        return None;
+    };
+    match first.as_str() {
+        "watch" => Some(rest),
+        _ => None,
+    }
+}
+
+// Checks a chain while it comes, as the words behind `watch` ask for, and says on `err` how it ended.
+fn run_watch<S: ByteSource, D: Disk, C: Clock, K: ByteSink, E: ByteSink>(
+    alloc: Global,
+    words: &[String],
+    env: &Env,
+    input: &mut S,
+    disk: &mut D,
+    clock: &mut C,
+    out: &mut K,
+    err: &mut E,
+) -> Status
+    ensures headline { RanWatch (DiskGives D.answers D.faults (D.files disk.old) env.now disk.old disk.new)
+        (λ taken. Gives C.Clock clock.old taken clock.new) env.now
+        (read_after_watch (map string_bytes words.now)) (S.left input.old) (S.left input.new) (ending_of result) (S.faults input.old) (S.faults input.new)
+        (record { held_before = K.held out.old; held_now = K.held out.new; faults_before = K.faults out.old; faults_now = K.faults out.new })
+        (record { held_before = E.held err.old; held_now = E.held err.new; faults_before = E.faults err.old; faults_now = E.faults err.new }) }
+    ensures untouched { UnlessRead (read_after_watch (map string_bytes words.now)) ((K.held out.new ≡ K.held out.old) × (K.faults out.new ≡ K.faults out.old)) }
+    ensures unread { UnlessRead (read_after_watch (map string_bytes words.now)) ((S.left input.new ≡ S.left input.old) × (S.faults input.new ≡ S.faults input.old)) }
+    ensures same { D.files disk.new ≡ D.files disk.old }
+    ensures unasked { UnlessRead (read_after_watch (map string_bytes words.now)) (disk.new ≡ disk.old) }
+    ensures at_end { ending_of result ≡ done → IsAtEnd (S.left input.new) }
+    ensures rest { IsRestOf (S.left input.old) (S.left input.new) }
+    ensures count { (S.faults input.old ≤ S.faults input.new) × (D.faults disk.old ≤ D.faults disk.new) × (K.faults out.old ≤ K.faults out.new)
+        × (E.faults err.old ≤ E.faults err.new) }
+{
+    let status = watch(alloc, words, env, input, disk, out);
+    say(alloc, status, err)
+}
+
+// Does what the words ask for, where they don't ask to watch, and says on `err` how it ended.
+fn run_command<S: ByteSource, D: Disk, C: Clock, K: ByteSink, E: ByteSink>(
+    alloc: Global,
+    words: &[String],
+    env: &Env,
+    input: &mut S,
+    disk: &mut D,
+    clock: &mut C,
+    out: &mut K,
+    err: &mut E,
+) -> Status
     ensures headline { (given : Supplied) × Ran (DiskGives D.answers D.faults (D.files disk.old) env.now disk.old disk.new)
         (λ taken. Gives C.Clock clock.old taken clock.new) env.now
         (command (map string_bytes words.now)) (S.left input.old) given (ending_of result) (S.faults input.old) (S.faults input.new)
         (record { held_before = K.held out.old; held_now = K.held out.new; faults_before = K.faults out.old; faults_now = K.faults out.new })
         (record { held_before = E.held err.old; held_now = E.held err.new; faults_before = E.faults err.old; faults_now = E.faults err.new }) }
-
-    // Where the words are no command, the output is as it was; and so is the input where they ask for none.
     ensures untouched { UnlessCommand (command (map string_bytes words.now)) ((K.held out.new ≡ K.held out.old) × (K.faults out.new ≡ K.faults out.old)) }
     ensures unread { Unless (reads_input (command (map string_bytes words.now))) ((S.left input.new ≡ S.left input.old) × (S.faults input.new ≡ S.faults input.old)) }
-
-    // The disk was asked only once the input was read and is a job, and by no command that asks for no files; its files are as they were.
     ensures disk { KeepsDisk (ending_of result) disk.old disk.new × (D.files disk.new ≡ D.files disk.old) }
     ensures unasked { Unless (reads_files (command (map string_bytes words.now))) (disk.new ≡ disk.old) }
-
-    // An input that is read was read to its end, a suffix of it is left, and no count fell.
     ensures outside { When (reads_input (command (map string_bytes words.now))) (ending_of result ≡ done → IsAtEnd (S.left input.new)) × IsRestOf (S.left input.old) (S.left input.new)
         × (S.faults input.old ≤ S.faults input.new) × (D.faults disk.old ≤ D.faults disk.new) × (K.faults out.old ≤ K.faults out.new)
         × (E.faults err.old ≤ E.faults err.new) }

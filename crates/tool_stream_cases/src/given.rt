@@ -12,6 +12,7 @@ use std::alloc::Global;
 pub struct Given<S, D, C> {
     words: Vec<String>,
     env: Env,
+    len: usize,
     input: S,
     disk: D,
     clock: C,
@@ -21,22 +22,31 @@ impl Given<FaultySource, FaultyDisk, ListClock> {
     /// An input and a disk whose calls `@read PLACE` and `@disk PLACE` fail, and a clock of the listed moments.
     pub fn faulty(alloc: Global, command: &str, lines: &[&str]) -> Mem<Self> {
         let fails = fails_of(alloc, lines, "@read")?;
+        let input = input_of(alloc, lines)?;
         Ok(Given {
-            input: FaultySource::new(input_of(alloc, lines)?, fails),
+            len: input.len(),
+            input: FaultySource::new(input, fails),
             clock: clock_of(alloc, lines)?,
             words: words_of(alloc, command)?,
             env: env_of(alloc, lines)?,
             disk: disk_of(alloc, lines)?,
         })
     }
+
+    /// How many bytes the input lost.
+    pub fn lost(&self) -> usize {
+        self.len.saturating_sub(self.input.left().len())
+    }
 }
 
 impl Given<CalmSource, CalmDisk, FixedClock> {
     /// An input and a disk that never fail, and a clock that stands at the first of the listed moments.
     pub fn calm(alloc: Global, command: &str, lines: &[&str]) -> Mem<Self> {
+        let input = input_of(alloc, lines)?;
         Ok(Given {
+            len: input.len(),
             clock: FixedClock::new(clock_of(alloc, lines)?.now()),
-            input: CalmSource::new(input_of(alloc, lines)?),
+            input: CalmSource::new(input),
             words: words_of(alloc, command)?,
             env: env_of(alloc, lines)?,
             disk: CalmDisk::new(files_of(alloc, lines)?),

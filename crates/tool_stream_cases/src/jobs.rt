@@ -1,4 +1,5 @@
 //! What a run is given, from the words of its line: a line of the job each, but for those that begin with `@`.
+use crate::streamed::raw_stream;
 use smithy_core::{Env, FaultyDisk, ListClock, Mem, Moment};
 use std::alloc::Global;
 use tool_case_lines::{bytes_of_hex, with_repeats};
@@ -19,6 +20,17 @@ const EVENT: &[u8] = b"event
 h :message-type text event
 payload 68656c6c6f
 ";
+
+const LONG_EVENT: &[u8] = b"event
+payload abababababababababababababababababababababababababababababababababababababababababababababababababababababababababababababababababababababababababababababababababababababababababababababababababababab
+";
+
+// The two frames of that job's stream, and the same with another signature in the closing one.
+const CHAIN: &str =
+    "0000007e00000043cc1591ed103a6368756e6b2d7369676e61747572650600201f21cef2f6ef80602e68b53cf8eef518cad870abf5992bb709a9975bcc5b2736053a64617465080000014f7e9b6f800000002b0000001627e7742d0d3a6d6573736167652d747970650700056576656e7468656c6c6fcc8019328c848f530000005300000043f5447a58103a6368756e6b2d7369676e6174757265060020624d8899799296b936e200257d28d8bc1e2316e008dfdfb05f5e49ccff660a6f053a64617465080000014f7e9b6f80a703f498";
+
+const FORGED: &str =
+    "0000007e00000043cc1591ed103a6368756e6b2d7369676e61747572650600201f21cef2f6ef80602e68b53cf8eef518cad870abf5992bb709a9975bcc5b2736053a64617465080000014f7e9b6f800000002b0000001627e7742d0d3a6d6573736167652d747970650700056576656e7468656c6c6fcc8019328c848f530000005300000043f5447a58103a6368756e6b2d7369676e6174757265060020624d8899799296b936e200257d28d8bc1e2316e008dfdfb05f5e49ccff660a6e053a64617465080000014f7e9b6f80096b6509";
 
 // What a record of that job begins with: the line `record`, and the head of what `stream` wrote.
 const HEAD: &[u8] = b"record
@@ -42,11 +54,28 @@ fn push_line(alloc: Global, input: &mut Vec<u8>, line: &str) -> Mem<()> {
     match line.split_once(' ').unwrap_or((line, "")) {
         ("@hex", digits) => push_digits(alloc, input, digits),
         ("@text", text) => input.extend_from_slice(text.as_bytes()),
+        ("@streamed", count) => push_streamed(alloc, input, count.parse().unwrap_or(0)),
+        ("@cut", len) => {
+            input.truncate(len.parse().unwrap_or(0));
+            Ok(())
+        }
         ("@env" | "@file" | "@digits" | "@read" | "@disk" | "@out" | "@err" | "@clock", _) => Ok(
             (),
         ),
         (word, _) => push_part(alloc, input, word, line),
     }
+}
+
+// Appends the frames of a stream of so many events, as bytes.
+fn push_streamed(alloc: Global, input: &mut Vec<u8>, count: usize) -> Mem<()> {
+    let mut job = Vec::new(alloc);
+    job.extend_from_slice(REQUEST)?;
+    job.extend_from_slice(PROFILE)?;
+    for _ in 0..count {
+        job.extend_from_slice(LONG_EVENT)?;
+    }
+    let raw = raw_stream(alloc, job)?;
+    input.extend_from_slice(raw.as_slice())
 }
 
 fn push_digits(alloc: Global, input: &mut Vec<u8>, digits: &str) -> Mem<()> {
@@ -61,6 +90,8 @@ fn push_part(alloc: Global, input: &mut Vec<u8>, word: &str, line: &str) -> Mem<
         "@profile" => input.extend_from_slice(PROFILE),
         "@event" => input.extend_from_slice(EVENT),
         "@head" => input.extend_from_slice(HEAD),
+        "@chain" => push_digits(alloc, input, CHAIN),
+        "@forged" => push_digits(alloc, input, FORGED),
         _ => push_job_line(alloc, input, line),
     }
 }

@@ -8,6 +8,7 @@ mod job_texts;
 mod jobs;
 mod runs;
 mod settings;
+mod streamed;
 mod streams;
 mod texts;
 

@@ -59,6 +59,7 @@ fn outcome(alloc: Global, call: &str, given: &mut GivenFaulty, lines: &[&str]) -
         "run" => with_held(alloc, ending, out.held()),
         "run_digest" => with_digest(alloc, ending, out.held()),
         "run_events" => with_events(alloc, ending, out.held()),
+        "run_lost" => with_lost(alloc, ending, given),
         _ => unknown(alloc),
     }
 }
@@ -80,6 +81,13 @@ fn with_digest(alloc: Global, ending: Mem<String>, held: &[u8]) -> Mem<String> {
     let ending = ending?;
     let digest = sha256_hex(alloc, held)?;
     format!(in alloc; "{ending}|{} {digest}", held.len())
+}
+
+// How a run ended, and how many bytes the input lost.
+fn with_lost(alloc: Global, ending: Mem<String>, given: &GivenFaulty) -> Mem<String> {
+    let ending = ending?;
+    let lost = given.lost();
+    format!(in alloc; "{ending}|{lost}")
 }
 
 // How a run ended, and the frames of the events, each from the payload of its signed one.

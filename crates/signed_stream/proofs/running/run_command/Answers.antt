@@ -6,7 +6,7 @@ use Rattle.signed_stream.specs.Sources.{DiskGives}
 use Rattle.signed_stream.specs.Status.{ending_of}
 use Rattle.signed_stream.proofs.HeadlineLemmas.{completes, has_done_where}
 use Rattle.signed_stream.proofs.SaidLemmas.{said_asked, said_is, said_keeps, said_reads, said_runs, said_when, said_writes}
-use Rattle.signed_stream.proofs.running.run.Goals as goal
+use Rattle.signed_stream.proofs.running.run_command.Goals as goal
 
 pub returns-clause-headline : goal.returns-clause-headline
 returns-clause-headline g c =

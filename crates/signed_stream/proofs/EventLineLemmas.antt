@@ -1,0 +1,55 @@
+-- The lines of events, one after another.
+use Rattle.std.proofs.Common.{◌≡◌, ℕ, ◌+◌, ◌<◌, List, ◌∷◌, ◌++◌, length, drop, get_or, Option, None, Some, refl, ap, ◌∙◌, subst, add-one}
+use Rattle.std.specs.List.{flat_map}
+use Rattle.std.specs.Prelude.{Result, Ok, Err}
+use Rattle.std.proofs.Math.Seq.{drop-cons}
+use Rattle.smithy_core.specs.Message.{Parts}
+use Rattle.smithy_core.specs.Outside.{Gains, GainsRest}
+use Rattle.smithy_core.proofs.GainLemmas.{gains_at_start, gains_front, gains_join, gains_last, prefix_join, prefix_within}
+use Rattle.signed_stream.specs.EventLines.{event_line, event_lines}
+use Rattle.signed_stream.specs.Halt.{Halt, Halts, Sends, fails, halt_of, refuses, wants}
+use Rattle.signed_stream.specs.declared.status.StreamFault.{StreamFault}
+
+-- a text is sent in front of the rest
+pub front_sent : (a b c : Option (List ℕ)) (front rest all : List ℕ) → GainsRest a b (front ++ rest) all → Gains b c front → GainsRest a c rest all
+front_sent a b c front rest all before sends = gains_join a b c rest (front ++ rest) all before (gains_front b c front rest sends)
+
+-- a text in front isn't sent whole
+pub front_halted : (a b c : Option (List ℕ)) (front rest all : List ℕ) (halt : Halt) → GainsRest a b (front ++ rest) all → Halts None front b c halt → Halts None all a c halt
+front_halted a b c front rest all halt before halts = by_halt halt halts
+  where
+    by_halt : (halt : Halt) → Halts None front b c halt → Halts None all a c halt
+    by_halt (refuses fault) halts = let wrong : None ≡ Some fault = halts.0 in cc
+    by_halt fails halts = prefix_join a b c (front ++ rest) all before (prefix_within b c front rest halts)
+    by_halt wants halts = prefix_join a b c (front ++ rest) all before (prefix_within b c front rest halts)
+
+-- a text is sent last
+pub last_sent : {T : Type 0} (a b c : Option (List ℕ)) (last all : List ℕ) (answer : Result T StreamFault) → GainsRest a b last all → Sends None last b c answer → Sends None all a c answer
+last_sent a b c last all (Ok value) before sends = (sends.0, gains_last a b c last all before sends.1)
+last_sent a b c last all (Err fault) before sends = by_halt (halt_of fault) sends
+  where
+    by_halt : (halt : Halt) → Halts None last b c halt → Halts None all a c halt
+    by_halt (refuses fault) halts = let wrong : None ≡ Some fault = halts.0 in cc
+    by_halt fails halts = prefix_join a b c last all before halts
+    by_halt wants halts = prefix_join a b c last all before halts
+
+-- no event is sent yet
+pub events_begin : (held : Option (List ℕ)) (events : List Parts) → GainsRest held held (event_lines events) (event_lines events)
+events_begin held events = gains_at_start held (event_lines events)
+
+-- the event in front, and then those to come
+event_front : (events : List Parts) (i : ℕ) (event : Parts) → i < length events → event ≡ get_or events i event
+    → event_lines (drop i events) ≡ event_line event ++ event_lines (drop (i + 1) events)
+event_front events i event within is =
+    let front : drop i events ≡ event ∷ drop (i + 1) events = drop-cons events i event within ∙ rw (← is, add-one) refl in
+    ap (flat_map event_line) front
+
+pub event_sent : (a b c : Option (List ℕ)) (events : List Parts) (i : ℕ) (event : Parts) (all : List ℕ) → i < length events → event ≡ get_or events i event
+    → GainsRest a b (event_lines (drop i events)) all → Gains b c (event_line event) → GainsRest a c (event_lines (drop (i + 1) events)) all
+event_sent a b c events i event all within is before sends =
+    front_sent a b c (event_line event) (event_lines (drop (i + 1) events)) all (subst (λ rest. GainsRest a b rest all) (event_front events i event within is) before) sends
+
+pub event_halted : (a b c : Option (List ℕ)) (events : List Parts) (i : ℕ) (event : Parts) (all : List ℕ) (halt : Halt) → i < length events → event ≡ get_or events i event
+    → GainsRest a b (event_lines (drop i events)) all → Halts None (event_line event) b c halt → Halts None all a c halt
+event_halted a b c events i event all halt within is before halts =
+    front_halted a b c (event_line event) (event_lines (drop (i + 1) events)) all halt (subst (λ rest. GainsRest a b rest all) (event_front events i event within is) before) halts

@@ -1,0 +1,79 @@
+//! The lines that show events: their frames in hexadecimal, and how many there are.
+ghost use Rattle.std.specs.Prelude.{◌≡◌, ◌≤◌, None, IfOk, IsErrOf};
+ghost use Rattle.smithy_core.specs.Outside.{RoseOrStands};
+ghost use Rattle.eventstream.specs.Frame.{frame, unframed};
+ghost use Rattle.signed_stream.specs.EventLines.{AreFramed, count_line, event_line, event_lines};
+ghost use Rattle.signed_stream.specs.Halt.{Sends};
+
+use crate::chain::{write_frame, write_text};
+use crate::form::Form;
+use crate::status::StreamFault;
+use eventstream::{ErrorKind, write_message_to};
+use smithy_core::{ByteSink, Mem, Message};
+use std::alloc::{AllocError, Global};
+
+/// Writes how many events there are.
+///
+/// # Errors
+///
+/// As those of [`write_text`].
+#[tactic(auto, using(smithy_core::proofs::GainLemmas::prefix_at_start))]
+pub fn write_count<K: ByteSink>(alloc: Global, count: usize, out: &mut K) -> Result<(), StreamFault>
+    ensures count { K.faults out.old ≤ K.faults out.new }
+    ensures sends { Sends None (count_line count) (K.held out.old) (K.held out.new) result }
+    ensures failed { IsErrOf result StreamFault.SinkFault → RoseOrStands (K.faults out.old) (K.faults out.new) }
+    ensures steady { (IsErrOf result StreamFault.SinkFault → ⊥) → K.faults out.new ≡ K.faults out.old }
+{
+    let line = format!(in alloc; "ok {count}\n")?;
+    write_text(out, line.as_bytes())
+}
+
+/// Writes the frames of events, which have one each.
+///
+/// # Errors
+///
+/// As those of [`write_text`].
+pub fn write_lines<K: ByteSink>(
+    alloc: Global,
+    events: &[Message],
+    out: &mut K,
+) -> Result<(), StreamFault>
+    requires { AreFramed events.now }
+    ensures count { K.faults out.old ≤ K.faults out.new }
+    ensures sends { Sends None (event_lines events.now) (K.held out.old) (K.held out.new) result }
+    ensures failed { IsErrOf result StreamFault.SinkFault → RoseOrStands (K.faults out.old) (K.faults out.new) }
+    ensures steady { (IsErrOf result StreamFault.SinkFault → ⊥) → K.faults out.new ≡ K.faults out.old }
+{
+    'events: for event in events {
+        write_event(alloc, event, out)?;
+    }
+    Ok(())
+}
+
+// Writes the frame of an event, which has one.
+#[tactic(auto, using(smithy_core::proofs::GainLemmas::prefix_at_start), unfolding(crate::specs::Chain::frame_text))]
+fn write_event<K: ByteSink>(alloc: Global, event: &Message, out: &mut K) -> Result<(), StreamFault>
+    requires { unframed event.now ≡ None }
+    ensures count { K.faults out.old ≤ K.faults out.new }
+    ensures sends { Sends None (event_line event.now) (K.held out.old) (K.held out.new) result }
+    ensures failed { IsErrOf result StreamFault.SinkFault → RoseOrStands (K.faults out.old) (K.faults out.new) }
+    ensures steady { (IsErrOf result StreamFault.SinkFault → ⊥) → K.faults out.new ≡ K.faults out.old }
+{
+    let frame = frame_of(alloc, event)?;
+    write_frame(alloc, frame.as_slice(), Form::HexLines, out)
+}
+
+// The frame of an event that has one.
+fn frame_of(alloc: Global, event: &Message) -> Mem<Vec<u8>>
+    requires { unframed event.now ≡ None }
+    ensures { IfOk result (λ bytes. bytes.items ≡ frame event.now) }
+{
+    let mut bytes = Vec::new(alloc);
+    match write_message_to(alloc, event, &mut bytes) {
+        Ok(()) => Ok(bytes),
+        Err(error) => match error.kind() {
+            ErrorKind::NoMemory => Err(AllocError),
+            _ => unreachable!(),
+        },
+    }
+}
