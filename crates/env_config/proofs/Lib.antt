@@ -27,4 +27,5 @@ pub mod SectionsSinkLemmas
 pub mod SelectedLemmas
 pub mod SectionLemmas
 pub mod SpreadLemmas
+pub mod FewLemmas
 pub mod GroupLemmas

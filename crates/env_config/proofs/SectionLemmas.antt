@@ -8,7 +8,7 @@ use Rattle.std.specs.BTreeMap.{insert_entry}
 use Rattle.env_config.specs.declared.property.Property.{Property}
 use Rattle.env_config.specs.Property.{property_pair}
 use Rattle.env_config.specs.Section.{IsKeyed}
-use Rattle.env_config.specs.SectionProperties.{contents_of, own_contents, property_values}
+use Rattle.env_config.specs.SectionProperties.{contents_of, own, property_values}
 use Rattle.env_config.specs.Sections.{is_identifier, put_identifiers}
 use Rattle.env_config.specs.Texts.{pairs_of, put, text_cmp}
 use Rattle.env_config.proofs.LowerLemmas.{tied_same}
@@ -20,11 +20,7 @@ pub property_put : (es now : List (String Global × Property)) (key : String Glo
 property_put es now key property value puts is =
     ap contents_of puts ∙ entries_put string_cmp text_cmp string_bytes property_pair (λ _ _. refl) es key property ∙ ap (put (contents_of es) (string_bytes key)) is
 
--- a pair as it stands under its key
-abbrev own : List ℕ × List ℕ → List ℕ × (List ℕ × List ℕ)
-own pair = (pair.0, (pair.0, pair.1))
-
-own_put : (pairs : List (List ℕ × List ℕ)) (key value : List ℕ) → map own (put pairs key value) ≡ put (map own pairs) key (key, value)
+pub own_put : (pairs : List (List ℕ × List ℕ)) (key value : List ℕ) → map own (put pairs key value) ≡ put (map own pairs) key (key, value)
 own_put [] key value = refl
 own_put (e ∷ es) key value = by (text_cmp key e.0) refl (own_put es key value)
   where
@@ -37,12 +33,12 @@ own_put (e ∷ es) key value = by (text_cmp key e.0) refl (own_put es key value)
 
 -- ## Sections that are read
 
--- the values of entries that stand under their own keys
-pub values_own : (es : List (String Global × String Global)) → property_values (own_contents es) ≡ pairs_of es
+-- the values of pairs that stand under their own keys
+pub values_own : (pairs : List (List ℕ × List ℕ)) → property_values (map own pairs) ≡ pairs
 values_own [] = refl
-values_own (e ∷ es) = ap (λ (rest : List (List ℕ × List ℕ)). (string_bytes e.0, string_bytes e.1) ∷ rest) (values_own es)
+values_own (e ∷ es) = ap (λ (rest : List (List ℕ × List ℕ)). e ∷ rest) (values_own es)
 
-pub keyed_own : (es : List (String Global × String Global)) → IsKeyed (own_contents es)
+pub keyed_own : (pairs : List (List ℕ × List ℕ)) → IsKeyed (map own pairs)
 keyed_own [] = tt
 keyed_own (e ∷ es) = (refl, keyed_own es)
 
@@ -55,7 +51,7 @@ among P [] e es all = all.0
 among P (a ∷ front) e es all = among P front e es all.1
 
 -- a pair whose key is above all others is put behind them
-put_above : (front : List (List ℕ × List ℕ)) (e : List ℕ × List ℕ) (es : List (List ℕ × List ℕ)) → IsStrictlySortedBy text_cmp (keys (front ++ e ∷ es)) → put front e.0 e.1 ≡ front ++ e ∷ []
+pub put_above : (front : List (List ℕ × List ℕ)) (e : List ℕ × List ℕ) (es : List (List ℕ × List ℕ)) → IsStrictlySortedBy text_cmp (keys (front ++ e ∷ es)) → put front e.0 e.1 ≡ front ++ e ∷ []
 unfolding IsStrictlySortedBy
 put_above [] e es sorted = refl
 put_above (a ∷ front) e es sorted =
@@ -72,7 +68,7 @@ put_sorted front (e ∷ es) sorted all =
     ∙ put_sorted (front ++ e ∷ []) es (subst (λ (pairs : List (List ℕ × List ℕ)). IsStrictlySortedBy text_cmp (keys pairs)) (sym (append_assoc front (e ∷ []) es)) sorted) all.1
     ∙ append_assoc front (e ∷ []) es
 
-bytes_sorted : (es : List (String Global × String Global)) → IsStrictlySortedBy string_cmp (map (λ e. e.0) es) → IsStrictlySortedBy text_cmp (keys (pairs_of es))
+pub bytes_sorted : (es : List (String Global × String Global)) → IsStrictlySortedBy string_cmp (map (λ e. e.0) es) → IsStrictlySortedBy text_cmp (keys (pairs_of es))
 unfolding IsStrictlySortedBy
 bytes_sorted [] sorted = tt
 bytes_sorted (e ∷ es) sorted = (below es sorted.0, bytes_sorted es sorted.1)
@@ -81,25 +77,10 @@ bytes_sorted (e ∷ es) sorted = (below es sorted.0, bytes_sorted es sorted.1)
     below [] all = tt
     below (d ∷ ds) all = (all.0, below ds all.1)
 
-bytes_identified : (es : List (String Global × String Global)) → AllByRecursion (λ k. is_identifier (string_bytes k) ≡ true) (map (λ e. e.0) es) → AllByRecursion (λ k. is_identifier k ≡ true) (keys (pairs_of es))
-bytes_identified [] all = tt
-bytes_identified (e ∷ es) all = (all.0, bytes_identified es all.1)
+own_identified : (pairs : List (List ℕ × List ℕ)) → AllByRecursion (λ e. is_identifier e.0 ≡ true) (map own pairs) → AllByRecursion (λ k. is_identifier k ≡ true) (keys pairs)
+own_identified [] all = tt
+own_identified (e ∷ es) all = (all.0, own_identified es all.1)
 
--- the entries of a map, all of whose keys are identifiers
-pub put_identified : (es : List (String Global × String Global)) → IsStrictlySortedBy string_cmp (map (λ e. e.0) es) → AllByRecursion (λ k. is_identifier (string_bytes k) ≡ true) (map (λ e. e.0) es) → put_identifiers [] (pairs_of es) ≡ pairs_of es
-put_identified es sorted all = put_sorted [] (pairs_of es) (bytes_sorted es sorted) (bytes_identified es all)
-
--- the texts of the entries, each under its own key
-own_seen : (es : List (String Global × String Global)) → own_contents es ≡ map own (pairs_of es)
-own_seen [] = refl
-own_seen (e ∷ es) = ap (λ (rest : List (List ℕ × (List ℕ × List ℕ))). (string_bytes e.0, (string_bytes e.0, string_bytes e.1)) ∷ rest) (own_seen es)
-
--- a value that is put under its own key
-pub value_put : (es now : List (String Global × String Global)) (key value : String Global) → now ≡ insert_entry string_cmp es key value
-    → own_contents now ≡ put (own_contents es) (string_bytes key) (string_bytes key, string_bytes value)
-value_put es now key value puts =
-    ap own_contents puts
-    ∙ own_seen (insert_entry string_cmp es key value)
-    ∙ ap (map own) (entries_put string_cmp text_cmp string_bytes string_bytes (λ _ _. refl) es key value)
-    ∙ own_put (pairs_of es) (string_bytes key) (string_bytes value)
-    ∙ ap (λ (contents : List (List ℕ × (List ℕ × List ℕ))). put contents (string_bytes key) (string_bytes key, string_bytes value)) (sym (own_seen es))
+-- pairs in the order of their keys, all of which are identifiers, are put as they are
+pub put_identified : (pairs : List (List ℕ × List ℕ)) → IsStrictlySortedBy text_cmp (map (λ e. e.0) pairs) → AllByRecursion (λ e. is_identifier e.0 ≡ true) (map own pairs) → put_identifiers [] pairs ≡ pairs
+put_identified pairs sorted all = put_sorted [] pairs sorted (own_identified pairs all)

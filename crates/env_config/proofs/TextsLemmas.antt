@@ -10,7 +10,7 @@ use Rattle.std.proofs.lemmas.Bool.{false≢true}
 use Rattle.std.proofs.lemmas.List.{map-append}
 use Rattle.std.proofs.lemmas.Map.Text.{is_eq-slice_cmp}
 use Rattle.env_config.specs.Texts.{Named, named_as, put, put_named, text_cmp, value_under, words_of}
-use Rattle.env_config.specs.SectionProperties.{contents_under, property_values}
+use Rattle.env_config.specs.SectionProperties.{property_values}
 
 module _ {K J X Y : Type 0} (test : K → K → Ordering) (R : J → J → Ordering) (g : K → J) (f : X → Y) (same : (a b : K) → test a b ≡ R (g a) (g b)) where
   -- an entry as g and f see it
@@ -158,8 +158,8 @@ module _ {X Y : Type 0} (f : X → Y) where
       (entries_put text_cmp text_cmp (λ (k : List ℕ). k) f (λ _ _. refl) named.values name value)
 
 -- one step of a look-up by a text in lower case
-pub lower_step : {X : Type 0} (stored : X → List ℕ → List ℕ × List ℕ) (s t : List (String Global × X)) (key : String Global) (value : X) (q : List ℕ) (found : Bool) → s ≡ (key, value) ∷ t → found ≡ bytes_eq (string_bytes key) q
-    → value_under (property_values (contents_under stored s)) q ≡ cond found (Some (stored value (string_bytes key)).1) (value_under (property_values (contents_under stored t)) q)
-lower_step {X} stored s t key value q found is found_is =
-    ap (λ (es : List (String Global × X)). value_under (property_values (contents_under stored es)) q) is
-    ∙ ap (λ (b : Bool). cond b (Some (stored value (string_bytes key)).1) (value_under (property_values (contents_under stored t)) q)) (is_eq-slice_cmp q (string_bytes key) ∙ nat_list_eq_equiv.symm q (string_bytes key) ∙ sym found_is)
+pub lower_step : (s t : List (List ℕ × (List ℕ × List ℕ))) (e : List ℕ × (List ℕ × List ℕ)) (q : List ℕ) (found : Bool) → s ≡ e ∷ t → found ≡ bytes_eq e.0 q
+    → value_under (property_values s) q ≡ cond found (Some e.1.1) (value_under (property_values t) q)
+lower_step s t e q found is found_is =
+    ap (λ (es : List (List ℕ × (List ℕ × List ℕ))). value_under (property_values es) q) is
+    ∙ ap (λ (b : Bool). cond b (Some e.1.1) (value_under (property_values t) q)) (is_eq-slice_cmp q e.0 ∙ nat_list_eq_equiv.symm q e.0 ∙ sym found_is)

@@ -1,3 +1,4 @@
+pub mod Entries
 pub mod EnvConfigSections
 pub mod EnvConfigValue
 pub mod Fault
@@ -30,6 +31,7 @@ pub mod SectionsSink
 pub mod Selected
 pub mod Source
 pub mod Texts
+pub mod TextsView
 pub mod Value
 pub mod ValueFault
 pub mod ValueSource

@@ -7,21 +7,17 @@ use Rattle.env_config.specs.declared.section_properties.Held.{Held}
 use Rattle.env_config.specs.declared.section_properties.Held.TheVariants.{Given, Read}
 use Rattle.env_config.specs.Property.{property_pair}
 
--- what stands under each key, as it is seen: a key of its own and a value
-abbrev pub contents_under : {X : Type 0} → (X → List ℕ → List ℕ × List ℕ) → List (String Global × X) → List (List ℕ × (List ℕ × List ℕ))
-contents_under stored entries = map (λ e. (string_bytes e.0, stored e.1 (string_bytes e.0))) entries
-
 -- all that the properties hold, under their keys
 abbrev pub contents_of : List (String Global × Property) → List (List ℕ × (List ℕ × List ℕ))
-contents_of entries = contents_under (λ property key. property_pair property) entries
+contents_of entries = map (λ e. (string_bytes e.0, property_pair e.1)) entries
 
--- each value under its own key
-abbrev pub own_contents : List (String Global × String Global) → List (List ℕ × (List ℕ × List ℕ))
-own_contents entries = contents_under (λ value key. (key, string_bytes value)) entries
+-- a value under its own key
+abbrev pub own : List ℕ × List ℕ → List ℕ × (List ℕ × List ℕ)
+own pair = (pair.0, (pair.0, pair.1))
 
 abbrev pub contents_in : Held → List (List ℕ × (List ℕ × List ℕ))
 contents_in (Given properties) = contents_of properties.entries
-contents_in (Read values) = own_contents values.entries
+contents_in (Read values) = map own values
 
 -- the value of each key
 abbrev pub property_values : List (List ℕ × (List ℕ × List ℕ)) → List (List ℕ × List ℕ)

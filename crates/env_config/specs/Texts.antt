@@ -8,8 +8,6 @@ use Rattle.std.specs.Cmp.Lexicographic.{pointwise, slice_cmp}
 use Rattle.std.specs.BTreeMap.{insert_entry, is_at}
 use Rattle.std.specs.List.{AllByRecursion, after_first, before_first, position_or_len}
 use Rattle.std.specs.Map.{lookup}
-use Rattle.env_config.specs.declared.texts.Pairs.{Pairs}
-use Rattle.env_config.specs.declared.texts.Pairs.TheVariants.{One, Few, Many}
 use Rattle.env_config.specs.Line.{is_equals}
 
 -- texts are compared byte by byte
@@ -51,12 +49,6 @@ pairs_of entries = map (λ e. (string_bytes e.0, string_bytes e.1)) entries
 -- the pair of a text: the key before the first `=`, and the value after it
 abbrev pub one_pair : List ℕ → List (List ℕ × List ℕ)
 one_pair text = if nat_lt (position_or_len is_equals text) (length text) then (before_first is_equals text, after_first is_equals text) ∷ [] else []
-
--- the texts of the pairs, in whatever form they are kept
-abbrev pub pairs_in : Pairs → List (List ℕ × List ℕ)
-pairs_in (One text) = one_pair (string_bytes text)
-pairs_in (Few pairs) = pairs_of pairs.items
-pairs_in (Many pairs) = pairs_of pairs.entries
 
 -- where the key's value is put: in place of the pair at an index, or as a new one before it
 abbrev pub FindsPlace : List (List ℕ × List ℕ) → List ℕ → Result ℕ ℕ → Type 0

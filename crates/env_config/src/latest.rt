@@ -147,9 +147,11 @@ fn taken_group(kind: EnvConfigFileKind, overridden: bool, profile: &str) -> Opti
 fn without_places(alloc: Global, mut values: BTreeMap<String, (usize, String)>) -> Mem<Texts>
     ensures { IfOk result (λ texts. texts ≡ without_places (placed_of values.entries)) }
 {
-    let mut pairs = Vec::new(alloc);
-    while let Some((key, (_, value))) = values.pop_first() {
-        pairs.push((key, value))?;
+    // A clause of `len` is that the keys ascend, so that each value is put behind those before.
+    let _count = values.len();
+    let mut texts = Texts::new(alloc);
+    while let Some((key, placed)) = values.pop_first() {
+        texts.put(key, placed.1)?;
     }
-    Ok(Texts::of_few(pairs))
+    Ok(texts)
 }

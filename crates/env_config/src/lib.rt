@@ -3,7 +3,9 @@
 #![tactic(auto)]
 
 mod by_name;
+mod entries;
 mod fault;
+mod few_pairs;
 mod files;
 mod heading;
 mod home;

@@ -62,14 +62,12 @@ fn new_properties(alloc: Global, pairs: Texts) -> Mem<SectionProperties>
     ensures values { IfOk result (λ properties. property_values properties ≡ put_identifiers [] pairs) }
     ensures keys { IfOk result IsKeyed }
 {
-    match pairs.into_identified() {
-        Ok(values) => Ok(SectionProperties::read(values)),
-        Err(pairs) => {
-            let mut properties = SectionProperties::new(alloc);
-            put_pairs(&mut properties, pairs)?;
-            Ok(properties)
-        }
+    if pairs.has_identifiers() {
+        return Ok(SectionProperties::read(pairs));
     }
+    let mut properties = SectionProperties::new(alloc);
+    put_pairs(&mut properties, pairs)?;
+    Ok(properties)
 }
 
 // Puts the pairs whose keys are identifiers.

@@ -26,7 +26,7 @@ pub fn read_raw<'t>(
     ensures reads { ReadsRaw (raw (keeps_of kept.now) text.now) result }
     ensures apart { IfOk result (λ sections. IsApart sections.names) }
 {
-    let sink = read(alloc, kept, text, SectionsSink::new(alloc, kept))?;
+    let sink = read(alloc, kept, text, SectionsSink::new(alloc))?;
     Ok(sink.into_sections(alloc)?)
 }
 

@@ -1,10 +1,13 @@
-ghost use Rattle.std.specs.Prelude.{◌≡◌, [], length, IfOk, OnOk, option_copied};
+ghost use Rattle.std.specs.Prelude.{◌≡◌, [], length, map, IfOk, OnOk, option_copied};
 ghost use Rattle.std.specs.String.{string_bytes};
 ghost use Rattle.smithy_core.specs.TextPairs.{lower};
-ghost use Rattle.env_config.specs.SectionProperties.{contents_of, contents_under, own_contents, same_contents, same_entry, property_values};
+ghost use Rattle.env_config.specs.Entries.{entry_of, left_in};
+ghost use Rattle.env_config.specs.SectionProperties.{contents_of, own, same_contents, same_entry, property_values};
 ghost use Rattle.env_config.specs.Texts.{put, value_under};
 
+use crate::entries::{Entries, Entry};
 use crate::property::Property;
+use crate::texts::Texts;
 use smithy_core::{Mem, is_lower_of};
 use std::alloc::Global;
 use std::collections::BTreeMap;
@@ -23,7 +26,7 @@ enum Held {
     /// Those that a caller gave: each has a key of its own, which may differ from the one under which it stands.
     Given(BTreeMap<String, Property>),
     /// Those of profile files: values by their keys. Each key is kept once, since a file may have very many profiles.
-    Read(BTreeMap<String, String>),
+    Read(Texts),
 }
 
 impl Model for SectionProperties {
@@ -41,7 +44,7 @@ impl SectionProperties {
         ensures { result ≡ [] }
     {
         SectionProperties {
-            held: Held::Read(BTreeMap::new(alloc)),
+            held: Held::Read(Texts::new(alloc)),
         }
     }
 
@@ -55,8 +58,8 @@ impl SectionProperties {
     }
 
     /// The values of profile files by their keys.
-    pub fn read(values: BTreeMap<String, String>) -> SectionProperties
-        ensures { result ≡ own_contents values.entries }
+    pub fn read(values: Texts) -> SectionProperties
+        ensures { result ≡ map own values }
     {
         SectionProperties {
             held: Held::Read(values),
@@ -67,10 +70,7 @@ impl SectionProperties {
     pub fn get(&self, name: &str) -> Option<&str>
         ensures { option_copied result ≡ value_under (property_values self.now) (lower name.now) }
     {
-        match &self.held {
-            Held::Given(properties) => value_of(properties, name),
-            Held::Read(values) => value_of(values, name),
-        }
+        value_of(self.entries(), name)
     }
 
     /// The value stands at the key, in place of the one before.
@@ -79,7 +79,17 @@ impl SectionProperties {
     {
         match &mut self.held {
             Held::Given(properties) => put_property(properties, key, value),
-            Held::Read(values) => put_value(values, key, value),
+            Held::Read(values) => put_own(values, key, value),
+        }
+    }
+
+    // All of them.
+    fn entries(&self) -> Entries<'_>
+        ensures { left_in result ≡ self.now }
+    {
+        match &self.held {
+            Held::Given(properties) => Entries::Given(properties.iter()),
+            Held::Read(values) => values.entries(),
         }
     }
 
@@ -99,7 +109,7 @@ impl SectionProperties {
     {
         let held = match &self.held {
             Held::Given(properties) => Held::Given(copied_properties(properties)?),
-            Held::Read(values) => Held::Read(copied_values(values)?),
+            Held::Read(values) => Held::Read(values.try_clone()?),
         };
         Ok(SectionProperties { held })
     }
@@ -117,12 +127,7 @@ impl PartialEq for SectionProperties {
         (and_per (on_per (λ e. e.1.0) (partial_equiv_from_equiv nat_list_eq_equiv)) (on_per (λ e. e.1.1) (partial_equiv_from_equiv nat_list_eq_equiv)))) };
 
     fn eq(&self, other: &SectionProperties) -> bool {
-        match (&self.held, &other.held) {
-            (Held::Given(properties), Held::Given(others)) => are_same(properties, others),
-            (Held::Given(properties), Held::Read(others)) => are_same(properties, others),
-            (Held::Read(values), Held::Given(others)) => are_same(values, others),
-            (Held::Read(values), Held::Read(others)) => are_same(values, others),
-        }
+        are_same(self.entries(), other.entries())
     }
 }
 
@@ -134,69 +139,13 @@ impl Eq for SectionProperties {
         (and_equiv (on_equiv (λ e. e.1.0) nat_list_eq_equiv) (on_equiv (λ e. e.1.1) nat_list_eq_equiv))) };
 }
 
-/// What stands under a key: a value, and a key of its own.
-trait Stored: Drop {
-    ghost use Rattle.std.specs.Prelude.{ℕ, List};
-
-    // the own key and the value, by the key under which they stand
-    ghost stored: { Self → List ℕ → List ℕ × List ℕ };
-
-    fn own_key<'a>(&'a self, key: &'a str) -> &'a str
-        ensures { result.now ≡ (stored self.now key.now).0 };
-
-    fn stored_value(&self) -> &str
-        ensures { (key : List ℕ) → result.now ≡ (stored self.now key).1 };
-}
-
-impl Stored for Property {
-    ghost use Rattle.env_config.specs.Property.{property_pair};
-
-    ghost stored = { λ property key. property_pair property };
-
-    fn own_key<'a>(&'a self, _key: &'a str) -> &'a str {
-        self.key()
-    }
-
-    fn stored_value(&self) -> &str {
-        self.value()
-    }
-}
-
-impl Stored for String {
-    ghost use Rattle.std.specs.String.{string_bytes};
-
-    ghost stored = { λ value key. (key, string_bytes value) };
-
-    fn own_key<'a>(&'a self, key: &'a str) -> &'a str {
-        key
-    }
-
-    fn stored_value(&self) -> &str {
-        self.as_str()
-    }
-}
-
-// The value at the name in ASCII lower case.
-fn value_of<'a, V: Stored>(map: &'a BTreeMap<String, V>, name: &str) -> Option<&'a str>
-    ensures { option_copied result ≡ value_under (property_values (contents_under V.stored map.now.entries)) (lower name.now) }
+// Whether the entries are equal values under equal keys.
+fn are_same(mut entries: Entries<'_>, mut others: Entries<'_>) -> bool
+    ensures { result ≡ same_contents (left_in entries.entry) (left_in others.entry) }
 {
-    for (key, stored) in map {
-        if is_lower_of(key.as_str(), name) {
-            return Some(stored.stored_value());
-        }
-    }
-    None
-}
-
-// Whether the maps have equal values under equal keys.
-fn are_same<V: Stored, W: Stored>(map: &BTreeMap<String, V>, other: &BTreeMap<String, W>) -> bool
-    ensures { result ≡ same_contents (contents_under V.stored map.now.entries) (contents_under W.stored other.now.entries) }
-{
-    let mut others = other.iter();
-    for (key, stored) in map {
+    while let Some(entry) = entries.next() {
         match others.next() {
-            Some((other_key, other)) if is_same(key.as_str(), stored, other_key.as_str(), other) =>
-                (),
+            Some(other) if is_same(entry, other) => (),
             _ => return false,
         }
     }
@@ -204,12 +153,22 @@ fn are_same<V: Stored, W: Stored>(map: &BTreeMap<String, V>, other: &BTreeMap<St
 }
 
 // Whether equal values stand under equal keys.
-fn is_same<V: Stored, W: Stored>(key: &str, stored: &V, other_key: &str, other: &W) -> bool
-    ensures { result ≡ same_entry (key.now, V.stored stored.now key.now) (other_key.now, W.stored other.now other_key.now) }
+fn is_same(entry: Entry<'_>, other: Entry<'_>) -> bool
+    ensures { result ≡ same_entry (entry_of entry.entry) (entry_of other.entry) }
 {
-    key == other_key
-        && stored.own_key(key) == other.own_key(other_key)
-        && stored.stored_value() == other.stored_value()
+    entry.key == other.key && entry.own_key == other.own_key && entry.value == other.value
+}
+
+// The value at the name in ASCII lower case.
+fn value_of<'a>(mut entries: Entries<'a>, name: &str) -> Option<&'a str>
+    ensures { option_copied result ≡ value_under (property_values (left_in entries.entry)) (lower name.now) }
+{
+    while let Some(entry) = entries.next() {
+        if is_lower_of(entry.key, name) {
+            return Some(entry.value);
+        }
+    }
+    None
 }
 
 fn put_property(properties: &mut BTreeMap<String, Property>, key: String, value: String) -> Mem<()>
@@ -220,23 +179,15 @@ fn put_property(properties: &mut BTreeMap<String, Property>, key: String, value:
     Ok(())
 }
 
-fn put_value(values: &mut BTreeMap<String, String>, key: String, value: String) -> Mem<()>
-    ensures { OnOk result (own_contents values.new.entries ≡ put (own_contents values.old.entries) (string_bytes key) (string_bytes key, string_bytes value)) }
+fn put_own(values: &mut Texts, key: String, value: String) -> Mem<()>
+    ensures { OnOk result (map own values.new ≡ put (map own values.old) (string_bytes key) (string_bytes key, string_bytes value)) }
 {
-    values.insert(key, value)?;
-    Ok(())
+    values.put(key, value)
 }
 
 fn copied_properties(properties: &BTreeMap<String, Property>) -> Mem<BTreeMap<String, Property>>
     ensures { IfOk result (λ copy. contents_of copy.entries ≡ contents_of properties.now.entries) }
 {
     let copy = properties.clone()?;
-    Ok(copy)
-}
-
-fn copied_values(values: &BTreeMap<String, String>) -> Mem<BTreeMap<String, String>>
-    ensures { IfOk result (λ copy. own_contents copy.entries ≡ own_contents values.now.entries) }
-{
-    let copy = values.clone()?;
     Ok(copy)
 }

@@ -1,9 +1,8 @@
-ghost use Rattle.std.specs.Prelude.{◌≡◌, [], None, OnOk, IfOk, option_copied};
+ghost use Rattle.std.specs.Prelude.{◌≡◌, None, OnOk, IfOk, option_copied};
 ghost use Rattle.env_config.specs.Raw.{properties_of};
 ghost use Rattle.env_config.specs.SectionsSink.{StandsForSections, with_open};
 ghost use Rattle.env_config.specs.Texts.{nothing_named, put_named};
 
-use crate::kept::Kept;
 use crate::raw_sections::RawSections;
 use crate::reader::Sink;
 use crate::texts::Texts;
@@ -19,19 +18,17 @@ pub struct SectionsSink<'t> {
     sections: RawSections<'t>,
     name: Option<&'t str>,
     properties: Texts,
-    has_few: bool,
 }
 
 impl<'t> SectionsSink<'t> {
-    /// No sections. Where some keys are asked for, each will have few properties.
-    pub fn new(alloc: Global, kept: &Kept<'_>) -> SectionsSink<'t>
+    /// No sections.
+    pub fn new(alloc: Global) -> SectionsSink<'t>
         ensures { StandsForSections result None nothing_named }
     {
         SectionsSink {
             sections: RawSections::new(alloc),
             name: None,
-            properties: Texts::few(alloc),
-            has_few: !matches!(kept, Kept::All),
+            properties: Texts::new(alloc),
         }
     }
 
@@ -48,7 +45,7 @@ impl<'t> SectionsSink<'t> {
         ensures { OnOk result (self.new.sections ≡ with_open self.old.sections (option_copied self.old.name) self.old.properties) }
     {
         if let Some(name) = self.name {
-            let properties = mem::replace(&mut self.properties, Texts::few(alloc));
+            let properties = mem::replace(&mut self.properties, Texts::new(alloc));
             self.sections.replace(name, properties)?;
         }
         Ok(())
@@ -58,8 +55,8 @@ impl<'t> SectionsSink<'t> {
     fn take_properties(&mut self, alloc: Global, name: &'t str) -> Mem<Texts>
         ensures { IfOk result (λ properties. put_named self.new.sections name.now properties ≡ put_named self.old.sections name.now (properties_of self.old.sections name.now)) }
     {
-        let before = self.sections.take(name, Texts::few(alloc))?;
-        Ok(before.unwrap_or(no_properties(alloc, self.has_few)))
+        let before = self.sections.take(name, Texts::new(alloc))?;
+        Ok(before.unwrap_or(Texts::new(alloc)))
     }
 }
 
@@ -78,16 +75,5 @@ impl<'t> Sink<'t> for SectionsSink<'t> {
 
     fn put(&mut self, key: String, value: String) -> Mem<()> {
         self.properties.put(key, value)
-    }
-}
-
-// No properties yet.
-fn no_properties(alloc: Global, are_few: bool) -> Texts
-    ensures { result ≡ [] }
-{
-    if are_few {
-        Texts::few(alloc)
-    } else {
-        Texts::new(alloc)
     }
 }

@@ -1,14 +1,19 @@
-ghost use Rattle.std.specs.Prelude.{◌≡◌, ℕ, List, [], ◌∷◌, ◌++◌, length, true, IfErr, IfOk, IfSome, IfNone, OnOk};
+ghost use Rattle.std.specs.Prelude.{◌≡◌, ℕ, List, [], ◌∷◌, ◌++◌, length, map, true, IfOk, IfSome, IfNone, OnOk};
 ghost use Rattle.std.specs.String.{string_bytes};
-ghost use Rattle.std.specs.List.{position_or_len};
+ghost use Rattle.std.specs.List.{AllByRecursion, position_or_len};
+ghost use Rattle.std.specs.List.Sorted.{IsStrictlySortedBy};
+ghost use Rattle.env_config.specs.Entries.{left_in};
 ghost use Rattle.env_config.specs.Line.{equals_sign, is_equals};
-ghost use Rattle.env_config.specs.Sections.{put_identifiers};
-ghost use Rattle.env_config.specs.Texts.{FindsPlace, one_pair, pairs_in, pairs_of, put};
+ghost use Rattle.env_config.specs.SectionProperties.{own};
+ghost use Rattle.env_config.specs.Sections.{is_identifier, put_identifiers};
+ghost use Rattle.env_config.specs.Texts.{one_pair, pairs_of, put, text_cmp};
+ghost use Rattle.env_config.specs.TextsView.{pairs_in};
 
+use crate::entries::Entries;
+use crate::few_pairs::FewPairs;
 use crate::heading::is_identifier;
 use smithy_core::Mem;
 use std::alloc::Global;
-use std::cmp::Ordering;
 use std::collections::BTreeMap;
 use std::marker::Model;
 use std::mem;
@@ -16,7 +21,7 @@ use std::mem;
 /// A value of no more bytes is copied beside its key. A longer one would take its room twice meanwhile.
 const SHORT: usize = 1024;
 
-/// Values by their keys.
+/// Values by their keys, which take little room where they are few: a text may have very many sections.
 ///
 /// Contracts see the pairs in the order of their keys.
 #[derive(Drop)]
@@ -27,17 +32,15 @@ pub struct Texts {
 /// The pairs in the order of their keys.
 #[derive(Drop)]
 enum Pairs {
-    /// One pair as a text, the key before the first `=` and the value after it, or no pair: a text may have very many
-    /// sections with one property that is kept.
+    /// One pair as a text, the key before the first `=` and the value after it, or no pair.
     One(String),
-    /// A list, which has room for no more than there are: a node of a map has room for fifteen pairs.
-    Few(Vec<(String, String)>),
+    Few(FewPairs),
     Many(BTreeMap<String, String>),
 }
 
 impl Model for Texts {
     ghost use Rattle.std.specs.Prelude.{ℕ, List};
-    ghost use Rattle.env_config.specs.Texts.{pairs_in};
+    ghost use Rattle.env_config.specs.TextsView.{pairs_in};
 
     ghost Value = { List (List ℕ × List ℕ) };
 
@@ -45,17 +48,8 @@ impl Model for Texts {
 }
 
 impl Texts {
-    /// No keys, of which there may be many.
+    /// No keys.
     pub fn new(alloc: Global) -> Texts
-        ensures { result ≡ [] }
-    {
-        Texts {
-            pairs: Pairs::Many(BTreeMap::new(alloc)),
-        }
-    }
-
-    /// No keys, of which there will be few, and one for the most part: a key is found among them one by one.
-    pub fn few(alloc: Global) -> Texts
         ensures { result ≡ [] }
     {
         Texts {
@@ -63,40 +57,14 @@ impl Texts {
         }
     }
 
-    /// These few pairs, which are in the order of their keys.
-    pub fn of_few(pairs: Vec<(String, String)>) -> Texts
-        ensures { result ≡ pairs_of pairs.items }
-    {
-        Texts {
-            pairs: Pairs::Few(pairs),
-        }
-    }
-
-    /// The pairs as a map, where they are kept as one and all keys are identifiers.
-    pub fn into_identified(self) -> Result<BTreeMap<String, String>, Texts>
-        ensures map { IfOk result (λ map. pairs_of map.entries ≡ self) }
-        ensures identified { OnOk result (put_identifiers [] self ≡ self) }
-        ensures others { IfErr result (λ texts. texts ≡ self) }
-    {
-        match self.pairs {
-            Pairs::Many(pairs) => identified(pairs),
-            pairs => Err(Texts { pairs }),
-        }
-    }
-
     /// The value stands at the key, in place of the one before. Nothing is said of the pairs where memory runs out.
     pub fn put(&mut self, key: String, value: String) -> Mem<()>
         ensures { OnOk result (self.new ≡ put self.old (string_bytes key) (string_bytes value)) }
     {
-        match &mut self.pairs {
-            Pairs::One(text) => {
-                let text = mem::replace(text, String::new(*key.allocator()));
-                self.pairs = with_one(text, key, value)?;
-                Ok(())
-            }
-            Pairs::Few(pairs) => put_among_few(pairs, key, value),
-            Pairs::Many(pairs) => put_among_many(pairs, key, value),
-        }
+        let alloc = *key.allocator();
+        let pairs = mem::replace(&mut self.pairs, Pairs::One(String::new(alloc)));
+        self.pairs = with_pair(alloc, pairs, key, value)?;
+        Ok(())
     }
 
     /// Takes the first key and its value.
@@ -106,37 +74,96 @@ impl Texts {
     {
         match &mut self.pairs {
             Pairs::One(text) => take_one(text),
-            Pairs::Few(pairs) => Ok(take_first(pairs)),
+            Pairs::Few(pairs) => Ok(pairs.take_first()),
             Pairs::Many(pairs) => Ok(pairs.pop_first()),
         }
     }
+
+    /// The values by their keys.
+    pub fn entries(&self) -> Entries<'_>
+        ensures { left_in result ≡ map own self.now }
+    {
+        match &self.pairs {
+            Pairs::One(text) => Entries::One(text.split_once('=')),
+            Pairs::Few(pairs) => Entries::Few(pairs.as_slice()),
+            Pairs::Many(pairs) => Entries::Many(pairs.iter()),
+        }
+    }
+
+    /// How many there are.
+    pub fn len(&self) -> usize
+        ensures len { result ≡ length self.now }
+        ensures ordered { IsStrictlySortedBy text_cmp (map (λ e. e.0) self.now) }
+    {
+        match &self.pairs {
+            Pairs::One(text) => one_len(text.as_str()),
+            Pairs::Few(pairs) => pairs.as_slice().len(),
+            Pairs::Many(pairs) => pairs.len(),
+        }
+    }
+
+    /// Whether all keys are identifiers.
+    pub fn has_identifiers(&self) -> bool
+        ensures { result ≡ true → put_identifiers [] self.now ≡ self.now }
+    {
+        // A clause of `len` is that the keys ascend, so that each pair is put behind those before.
+        let _count = self.len();
+        has_identifiers(self.entries())
+    }
+
+    /// Equal values under equal keys.
+    pub fn try_clone(&self) -> Mem<Texts>
+        ensures { IfOk result (λ copy. copy ≡ self.now) }
+    {
+        let pairs = match &self.pairs {
+            Pairs::One(text) => Pairs::One(text.clone()?),
+            Pairs::Few(pairs) => Pairs::Few(pairs.try_clone()?),
+            Pairs::Many(pairs) => Pairs::Many(copied_map(pairs)?),
+        };
+        Ok(Texts { pairs })
+    }
 }
 
-// The map itself, where all its keys are identifiers.
-fn identified(pairs: BTreeMap<String, String>) -> Result<BTreeMap<String, String>, Texts>
-    ensures map { IfOk result (λ map. map ≡ pairs) }
-    ensures identified { OnOk result (put_identifiers [] (pairs_of pairs.entries) ≡ pairs_of pairs.entries) }
-    ensures others { IfErr result (λ texts. texts ≡ pairs_of pairs.entries) }
+// How many pairs the text has.
+#[tactic(auto, using(crate::proofs::FewLemmas::one_in_order))]
+fn one_len(text: &str) -> usize
+    ensures len { result ≡ length (one_pair text.now) }
+    ensures ordered { IsStrictlySortedBy text_cmp (map (λ e. e.0) (one_pair text.now)) }
 {
-    if has_identifiers(&pairs) {
-        Ok(pairs)
-    } else {
-        Err(Texts {
-            pairs: Pairs::Many(pairs),
-        })
+    match text.split_once('=') {
+        Some(_) => 1,
+        None => 0,
     }
 }
 
 // Whether all keys are identifiers.
-fn has_identifiers(pairs: &BTreeMap<String, String>) -> bool
-    ensures { result ≡ true → put_identifiers [] (pairs_of pairs.now.entries) ≡ pairs_of pairs.now.entries }
+fn has_identifiers(mut entries: Entries<'_>) -> bool
+    ensures { result ≡ true → AllByRecursion (λ e. is_identifier e.0 ≡ true) (left_in entries.entry) }
 {
-    for key in pairs.keys() {
-        if !is_identifier(key.as_str()) {
+    while let Some(entry) = entries.next() {
+        if !is_identifier(entry.key) {
             return false;
         }
     }
     true
+}
+
+fn copied_map(pairs: &BTreeMap<String, String>) -> Mem<BTreeMap<String, String>>
+    ensures { IfOk result (λ copy. pairs_of copy.entries ≡ pairs_of pairs.now.entries) }
+{
+    let copy = pairs.clone()?;
+    Ok(copy)
+}
+
+// The pairs with this value at the key.
+fn with_pair(alloc: Global, pairs: Pairs, key: String, value: String) -> Mem<Pairs>
+    ensures { IfOk result (λ now. pairs_in now ≡ put (pairs_in pairs) (string_bytes key) (string_bytes value)) }
+{
+    match pairs {
+        Pairs::One(text) => with_one(text, key, value),
+        Pairs::Few(pairs) => with_few(alloc, pairs, key, value),
+        Pairs::Many(pairs) => with_many(pairs, key, value),
+    }
 }
 
 // The pair of the text, if it has one, with this value at the key.
@@ -147,7 +174,7 @@ fn with_one(text: String, key: String, value: String) -> Mem<Pairs>
         return Ok(Pairs::One(joined_pair(key, value.as_str())?));
     }
     let mut pairs = few_of_one(*text.allocator(), text.as_str())?;
-    put_among_few(&mut pairs, key, value)?;
+    pairs.put(key, value)?;
     Ok(Pairs::Few(pairs))
 }
 
@@ -180,12 +207,12 @@ fn joined_pair(mut key: String, value: &str) -> Mem<String>
 }
 
 // The pair of the text as a list.
-fn few_of_one(alloc: Global, text: &str) -> Mem<Vec<(String, String)>>
-    ensures { IfOk result (λ pairs. pairs_of pairs.items ≡ one_pair text.now) }
+fn few_of_one(alloc: Global, text: &str) -> Mem<FewPairs>
+    ensures { IfOk result (λ pairs. pairs ≡ one_pair text.now) }
 {
-    let mut pairs = Vec::new(alloc);
-    if let Some(pair) = cut_one(alloc, text)? {
-        pairs.push(pair)?;
+    let mut pairs = FewPairs::new(alloc);
+    if let Some((key, value)) = cut_one(alloc, text)? {
+        pairs.put(key, value)?;
     }
     Ok(pairs)
 }
@@ -214,51 +241,21 @@ fn take_one(text: &mut String) -> Mem<Option<(String, String)>>
     cut_one(alloc, taken.as_str())
 }
 
-fn put_among_many(pairs: &mut BTreeMap<String, String>, key: String, value: String) -> Mem<()>
-    ensures { OnOk result (pairs_of pairs.new.entries ≡ put (pairs_of pairs.old.entries) (string_bytes key) (string_bytes value)) }
+// The few pairs with this value at the key.
+fn with_few(alloc: Global, mut pairs: FewPairs, key: String, value: String) -> Mem<Pairs>
+    ensures { IfOk result (λ now. pairs_in now ≡ put pairs (string_bytes key) (string_bytes value)) }
+{
+    if pairs.is_full() {
+        return with_many(pairs.into_map(alloc)?, key, value);
+    }
+    pairs.put(key, value)?;
+    Ok(Pairs::Few(pairs))
+}
+
+// The many pairs with this value at the key.
+fn with_many(mut pairs: BTreeMap<String, String>, key: String, value: String) -> Mem<Pairs>
+    ensures { IfOk result (λ now. pairs_in now ≡ put (pairs_of pairs.entries) (string_bytes key) (string_bytes value)) }
 {
     pairs.insert(key, value)?;
-    Ok(())
-}
-
-fn put_among_few(pairs: &mut Vec<(String, String)>, key: String, value: String) -> Mem<()>
-    ensures { OnOk result (pairs_of pairs.new.items ≡ put (pairs_of pairs.old.items) (string_bytes key) (string_bytes value)) }
-{
-    match place_of(pairs.as_slice(), key.as_str()) {
-        Ok(at) => {
-            pairs[at] = (key, value);
-            Ok(())
-        }
-        Err(at) => {
-            pairs.reserve_exact(1)?;
-            pairs.insert(at, (key, value))?;
-            Ok(())
-        }
-    }
-}
-
-// Where the key is, or else where it belongs.
-fn place_of(pairs: &[(String, String)], key: &str) -> Result<usize, usize>
-    ensures { FindsPlace (pairs_of pairs.now) key.now result }
-{
-    let mut at = 0;
-    while at < pairs.len() {
-        match key.cmp(pairs[at].0.as_str()) {
-            Ordering::Less => return Err(at),
-            Ordering::Equal => return Ok(at),
-            Ordering::Greater => at += 1,
-        }
-    }
-    Err(at)
-}
-
-// Takes the first pair of a list.
-fn take_first(pairs: &mut Vec<(String, String)>) -> Option<(String, String)>
-    ensures some { IfSome result (λ pair. pairs.old.items ≡ pair ∷ pairs.new.items) }
-    ensures none { IfNone result (pairs.old.items ≡ []) }
-{
-    if pairs.is_empty() {
-        return None;
-    }
-    Some(pairs.remove(0))
+    Ok(Pairs::Many(pairs))
 }

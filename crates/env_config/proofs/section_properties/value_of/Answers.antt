@@ -1,29 +1,25 @@
-use Rattle.std.proofs.Common.{◌∙◌, ap, sym, Bool, cond, List, ℕ, Some, string_bytes, bytes_eq}
+use Rattle.std.proofs.Common.{◌∙◌, ap, sym, Bool, cond, Some}
 use Rattle.smithy_core.specs.TextPairs.{lower}
+use Rattle.env_config.specs.Entries.{entry_of, left_in}
+use Rattle.env_config.specs.SectionProperties.{property_values}
 use Rattle.env_config.specs.Texts.{value_under}
-use Rattle.env_config.specs.SectionProperties.{contents_under, property_values}
 use Rattle.env_config.proofs.TextsLemmas.{lower_step}
 use Rattle.env_config.proofs.section_properties.value_of.Goals as goal
 
 pub returns-then-is_lower_of : goal.returns-then-is_lower_of
-returns-then-is_lower_of g c =
+returns-then-is_lower_of c =
     let q = lower c.args.name.now in
-    let rest = c.next.new.self in
-    let key = c.in-Some.key.now in
-    let stored = c.in-Some.stored.now in
-    let found = g.V.Stored.stored in
-    ap (λ (xs : List ℕ). Some xs) (c.stored_value.ensures (string_bytes key))
-    ∙ sym (c.loop-key.invariant
-    ∙ lower_step found c.loop-key.key-iterator rest key stored q c.is_lower_of.result c.in-Some.ensures.steps (c.is_lower_of.ensures ∙ ap (λ (xs : List ℕ). bytes_eq xs q) c.as_str.ensures.value)
-    ∙ ap (λ (b : Bool). cond b (Some (found stored (string_bytes key)).1) (value_under (property_values (contents_under found rest)) q)) c.if-is_lower_of.true)
+    let entry = c.in-Some.entry in
+    let rest = left_in c.next.new.self in
+    sym (c.loop-entry.invariant
+    ∙ lower_step (left_in c.loop-entry.entries) rest (entry_of entry) q c.is_lower_of.result c.in-Some.ensures.some c.is_lower_of.ensures
+    ∙ ap (λ (b : Bool). cond b (Some entry.value.now) (value_under (property_values rest) q)) c.if-is_lower_of.true)
 
-pub loop-key-preserved : goal.loop-key-preserved
-loop-key-preserved g c =
+pub loop-entry-preserved : goal.loop-entry-preserved
+loop-entry-preserved c =
     let q = lower c.args.name.now in
-    let rest = c.next.new.self in
-    let key = c.in-Some.key.now in
-    let stored = c.in-Some.stored.now in
-    let found = g.V.Stored.stored in
-    c.loop-key.invariant
-    ∙ lower_step found c.loop-key.key-iterator rest key stored q c.is_lower_of.result c.in-Some.ensures.steps (c.is_lower_of.ensures ∙ ap (λ (xs : List ℕ). bytes_eq xs q) c.as_str.ensures.value)
-    ∙ ap (λ (b : Bool). cond b (Some (found stored (string_bytes key)).1) (value_under (property_values (contents_under found rest)) q)) c.if-is_lower_of.false
+    let entry = c.in-Some.entry in
+    let rest = left_in c.next.new.self in
+    c.loop-entry.invariant
+    ∙ lower_step (left_in c.loop-entry.entries) rest (entry_of entry) q c.is_lower_of.result c.in-Some.ensures.some c.is_lower_of.ensures
+    ∙ ap (λ (b : Bool). cond b (Some entry.value.now) (value_under (property_values rest) q)) c.if-is_lower_of.false

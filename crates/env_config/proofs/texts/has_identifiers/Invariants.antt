@@ -1,9 +1,12 @@
-use Rattle.std.proofs.Common.{◌≡◌, true, map, string_bytes}
+use Rattle.std.proofs.Common.{◌≡◌, true, length}
 use Rattle.std.specs.List.{AllByRecursion}
+use Rattle.env_config.specs.Entries.{left_in}
 use Rattle.env_config.specs.Sections.{is_identifier}
 use Rattle.env_config.proofs.texts.has_identifiers.Given as goal
 
 -- where the keys to come are identifiers, all are
-abbrev pub invariant-loop-key : goal.invariant-loop-key
-invariant-loop-key l =
-    AllByRecursion (λ k. is_identifier (string_bytes k) ≡ true) l.key-iterator → AllByRecursion (λ k. is_identifier (string_bytes k) ≡ true) (map (λ e. e.0) l.pairs.entries)
+abbrev pub invariant-loop-entry : goal.invariant-loop-entry
+invariant-loop-entry l = AllByRecursion (λ e. is_identifier e.0 ≡ true) (left_in l.entries) → AllByRecursion (λ e. is_identifier e.0 ≡ true) (left_in l.fn.entries)
+
+abbrev pub decreases-loop-entry : goal.decreases-loop-entry
+decreases-loop-entry l = length (left_in l.entries)

@@ -2,7 +2,7 @@ use Rattle.std.proofs.Common.{◌∙◌, ap, sym, String, Global}
 use Rattle.std.specs.String.{string_bytes}
 use Rattle.env_config.specs.Texts.{text_cmp}
 use Rattle.env_config.proofs.PlaceLemmas.{at_equal, before_greater, behind_smaller}
-use Rattle.env_config.proofs.texts.place_of.Goals as goal
+use Rattle.env_config.proofs.few_pairs.place_of.Goals as goal
 
 pub returns-in-Less : goal.returns-in-Less
 returns-in-Less c =

@@ -1,7 +1,7 @@
 use Rattle.std.proofs.Common.{◌-◌, length}
 use Rattle.env_config.specs.Texts.{pairs_of}
 use Rattle.env_config.proofs.PlaceLemmas.{IsPassed}
-use Rattle.env_config.proofs.texts.place_of.Given as goal
+use Rattle.env_config.proofs.few_pairs.place_of.Given as goal
 
 -- the key belongs behind the pairs that passed
 abbrev pub invariant-loop-at : goal.invariant-loop-at
