@@ -1,5 +1,5 @@
 -- Pairs in the order of their keys stay in order, and are put one behind another.
-use Rattle.std.proofs.Common.{◌≡◌, ◌∙◌, ℕ, Bool, true, false, cond, length, List, [], ◌∷◌, ◌++◌, append_assoc, map, String, string_bytes, string_cmp, Global, refl, sym, ap, subst}
+use Rattle.std.proofs.Common.{◌≡◌, ◌∙◌, ℕ, Bool, true, false, cond, length, List, [], ◌∷◌, ◌++◌, append_assoc, map, String, string_bytes, string_cmp, Global, sym, ap, subst}
 use Rattle.std.specs.Prelude.{nat_lt, Result, Ok, Err, OnOk, OnErr}
 use Rattle.std.specs.List.{AllByRecursion, after_first, before_first, position_or_len, remove}
 use Rattle.std.specs.List.Sorted.{IsStrictlySortedBy}

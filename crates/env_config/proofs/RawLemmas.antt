@@ -1,11 +1,11 @@
 -- Steps of the raw state: sections and properties that are put twice.
-use Rattle.std.proofs.Common.{◌≡◌, ℕ, Bool, true, false, cond, List, [], ◌∷◌, refl, sym, ap, ◌∙◌}
+use Rattle.std.proofs.Common.{◌≡◌, ℕ, Bool, true, false, cond, List, [], refl, sym, ap, ◌∙◌}
 use Rattle.std.specs.Prelude.{Option, unwrap_or, Result, Ok, Err}
 use Rattle.env_config.specs.declared.line.PropertyFault.{PropertyFault}
 use Rattle.env_config.specs.declared.line.PropertyFault.TheVariants.{NoEquals, NoName}
 use Rattle.env_config.specs.Line.{property_of}
 use Rattle.env_config.specs.Raw.{Keeps, Last, continued, grown, properties_of, put_property, put_section, sub_checked}
-use Rattle.env_config.specs.Texts.{Named, put, put_named, value_under}
+use Rattle.env_config.specs.Texts.{Named, put, put_named}
 use Rattle.env_config.proofs.TextsLemmas.{named_twice, put_twice, value_put}
 
 -- a section that is put twice

@@ -10,7 +10,7 @@ use Rattle.env_config.specs.declared.reader.Reader.{Reader}
 use Rattle.env_config.specs.Fault.{flaw_message, numbered}
 use Rattle.env_config.specs.LastProperty.{TakesStep, last_of}
 use Rattle.env_config.specs.Raw.{Keeps, Last, Open, State, after_line, continued, continued_or, last_step, opened, profile_line_step, properties_of, put_property, put_section, raw_from, start, with_last, within_section}
-use Rattle.env_config.specs.Reader.{HandsOn, HasHanded, IsReadInto, StandsForLines, ReadsAt, ReadsInto, ReadsSection, ReadsStep, Standing, given_step, with_pending}
+use Rattle.env_config.specs.Reader.{HandsOn, HasHanded, StandsForLines, ReadsAt, ReadsInto, ReadsSection, ReadsStep, Standing, given_step, with_pending}
 use Rattle.env_config.specs.Texts.{Named, nothing_named, put, put_named}
 use Rattle.env_config.proofs.RawLemmas.{key_kept, property_twice, put_over}
 

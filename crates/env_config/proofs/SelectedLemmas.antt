@@ -6,6 +6,7 @@ use Rattle.env_config.specs.declared.parse_fault.ParseFault.{ParseFault}
 use Rattle.env_config.specs.declared.parse_fault.ParseFault.TheVariants.{Parse, NoMemory}
 use Rattle.env_config.specs.declared.properties.Properties.{Properties}
 use Rattle.env_config.specs.declared.sections.EnvConfigSections.{EnvConfigSections}
+use Rattle.env_config.specs.declared.selected_profile.SelectedProfile.{SelectedProfile}
 use Rattle.env_config.specs.EnvConfigSections.{ParsesSections, sections_of, selected_of}
 use Rattle.env_config.specs.Kept.{has_heading, is_kept_key, is_kept_sub, keys_in_profile, subs_in_services}
 use Rattle.env_config.specs.Laws.{value_in}
@@ -32,7 +33,7 @@ keys_alike files name keys key asked =
     files_same (keys_in_profile name keys) (has_heading (codes "profile") name) (λ s. value_in s.profiles name key) (profile_kept name keys key asked) files no_sections no_sections refl
 
 keys_given : (full : Result Sections FaultyLine) (profile : List ℕ) (keys : List (List ℕ)) (some : EnvConfigSections)
-    → ((key : List ℕ) → is_kept_key keys key ≡ true → AlikeMerged (λ s. value_in s.profiles profile key) full (Ok (sections_of some))) → selected_of some ≡ profile → GivesSelected full profile keys None some
+    → ((key : List ℕ) → is_kept_key keys key ≡ true → AlikeMerged (λ s. value_in s.profiles profile key) full (Ok (sections_of some))) → selected_of some ≡ profile → GivesSelected full profile keys None (record { sections = some })
 keys_given (Err line) profile keys some alike selected = absurd (alike (codes "services") refl)
 keys_given (Ok all) profile keys some alike selected =
     (selected, λ key asked. ap (λ (name : List ℕ). value_in (sections_of some).profiles name (lower key)) selected ∙ alike (lower key) asked, tt)
@@ -50,8 +51,13 @@ alike_values at full (Ok here) all some alike is same = by full alike
     by (Err line) alike = absurd alike
 alike_values at full (Err line) all some alike is same = absurd cc
 
+-- the profile in the sections
+abbrev pub picked : Result EnvConfigSections ParseFault → Result SelectedProfile ParseFault
+picked (Ok some) = Ok (record { sections = some })
+picked (Err fault) = Err fault
+
 pub keys_parsed : (files : List FileText) (profile name : List ℕ) (keys : List (List ℕ)) (result : Result EnvConfigSections ParseFault) → name ≡ profile
-    → ParsesProfile (keys_in_profile name keys) (files_from (keys_in_profile name keys) no_sections files) profile result → ParsesSelected (sections files) profile keys None result
+    → ParsesProfile (keys_in_profile name keys) (files_from (keys_in_profile name keys) no_sections files) profile result → ParsesSelected (sections files) profile keys None (picked result)
 unfolding sections
 keys_parsed files profile name keys result named parses =
     by result (subst (λ (n : List ℕ). ParsesProfile (keys_in_profile n keys) (files_from (keys_in_profile n keys) no_sections files) profile result) named parses)
@@ -65,14 +71,14 @@ keys_parsed files profile name keys result named parses =
     at : List ℕ → Sections → Option (List ℕ)
     at key s = value_in s.profiles profile key
 
-    given : (some : EnvConfigSections) (kept : Result Sections FaultyLine) → files_from keeps no_sections files ≡ kept → ParsesProfile keeps kept profile (Ok some) → ParsesSelected full profile keys None (Ok some)
+    given : (some : EnvConfigSections) (kept : Result Sections FaultyLine) → files_from keeps no_sections files ≡ kept → ParsesProfile keeps kept profile (Ok some) → ParsesSelected full profile keys None (picked (Ok some))
     given some (Ok all) is parses =
         keys_given full profile keys some
         (λ key asked. alike_values (at key) full (files_from keeps no_sections files) all (sections_of some) (keys_alike files profile keys key asked) is (parses.0 key asked))
         parses.1
     given some (Err line) is parses = absurd parses
 
-    by : (result : Result EnvConfigSections ParseFault) → ParsesProfile keeps (files_from keeps no_sections files) profile result → ParsesSelected full profile keys None result
+    by : (result : Result EnvConfigSections ParseFault) → ParsesProfile keeps (files_from keeps no_sections files) profile result → ParsesSelected full profile keys None (picked result)
     by (Ok some) parses = given some (files_from keeps no_sections files) refl parses
     by (Err (Parse error)) parses =
         refused (at (codes "services")) full (faulty_line_of error)

@@ -1,5 +1,5 @@
 -- A map of strings as a map of texts, and what it has after a value was put.
-use Rattle.std.proofs.Common.{◌≡◌, ℕ, Bool, true, false, cond, List, [], ◌∷◌, ◌++◌, map, String, string_bytes, Global, bytes_eq, refl, sym, ap, ap₂, ◌∙◌, Ordering, Bor, Less, Equal, Greater, is_eq}
+use Rattle.std.proofs.Common.{◌≡◌, ℕ, Bool, true, false, cond, List, [], ◌∷◌, ◌++◌, map, String, string_bytes, bytes_eq, refl, sym, ap, ap₂, ◌∙◌, Ordering, Bor, Less, Equal, Greater, is_eq}
 use Rattle.std.specs.Prelude.{Option, Some, None, option_map, is_some, Result, Ok, Err, OnOk}
 use Rattle.std.specs.Ordering.{match_ordering}
 use Rattle.std.specs.BTreeMap.{insert_entry, is_at}

@@ -1,5 +1,5 @@
 -- The values of a profile's keys in a file: of those that the sections with its heading have, the one whose section came first last.
-use Rattle.std.specs.Prelude.{ℕ, Bool, true, false, ◌||◌, nat_lt, List, [], length, map, codes, Option, Some, None, is_some, option_map, if◌then◌else◌}
+use Rattle.std.specs.Prelude.{ℕ, Bool, false, ◌||◌, nat_lt, List, [], length, map, codes, Option, Some, None, is_some, option_map, if◌then◌else◌}
 use Rattle.env_config.specs.declared.heading.HeadingForm.{HeadingForm}
 use Rattle.env_config.specs.declared.heading.HeadingForm.TheVariants.{Bare, Prefixed}
 use Rattle.env_config.specs.declared.source.EnvConfigFileKind.{EnvConfigFileKind}

@@ -1,11 +1,10 @@
--- Sections that are read for some keys of the selected profile, and for a service.
-use Rattle.std.specs.Prelude.{◌≡◌, ℕ, true, List, Option, Some, None, Result, Ok, Err}
+-- What some keys of the selected profile and a service need of the sections.
+use Rattle.std.specs.Prelude.{◌≡◌, ℕ, true, List, ◌++◌, codes, Option, Some, None, Result, Ok, Err}
 use Rattle.smithy_core.specs.TextPairs.{lower}
 use Rattle.env_config.specs.declared.parse_fault.ParseFault.{ParseFault}
 use Rattle.env_config.specs.declared.parse_fault.ParseFault.TheVariants.{Parse, NoMemory}
 use Rattle.env_config.specs.declared.properties.Properties.{Properties}
-use Rattle.env_config.specs.declared.sections.EnvConfigSections.{EnvConfigSections}
-use Rattle.env_config.specs.EnvConfigSections.{selected_of}
+use Rattle.env_config.specs.declared.selected_profile.SelectedProfile.{SelectedProfile}
 use Rattle.env_config.specs.EnvConfigValue.{chosen_of}
 use Rattle.env_config.specs.Kept.{is_kept_key, is_kept_sub}
 use Rattle.env_config.specs.ParseFault.{faulty_line_of}
@@ -22,15 +21,23 @@ abbrev pub HasService : List (List ℕ) → Option (List ℕ) → Chosen → Cho
 HasService keys None all some = Unit {0}
 HasService keys (Some id) all some = (key : List ℕ) → is_kept_sub keys key ≡ true → in_services some id key ≡ in_services all id key
 
+-- the part of the sections that is kept, and the name of the profile
+abbrev pub kept_of : SelectedProfile → Chosen
+kept_of profile = chosen_of profile.sections
+
+-- what is shown to one who debugs: the name of the profile
+abbrev pub selected_shown : List ℕ → List ℕ
+selected_shown name = codes "SelectedProfile(" ++ (name ++ codes ")")
+
 -- ## Answers
 
-abbrev pub GivesSelected : Result Sections FaultyLine → List ℕ → List (List ℕ) → Option (List ℕ) → EnvConfigSections → Type 0
+abbrev pub GivesSelected : Result Sections FaultyLine → List ℕ → List (List ℕ) → Option (List ℕ) → SelectedProfile → Type 0
 GivesSelected (Err line) profile keys id some = ⊥
 GivesSelected (Ok all) profile keys id some =
-    (selected_of some ≡ profile) × HasSelectedKeys keys (record { sections = all; selected = profile }) (chosen_of some) × HasService keys id (record { sections = all; selected = profile }) (chosen_of some)
+    ((kept_of some).selected ≡ profile) × HasSelectedKeys keys (record { sections = all; selected = profile }) (kept_of some) × HasService keys id (record { sections = all; selected = profile }) (kept_of some)
 
--- sections that give what all sections give of the keys and the service, or the first faulty line
-abbrev pub ParsesSelected : Result Sections FaultyLine → List ℕ → List (List ℕ) → Option (List ℕ) → Result EnvConfigSections ParseFault → Type 0
+-- a profile that gives what all sections give of the keys and the service, or the first faulty line
+abbrev pub ParsesSelected : Result Sections FaultyLine → List ℕ → List (List ℕ) → Option (List ℕ) → Result SelectedProfile ParseFault → Type 0
 ParsesSelected read profile keys id (Ok some) = GivesSelected read profile keys id some
 ParsesSelected read profile keys id (Err (Parse error)) = read ≡ Err (faulty_line_of error)
 ParsesSelected read profile keys id (Err NoMemory) = Unit {0}

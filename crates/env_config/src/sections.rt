@@ -16,7 +16,6 @@ ghost use Rattle.env_config.specs.ParseFault.{faulty_line_of};
 ghost use Rattle.env_config.specs.Profile.{profile_section, session_section};
 ghost use Rattle.env_config.specs.Properties.{others_of};
 ghost use Rattle.env_config.specs.Section.{section_of};
-ghost use Rattle.env_config.specs.Selected.{ParsesSelected, ParsesService};
 ghost use Rattle.env_config.specs.Source.{file_of};
 
 use crate::by_name::ByName;
@@ -30,7 +29,6 @@ use crate::profile::{Profile, SsoSession};
 use crate::properties::Properties;
 use crate::raw::{read_latest, read_raw};
 use crate::raw_sections::RawSections;
-use crate::service_id::id_in_sections;
 use crate::source::{EnvConfigFileKind, File, Source};
 use crate::texts::Texts;
 use smithy_core::Mem;
@@ -48,7 +46,7 @@ pub struct EnvConfigSections {
     selected: String,
     profiles: ByName<Profile>,
     sessions: ByName<SsoSession>,
-    others: Properties,
+    pub(crate) others: Properties,
 }
 
 impl EnvConfigSections {
@@ -94,53 +92,8 @@ impl EnvConfigSections {
         EnvConfigSections::parse_kept(alloc, &Kept::All, source)
     }
 
-    /// The sections of the files, merged, with the profile of the source selected, as far as these keys and this
-    /// service need them: of the selected profile the properties with these keys, whatever their case, and `services`;
-    /// and of the services section that it names the service's own sub-properties with these keys as they are spelled.
-    /// Of all else there may be more or less than in the files, so that little memory is taken whatever else the files
-    /// hold.
-    ///
-    /// ```rust
-    /// let sections = EnvConfigSections::parse_selected(alloc, &source, &["region"], Some("S3"))?;
-    /// let region = sections.get("region");
-    /// ```
-    ///
-    /// # Errors
-    ///
-    /// [`ParseFault::Parse`] with the first line outside the grammar in the first faulty file, wherever it stands.
-    pub fn parse_selected(
-        alloc: Global,
-        source: &Source,
-        keys: &[&str],
-        service_id: Option<&str>,
-    ) -> Result<EnvConfigSections, ParseFault>
-        ensures { ParsesSelected (sections (map file_of source.now.files.items)) (string_bytes source.now.profile) (map (λ k. k.now) keys.now) (option_copied service_id.entry) result }
-    {
-        let sections = EnvConfigSections::parse_keys(alloc, source, keys)?;
-        match service_id {
-            Some(id) => sections.with_service(alloc, source, keys, id),
-            None => Ok(sections),
-        }
-    }
-
-    // The properties of the selected profile with these keys.
-    #[tactic(auto, unfolding(crate::specs::Sections::sections))]
-    fn parse_keys<'a>(
-        alloc: Global,
-        source: &'a Source,
-        keys: &'a [&'a str],
-    ) -> Result<EnvConfigSections, ParseFault>
-        ensures { ParsesSelected (sections (map file_of source.now.files.items)) (string_bytes source.now.profile) (map (λ k. k.now) keys.now) None result }
-    {
-        let kept = Kept::Profile {
-            name: source.profile.as_str(),
-            keys,
-        };
-        EnvConfigSections::parse_profile(alloc, &kept, source)
-    }
-
-    // What is kept of the selected profile in the files, merged.
-    fn parse_profile(
+    /// What is kept of the selected profile in the files, merged.
+    pub(crate) fn parse_profile(
         alloc: Global,
         kept: &Kept<'_>,
         source: &Source,
@@ -190,26 +143,8 @@ impl EnvConfigSections {
         }
     }
 
-    // These sections with the service's own sub-properties with these keys.
-    fn with_service(
-        mut self,
-        alloc: Global,
-        source: &Source,
-        keys: &[&str],
-        id: &str,
-    ) -> Result<EnvConfigSections, ParseFault>
-        requires { ParsesSelected (sections (map file_of source.now.files.items)) (string_bytes source.now.profile) (map (λ k. k.now) keys.now) None (Ok self) }
-        ensures { ParsesSelected (sections (map file_of source.now.files.items)) (string_bytes source.now.profile) (map (λ k. k.now) keys.now) (Some id.now) result }
-    {
-        let Some(services) = self.get("services") else {
-            return Ok(self);
-        };
-        self.others = service_properties(alloc, source, services, keys, id)?;
-        Ok(self)
-    }
-
-    // What is kept of the sections of the files, merged.
-    fn parse_kept(
+    /// What is kept of the sections of the files, merged.
+    pub(crate) fn parse_kept(
         alloc: Global,
         kept: &Kept<'_>,
         source: &Source,
@@ -399,27 +334,6 @@ impl fmt::Debug for EnvConfigSections {
             "EnvConfigSections({selected} selected, {profiles} profiles, {sessions} sessions)"
         )
     }
-}
-
-// The sub-properties of the service with these keys in this services section.
-#[tactic(auto, unfolding(crate::specs::Sections::sections))]
-fn service_properties(
-    alloc: Global,
-    source: &Source,
-    services: &str,
-    keys: &[&str],
-    id: &str,
-) -> Result<Properties, ParseFault>
-    ensures { ParsesService (sections (map file_of source.now.files.items)) services.now (map (λ k. k.now) keys.now) id.now result }
-{
-    let id = id_in_sections(alloc, id)?;
-    let kept = Kept::Services {
-        name: services,
-        service: id.as_str(),
-        sub_properties: keys,
-    };
-    let sections = EnvConfigSections::parse_kept(alloc, &kept, source)?;
-    Ok(sections.others)
 }
 
 // The texts under the name, taken from the others.

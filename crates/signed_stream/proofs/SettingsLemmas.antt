@@ -2,11 +2,10 @@
 use Rattle.std.proofs.Common.{◌≡◌, ◌∙◌, ℕ, List, [], ◌∷◌, refl, ap, ap₂, subst}
 use Rattle.std.specs.Prelude.{Option, Some, None, option_map, Result, Ok, Err, codes}
 use Rattle.std.specs.Option.{option_or}
-use Rattle.env_config.specs.EnvConfigValue.{chosen_of}
 use Rattle.env_config.specs.Sections.{FaultyLine, Sections}
-use Rattle.env_config.specs.Selected.{GivesSelected, HasSelectedKeys, HasService}
+use Rattle.env_config.specs.Selected.{GivesSelected, HasSelectedKeys, HasService, kept_of}
 use Rattle.env_config.specs.Value.{Chosen, Found, InProfile, Own, Shared, found_as, in_profile, in_variables, selected_value, value}
-use Rattle.env_config.specs.declared.sections.EnvConfigSections.{EnvConfigSections}
+use Rattle.env_config.specs.declared.selected_profile.SelectedProfile.{SelectedProfile}
 use Rattle.signed_stream.specs.Settings.{GivesSettings, Selected, selected_or_missing, settings_from, settings_in}
 use Rattle.signed_stream.specs.Status.{RunFault}
 use Rattle.signed_stream.specs.declared.settings.Settings.{Settings}
@@ -38,8 +37,8 @@ settings_alike all some env id selected keys service =
     ∙ ap₂ (λ (k s : Option (List ℕ)). give all.selected k s (token some) (region some)) (keys (codes "aws_access_key_id") refl) (keys (codes "aws_secret_access_key") refl)
     ∙ ap₂ (λ (t : Option (List ℕ)) (r : Option Found). give all.selected (key_id all) (secret all) t r) (keys (codes "aws_session_token") refl) (region_found all some id selected keys service)
 
-pub settings_given : (read : Result Sections FaultyLine) (profile : List ℕ) (env : List (List ℕ × List ℕ)) (id : Option (List ℕ)) (some : EnvConfigSections) (result : Result Settings SettingsFault)
-    → GivesSelected read profile setting_keys id some → GivesSettings (settings_in (chosen_of some) env id) result → GivesSettings (settings_from read profile env id) result
+pub settings_given : (read : Result Sections FaultyLine) (profile : List ℕ) (env : List (List ℕ × List ℕ)) (id : Option (List ℕ)) (some : SelectedProfile) (result : Result Settings SettingsFault)
+    → GivesSelected read profile setting_keys id some → GivesSettings (settings_in (kept_of some) env id) result → GivesSettings (settings_from read profile env id) result
 settings_given (Err line) profile env id some result gives settings = absurd gives
 settings_given (Ok all) profile env id some result gives settings =
-    subst (λ (given : Result Selected RunFault). GivesSettings given result) (settings_alike (record { sections = all; selected = profile }) (chosen_of some) env id gives.0 gives.1 gives.2) settings
+    subst (λ (given : Result Selected RunFault). GivesSettings given result) (settings_alike (record { sections = all; selected = profile }) (kept_of some) env id gives.0 gives.1 gives.2) settings

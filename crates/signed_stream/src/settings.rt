@@ -1,11 +1,12 @@
 ghost use Rattle.std.specs.Prelude.{◌≡◌, IfOk, None, map, option_copied, option_map};
 ghost use Rattle.std.specs.String.{string_bytes};
 ghost use Rattle.smithy_core.specs.Identity.{credentials_expiry};
-ghost use Rattle.env_config.specs.EnvConfigValue.{asked_of, chosen_of};
+ghost use Rattle.env_config.specs.EnvConfigValue.{asked_of};
+ghost use Rattle.env_config.specs.Selected.{kept_of};
 ghost use Rattle.env_config.specs.Source.{file_of};
 ghost use Rattle.signed_stream.specs.Settings.{GivesSettings, IsSameSettingsFault, asked_region, region_in, selected_in, settings, settings_in};
 
-use env_config::{EnvConfigParseError, EnvConfigSections, EnvConfigValue, ParseFault, Source};
+use env_config::{EnvConfigParseError, EnvConfigValue, ParseFault, SelectedProfile, Source};
 use job_text::copied;
 use smithy_core::{Credentials, Env, Mem, Region};
 use std::alloc::{AllocError, Global};
@@ -138,37 +139,37 @@ pub fn read_settings(
         "aws_session_token",
         "region",
     ];
-    let sections = EnvConfigSections::parse_selected(alloc, source, &keys, service_id)?;
-    settings_in(alloc, &sections, env, service_id)
+    let profile = SelectedProfile::parse(alloc, source, &keys, service_id)?;
+    settings_in(alloc, &profile, env, service_id)
 }
 
-// What the sections give.
+// What the profile gives.
 fn settings_in(
     alloc: Global,
-    sections: &EnvConfigSections,
+    profile: &SelectedProfile,
     env: &Env,
     service_id: Option<&str>,
 ) -> Result<Settings, SettingsFault>
-    ensures settings { GivesSettings (settings_in (chosen_of sections.now) env.now (option_copied service_id.entry)) result }
+    ensures settings { GivesSettings (settings_in (kept_of profile.now) env.now (option_copied service_id.entry)) result }
     ensures no_expiry { IfOk result (λ settings. credentials_expiry settings.credentials ≡ None) }
 {
-    let Some(key_id) = sections.get("aws_access_key_id") else {
+    let Some(key_id) = profile.get("aws_access_key_id") else {
         return Err(SettingsFault::MissingCredentials);
     };
-    let Some(secret) = sections.get("aws_secret_access_key") else {
+    let Some(secret) = profile.get("aws_secret_access_key") else {
         return Err(SettingsFault::MissingCredentials);
     };
-    let Some(region) = region_in(alloc, sections, env, service_id)? else {
+    let Some(region) = region_in(alloc, profile, env, service_id)? else {
         return Err(SettingsFault::MissingSigningRegion);
     };
     let credentials = Credentials::new(
         String::from_str(alloc, key_id)?,
         String::from_str(alloc, secret)?,
-        copied(alloc, sections.get("aws_session_token"))?,
+        copied(alloc, profile.get("aws_session_token"))?,
         None,
     );
     Ok(Settings {
-        profile: String::from_str(alloc, sections.selected_profile())?,
+        profile: String::from_str(alloc, profile.name())?,
         region: Region::new(region),
         credentials,
     })
@@ -177,13 +178,13 @@ fn settings_in(
 // The region, the service's own first.
 fn region_in(
     alloc: Global,
-    sections: &EnvConfigSections,
+    profile: &SelectedProfile,
     env: &Env,
     service_id: Option<&str>,
 ) -> Mem<Option<String>>
-    ensures { IfOk result (λ region. option_map string_bytes region ≡ region_in (chosen_of sections.now) env.now (option_copied service_id.entry)) }
+    ensures { IfOk result (λ region. option_map string_bytes region ≡ region_in (kept_of profile.now) env.now (option_copied service_id.entry)) }
 {
-    match asked_region(service_id).load(alloc, env, Some(sections))? {
+    match profile.load(alloc, env, &asked_region(service_id))? {
         Some((region, _)) => Ok(Some(region)),
         None => Ok(None),
     }

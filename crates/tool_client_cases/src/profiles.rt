@@ -4,7 +4,7 @@ use crate::sections::{insert_property, property_of, push_profile, push_rest, pus
 use crate::texts::{given, push_visible, text, word_of};
 use env_config::{
     EnvConfigParseError, EnvConfigSections, EnvConfigValue, ParseFault, Profile, Properties,
-    PropertiesKey, Property, Source, SsoSession,
+    PropertiesKey, Property, SelectedProfile, Source, SsoSession,
 };
 use smithy_core::{Env, Mem};
 use std::alloc::Global;
@@ -110,7 +110,7 @@ fn select(alloc: Global, words: &[&str]) -> Mem<String> {
     }
 }
 
-// What sections that are read for the keys and the service alone give of them.
+// What is read of the profile for the keys and the service gives of them.
 fn choose(alloc: Global, words: &[&str]) -> Mem<String> {
     let [name, keys, service, files @ ..] = words else {
         return unknown(alloc);
@@ -121,8 +121,8 @@ fn choose(alloc: Global, words: &[&str]) -> Mem<String> {
 
 fn chosen_of(alloc: Global, source: &Source, keys: &str, service: Option<&str>) -> Mem<String> {
     let asked: Vec<&str> = keys.split(' ').collect(alloc)?;
-    match &EnvConfigSections::parse_selected(alloc, source, asked.as_slice(), service) {
-        Ok(sections) => chosen(alloc, sections, keys, service),
+    match &SelectedProfile::parse(alloc, source, asked.as_slice(), service) {
+        Ok(profile) => chosen(alloc, profile, keys, service),
         Err(fault) => fault_told(alloc, fault),
     }
 }
@@ -130,44 +130,34 @@ fn chosen_of(alloc: Global, source: &Source, keys: &str, service: Option<&str>) 
 // `PROFILE KEY=VALUE .. region=VALUE`, the region being the service's own, or else the profile's.
 fn chosen(
     alloc: Global,
-    sections: &EnvConfigSections,
+    profile: &SelectedProfile,
     keys: &str,
     service: Option<&str>,
 ) -> Mem<String> {
-    let mut told = text(alloc, sections.selected_profile())?;
-    push_values(&mut told, sections, keys)?;
+    let mut told = text(alloc, profile.name())?;
+    push_values(&mut told, profile, keys)?;
     if let Some(id) = service {
-        push_region(alloc, &mut told, sections, id)?;
+        push_region(alloc, &mut told, profile, id)?;
     }
     Ok(told)
 }
 
-fn push_values(told: &mut String, sections: &EnvConfigSections, keys: &str) -> Mem<()> {
+fn push_values(told: &mut String, profile: &SelectedProfile, keys: &str) -> Mem<()> {
     for key in keys.split(' ') {
-        push_value(told, key, sections.get(key).unwrap_or("-"))?;
+        push_value(told, key, profile.get(key).unwrap_or("-"))?;
     }
     Ok(())
 }
 
-fn push_region(
-    alloc: Global,
-    told: &mut String,
-    sections: &EnvConfigSections,
-    id: &str,
-) -> Mem<()> {
-    match region_of(alloc, sections, &Env::new(alloc), id)? {
+fn push_region(alloc: Global, told: &mut String, profile: &SelectedProfile, id: &str) -> Mem<()> {
+    match region_of(alloc, profile, &Env::new(alloc), id)? {
         Some(region) => push_value(told, "region", region.as_str()),
         None => push_value(told, "region", "-"),
     }
 }
 
-fn region_of(
-    alloc: Global,
-    sections: &EnvConfigSections,
-    env: &Env,
-    id: &str,
-) -> Mem<Option<String>> {
-    match asked_region(id).load(alloc, env, Some(sections))? {
+fn region_of(alloc: Global, profile: &SelectedProfile, env: &Env, id: &str) -> Mem<Option<String>> {
+    match profile.load(alloc, env, &asked_region(id))? {
         Some((region, _)) => Ok(Some(region)),
         None => Ok(None),
     }

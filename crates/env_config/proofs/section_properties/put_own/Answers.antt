@@ -1,4 +1,4 @@
-use Rattle.std.proofs.Common.{◌≡◌, ◌∙◌, ap, map, List, ℕ, string_bytes}
+use Rattle.std.proofs.Common.{◌≡◌, ◌∙◌, ap, map, string_bytes}
 use Rattle.env_config.specs.SectionProperties.{own}
 use Rattle.env_config.specs.Texts.{put}
 use Rattle.env_config.proofs.GroupLemmas.{on_ok}

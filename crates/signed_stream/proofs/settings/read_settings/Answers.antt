@@ -9,5 +9,5 @@ use Rattle.signed_stream.proofs.settings.read_settings.Goals as goal
 pub returns-clause-settings : goal.returns-clause-settings
 unfolding settings
 returns-clause-settings c =
-    settings_given (sections (map file_of c.args.source.now.files.items)) (string_bytes c.args.source.now.profile) c.args.env.now (option_copied c.args.service_id) c.in_ok-sections.sections c.settings_in.result
-    c.in_ok-sections.ensures c.settings_in.ensures.settings
+    settings_given (sections (map file_of c.args.source.now.files.items)) (string_bytes c.args.source.now.profile) c.args.env.now (option_copied c.args.service_id) c.in_ok-profile.profile c.settings_in.result
+    c.in_ok-profile.ensures c.settings_in.ensures.settings

@@ -1,4 +1,4 @@
-use Rattle.std.proofs.Common.{◌≡◌, ◌∙◌, ◌++◌, ap, sym, subst, refl, List, ℕ, String, Global, string_bytes, string_cmp}
+use Rattle.std.proofs.Common.{◌∙◌, ◌++◌, ap, sym, subst, refl, List, ℕ, String, Global, string_bytes, string_cmp}
 use Rattle.env_config.specs.Texts.{pairs_of, text_cmp}
 use Rattle.env_config.proofs.FewLemmas.{AreInOrder, put_behind}
 use Rattle.env_config.proofs.TextsLemmas.{entries_put}

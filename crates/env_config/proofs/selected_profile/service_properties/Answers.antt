@@ -2,7 +2,7 @@ use Rattle.std.proofs.Common.{◌∙◌, map, string_bytes}
 use Rattle.std.proofs.lemmas.Result.{err_from_is_err_and}
 use Rattle.env_config.specs.Source.{file_of}
 use Rattle.env_config.proofs.SelectedLemmas.{service_parsed, service_refused}
-use Rattle.env_config.proofs.sections.service_properties.Goals as goal
+use Rattle.env_config.proofs.selected_profile.service_properties.Goals as goal
 
 pub returns-in_err-sections : goal.returns-in_err-sections
 returns-in_err-sections c =
