@@ -59,7 +59,7 @@ alike c sent (Err NoMemory) is any = tt
 
 -- ---- the target that was sent
 
-sent_parts : (c : Case) (sent : HttpRequest) → IsSentOf c sent → (uri : Uri) → Spells (string_bytes sent.target) uri → target_of uri ≡ with_params c.target (parameters c)
+pub sent_parts : (c : Case) (sent : HttpRequest) → IsSentOf c sent → (uri : Uri) → Spells (string_bytes sent.target) uri → target_of uri ≡ with_params c.target (parameters c)
 unfolding signed_target
 sent_parts c sent of uri spells = by of.spelled
   where
@@ -77,7 +77,7 @@ takes c fits = by (takes_no_more (parameters c) c.target) (passed _ InvalidUri f
     by true e = absurd (true≢false (sym e))
     by false e = refl
 
-sent_accepted : (c : Case) (sent : HttpRequest) → IsSignedAsSent c → IsSentOf c sent → SpellsNone (string_bytes sent.target) → ⊥
+pub sent_accepted : (c : Case) (sent : HttpRequest) → IsSignedAsSent c → IsSentOf c sent → SpellsNone (string_bytes sent.target) → ⊥
 unfolding signed_target
 sent_accepted c sent is of none = by of.spelled
   where
@@ -87,7 +87,7 @@ sent_accepted c sent is of none = by of.spelled
         (of.target ∙ ap (λ (t : Target). target_text_with (parameters c) t of.given) (sym same))
         (ap (takes_no_more (parameters c)) same ∙ takes c is.fits) none
 
-sent_joined : (c : Case) (sent : HttpRequest) → IsSentOf c sent → IsAuthorityAlone (with_params c.target (parameters c)) → ⊥
+pub sent_joined : (c : Case) (sent : HttpRequest) → IsSentOf c sent → IsAuthorityAlone (with_params c.target (parameters c)) → ⊥
 sent_joined c sent of alone = by of.spelled
   where
     by : SpellsParts of.given c.target → ⊥

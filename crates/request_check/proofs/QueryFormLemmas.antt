@@ -55,14 +55,14 @@ chosen false x y e = absurd (false≢true e)
 -- ---- the token's name
 
 -- a name that isn't reserved is none of the signature's keys
-record IsFreeName (name : List ℕ) : Type 0 where
-  not_host : bytes_eq (lower name) (codes "host") ≡ false
-  not_algorithm : bytes_eq (codes "X-Amz-Algorithm") name ≡ false
-  not_credential : bytes_eq (codes "X-Amz-Credential") name ≡ false
-  not_date : bytes_eq (codes "X-Amz-Date") name ≡ false
-  not_expires : bytes_eq (codes "X-Amz-Expires") name ≡ false
-  not_names : bytes_eq (codes "X-Amz-SignedHeaders") name ≡ false
-  not_signature : bytes_eq (codes "X-Amz-Signature") name ≡ false
+pub record IsFreeName (name : List ℕ) : Type 0 where
+  pub not_host : bytes_eq (lower name) (codes "host") ≡ false
+  pub not_algorithm : bytes_eq (codes "X-Amz-Algorithm") name ≡ false
+  pub not_credential : bytes_eq (codes "X-Amz-Credential") name ≡ false
+  pub not_date : bytes_eq (codes "X-Amz-Date") name ≡ false
+  pub not_expires : bytes_eq (codes "X-Amz-Expires") name ≡ false
+  pub not_names : bytes_eq (codes "X-Amz-SignedHeaders") name ≡ false
+  pub not_signature : bytes_eq (codes "X-Amz-Signature") name ≡ false
 
 -- texts that differ in lower case differ
 other_key : (key name : List ℕ) → bytes_eq (lower name) (lower key) ≡ false → bytes_eq key name ≡ false
@@ -120,13 +120,15 @@ other_kept Exclude token pair signature other = λ i. not (signature i || (other
 one_kept : {X : Type 0} (keeps : X → Bool) (x : X) (xs ys : List X) → keeps x ≡ true → filter keeps xs ≡ ys → filter keeps (x ∷ xs) ≡ x ∷ ys
 one_kept keeps x xs ys kept rest = λ i. cond (kept i) (x ∷ rest i) (rest i)
 
--- a pair's key is neither the signature's nor the token's, nor any other that a seal is read by
-record IsFreeKey (key token_name : List ℕ) : Type 0 where
-  credential : bytes_eq key (codes "X-Amz-Credential") ≡ false
-  date : bytes_eq key (codes "X-Amz-Date") ≡ false
-  names : bytes_eq key (codes "X-Amz-SignedHeaders") ≡ false
-  signature : bytes_eq key (codes "X-Amz-Signature") ≡ false
-  token : bytes_eq key token_name ≡ false
+-- a pair's key is neither one of the signature's nor the token's
+pub record IsFreeKey (key token_name : List ℕ) : Type 0 where
+  pub algorithm : bytes_eq key (codes "X-Amz-Algorithm") ≡ false
+  pub credential : bytes_eq key (codes "X-Amz-Credential") ≡ false
+  pub date : bytes_eq key (codes "X-Amz-Date") ≡ false
+  pub expires : bytes_eq key (codes "X-Amz-Expires") ≡ false
+  pub names : bytes_eq key (codes "X-Amz-SignedHeaders") ≡ false
+  pub signature : bytes_eq key (codes "X-Amz-Signature") ≡ false
+  pub token : bytes_eq key token_name ≡ false
 
 free_key : (settings : Settings) (key : List ℕ) → list_any (bytes_eq key) (parameter_keys settings) ≡ false → IsFreeKey key (token_parameter settings)
 free_key settings key none =
@@ -137,7 +139,15 @@ free_key settings key none =
     let listed = or_parts _ _ expires.1 in
     let signature = or_parts _ _ listed.1 in
     let token = or_parts _ _ signature.1 in
-    record { credential = credential.0; date = date.0; names = listed.0; signature = signature.0; token = token.0 }
+    record {
+      algorithm = algorithm.0;
+      credential = credential.0;
+      date = date.0;
+      expires = expires.0;
+      names = listed.0;
+      signature = signature.0;
+      token = token.0;
+    }
 
 given_kept : (settings : Settings) (given : List Pair) → HaveNone (parameter_keys settings) given
     → filter (is_kept settings.session_token_mode (token_parameter settings)) given ≡ given
@@ -186,7 +196,7 @@ added_kept mode name credential_text date_text names_text signature_text expires
 -- ---- the first of a key
 
 -- pairs that lack a key leave it to those after them
-abbrev AllOther : List ℕ → List Pair → Type 0
+abbrev pub AllOther : List ℕ → List Pair → Type 0
 AllOther key given = AllByRecursion (λ pair. bytes_eq pair.0 key ≡ false) given
 
 first_behind : (key : List ℕ) (given added : List Pair) → AllOther key given → first_value (given ++ added) key ≡ first_value added key
@@ -194,7 +204,7 @@ first_behind key [] added others = refl
 first_behind key (pair ∷ given) added others =
     λ i. option_or (cond (others.0 i) (Some pair.1) None) (first_behind key given added others.1 i)
 
-others_by : (settings : Settings) (key : List ℕ) → ((other : List ℕ) → IsFreeKey other (token_parameter settings) → bytes_eq other key ≡ false)
+pub others_by : (settings : Settings) (key : List ℕ) → ((other : List ℕ) → IsFreeKey other (token_parameter settings) → bytes_eq other key ≡ false)
     → (given : List Pair) → HaveNone (parameter_keys settings) given → AllOther key given
 others_by settings key differs [] none = tt
 others_by settings key differs (pair ∷ given) none = (differs pair.0 (free_key settings pair.0 none.0), others_by settings key differs given none.1)
@@ -270,7 +280,7 @@ pub record SignsQuery (c : Case) : Type 0 where
   pub none : HaveNone (parameter_keys c.settings) (decoded c.target)
 
 module _ (c : Case) (is : SignsQuery c) where
-  abbrev token_name : List ℕ
+  abbrev pub token_name : List ℕ
   token_name = token_parameter c.settings
 
   after_headers : (unfit_headers 1 c.headers ≡ None) × (option_or (unfit_host c.target c.headers) (option_or (unfit_token_name c.settings) (unfit_texts c)) ≡ None)
@@ -280,7 +290,7 @@ module _ (c : Case) (is : SignsQuery c) where
   fit_host : unfit_host c.target c.headers ≡ None
   fit_host = (both_none (unfit_host c.target c.headers) _ after_headers.1).0
 
-  free : IsFreeName token_name
+  pub free : IsFreeName token_name
   free = free_name c.settings c.settings.session_token_name_override
       (both_none (unfit_token_name c.settings) (unfit_texts c) (both_none (unfit_host c.target c.headers) _ after_headers.1).1).0
 
@@ -294,10 +304,10 @@ module _ (c : Case) (is : SignsQuery c) where
 
   -- ---- the target with its parameters
 
-  abbrev first_added : Pair
+  abbrev pub first_added : Pair
   first_added = (codes "X-Amz-Algorithm", codes "AWS4-HMAC-SHA256")
 
-  abbrev more_added : List Pair
+  abbrev pub more_added : List Pair
   more_added =
       (codes "X-Amz-Credential", credential c) ∷ (codes "X-Amz-Date", stamp c.at) ∷ (codes "X-Amz-Expires", expires_text c.settings.expires_in)
       ∷ (codes "X-Amz-SignedHeaders", joined_names (names c)) ∷ (codes "X-Amz-Signature", signature_of c) ∷ token_pairs token_name c.token
@@ -358,7 +368,7 @@ module _ (c : Case) (is : SignsQuery c) where
       (signature_utf8 c)
       (token_texts token_name c.token (name_utf8 c.settings.session_token_name_override is.strings.token_name) is.strings.token)
 
-  decoded_are : decoded sent_target ≡ decoded c.target ++ first_added ∷ more_added
+  pub decoded_are : decoded sent_target ≡ decoded c.target ++ first_added ∷ more_added
   decoded_are = decoded_with c.target first_added more_added texts
 
   abbrev signed_first : List Pair
@@ -384,7 +394,7 @@ module _ (c : Case) (is : SignsQuery c) where
   abbrev pub own_seal : SealParts
   own_seal = record { place = QueryParams; key_id = c.key_id; at = floor_secs c.at; names = joined_names (names c); signature = signature_of c }
 
-  credential_same : credential c ≡ sealed_credential c.signer.region c.signer.name own_seal
+  pub credential_same : credential c ≡ sealed_credential c.signer.region c.signer.name own_seal
   unfolding credential scope date civil_of
   credential_same = refl
 

@@ -39,7 +39,7 @@ pub(crate) fn read_authorization(text: &str) -> Option<Authorization<'_>>
 
 /// The key id of a credential, which is followed by a slash and the scope.
 #[tactic(auto, using(crate::proofs::SealLemmas::scope_uncut, crate::proofs::SealLemmas::slash_uncut, crate::proofs::SealLemmas::scope_cut))]
-pub(crate) fn key_id_before<'a>(credential: &'a str, scope: &str) -> Option<&'a str>
+pub fn key_id_before<'a>(credential: &'a str, scope: &str) -> Option<&'a str>
     ensures { CutsScope scope.now credential.now result }
 {
     cut_end(cut_end(credential, scope)?, "/")

@@ -13,6 +13,7 @@ mod cuts;
 mod header_lines;
 mod laws;
 mod parameters;
+pub mod parts;
 mod seal;
 mod seal_texts;
 mod stamp;

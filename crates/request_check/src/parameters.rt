@@ -28,7 +28,7 @@ fn parse(alloc: Global, text: &str) -> Result<Uri, UriFault>
 }
 
 /// The pairs of a target's query, as form decoding gives them.
-pub(crate) fn query_pairs(alloc: Global, uri: &Uri) -> Mem<Vec<(String, String)>>
+pub fn query_pairs(alloc: Global, uri: &Uri) -> Mem<Vec<(String, String)>>
     ensures { IfOk result (λ pairs. text_pairs pairs.items ≡ decoded (target_of uri.now)) }
 {
     decoded_pairs(alloc, uri.query().unwrap_or(""))

@@ -7,7 +7,7 @@ use jiff_core::civil::Date;
 use smithy_core::{Civil, Moment, civil};
 
 /// The whole second of which the text is the stamp, `YYYYMMDDTHHMMSSZ`.
-pub(crate) fn stamped_moment(text: &str) -> Option<Moment>
+pub fn stamped_moment(text: &str) -> Option<Moment>
     ensures { ReadsStamp text.now result }
 {
     let text = text.as_bytes();
