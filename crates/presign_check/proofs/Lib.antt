@@ -1,0 +1,6 @@
+pub mod AcceptanceLemmas
+pub mod DecimalLemmas
+pub mod OrderLemmas
+pub mod ParameterLemmas
+pub mod SignatureLemmas
+pub mod TermLemmas

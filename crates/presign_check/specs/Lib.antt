@@ -1,0 +1,5 @@
+pub mod Acceptance
+pub mod Faults
+pub mod Parameters
+pub mod Presigned
+pub mod Terms

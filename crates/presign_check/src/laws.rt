@@ -1,0 +1,11 @@
+ghost use Rattle.std.specs.Prelude.{Result, ℤ};
+ghost use Rattle.presign_check.specs.Acceptance.{AcceptsSigned};
+ghost use Rattle.presign_check.specs.Presigned.{PresignInput, ChecksPresigned};
+ghost use Rattle.presign_check.specs.declared.fault.PresignFault.{PresignFault};
+
+/// The signed request of a case in query form is accepted with its key's id at each moment from the second of its signing on, and
+/// before its expiry passed, unless memory runs out.
+#[tactic(auto, using(crate::proofs::AcceptanceLemmas::accepts_signed))]
+pub fn presigned_requests_are_accepted()
+    ensures { (asked : PresignInput) (result : Result ℤ PresignFault) → ChecksPresigned asked result → AcceptsSigned asked result }
+{}
