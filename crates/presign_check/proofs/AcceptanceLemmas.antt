@@ -46,11 +46,11 @@ none_of_token : (key name : List ℕ) (token : Option (List ℕ)) → bytes_eq k
 none_of_token key name None other = refl
 none_of_token key name (Some token) other = ap (λ (b : Bool). cond b (token ∷ []) []) (flipped name key ∙ other)
 
-none_and_some : (o : Option (List ℕ)) → o ≡ None → IsSome o → ⊥
+pub none_and_some : (o : Option (List ℕ)) → o ≡ None → IsSome o → ⊥
 none_and_some None e some = true≢false (sym some)
 none_and_some (Some x) e some = absent (sym e)
 
-late_enough : (a b : ℤ) → b ≤ℤ a → a <ℤ b → ⊥
+pub late_enough : (a b : ℤ) → b ≤ℤ a → a <ℤ b → ⊥
 late_enough a b le lt = omega (arith, ints)
 
 -- ---- the case

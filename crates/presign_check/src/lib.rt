@@ -14,5 +14,5 @@ mod terms;
 
 pub use crate::check::check_presigned;
 pub use crate::fault::PresignFault;
-pub use crate::laws::presigned_requests_are_accepted;
+pub use crate::laws::{presigned_requests_are_accepted, presigned_requests_have_one_answer};
 pub use crate::part::PresignPart;
