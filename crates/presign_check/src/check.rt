@@ -23,7 +23,7 @@ use std::alloc::Global;
 /// what is signed is the parameter's.
 ///
 /// ```rust
-/// match check_presigned(alloc, &request, &settings, "us-east-1", "s3", &body, key_id, secret, clock.now()) {
+/// match check_presigned(alloc, &request, &settings, "us-east-1", "s3", &body, key_id, secret, now) {
 ///     Ok(until) => ..,
 ///     Err(PresignFault::Expired { until }) => ..,
 ///     Err(fault) => ..,
@@ -33,7 +33,7 @@ use std::alloc::Global;
 /// What a service still has to decide: how long a presigned target may be good at most (AWS refuses an `X-Amz-Expires` above
 /// 604,800 seconds, this call doesn't); whether one may be used more than once; and which methods it lets through, since the
 /// method is taken as it is. Nor are the names of the signed headers tested: a header that isn't among them isn't signed, so a
-/// service that acts on a header has to look for its name there.
+/// service that acts on a header has to look for its name there. A session token that the settings exclude isn't signed either.
 ///
 /// The texts are read in time and memory that grow with the request's length. The signature is computed again as
 /// [`check_request`](request_check::check_request) does it, where what names that are listed twice cost is told. It comes
@@ -44,7 +44,7 @@ use std::alloc::Global;
 /// In this order, each exactly where its test is the first that is met:
 ///
 /// - [`PresignFault::Signing`] with `InvalidUri` where the target isn't accepted;
-/// - [`PresignFault::HeaderForm`] where there is an `authorization` header;
+/// - [`PresignFault::HeaderForm`] where there is an `authorization` header, of whatever scheme;
 /// - [`PresignFault::Missing`] and [`PresignFault::Repeated`] for the first of algorithm, credential, date, expiry, names and
 ///   signature that isn't in the target's query exactly once;
 /// - [`PresignFault::BadPart`] for the first of algorithm, date, credential, expiry and signature that is outside its form: the
