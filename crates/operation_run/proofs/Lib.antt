@@ -1,0 +1,9 @@
+pub mod AgainLemmas
+pub mod AttemptLemmas
+pub mod BagLemmas
+pub mod CourseLemmas
+pub mod OperateLemmas
+pub mod OperationLemmas
+pub mod PrepareLemmas
+pub mod ScriptLemmas
+pub mod SigningLemmas
