@@ -49,13 +49,18 @@ impl From<AllocError> for SendFault {
 /// A transport of one's own, which answers 200 to each request and tells nothing:
 ///
 /// ```
+/// #[derive(Drop)]
 /// struct Always {
 ///     alloc: Global,
 /// }
 ///
 /// impl Transport for Always {
+///     ghost use Rattle.std.specs.Prelude.{None};
+///
 ///     ghost sent = { λ _. None };
+///
 ///     ghost replied = { λ _. None };
+///
 ///     ghost faults = { λ _. 0 };
 ///
 ///     fn send(&mut self, _request: &HttpRequest) -> Result<Reply, SendFault> {
