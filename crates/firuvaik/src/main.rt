@@ -7,7 +7,7 @@ ghost use Rattle.std.specs.String.{string_bytes};
 ghost use Rattle.smithy_core.specs.Given.{Gives};
 ghost use Rattle.firuvaik.specs.Asked.{text_asked};
 ghost use Rattle.signed_stream.specs.Plan.{GoesAsPlanned, writes};
-ghost use Rattle.signed_stream.specs.Running.{CountsWrites, Unless, UnlessAsked, Went, asked, takes_input};
+ghost use Rattle.signed_stream.specs.Running.{CountsWrites, Unless, UnlessTask, Went, task, takes_input};
 ghost use Rattle.signed_stream.specs.Saying.{SaysEnding};
 ghost use Rattle.signed_stream.specs.Sources.{DiskGives};
 ghost use Rattle.signed_stream.specs.Status.{bad_words, done, ending_of, exit_code, no_memory};
@@ -91,12 +91,12 @@ fn answer<S: ByteSource, D: Disk, C: Clock, K: ByteSink, E: ByteSink>(
     ensures said { SaysEnding (ending_of result) (E.held err.old) (E.held err.new) (E.faults err.old) (E.faults err.new) }
     ensures headline { IfNone (text_asked (map string_bytes words.now)) (Went (DiskGives D.answers D.faults (D.files disk.old) env.now disk.old disk.new)
         (λ taken. Gives C.Clock clock.old taken clock.new) env.now
-        (asked (map string_bytes words.now)) (S.left input.old) (S.left input.new) (ending_of result) (S.faults input.old) (S.faults input.new)
+        (task (map string_bytes words.now)) (S.left input.old) (S.left input.new) (ending_of result) (S.faults input.old) (S.faults input.new)
         (record { held_before = K.held out.old; held_now = K.held out.new; faults_before = K.faults out.old; faults_now = K.faults out.new })
         (record { held_before = E.held err.old; held_now = E.held err.new; faults_before = E.faults err.old; faults_now = E.faults err.new })) }
     ensures untouched { IfNone (text_asked (map string_bytes words.now))
-        (UnlessAsked (asked (map string_bytes words.now)) ((K.held out.new ≡ K.held out.old) × (K.faults out.new ≡ K.faults out.old))) }
-    ensures unread { Unless (takes_input (asked (map string_bytes words.now))) ((S.left input.new ≡ S.left input.old) × (S.faults input.new ≡ S.faults input.old)) }
+        (UnlessTask (task (map string_bytes words.now)) ((K.held out.new ≡ K.held out.old) × (K.faults out.new ≡ K.faults out.old))) }
+    ensures unread { Unless (takes_input (task (map string_bytes words.now))) ((S.left input.new ≡ S.left input.old) × (S.faults input.new ≡ S.faults input.old)) }
 {
     match help::text_asked(words) {
         Some(text) => say(alloc, print_text(text, out), err),

@@ -6,7 +6,7 @@ use Rattle.env_config.specs.declared.source.EnvConfigFileKind.{EnvConfigFileKind
 use Rattle.signed_stream.specs.Command.{after_seed, bad_word, command, count_given, generator_from, seeded}
 use Rattle.job_text.specs.Numbers.{natural_below}
 use Rattle.signed_stream.specs.ProfileOptions.{is_same_kind, place_kind, place_of}
-use Rattle.signed_stream.specs.Running.{asked, read_after_watch, to_run, to_watch}
+use Rattle.signed_stream.specs.Running.{task, read_after_watch, to_run, to_watch}
 use Rattle.signed_stream.specs.declared.command.profile.NamedFile.{NamedFile}
 
 pub command_empty : {A : Type 0} (text : A → List ℕ) (words : List A) → length words < 1 → command (map text words) ≡ bad_word 1
@@ -19,16 +19,16 @@ command_first text [] word here h = absurd (omega arith)
 command_first text (first ∷ words) word here h = rw here refl
 
 -- what the words ask for, one by one
-pub asked_empty : {A : Type 0} (text : A → List ℕ) (words : List A) → length words < 1 → asked (map text words) ≡ to_run (command (map text words))
-unfolding asked
-asked_empty text [] h = refl
-asked_empty text (word ∷ words) h = absurd (omega arith)
+pub task_empty : {A : Type 0} (text : A → List ℕ) (words : List A) → length words < 1 → task (map text words) ≡ to_run (command (map text words))
+unfolding task
+task_empty text [] h = refl
+task_empty text (word ∷ words) h = absurd (omega arith)
 
-pub asked_first : {A : Type 0} (text : A → List ℕ) (words : List A) (word : A) → word ≡ get_or words 0 word → 1 ≤ length words
-    → asked (map text words) ≡ (if bytes_eq (text word) (codes "watch") then to_watch (read_after_watch (map text (drop 1 words))) else to_run (command (map text words)))
-unfolding asked
-asked_first text [] word here h = absurd (omega arith)
-asked_first text (first ∷ words) word here h = rw here refl
+pub task_first : {A : Type 0} (text : A → List ℕ) (words : List A) (word : A) → word ≡ get_or words 0 word → 1 ≤ length words
+    → task (map text words) ≡ (if bytes_eq (text word) (codes "watch") then to_watch (read_after_watch (map text (drop 1 words))) else to_run (command (map text words)))
+unfolding task
+task_first text [] word here h = absurd (omega arith)
+task_first text (first ∷ words) word here h = rw here refl
 
 -- the words of `gen`, one by one
 pub generator_empty : {A : Type 0} (text : A → List ℕ) (words : List A) → length words < 1 → generator_from (map text words) ≡ bad_word 2

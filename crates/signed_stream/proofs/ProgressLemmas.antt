@@ -19,7 +19,7 @@ use Rattle.signed_stream.specs.EventLines.{AreFramed, count_line, event_line, ev
 use Rattle.signed_stream.specs.Halt.{Halt, Halts, fails, halt_of, halted, refuses, wants}
 use Rattle.signed_stream.specs.Plan.{most_input}
 use Rattle.signed_stream.specs.Status.{Ending, ending_of, check_failed, done, job_too_large, no_memory, output_fault, read_fault, bad_words, bad_job, refused, could_not_read_file}
-use Rattle.signed_stream.specs.WatchChain.{Advances, AreAll, EndsChain, EndsWalk, GainsFrontOf, IsCurrent, IsFit, IsIdle, IsNew, IsSound, ReadsAll, ReadsChain, ReadsSome, ShowsAll, ShowsWaiting, StandsAt, StopsShowing, StopsTaking, TakesPiece, WalksWaiting, Watches, room_of, shown_chain, walk_taken, walk_with}
+use Rattle.signed_stream.specs.WatchChain.{Advances, AreAll, EndsInput, EndsWalk, GainsFrontOf, IsCurrent, IsFit, IsIdle, IsUnfed, IsSound, ReadsAll, ReadsInput, ReadsSome, ShowsAll, ShowsWaiting, StandsAt, StopsShowing, StopsTaking, TakesNext, WalksWaiting, Watches, room_of, shown_chain, walk_taken, walk_with}
 use Rattle.signed_stream.specs.declared.status.CheckFault.TheVariants as checks
 use Rattle.signed_stream.specs.declared.status.Status.{Status}
 use Rattle.signed_stream.specs.declared.status.StreamFault.{StreamFault}
@@ -152,11 +152,11 @@ ends_showing events walked taken left (could_not_read_file path) a b c before st
 ends_showing events walked taken left (refused fault) a b c before stops = absurd stops
 
 -- how many bytes were read of an input
-read_count : (start mid : Progress) (taken : List ℕ) (a b : Option (List ℕ)) → IsNew start → Advances start taken mid a b → mid.watch.fed + length mid.waiting.items ≡ length taken
+read_count : (start mid : Progress) (taken : List ℕ) (a b : Option (List ℕ)) → IsUnfed start → Advances start taken mid a b → mid.watch.fed + length mid.waiting.items ≡ length taken
 read_count start mid taken a b new reached = omega (arith, reached.counted, new.unfed, ap length new.empty)
 
 -- a piece that is the last one
-pub ends_taking : (start mid : Progress) (taken piece : List ℕ) (left : Option (List ℕ)) (answer : Ending) (a b c : Option (List ℕ)) → IsNew start → IsFit mid → Advances start taken mid a b
+pub ends_taking : (start mid : Progress) (taken piece : List ℕ) (left : Option (List ℕ)) (answer : Ending) (a b c : Option (List ℕ)) → IsUnfed start → IsFit mid → Advances start taken mid a b
     → StopsTaking mid piece answer b c → EndsWalk (walk_with start (take most_input (taken ++ piece))) (taken ++ piece) left answer a c
 ends_taking start mid taken piece left answer a b c new fit reached stops = subst (λ (w : Walk). EndsWalk w (taken ++ piece) left answer a c) (sym walked) (by_end answer stops)
   where
@@ -191,18 +191,18 @@ ends_taking start mid taken piece left answer a b c new fit reached stops = subs
     by_end (refused fault) stops = showing (refused fault) stops
 
 -- all that was read counts
-all_counts : (start mid : Progress) (taken : List ℕ) (a b : Option (List ℕ)) → IsNew start → IsFit mid → Advances start taken mid a b → take most_input taken ≡ taken
+all_counts : (start mid : Progress) (taken : List ℕ) (a b : Option (List ℕ)) → IsUnfed start → IsFit mid → Advances start taken mid a b → take most_input taken ≡ taken
 all_counts start mid taken a b new fit reached = take_all most_input taken (omega (arith, fit.short, read_count start mid taken a b new reached))
 
 -- the bytes that wait are the last ones
-pub ends_waiting : (start mid : Progress) (taken : List ℕ) (left : Option (List ℕ)) (answer : Ending) (a b c : Option (List ℕ)) → IsNew start → IsFit mid → Advances start taken mid a b
+pub ends_waiting : (start mid : Progress) (taken : List ℕ) (left : Option (List ℕ)) (answer : Ending) (a b c : Option (List ℕ)) → IsUnfed start → IsFit mid → Advances start taken mid a b
     → StopsShowing (walk_with mid []) answer b c → EndsWalk (walk_with start (take most_input taken)) taken left answer a c
 ends_waiting start mid taken left answer a b c new fit reached stops =
     subst (λ (w : Walk). EndsWalk w taken left answer a c) (sym (ap (walk_with start) (all_counts start mid taken a b new fit reached) ∙ reached.walked))
     (ends_showing reached.events (walk_with mid []) taken left answer a b c reached.gains stops)
 
 -- the input fails, and no event and no fault waits
-pub ends_failed : (start new : Progress) (taken : List ℕ) (left : Option (List ℕ)) (a c : Option (List ℕ)) → IsNew start → IsFit new → IsIdle new → Advances start taken new a c
+pub ends_failed : (start new : Progress) (taken : List ℕ) (left : Option (List ℕ)) (a c : Option (List ℕ)) → IsUnfed start → IsFit new → IsIdle new → Advances start taken new a c
     → EndsWalk (walk_with start (take most_input taken)) taken left read_fault a c
 ends_failed start new taken left a c begins fit idle reached =
     let events : reached.events ++ (walk_with new []).events ≡ reached.events = ap (λ (more : List Parts). reached.events ++ more) idle.none ∙ append-nil reached.events in
@@ -210,7 +210,7 @@ ends_failed start new taken left a c begins fit idle reached =
     (idle.sound, subst (λ (all : List Parts). Gains a c (event_lines all)) (sym events) reached.gains)
 
 -- the chain ends behind the input
-pub ends_input : (start new : Progress) (all left : Option (List ℕ)) (answer : Ending) (a b c : Option (List ℕ)) → IsNew start → IsFit new → (read : ReadsAll start all left new a b) → EndsChain new answer b c
+pub ends_input : (start new : Progress) (all left : Option (List ℕ)) (answer : Ending) (a b c : Option (List ℕ)) → IsUnfed start → IsFit new → (read : ReadsAll start all left new a b) → EndsInput new answer b c
     → EndsWalk (walk_with start (take most_input read.taken)) read.taken left answer a c
 ends_input start new all left answer a b c begins fit read ends =
     subst (λ (w : Walk). EndsWalk w read.taken left answer a c)
@@ -239,7 +239,7 @@ ends_input start new all left answer a b c begins fit read ends =
     same : c ≡ b → Gains a c (event_lines events)
     same is = rw is read.advances.gains
 
-    by_end : (end : Ending) → EndsChain new end b c → EndsWalk walked read.taken left end a c
+    by_end : (end : Ending) → EndsInput new end b c → EndsWalk walked read.taken left end a c
     by_end done ends = (ends.0, whole, last ends.1)
     by_end (check_failed (checks.Chain told)) ends = (inr (ends.0, whole), same ends.1)
     by_end (check_failed checks.NoSignature) ends = absurd ends
@@ -267,7 +267,7 @@ watched_some signer seed start all left answer a c watch empty read =
     record { taken = read.taken; cut = read.cut; ends = subst (λ (w : Walk). EndsWalk w read.taken left answer a c) (walk_new signer seed start read.taken watch empty) read.ends }
 
 pub watched_all : (signer : Signer) (seed : List ℕ) (start new : Progress) (all left : Option (List ℕ)) (answer : Ending) (a b c : Option (List ℕ)) → start.watch ≡ new_watch signer seed → start.waiting.items ≡ []
-    → start.shown ≡ 0 → IsFit new → ReadsAll start all left new a b → EndsChain new answer b c → Watches signer seed all left answer a c
+    → start.shown ≡ 0 → IsFit new → ReadsAll start all left new a b → EndsInput new answer b c → Watches signer seed all left answer a c
 watched_all signer seed start new all left answer a b c watch empty unshown fit read ends =
     watched_some signer seed start all left answer a c watch empty
     (record {
@@ -454,7 +454,7 @@ stops_front old mid piece room answer before now is watch waiting stops =
 
 -- all of it waited
 pub takes_shown : (old mid new : Progress) (piece : List ℕ) (before now : Option (List ℕ)) (result : Result (Unit {0}) Status) → mid.watch ≡ old.watch → mid.shown ≡ old.shown
-    → mid.waiting.items ≡ old.waiting.items ++ piece → length piece ≤ room_of old → ShowsWaiting mid new before now result → TakesPiece old piece new before now result
+    → mid.waiting.items ≡ old.waiting.items ++ piece → length piece ≤ room_of old → ShowsWaiting mid new before now result → TakesNext old piece new before now result
 takes_shown old mid new piece before now (Ok tt) watch shown waiting short shows =
     subst (λ (read : List ℕ). Advances old read new before now) (append-nil piece)
     (advances_join old mid new piece [] before before now (advances_waiting old mid piece before watch shown waiting) shows.advances)
@@ -464,21 +464,21 @@ takes_shown old mid new piece before now (Err status) watch shown waiting short 
 -- ## The input
 
 -- the input was read to its end
-pub reads_shown : (start mid new : Progress) (taken : List ℕ) (all left a b c : Option (List ℕ)) (result : Result (Unit {0}) Status) → IsNew start → IsFit mid → Advances start taken mid a b → IsCutOf all taken left
-    → IsAtEnd left → ShowsWaiting mid new b c result → ReadsChain start all left new a c result
+pub reads_shown : (start mid new : Progress) (taken : List ℕ) (all left a b c : Option (List ℕ)) (result : Result (Unit {0}) Status) → IsUnfed start → IsFit mid → Advances start taken mid a b → IsCutOf all taken left
+    → IsAtEnd left → ShowsWaiting mid new b c result → ReadsInput start all left new a c result
 reads_shown start mid new taken all left a b c (Ok tt) begins fit reached cut ended shows =
     record { taken = taken; cut = cut; ended = ended; advances = subst (λ (read : List ℕ). Advances start read new a c) (append-nil taken) (advances_join start mid new taken [] a b c reached shows.advances); none = shows.none }
 reads_shown start mid new taken all left a b c (Err status) begins fit reached cut ended shows =
     record { taken = taken; cut = cut; ends = ends_waiting start mid taken left (ending_of status) a b c begins fit reached shows }
 
 -- a piece was the last one
-pub reads_stopped : (start mid : Progress) (taken piece : List ℕ) (all left a b c : Option (List ℕ)) (answer : Ending) → IsNew start → IsFit mid → Advances start taken mid a b → IsCutOf all (taken ++ piece) left
+pub reads_stopped : (start mid : Progress) (taken piece : List ℕ) (all left a b c : Option (List ℕ)) (answer : Ending) → IsUnfed start → IsFit mid → Advances start taken mid a b → IsCutOf all (taken ++ piece) left
     → StopsTaking mid piece answer b c → ReadsSome start all left answer a c
 reads_stopped start mid taken piece all left a b c answer begins fit reached cut stops =
     record { taken = taken ++ piece; cut = cut; ends = ends_taking start mid taken piece left answer a b c begins fit reached stops }
 
 -- the input failed
-pub reads_failed : (start mid : Progress) (taken : List ℕ) (all left a b : Option (List ℕ)) → IsNew start → IsFit mid → IsIdle mid → Advances start taken mid a b → IsCutOf all taken left → ReadsSome start all left read_fault a b
+pub reads_failed : (start mid : Progress) (taken : List ℕ) (all left a b : Option (List ℕ)) → IsUnfed start → IsFit mid → IsIdle mid → Advances start taken mid a b → IsCutOf all taken left → ReadsSome start all left read_fault a b
 reads_failed start mid taken all left a b begins fit idle reached cut =
     record { taken = taken; cut = cut; ends = ends_failed start mid taken left a b begins fit idle reached }
 

@@ -236,45 +236,45 @@ pub record Ran (gave : List Place → FilesRead → Type 0) (clock : List Instan
 -- ## What the words ask for
 
 -- what the words ask for
-pub data Asked : Type 0 where
+pub data Task : Type 0 where
   -- to watch a chain, for what the words behind `watch` ask, or the first of them that is bad
-  to_watch : Result WatchWanted ℕ → Asked
+  to_watch : Result WatchWanted ℕ → Task
   -- a command that goes by a plan for the whole of its input, or none
-  to_run : Command → Asked
+  to_run : Command → Task
 
 -- what the words behind `watch` ask for, or the place of the first bad one
 abbrev pub read_after_watch : List (List ℕ) → Result WatchWanted ℕ
 read_after_watch words = watch_from (taken_from watch_word 2 no_watch_given words)
 
 -- what the words ask for: `watch` reads while it writes, and every other command goes by its plan
-unfoldable pub asked : List (List ℕ) → Asked
-asked [] = to_run (command [])
-asked (word ∷ words) = if bytes_eq word (codes "watch") then to_watch (read_after_watch words) else to_run (command (word ∷ words))
+unfoldable pub task : List (List ℕ) → Task
+task [] = to_run (command [])
+task (word ∷ words) = if bytes_eq word (codes "watch") then to_watch (read_after_watch words) else to_run (command (word ∷ words))
 
 -- the words ask to watch, as these words behind `watch` say, or for something else
 abbrev pub AsksWatch : List (List ℕ) → Option (List (List ℕ)) → Type 0
-AsksWatch words (Some rest) = asked words ≡ to_watch (read_after_watch rest)
-AsksWatch words None = asked words ≡ to_run (command words)
+AsksWatch words (Some rest) = task words ≡ to_watch (read_after_watch rest)
+AsksWatch words None = task words ≡ to_run (command words)
 
 -- where the words are bad
-abbrev pub UnlessAsked : Asked → Type 0 → Type 0
-UnlessAsked (to_run command) P = UnlessCommand command P
-UnlessAsked (to_watch read) P = UnlessRead read P
+abbrev pub UnlessTask : Task → Type 0 → Type 0
+UnlessTask (to_run command) P = UnlessCommand command P
+UnlessTask (to_watch read) P = UnlessRead read P
 
 -- whether what is asked for reads the input
-abbrev pub takes_input : Asked → Bool
+abbrev pub takes_input : Task → Bool
 takes_input (to_run command) = reads_input command
 takes_input (to_watch (Err place)) = false
 takes_input (to_watch (Ok wanted)) = true
 
 -- whether what is asked for asks for profile files
-abbrev pub takes_files : Asked → Bool
+abbrev pub takes_files : Task → Bool
 takes_files (to_run command) = reads_files command
 takes_files (to_watch (Err place)) = false
 takes_files (to_watch (Ok wanted)) = true
 
 -- the answers that come before the disk is asked; `watch` asks it before the input
-abbrev pub AsksDiskLast : {D : Type 0} → Asked → Ending → D → D → Type 0
+abbrev pub AsksDiskLast : {D : Type 0} → Task → Ending → D → D → Type 0
 AsksDiskLast (to_run command) answer before now = KeepsDisk answer before now
 AsksDiskLast (to_watch read) answer before now = Unit {0}
 
@@ -305,6 +305,6 @@ pub record RanWatch (gave : List Place → FilesRead → Type 0) (clock : List I
 
 -- How a run went that the words ask for: there is what I/O supplied for which the headline holds, what can be done is done, and it ended, gained and said
 -- what words, variables, input, files and clock ask for.
-abbrev pub Went : (List Place → FilesRead → Type 0) → (List Instant → Type 0) → List (List ℕ × List ℕ) → Asked → Option (List ℕ) → Option (List ℕ) → Ending → ℕ → ℕ → SinkChange → SinkChange → Type 0
+abbrev pub Went : (List Place → FilesRead → Type 0) → (List Instant → Type 0) → List (List ℕ × List ℕ) → Task → Option (List ℕ) → Option (List ℕ) → Ending → ℕ → ℕ → SinkChange → SinkChange → Type 0
 Went gave clock env (to_run command) all left answer reads_before reads_now out err = (given : Supplied) × Ran gave clock env command all given answer reads_before reads_now out err
 Went gave clock env (to_watch read) all left answer reads_before reads_now out err = RanWatch gave clock env read all left answer reads_before reads_now out err

@@ -124,7 +124,7 @@ pub record IsCurrent (watch : Watching) : Type 0 where
   pub sound : IsSound watch.at
 
 -- nothing was read
-pub record IsNew (progress : Progress) : Type 0 where
+pub record IsUnfed (progress : Progress) : Type 0 where
   pub unfed : progress.watch.fed ≡ 0
   pub empty : progress.waiting.items ≡ []
   pub unshown : progress.shown ≡ 0
@@ -193,9 +193,9 @@ StopsTaking old piece job_too_large before now =
     let walked = walk_with old (take (room_of old) piece) in (room_of old < length piece) × IsSound walked.at × Gains before now (event_lines walked.events)
 StopsTaking old piece end before now = StopsShowing (walk_with old (take (room_of old) piece)) end before now
 
-abbrev pub TakesPiece : Progress → List ℕ → Progress → Option (List ℕ) → Option (List ℕ) → Result (Unit {0}) Status → Type 0
-TakesPiece old piece new before now (Ok _) = Advances old piece new before now
-TakesPiece old piece new before now (Err status) = StopsTaking old piece (ending_of status) before now
+abbrev pub TakesNext : Progress → List ℕ → Progress → Option (List ℕ) → Option (List ℕ) → Result (Unit {0}) Status → Type 0
+TakesNext old piece new before now (Ok _) = Advances old piece new before now
+TakesNext old piece new before now (Err status) = StopsTaking old piece (ending_of status) before now
 
 -- the whole input was read, and none of it waits
 pub record ReadsAll (old : Progress) (all left : Option (List ℕ)) (new : Progress) (before now : Option (List ℕ)) : Type 0 where
@@ -211,17 +211,17 @@ pub record ReadsSome (old : Progress) (all left : Option (List ℕ)) (answer : E
   pub cut : IsCutOf all taken left
   pub ends : EndsWalk (walk_with old (take most_input taken)) taken left answer before now
 
-abbrev pub ReadsChain : Progress → Option (List ℕ) → Option (List ℕ) → Progress → Option (List ℕ) → Option (List ℕ) → Result (Unit {0}) Status → Type 0
-ReadsChain old all left new before now (Ok _) = ReadsAll old all left new before now
-ReadsChain old all left new before now (Err status) = ReadsSome old all left (ending_of status) before now
+abbrev pub ReadsInput : Progress → Option (List ℕ) → Option (List ℕ) → Progress → Option (List ℕ) → Option (List ℕ) → Result (Unit {0}) Status → Type 0
+ReadsInput old all left new before now (Ok _) = ReadsAll old all left new before now
+ReadsInput old all left new before now (Err status) = ReadsSome old all left (ending_of status) before now
 
 -- a whole chain was read, or one that can't end there
-abbrev pub EndsChain : Progress → Ending → Option (List ℕ) → Option (List ℕ) → Type 0
-EndsChain progress done before now = (ending progress.watch.at ≡ Ok tt) × Gains before now (count_line progress.shown)
-EndsChain progress (check_failed (Chain told)) before now = (ending progress.watch.at ≡ Err told) × (now ≡ before)
-EndsChain progress output_fault before now = (ending progress.watch.at ≡ Ok tt) × GainsPrefix before now (count_line progress.shown)
-EndsChain progress no_memory before now = (now ≡ before) ⊎ ((ending progress.watch.at ≡ Ok tt) × GainsPrefix before now (count_line progress.shown))
-EndsChain progress end before now = ⊥
+abbrev pub EndsInput : Progress → Ending → Option (List ℕ) → Option (List ℕ) → Type 0
+EndsInput progress done before now = (ending progress.watch.at ≡ Ok tt) × Gains before now (count_line progress.shown)
+EndsInput progress (check_failed (Chain told)) before now = (ending progress.watch.at ≡ Err told) × (now ≡ before)
+EndsInput progress output_fault before now = (ending progress.watch.at ≡ Ok tt) × GainsPrefix before now (count_line progress.shown)
+EndsInput progress no_memory before now = (now ≡ before) ⊎ ((ending progress.watch.at ≡ Ok tt) × GainsPrefix before now (count_line progress.shown))
+EndsInput progress end before now = ⊥
 
 -- ## Counts of faults
 

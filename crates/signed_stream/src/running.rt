@@ -6,7 +6,7 @@ ghost use Rattle.signed_stream.specs.Command.{command};
 ghost use Rattle.signed_stream.specs.Options.{input_commanded};
 ghost use Rattle.signed_stream.specs.Plan.{Supplied, most_input};
 ghost use Rattle.smithy_core.specs.Given.{Gives};
-ghost use Rattle.signed_stream.specs.Running.{AsksDiskLast, EndsAsAsked, KeepsDisk, KeepsOutput, NamesUnreadable, AsksWatch, Ran, RanWatch, Unless, UnlessAsked, UnlessCommand, Went, When, asked, comes_late, read_after_watch, reads_files, reads_input, takes_files, takes_input};
+ghost use Rattle.signed_stream.specs.Running.{AsksDiskLast, EndsAsAsked, KeepsDisk, KeepsOutput, NamesUnreadable, AsksWatch, Ran, RanWatch, Unless, UnlessTask, UnlessCommand, Went, When, task, comes_late, read_after_watch, reads_files, reads_input, takes_files, takes_input};
 ghost use Rattle.signed_stream.specs.Sources.{DiskGives};
 ghost use Rattle.signed_stream.specs.Status.{could_not_read_file, done, ending_of, output_fault, read_fault};
 ghost use Rattle.signed_stream.specs.WatchChain.{UnlessRead};
@@ -63,21 +63,21 @@ pub fn run<S: ByteSource, D: Disk, C: Clock, K: ByteSink, E: ByteSink>(
     // gained and said what words, variables, input, files and clock ask for.
     ensures headline { Went (DiskGives D.answers D.faults (D.files disk.old) env.now disk.old disk.new)
         (λ taken. Gives C.Clock clock.old taken clock.new) env.now
-        (asked (map string_bytes words.now)) (S.left input.old) (S.left input.new) (ending_of result) (S.faults input.old) (S.faults input.new)
+        (task (map string_bytes words.now)) (S.left input.old) (S.left input.new) (ending_of result) (S.faults input.old) (S.faults input.new)
         (record { held_before = K.held out.old; held_now = K.held out.new; faults_before = K.faults out.old; faults_now = K.faults out.new })
         (record { held_before = E.held err.old; held_now = E.held err.new; faults_before = E.faults err.old; faults_now = E.faults err.new }) }
 
     // Where the words are no command, the output is as it was; and so is the input where they ask for none.
-    ensures untouched { UnlessAsked (asked (map string_bytes words.now)) ((K.held out.new ≡ K.held out.old) × (K.faults out.new ≡ K.faults out.old)) }
-    ensures unread { Unless (takes_input (asked (map string_bytes words.now))) ((S.left input.new ≡ S.left input.old) × (S.faults input.new ≡ S.faults input.old)) }
+    ensures untouched { UnlessTask (task (map string_bytes words.now)) ((K.held out.new ≡ K.held out.old) × (K.faults out.new ≡ K.faults out.old)) }
+    ensures unread { Unless (takes_input (task (map string_bytes words.now))) ((S.left input.new ≡ S.left input.old) × (S.faults input.new ≡ S.faults input.old)) }
 
     // But for `watch`, the disk was asked only once the input was read and is a job; it isn't asked by a command that asks
     // for no files; and its files are as they were.
-    ensures disk { AsksDiskLast (asked (map string_bytes words.now)) (ending_of result) disk.old disk.new × (D.files disk.new ≡ D.files disk.old) }
-    ensures unasked { Unless (takes_files (asked (map string_bytes words.now))) (disk.new ≡ disk.old) }
+    ensures disk { AsksDiskLast (task (map string_bytes words.now)) (ending_of result) disk.old disk.new × (D.files disk.new ≡ D.files disk.old) }
+    ensures unasked { Unless (takes_files (task (map string_bytes words.now))) (disk.new ≡ disk.old) }
 
     // An input that is read was read to its end, a suffix of it is left, and no count fell.
-    ensures outside { When (takes_input (asked (map string_bytes words.now))) (ending_of result ≡ done → IsAtEnd (S.left input.new)) × IsRestOf (S.left input.old) (S.left input.new)
+    ensures outside { When (takes_input (task (map string_bytes words.now))) (ending_of result ≡ done → IsAtEnd (S.left input.new)) × IsRestOf (S.left input.old) (S.left input.new)
         × (S.faults input.old ≤ S.faults input.new) × (D.faults disk.old ≤ D.faults disk.new) × (K.faults out.old ≤ K.faults out.new)
         × (E.faults err.old ≤ E.faults err.new) }
 {
@@ -88,7 +88,7 @@ pub fn run<S: ByteSource, D: Disk, C: Clock, K: ByteSink, E: ByteSink>(
 }
 
 // The words behind `watch`, where that is the first.
-#[tactic(auto, using(crate::proofs::OptionLemmas::asked_empty, crate::proofs::OptionLemmas::asked_first), unfolding(crate::specs::Running::asked))]
+#[tactic(auto, using(crate::proofs::OptionLemmas::task_empty, crate::proofs::OptionLemmas::task_first), unfolding(crate::specs::Running::task))]
 fn words_of_watch(words: &[String]) -> Option<&[String]>
     ensures { AsksWatch (map string_bytes words.now) (option_map (λ rest. map string_bytes rest.now) result) }
 {

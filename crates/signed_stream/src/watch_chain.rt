@@ -8,7 +8,7 @@ ghost use Rattle.signed_stream.specs.Plan.{unreadable};
 ghost use Rattle.signed_stream.specs.Settings.{selected_in};
 ghost use Rattle.signed_stream.specs.Sources.{DiskGives};
 ghost use Rattle.signed_stream.specs.Status.{could_not_read_file, ending_of, output_fault, read_fault};
-ghost use Rattle.signed_stream.specs.WatchChain.{EndsChain, IsFit, IsIdle, IsNew, NamesUnread, ReadsChain, ShowsWaiting, StaysBut, TakesPiece, UnlessRead, WalksWaiting, Watches, WatchesInput, WatchesWords, watch_signer};
+ghost use Rattle.signed_stream.specs.WatchChain.{EndsInput, IsFit, IsIdle, IsUnfed, NamesUnread, ReadsInput, ShowsWaiting, StaysBut, TakesNext, UnlessRead, WalksWaiting, Watches, WatchesInput, WatchesWords, watch_signer};
 ghost use Rattle.signed_stream.specs.WatchWords.{no_watch_given, watch_from, watch_wanted, watch_word};
 
 use crate::command::{WatchWords, read_watch};
@@ -140,9 +140,9 @@ impl Progress {
         input: &mut S,
         out: &mut K,
     ) -> Result<(), Status>
-        requires begins { IsNew self.old }
+        requires begins { IsUnfed self.old }
         requires fits { IsFit self.old }
-        ensures reads { ReadsChain self.old (S.left input.old) (S.left input.new) self.new (K.held out.old) (K.held out.new) result }
+        ensures reads { ReadsInput self.old (S.left input.old) (S.left input.new) self.new (K.held out.old) (K.held out.new) result }
         ensures fit { OnOk result (IsFit self.new) }
         ensures read_failed { IfErr result (λ status. ending_of status ≡ read_fault → RoseOrStands (S.faults input.old) (S.faults input.new)) }
         ensures read_steady { StaysBut read_fault result (S.faults input.old) (S.faults input.new) }
@@ -165,7 +165,7 @@ impl Progress {
     #[tactic(auto, using(crate::proofs::WaitLemmas::idle_few))]
     fn take<K: ByteSink>(&mut self, alloc: Global, piece: &[u8], out: &mut K) -> Result<(), Status>
         requires { IsFit self.old }
-        ensures takes { TakesPiece self.old piece.now self.new (K.held out.old) (K.held out.new) result }
+        ensures takes { TakesNext self.old piece.now self.new (K.held out.old) (K.held out.new) result }
         ensures fit { OnOk result (IsFit self.new) }
         ensures idle { OnOk result (IsIdle self.new) }
         ensures output_failed { IfErr result (λ status. ending_of status ≡ output_fault → RoseOrStands (K.faults out.old) (K.faults out.new)) }
@@ -234,7 +234,7 @@ impl Progress {
     // Ends the chain behind the bytes that were read, and writes how many events it has.
     fn finish<K: ByteSink>(self, alloc: Global, out: &mut K) -> Status
         requires { IsFit self }
-        ensures ends { EndsChain self (ending_of result) (K.held out.old) (K.held out.new) }
+        ensures ends { EndsInput self (ending_of result) (K.held out.old) (K.held out.new) }
         ensures output_failed { ending_of result ≡ output_fault → RoseOrStands (K.faults out.old) (K.faults out.new) }
         ensures output_steady { (ending_of result ≡ output_fault → ⊥) → K.faults out.new ≡ K.faults out.old }
         ensures count { K.faults out.old ≤ K.faults out.new }
