@@ -1,10 +1,9 @@
 -- The generated events are streamed, and the stream passes its check.
-use Rattle.std.proofs.Common.{◌≡◌, ℕ, zero, suc, ◌+◌, ◌-◌, ◌<◌, ◌≤◌, inl, inr, false, List, [], ◌∷◌, ◌++◌, length, take, drop, replicate, map, Option, Some, None, refl, sym, ap, ◌∙◌, subst, arith, codes, append_assoc, append-nil, length-append}
-use Rattle.std.specs.Prelude.{All, Ok, Err, nat_lt, ◌⊎◌}
+use Rattle.std.proofs.Common.{◌≡◌, ℕ, zero, suc, ◌+◌, ◌-◌, ◌<◌, ◌≤◌, inl, inr, List, [], ◌∷◌, ◌++◌, length, take, drop, replicate, map, Option, Some, None, refl, sym, ap, ◌∙◌, subst, arith, codes, append_assoc, append-nil, length-append}
+use Rattle.std.specs.Prelude.{All, Ok, Err, ◌⊎◌}
 use Rattle.std.specs.Fmt.{decimal}
 use Rattle.std.specs.List.{concat}
 use Rattle.std.specs.Int.{w16, w64, cast_signed, to_be_bytes}
-use Rattle.std.proofs.lemmas.Bool.Decides.{nat_tests}
 use Rattle.std.proofs.lemmas.List.{drop_at, take_at}
 use Rattle.std.proofs.lemmas.List.Elements.{All-cons, All-nil}
 use Rattle.std.proofs.lemmas.Str.{IsUtf8-from_ascii}
@@ -17,7 +16,7 @@ use Rattle.smithy_core.specs.Moment.{Instant, floor_secs}
 use Rattle.smithy_core.specs.Text.{line}
 use Rattle.mac_core.specs.Crc.{remainder}
 use Rattle.sigv4.specs.Signed.{signature_of}
-use Rattle.eventstream.specs.Frame.{be32, block, frame, frame_len, frame_lengths, spelling, summed, unfit_lengths, unframed, unspelled_value, value_spelling}
+use Rattle.eventstream.specs.Frame.{be32, block, frame, frame_len, frame_lengths, spelling, summed, unframed, unspelled_value, value_spelling}
 use Rattle.eventstream.specs.Key.{Signer}
 use Rattle.smithy_core.specs.declared.header.HeaderValue.TheVariants.{Int64}
 use Rattle.eventstream.specs.Kind.{byte_array_kind}

@@ -1,14 +1,13 @@
 -- A watch that goes on, piece by piece: what was read is what was walked, and what waits.
 use Rattle.std.proofs.Common.{◌≡◌, ℕ, zero, suc, ◌+◌, ◌-◌, ◌<◌, ◌≤◌, inl, inr, ◌⊎◌, List, [], ◌∷◌, ◌++◌, length, take, Option, Some, None, Result, Ok, Err, refl, sym, ap, subst, ◌∙◌, append-nil, append_assoc, length-append, arith}
-use Rattle.std.proofs.Math.Seq.{take-append-add, take-length}
+use Rattle.std.proofs.Math.Seq.{take-append-add}
 use Rattle.std.proofs.lemmas.Grind.{flat_map-append}
-use Rattle.std.proofs.lemmas.List.{take-append-le}
 use Rattle.smithy_core.specs.Message.{Parts}
 use Rattle.smithy_core.specs.Outside.{Gains, GainsPrefix, IsAtEnd, IsCutOf}
 use Rattle.smithy_core.proofs.CutLemmas.{cut_at_start}
 use Rattle.smithy_core.proofs.GainLemmas.{gains_front, gains_last, gains_nothing, prefix_join, prefix_at_start, prefix_from_whole}
 use Rattle.eventstream.specs.Key.{Signer}
-use Rattle.chain_watch.specs.Walk.{Point, Walk, closed, ending, failed, seed_point, stays, unclosed, walk, walk_frames, walk_onto, walk_within}
+use Rattle.chain_watch.specs.Walk.{Point, Walk, closed, failed, seed_point, stays, unclosed, walk, walk_frames, walk_onto, walk_within}
 use Rattle.chain_watch.specs.Watch.{AnswersState, DoesNothing, Feeds, FeedsAt, FeedsPiece, Watching, left_over, new_watch, state, unwalked}
 use Rattle.chain_watch.specs.declared.chain_fault.ChainFault.{ChainFault}
 use Rattle.chain_watch.specs.declared.chain_fault.ChainFault.TheVariants as chains
@@ -19,7 +18,7 @@ use Rattle.signed_stream.specs.EventLines.{AreFramed, count_line, event_line, ev
 use Rattle.signed_stream.specs.Halt.{Halt, Halts, fails, halt_of, halted, refuses, wants}
 use Rattle.signed_stream.specs.Plan.{most_input}
 use Rattle.signed_stream.specs.Status.{Ending, ending_of, check_failed, done, job_too_large, no_memory, output_fault, read_fault, bad_words, bad_job, refused, could_not_read_file}
-use Rattle.signed_stream.specs.WatchChain.{Advances, AreAll, EndsInput, EndsWalk, GainsFrontOf, IsCurrent, IsFit, IsIdle, IsUnfed, IsSound, ReadsAll, ReadsInput, ReadsSome, ShowsAll, ShowsWaiting, StandsAt, StopsShowing, StopsTaking, TakesNext, WalksWaiting, Watches, room_of, shown_chain, walk_taken, walk_with}
+use Rattle.signed_stream.specs.WatchChain.{Advances, AreAll, EndsInput, EndsWalk, IsCurrent, IsFit, IsIdle, IsUnfed, IsSound, ReadsAll, ReadsInput, ReadsSome, ShowsAll, ShowsWaiting, StandsAt, StopsShowing, StopsTaking, TakesNext, WalksWaiting, Watches, room_of, shown_chain, walk_taken, walk_with}
 use Rattle.signed_stream.specs.declared.status.CheckFault.TheVariants as checks
 use Rattle.signed_stream.specs.declared.status.Status.{Status}
 use Rattle.signed_stream.specs.declared.status.StreamFault.{StreamFault}

@@ -11,7 +11,7 @@ use Rattle.eventstream.specs.Reading.{First, nothing, leftover, fault, begins, f
 use Rattle.eventstream.specs.declared.error.ErrorKind.{ErrorKind}
 use Rattle.eventstream.specs.declared.read.lengths.Lengths.{Lengths}
 use Rattle.eventstream.proofs.FrontLemmas.{announced_prelude, first_bad, first_short, more_unfinished, prelude_told}
-use Rattle.chain_watch.specs.Walk.{Passed, Point, Walk, after_closing, closed, failed, frame_test, stays, unclosed, walk, walk_frames, walk_on, walk_passed, walk_tested}
+use Rattle.chain_watch.specs.Walk.{Passed, Point, Walk, closed, failed, frame_test, stays, unclosed, walk, walk_frames, walk_on, walk_passed, walk_tested}
 use Rattle.chain_watch.specs.Watch.{Watching, frame_wants, unwalked, wanted}
 use Rattle.chain_watch.specs.declared.chain_fault.ChainFault.{ChainFault}
 use Rattle.chain_watch.proofs.WalkLemmas.{walk_goes}

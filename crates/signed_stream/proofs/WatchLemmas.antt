@@ -1,10 +1,9 @@
 -- The chain that is watched: the events of its walk, and how far it is read.
-use Rattle.std.proofs.Common.{◌≡◌, ℕ, zero, suc, ◌+◌, ◌<◌, ◌≤◌, Bool, true, false, inl, inr, ◌⊎◌, List, [], ◌∷◌, ◌++◌, length, take, Option, Some, None, Result, Ok, Err, refl, sym, ap, subst, ◌∙◌, append-nil, append_assoc, length-append, arith}
+use Rattle.std.proofs.Common.{◌≡◌, ℕ, zero, suc, ◌+◌, ◌<◌, ◌≤◌, Bool, true, false, List, [], ◌∷◌, ◌++◌, length, Option, Some, None, Result, Ok, Err, refl, sym, ap, subst, ◌∙◌, length-append, arith}
 use Rattle.std.specs.List.{AllByRecursion}
 use Rattle.std.specs.Prelude.{◌&&◌, if◌then◌else◌, bytes_eq, is_none, option_map}
 use Rattle.std.proofs.lemmas.List.Elements.{All-from_recursion}
 use Rattle.smithy_core.specs.Message.{Parts}
-use Rattle.smithy_core.specs.Moment.{Instant}
 use Rattle.eventstream.specs.Frame.{frame, unframed}
 use Rattle.eventstream.specs.Key.{Signer}
 use Rattle.eventstream.specs.Link.{link_code}
@@ -12,7 +11,7 @@ use Rattle.eventstream.specs.Read.{read}
 use Rattle.eventstream.specs.Reading.{First, nothing, leftover, fault, begins, first_of}
 use Rattle.eventstream.specs.declared.error.ErrorKind.{ErrorKind}
 use Rattle.eventstream.proofs.ReadingLemmas.{shorter}
-use Rattle.chain_watch.specs.Walk.{Passed, Point, Walk, after_closing, carried, closed, compared, failed, frame_test, framed_message, if_framed, inner_event, signed_moment, unclosed, walk, walk_frames, walk_on, walk_passed, walk_tested, walk_within}
+use Rattle.chain_watch.specs.Walk.{Passed, Point, Walk, after_closing, carried, closed, failed, frame_test, framed_message, if_framed, inner_event, signed_moment, unclosed, walk, walk_frames, walk_on, walk_passed, walk_tested, walk_within}
 use Rattle.chain_watch.specs.Watch.{left_over}
 use Rattle.chain_watch.specs.declared.chain_fault.ChainFault.{ChainFault}
 use Rattle.chain_watch.specs.declared.chain_fault.ChainFault.TheVariants.{NotChain}

@@ -1,5 +1,5 @@
 -- What holds of a watch at its end: where it is done, and where it could be.
-use Rattle.std.proofs.Common.{◌≡◌, ℕ, ◌<◌, ◌≤◌, inl, inr, ◌⊎◌, List, [], ◌++◌, length, take, Option, Some, None, Result, Ok, Err, refl, sym, ap, subst, ◌∙◌, append-nil, length-append, arith}
+use Rattle.std.proofs.Common.{◌≡◌, ℕ, ◌≤◌, inl, inr, ◌⊎◌, List, [], ◌++◌, length, Option, Some, Result, Ok, Err, refl, sym, ap, subst, ◌∙◌, length-append, arith}
 use Rattle.smithy_core.specs.Message.{Parts}
 use Rattle.smithy_core.specs.Outside.{Gains, IsAtEnd, IsCutOf, IsRestOf}
 use Rattle.smithy_core.proofs.CutLemmas.{cut_at_end, cut_at_start}
@@ -9,17 +9,16 @@ use Rattle.eventstream.specs.Key.{Signer}
 use Rattle.env_config.specs.Files.{Place}
 use Rattle.env_config.specs.Loading.{selected_profile}
 use Rattle.env_config.specs.Sections.{FileText}
-use Rattle.chain_watch.specs.Walk.{Point, Walk, chain_events, ending, failed, outcome, seed_point, walk, walk_onto, walk_outcome}
+use Rattle.chain_watch.specs.Walk.{Point, Walk, chain_events, ending, failed, seed_point, walk, walk_onto}
 use Rattle.chain_watch.specs.declared.chain_fault.ChainFault.{ChainFault}
 use Rattle.chain_watch.proofs.AcceptedLemmas.{accepted_chain}
 use Rattle.chain_watch.proofs.WalkLemmas.{starts, walk_joined}
-use Rattle.signed_stream.specs.EventLines.{event_lines}
 use Rattle.signed_stream.specs.Plan.{FilesRead, loaded, most_input, unloaded, unreadable}
 use Rattle.signed_stream.specs.Running.{Completes, HasWatchedInput, WentWatching}
 use Rattle.signed_stream.specs.Settings.{Selected, settings}
 use Rattle.signed_stream.specs.Sources.{or_refused, selection}
 use Rattle.signed_stream.specs.Status.{Ending, RunFault, bad_job, bad_words, check_failed, could_not_read_file, done, job_too_large, no_memory, output_fault, read_fault, refused}
-use Rattle.signed_stream.specs.WatchChain.{AreAll, EndsWalk, FailsFor, GainsFrontOf, HasWatched, IsWholeInput, Watches, WatchesInput, WatchesSelected, WatchesWords, shown_chain, walk_taken, watch_signer}
+use Rattle.signed_stream.specs.WatchChain.{EndsWalk, FailsFor, GainsFrontOf, HasWatched, IsWholeInput, Watches, WatchesInput, WatchesSelected, WatchesWords, shown_chain, walk_taken, watch_signer}
 use Rattle.signed_stream.specs.WatchWords.{WatchWanted}
 use Rattle.signed_stream.specs.declared.status.CheckFault.TheVariants as checks
 use Rattle.signed_stream.proofs.ProgressLemmas.{take_all}

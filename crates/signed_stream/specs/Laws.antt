@@ -1,5 +1,5 @@
 -- What is read of a stream that was written raw, and how it is checked.
-use Rattle.std.specs.Prelude.{◌≡◌, List, [], map, ℕ, Result, Ok}
+use Rattle.std.specs.Prelude.{◌≡◌, List, map, ℕ, Ok}
 use Rattle.smithy_core.specs.Message.{Parts}
 use Rattle.eventstream.specs.Frame.{frame}
 use Rattle.eventstream.specs.Key.{Signer}

@@ -1,5 +1,5 @@
 -- What the readers of the words answer.
-use Rattle.std.specs.Prelude.{◌≡◌, ℕ, Option, Some, None, option_map, Result, Ok, Err, string_bytes}
+use Rattle.std.specs.Prelude.{◌≡◌, option_map, Result, Ok, Err, string_bytes}
 use Rattle.std.specs.Option.{option_copied}
 use Rattle.signed_stream.specs.ChunkWords.{chunk_wanted}
 use Rattle.signed_stream.specs.Command.{CheckGiven, CheckWanted, Command, bad_word, check_record, generate, write_chunks, stream, show_settings, OptionsGiven, ProfileGiven, Wanted}

@@ -15,7 +15,7 @@ use Rattle.signed_stream.specs.EventLines.{count_line, event_lines}
 use Rattle.signed_stream.specs.Plan.{FilesRead, loaded, most_input, unreadable}
 use Rattle.signed_stream.specs.Settings.{Selected, settings}
 use Rattle.signed_stream.specs.Sources.{selection, source_places}
-use Rattle.signed_stream.specs.Status.{Ending, bad_words, check_failed, could_not_read_file, done, ending_of, job_too_large, no_memory, output_fault, read_fault}
+use Rattle.signed_stream.specs.Status.{Ending, bad_words, check_failed, done, ending_of, job_too_large, no_memory, output_fault, read_fault}
 use Rattle.signed_stream.specs.WatchWords.{WatchWanted}
 use Rattle.signed_stream.specs.declared.status.CheckFault.TheVariants.{Chain}
 use Rattle.signed_stream.specs.declared.status.Status.{Status}

@@ -25,7 +25,7 @@ use std::alloc::{AllocError, Global};
 use std::mem;
 
 /// The most bytes of one read.
-const MOST_PIECE: usize = 65_536;
+const MOST_PIECE: usize = 8_192;
 
 /// Checks the chain that the input is while it comes, and writes the frame of each event as soon as it has passed: the words
 /// behind `watch` give the seed and the name, and the files and variables who signs.

@@ -1,4 +1,3 @@
-use Rattle.std.proofs.Common.{◌∙◌}
 use Rattle.std.proofs.lemmas.Result.{err_from_is_err_and}
 use Rattle.signed_stream.specs.EventLines.{event_lines}
 use Rattle.signed_stream.specs.CheckRecord.{shown_events}

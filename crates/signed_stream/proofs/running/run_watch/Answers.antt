@@ -1,6 +1,5 @@
 use Rattle.std.proofs.Common.{map}
 use Rattle.std.specs.Prelude.{string_bytes}
-use Rattle.smithy_core.specs.Given.{Gives}
 use Rattle.smithy_core.proofs.GivenLemmas.{given_none}
 use Rattle.signed_stream.specs.Running.{read_after_watch}
 use Rattle.signed_stream.specs.Sources.{DiskGives}

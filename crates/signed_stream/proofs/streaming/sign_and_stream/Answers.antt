@@ -1,4 +1,4 @@
-use Rattle.std.proofs.Common.{◌≡◌, inr, refl, [], map, sym, append-nil}
+use Rattle.std.proofs.Common.{inr, refl, [], map, sym, append-nil}
 use Rattle.std.proofs.lemmas.Result.{err_from_is_err_and}
 use Rattle.std.specs.Prelude.{string_bytes}
 use Rattle.smithy_core.proofs.GivenLemmas.{given_none}

@@ -1,4 +1,4 @@
-use Rattle.std.proofs.Common.{ap, refl, length, ◌∙◌, arith}
+use Rattle.std.proofs.Common.{refl, arith}
 use Rattle.std.proofs.lemmas.Result.{err_from_is_err_and}
 use Rattle.signed_stream.specs.Status.{ending_of}
 use Rattle.signed_stream.proofs.ProgressLemmas.{stops_front, stops_roomless, takes_shown}
