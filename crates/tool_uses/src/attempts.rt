@@ -1,13 +1,15 @@
-//! What goes around each attempt of an operation.
+//! What goes around each attempt of an operation, by hand: what `operate` does, for a caller that waits between attempts or
+//! orders them in its own way.
+use crate::operation::{api_of, build_of};
 use crate::signed_requests::sign_for;
 use aws_intercept::{
-    ApiMetadata, AwsErrorCodeClassifier, BuildMetadata, ConfigBag, InvocationIdGenerator,
-    InvocationIdInterceptor, OsFamily, RecursionDetectionInterceptor, RequestInfoInterceptor,
-    RetryAction, ServiceClockSkewClassifier, ServiceClockSkewInterceptor, UserAgentInterceptor,
+    AwsErrorCodeClassifier, ConfigBag, InvocationIdGenerator, InvocationIdInterceptor,
+    RecursionDetectionInterceptor, RequestInfoInterceptor, RetryAction, ServiceClockSkewClassifier,
+    ServiceClockSkewInterceptor, UserAgentInterceptor,
 };
 use sigv4::SigningSettings;
 use smithy_core::{Env, ErrorMetadata, HttpRequest, HttpResponse, Identity, Moment, RetryConfig};
-use std::alloc::{AllocError, Global};
+use std::alloc::Global;
 
 /// Puts into the bag what the interceptors of one operation share, before its first attempt.
 pub fn begin<G: InvocationIdGenerator>(
@@ -23,20 +25,6 @@ pub fn begin<G: InvocationIdGenerator>(
     InvocationIdInterceptor::new().modify_before_retry_loop(ids, bag)?;
     skew.modify_before_retry_loop(bag);
     Ok(())
-}
-
-fn api_of(alloc: Global) -> Result<ApiMetadata, AllocError> {
-    let service_id = String::from_str(alloc, "iam")?;
-    Ok(ApiMetadata::new(service_id, String::from_str(alloc, "1.0")?))
-}
-
-fn build_of(alloc: Global) -> Result<BuildMetadata, AllocError> {
-    Ok(BuildMetadata {
-        core_version: String::from_str(alloc, "0.1.0")?,
-        rust_version: String::from_str(alloc, "1.95.0")?,
-        os_family: OsFamily::Linux,
-        extra: None,
-    })
 }
 
 /// The request of one attempt: a copy of the operation's, which stays as it is. A request that was sent already would be signed

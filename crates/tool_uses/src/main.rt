@@ -1,27 +1,38 @@
 //! Uses of each crate, every one a function to copy: requests that are signed, presigned and checked, a stream of events
-//! that is signed and received, settings of profile files, a body in chunks, and what goes around each attempt.
+//! that is signed, received and watched, settings of profile files, a body in chunks, and an operation with its attempts.
 //! `docs/CALLING.md` shows them. The program runs each once and prints what came of it.
 #![tactic(auto)]
 
 mod attempts;
 mod chunked_upload;
+mod operation;
+mod presigned_door;
 mod profile_settings;
 mod received_events;
 mod shown;
 mod signed_events;
 mod signed_requests;
+mod watched_events;
 
+use crate::operation::{BusyAtFirst, list_users};
+use crate::presigned_door::admit;
 use crate::shown::{push_lines, push_request};
+use crate::watched_events::{EventCount, pieces_of, watch_stream};
 use aws_intercept::{
     ConfigBag, InvocationId, PredefinedInvocationIdGenerator, RecursionDetectionInterceptor,
     ServiceClockSkewInterceptor,
 };
+use chain_watch::ChainWatch;
 use smithy_core::{
-    CalmDisk, Credentials, Env, ErrorMetadata, Headers, HttpRequest, HttpResponse, Identity, Moment,
+    CalmDisk, Credentials, Env, ErrorMetadata, FixedClock, Headers, HttpRequest, HttpResponse,
+    Identity, Moment,
 };
 use std::alloc::{AllocError, Global};
 use std::io;
 use std::process::ExitCode;
+
+/// The id of the key of AWS's examples.
+const KEY_ID: &str = "AKIDEXAMPLE";
 
 /// The secret of AWS's examples.
 const SECRET: &str = "wJalrXUtnFEMI/K7MDENG+bPxRfiCYEXAMPLEKEY";
@@ -46,6 +57,7 @@ fn uses(alloc: Global) -> anyhow::Result<String> {
     push_events(alloc, &mut text)?;
     push_lines(alloc, &mut text, chunked_upload::body(alloc)?.as_slice())?;
     push_region(alloc, &mut text)?;
+    push_outcome(alloc, &mut text)?;
     push_operation(alloc, &mut text)?;
     Ok(text)
 }
@@ -58,6 +70,9 @@ fn push_requests(alloc: Global, text: &mut String, identity: &Identity) -> anyho
 fn push_signed(alloc: Global, text: &mut String, identity: &Identity) -> anyhow::Result<()> {
     let request = signed_requests::signed(alloc, identity, example_moment())?;
     push_request(text, &request)?;
+    let is_good = signed_requests::is_good(alloc, &request, SECRET, example_moment())?;
+    let is_good_later = signed_requests::is_good(alloc, &request, SECRET, hour_later())?;
+    write!(text, "good: {is_good}, an hour later: {is_good_later}\n\n")?;
     Ok(())
 }
 
@@ -68,17 +83,55 @@ fn push_presigned(alloc: Global, text: &mut String, identity: &Identity) -> anyh
 
 fn push_checked(alloc: Global, text: &mut String, request: &HttpRequest) -> anyhow::Result<()> {
     push_request(text, request)?;
-    let is_good = signed_requests::is_good(alloc, request, SECRET, example_moment())?;
-    let hour_later = Moment::new(1_440_941_760, 0);
-    let is_good_later = signed_requests::is_good(alloc, request, SECRET, hour_later)?;
-    write!(text, "good: {is_good}, an hour later: {is_good_later}\n\n")?;
+    push_admitted(alloc, text, request, example_moment())?;
+    push_admitted(alloc, text, request, hour_later())?;
+    text.push('\n')?;
+    Ok(())
+}
+
+fn push_admitted(
+    alloc: Global,
+    text: &mut String,
+    request: &HttpRequest,
+    now: Moment,
+) -> anyhow::Result<()> {
+    match admit(alloc, request, KEY_ID, SECRET, now) {
+        Ok(until) => write!(text, "good until {until}\n")?,
+        Err(fault) => write!(text, "{fault}\n")?,
+    }
     Ok(())
 }
 
 fn push_events(alloc: Global, text: &mut String) -> anyhow::Result<()> {
     let frames = signed_events::frames(alloc, example_identity(alloc)?, example_moment())?;
     let count = received_events::count(alloc, frames.as_slice())?;
-    write!(text, "{} bytes, {count} messages\n\n", frames.len())?;
+    write!(text, "{} bytes, {count} messages\n", frames.len())?;
+    push_watched(alloc, text, frames.as_slice())?;
+    push_watched(alloc, text, changed(frames).as_slice())?;
+    text.push('\n')?;
+    Ok(())
+}
+
+// The place of a byte of the second event.
+const CHANGED: usize = 195;
+
+fn changed(mut frames: Vec<u8>) -> Vec<u8> {
+    if CHANGED < frames.len() {
+        frames[CHANGED] ^= 1;
+    }
+    frames
+}
+
+fn push_watched(alloc: Global, text: &mut String, frames: &[u8]) -> anyhow::Result<()> {
+    let seed = signed_events::SEED;
+    let watch = ChainWatch::new(alloc, seed, SECRET, "us-east-1", "transcribe")?;
+    let mut count = EventCount { events: 0 };
+    let watched = watch_stream(alloc, watch, pieces_of(alloc, frames)?, &mut count);
+    write!(text, "events: {}, then ", count.events)?;
+    match watched {
+        Ok(()) => text.push_str("the end\n")?,
+        Err(fault) => write!(text, "{fault}\n")?,
+    }
     Ok(())
 }
 
@@ -110,6 +163,35 @@ fn example_disk(alloc: Global) -> anyhow::Result<CalmDisk> {
         "[default]\nregion = us-east-1\n[profile night]\nregion = eu-west-1\n",
     )?;
     Ok(CalmDisk::new(vec![in alloc; (path, text.into_bytes())]?))
+}
+
+fn push_outcome(alloc: Global, text: &mut String) -> anyhow::Result<()> {
+    let identity = example_identity(alloc)?;
+    let mut transport = BusyAtFirst {
+        alloc,
+        attempts: Vec::new(alloc),
+    };
+    push_listed(alloc, text, &identity, &mut transport)?;
+    for attempt in transport.attempts {
+        write!(text, "{attempt}\n")?;
+    }
+    text.push('\n')?;
+    Ok(())
+}
+
+fn push_listed(
+    alloc: Global,
+    text: &mut String,
+    identity: &Identity,
+    transport: &mut BusyAtFirst,
+) -> anyhow::Result<()> {
+    let env = Env::new(alloc);
+    let mut ids = PredefinedInvocationIdGenerator::new(vec![in alloc; example_id(alloc)?]?);
+    let mut clock = FixedClock::new(example_moment());
+    let outcome = list_users(alloc, identity, &env, &mut ids, &mut clock, transport)?;
+    let status = outcome.reply.response.status;
+    write!(text, "attempts: {}, status {status}\n", outcome.attempts)?;
+    Ok(())
 }
 
 fn push_operation(alloc: Global, text: &mut String) -> anyhow::Result<()> {
@@ -180,12 +262,16 @@ fn example_id(alloc: Global) -> anyhow::Result<InvocationId> {
     Ok(InvocationId::new(String::from_str(alloc, "c1c4ee48-5c2f-4c1c-9c66-0c1f2c9d9a01")?)?)
 }
 
+fn hour_later() -> Moment {
+    Moment::new(1_440_941_760, 0)
+}
+
 fn example_moment() -> Moment {
     Moment::new(1_440_938_160, 0)
 }
 
 fn example_identity(alloc: Global) -> Result<Identity, AllocError> {
-    let key_id = String::from_str(alloc, "AKIDEXAMPLE")?;
+    let key_id = String::from_str(alloc, KEY_ID)?;
     let secret = String::from_str(alloc, SECRET)?;
     Ok(Identity::Credentials(Credentials::new(key_id, secret, None, None)))
 }

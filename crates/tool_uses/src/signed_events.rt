@@ -49,10 +49,12 @@ fn signer_of(
     Ok(SigV4MessageSigner::new(signature, identity, region, name, at, ()))
 }
 
+/// The signature of the request that opens the stream.
+pub const SEED: &str = "c54b62272527f8b9970c8a395563b2c5be9a414bd0e0b0908885246d76fbc87a";
+
 // The signature of the request, and the region and the name that it was signed for.
 fn signed_for(alloc: Global) -> anyhow::Result<(String, Region, SigningName)> {
-    let signature = "c54b62272527f8b9970c8a395563b2c5be9a414bd0e0b0908885246d76fbc87a";
-    let signature = String::from_str(alloc, signature)?;
+    let signature = String::from_str(alloc, SEED)?;
     let region = Region::new(String::from_str(alloc, "us-east-1")?);
     let name = SigningName::new(String::from_str(alloc, "transcribe")?);
     Ok((signature, region, name))
