@@ -13,7 +13,7 @@ use smithy_core::{
 };
 use std::alloc::Global;
 
-/// Asks for the users, three times at most.
+/// Asks for the users, three times at most, without waiting between the attempts.
 pub fn list_users<T: Transport, C: Clock, G: InvocationIdGenerator>(
     alloc: Global,
     identity: &Identity,
