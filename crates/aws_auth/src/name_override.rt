@@ -59,7 +59,7 @@ impl<F> SigV4SessionTokenNameOverride<F>
 where
     F: Fn(&SigningSettings, &SigV4OperationSigningConfig) -> Result<Option<String>, OverrideError>,
 {
-    /// The override by this closure, which may be called on all settings and configs.
+    /// The override by this closure, which has to be one that may be called on all settings and configs.
     pub fn new(name_override: F) -> SigV4SessionTokenNameOverride<F>
         requires { F.IsAlwaysCallable name_override }
         ensures { result ≡ name_override }
@@ -67,7 +67,7 @@ where
         SigV4SessionTokenNameOverride { name_override }
     }
 
-    /// What the closure answers for these settings and this config.
+    /// What the closure answers for these settings and this config. It has to be one that may be called on all of them.
     ///
     /// # Errors
     ///

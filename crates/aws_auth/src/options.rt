@@ -31,7 +31,7 @@ pub struct SigningOptions {
     pub signature_type: HttpSignatureType,
     /// Whether the operation may be sent without a signature. The signer signs either way.
     pub signing_optional: bool,
-    /// For how many seconds a signature in the query is good.
+    /// For how many seconds a signature in the query is good. Any number is taken; a service refuses 0, and AWS more than 604,800.
     pub expires_in: Option<u64>,
 }
 

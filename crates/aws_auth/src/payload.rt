@@ -14,7 +14,8 @@ pub enum PayloadSigningOverride {
     Precomputed(String),
     /// A payload in unsigned chunks, with trailers.
     StreamingUnsignedPayloadTrailer,
-    /// A payload in signed chunks, with trailers.
+    /// A payload in signed chunks, with trailers. Signed chunks without trailers have no variant here: their text is
+    /// `STREAMING-AWS4-HMAC-SHA256-PAYLOAD`, which [`PayloadSigningOverride::Precomputed`] takes as it takes a digest.
     StreamingSignedPayloadTrailer,
 }
 

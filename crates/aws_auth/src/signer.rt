@@ -72,13 +72,15 @@ impl SigV4Signer {
     ///
     /// The region is the endpoint's, or else that of the inputs, or else the config's, and so is the name of the service. What
     /// is signed of the payload is what the inputs say, or else the config, or else the body. The moment is `now`, shifted by
-    /// the skew where the signature goes into headers. Whether signing is optional changes nothing. The override may be
-    /// called on all settings and configs; it is asked once at most, for the settings but for the token's name and the config.
+    /// the skew where the signature goes into headers. Whether signing is optional changes nothing. An override that is given has
+    /// to be one that may be called on all settings and configs, which is the one condition on a caller; it is asked once at most,
+    /// for the settings but for the token's name and the config.
     /// (That it is asked no second time is in no clause: those of an `Fn` relate what it is handed to what it answers, and count
     /// no calls.)
     ///
     /// The request's method is taken as it is: that it is a token isn't tested here, so that CR and LF in it pass into the
-    /// canonical text.
+    /// canonical text. What [`sign`](sigv4::sign) takes of keys, regions, names, expiries and presigned targets is taken here too;
+    /// a region or a name that is there and empty isn't missing.
     ///
     /// # Errors
     ///

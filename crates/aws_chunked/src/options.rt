@@ -67,7 +67,7 @@ impl AwsChunkedBodyOptions {
         }
     }
 
-    /// With chunks of this size, from 1 to 4,294,967,295 bytes.
+    /// With chunks of this size, which has to be 1 to 4,294,967,295 bytes. Amazon S3 takes none under 8,192 bytes but the last.
     pub fn with_chunk_size(self, n: usize) -> AwsChunkedBodyOptions
         requires { IsChunkSize n }
         ensures { result ≡ record self { chunk_size = n } }
@@ -109,7 +109,8 @@ impl AwsChunkedBodyOptions {
         })
     }
 
-    /// With signed chunks, or with unsigned ones.
+    /// With signed chunks, or with unsigned ones. Nothing here compares this with what the request's head announces: behind a
+    /// head that was signed for signed chunks a body without this call has plain ones, which a service refuses.
     pub fn signed_chunked_encoding(self, is_signed: bool) -> AwsChunkedBodyOptions
         ensures { result ≡ record self { is_signed = is_signed } }
     {
@@ -167,7 +168,8 @@ impl AwsChunkedBodyOptions {
 }
 
 impl AwsChunkedBodyOptions {
-    /// How long the text is, for data and trailers of the declared lengths, where the number fits 64 bits.
+    /// How long the text is, for data and trailers of the declared lengths. The number has to fit 64 bits; where that isn't known,
+    /// [`checked_encoded_length`](Self::checked_encoded_length) has no condition.
     pub fn encoded_length(&self) -> u64
         requires { encoded_length self.now < 2 ^ 64 }
         ensures value { result ≡ encoded_length self.now }

@@ -19,7 +19,8 @@ pub struct ServiceConfigKey<'a> {
     pub service_id: &'a str,
 }
 
-/// What the validator answers for the value of the setting, as [`EnvConfigValue::validate`] does.
+/// What the validator answers for the value of the setting, as [`EnvConfigValue::validate`] does. It has to be one that may be
+/// called on every text.
 ///
 /// # Errors
 ///

@@ -81,7 +81,8 @@ impl<'a> EnvConfigValue<'a> {
         }
     }
 
-    /// What the validator answers for the value of the first place that holds one, and nothing where none does.
+    /// What the validator answers for the value of the first place that holds one, and nothing where none does. It has to be one
+    /// that may be called on every text.
     ///
     /// # Errors
     ///
@@ -99,7 +100,7 @@ impl<'a> EnvConfigValue<'a> {
         validated(self.load(alloc, env, sections)?, validator)
     }
 
-    /// What [`validate`](Self::validate) answers, with the kind of place that the value comes from.
+    /// What [`validate`](Self::validate) answers, with the kind of place that the value comes from, under the same condition.
     ///
     /// # Errors
     ///

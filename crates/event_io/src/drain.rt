@@ -24,6 +24,8 @@ pub enum Drained {
 
 /// Takes messages, which `out` gains, until it has `most` of them, and tells why it takes no more.
 ///
+/// The receiver has to keep no message: one that `try_recv_initial` kept is taken by [`Receiver::recv`] first.
+///
 /// # Errors
 ///
 /// As [`Receiver::recv`] has them, but for those of the unmarshaller, which takes messages as they are. `out` keeps the

@@ -32,7 +32,8 @@ impl<F: FrameSource, U: UnmarshallMessage> Receiver<F, U> {
     }
 
     /// What the preprocessor makes of the first message, where that begins the stream, as its first header `:event-type`
-    /// tells. Else the message itself is kept, and comes first at the next call.
+    /// tells. Else the message itself is kept, and comes first at the next call. The preprocessor has to be one that may be called
+    /// on every message.
     ///
     /// # Errors
     ///

@@ -11,7 +11,7 @@ ghost use Rattle.eventstream.specs.Reading.{Begin, begins, fault, first_of, noth
 use smithy_core::{Header, HeaderValue, Message};
 
 /// A frame, whatever follows it, is read as its message, each moment in whole milliseconds, and as
-/// its length.
+/// its length. The message has to have a frame.
 #[tactic(auto, using(crate::proofs::FrameLemmas::frame_again))]
 pub fn frame_reads_back(message: &Message, more: &[u8])
     requires { unframed message.now ≡ None }
@@ -27,7 +27,7 @@ pub fn no_frame_begins_another()
 {}
 
 /// A stream that begins with a frame begins with its message, each moment in whole milliseconds, and
-/// what follows the frame is read after it.
+/// what follows the frame is read after it. The message has to have a frame.
 #[tactic(auto, using(crate::proofs::ReadingLemmas::frame_first, crate::proofs::ReadingLemmas::frame_read))]
 pub fn frame_comes_first(message: &Message, more: &[u8])
     requires { unframed message.now ≡ None }
@@ -38,7 +38,7 @@ pub fn frame_comes_first(message: &Message, more: &[u8])
 }
 
 /// Frames one after another are read as their messages, each moment in whole milliseconds, and then
-/// the stream ends.
+/// the stream ends. Each message has to have a frame.
 #[tactic(auto, using(crate::proofs::ReadingLemmas::frames_read))]
 pub fn frames_read_back(messages: &[Message])
     requires { AllByRecursion (λ m. unframed m ≡ None) messages.now }

@@ -80,7 +80,7 @@ pub fn write_message_to(alloc: Global, message: &Message, buffer: &mut Vec<u8>) 
     Ok(())
 }
 
-/// The frame of a message that has one.
+/// The frame of a message, which has to have one: where that isn't known, [`write_message_to`] answers why there is none.
 #[tactic(auto, unfolding(crate::specs::Frame::frame, crate::specs::Frame::unframed))]
 pub fn frame_of(alloc: Global, message: &Message) -> Mem<Vec<u8>>
     requires { unframed message.now ≡ None }

@@ -19,7 +19,7 @@ use smithy_core::{Clock, Env, HttpRequest, Identity, Moment};
 use std::alloc::Global;
 
 /// Runs an operation: attempt after attempt, until a reply isn't worth one more, or the most attempts of the bag's retry config
-/// were made (1 where it has none). Nothing waits between attempts.
+/// were made (1 where it has none), which has to be 1 at least. Nothing waits between attempts.
 ///
 /// The generator is asked once for the invocation's id. Each attempt works on its own copy of `request`: it adds the trace of the
 /// environment and the bag's user agent, takes a moment from the clock and signs the copy at it, adds the invocation's id and the

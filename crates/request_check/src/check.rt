@@ -22,8 +22,14 @@ use smithy_http::read_target;
 use std::alloc::{AllocError, Global};
 use std::fmt;
 
-/// The signature that a request carries, and the one that was computed again. The request is as it was signed exactly where
-/// they are equal.
+/// The signature that a request carries, and the one that was computed again.
+///
+/// Both are of what a signature covers: the method, the target's path in its canonical form, the pairs of its query but the
+/// signature itself (and but the token where the settings exclude it), the headers that the seal lists, the payload that
+/// [`check_request`] was handed, and the seal's moment. Where they are equal, nothing is said of all else. A header that was added
+/// after signing and isn't listed leaves them equal, and so does the request's own body beside another payload that was handed in,
+/// such as `SignableBody::empty()`; in header form another key id does too. A service tests for itself that the names in the seal have
+/// `host` and each header that it relies on, that the payload is that of the body, and that the moment is recent.
 ///
 /// The signature that was computed again signs the request for whoever has it, also where another one is carried: it isn't
 /// printed, and it isn't to be told to whoever sent the request.
@@ -107,7 +113,12 @@ impl CheckRequestFault {
 /// with the number of names times the size of the headers: whoever sends 64 KB of one name, with a header of that name of 64 KB,
 /// has 2 GB hashed. So bound the size of what is checked, or refuse names that are listed twice before the call.
 ///
-/// The request's method is taken as it is: that it is a token isn't tested here.
+/// Of the settings only the two on the path are read, and, for a seal in the target, `session_token_mode` and
+/// `session_token_name_override`, by which an excluded token's parameter isn't signed. Where the signature is, and which names are
+/// signed, the seal says; an expiry isn't looked at.
+///
+/// `body` is what was signed of the payload; the request's own body isn't read. The request's method is taken as it is: that it is
+/// a token isn't tested here.
 ///
 /// # Errors
 ///

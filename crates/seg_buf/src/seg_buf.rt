@@ -74,7 +74,8 @@ impl SegBuf {
         Ok(())
     }
 
-    /// Appends the bytes of the piece, without copying them. It takes no memory.
+    /// Appends the bytes of the piece, without copying them. It takes no memory: there has to be room for a piece, which
+    /// [`reserve_one`](Self::reserve_one) makes. The number of all bytes has to fit 64 bits.
     #[tactic(auto, using(crate::proofs::SegmentLemmas::pushes))]
     pub fn push(&mut self, piece: Bytes)
         requires room { 1 ≤ self.old.spare }
@@ -89,7 +90,7 @@ impl SegBuf {
         }
     }
 
-    /// Appends a copy of the bytes, and makes the room for it.
+    /// Appends a copy of the bytes, and makes the room for it. The number of all bytes has to fit 64 bits.
     ///
     /// # Errors
     ///
@@ -123,7 +124,7 @@ impl SegBuf {
         self.len
     }
 
-    /// Drops the first `n` bytes. It takes no memory.
+    /// Drops the first `n` bytes, which have to be there. It takes no memory.
     #[tactic(auto, using(crate::proofs::SegmentLemmas::cuts))]
     pub fn advance(&mut self, n: usize)
         requires { n ≤ length self.old.bytes }
@@ -163,7 +164,7 @@ impl SegBuf {
         live
     }
 
-    /// The byte at the place, counted from 0.
+    /// The byte at the place, counted from 0, which has to be there.
     pub fn peek(&self, at: usize) -> u8
         requires { at < length self.now.bytes }
         ensures { result ≡ slice_index self.now.bytes at }
@@ -197,7 +198,7 @@ impl SegBuf {
         }
     }
 
-    /// The bytes of a prelude, which come first, and stay. It takes no memory.
+    /// The bytes of a prelude, which come first, have to be there, and stay. It takes no memory.
     pub fn peek_prelude(&self) -> [u8; PRELUDE]
         requires { prelude_len ≤ length self.now.bytes }
         ensures { result ≡ take prelude_len self.now.bytes }
@@ -227,7 +228,7 @@ impl SegBuf {
         prelude
     }
 
-    /// Takes the bytes of a prelude, which come first. It takes no memory.
+    /// Takes the bytes of a prelude, which come first and have to be there. It takes no memory.
     pub fn take_prelude(&mut self) -> [u8; PRELUDE]
         requires { prelude_len ≤ length self.old.bytes }
         ensures bytes { self.old.bytes ≡ result ++ self.new.bytes }
@@ -241,7 +242,7 @@ impl SegBuf {
         prelude
     }
 
-    /// The first `n` bytes, which stay. They are shared where they lie in the first piece, and else
+    /// The first `n` bytes, which have to be there, and stay. They are shared where they lie in the first piece, and else
     /// copied.
     ///
     /// # Errors
@@ -267,7 +268,7 @@ impl SegBuf {
         Ok(Bytes::from_vec(front)?)
     }
 
-    /// Takes the first `n` bytes. They are shared where they lie in the first piece, and else copied.
+    /// Takes the first `n` bytes, which have to be there. They are shared where they lie in the first piece, and else copied.
     ///
     /// # Errors
     ///

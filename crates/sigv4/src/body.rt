@@ -17,7 +17,8 @@ pub enum SignableBody<'a> {
     Precomputed(String),
     /// A body in unsigned chunks, with trailers.
     StreamingUnsignedPayloadTrailer,
-    /// A body in signed chunks, with trailers.
+    /// A body in signed chunks, with trailers. Signed chunks without trailers have no variant here: their text is
+    /// `STREAMING-AWS4-HMAC-SHA256-PAYLOAD`, which [`SignableBody::Precomputed`] takes as it takes a digest.
     StreamingSignedPayloadTrailer,
 }
 

@@ -32,6 +32,10 @@ use std::alloc::Global;
 /// instructions.apply_to_request(&mut request)?;
 /// ```
 ///
+/// Some of what no service accepts is signed all the same, since AWS's rules for a signature are defined for it: an empty key id,
+/// secret, region or name, and an expiry of 0 or of more than 604,800 seconds. A target that is presigned already gets the
+/// parameters of a signature a second time, which makes a bad URL: presign the target as it was before.
+///
 /// # Errors
 ///
 /// The first of these: [`SigningError::UnsupportedIdentityType`] where the identity has no secret;

@@ -42,7 +42,7 @@ pub struct SigningSettings {
     pub payload_checksum_kind: PayloadChecksumKind,
     /// Where the signature goes.
     pub signature_location: SignatureLocation,
-    /// For how many seconds a signature in the query is good.
+    /// For how many seconds a signature in the query is good. Any number is taken; a service refuses 0, and AWS more than 604,800.
     pub expires_in: Option<u64>,
     /// The names of the headers that aren't signed, in lower case.
     pub excluded_headers: Option<Vec<String>>,
@@ -73,7 +73,8 @@ impl SigningSettings {
     }
 
     /// The settings for Amazon S3, whose keys are taken as they are: the path is escaped once and not normalized, and
-    /// the payload's text goes into the header `x-amz-content-sha256`. All else is as [`SigningSettings::new`] has it.
+    /// the payload's text goes into the header `x-amz-content-sha256`. All else is as [`SigningSettings::new`] has it. In a
+    /// presigned URL S3 takes the payload as unsigned: sign it over [`SignableBody::UnsignedPayload`](crate::SignableBody).
     pub fn for_s3(alloc: Global) -> Mem<SigningSettings>
         ensures { IfOk result (λ settings. settings_of settings ≡ s3_settings) }
     {

@@ -48,7 +48,7 @@ impl Model for DateTime {
 }
 
 impl DateTime {
-    /// The moment of these seconds and nanoseconds.
+    /// The moment of these seconds and nanoseconds, which have to be below 1,000,000,000.
     pub fn new(secs: i64, nanos: u32) -> DateTime
         requires { nanos < 1_000_000_000 }
         ensures { result ≡ record { secs = secs; nanos = nanos } }

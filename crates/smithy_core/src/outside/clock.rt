@@ -45,7 +45,7 @@ impl ListClock {
     ghost use Rattle.std.specs.Vec.{vec_len};
     ghost use Rattle.smithy_core.specs.Moment.{Instant};
 
-    /// A clock that has given nothing.
+    /// A clock that has given nothing. There has to be one moment at least.
     pub fn new(moments: Vec<Moment>) -> ListClock
         requires { 0 < vec_len moments }
         ensures given { ⟦<ListClock as Clock>⟧.given result ≡ Some [] }

@@ -68,7 +68,7 @@ impl Model for FaultyFrames {
 }
 
 impl FaultyFrames {
-    /// All of the frames are left, and no call was made.
+    /// All of the frames are left, and no call was made. Each piece of data has to have at most 4,294,967,295 bytes.
     pub fn new(frames: Vec<FramePart>, fails: Vec<u64>, waits: Vec<u64>) -> FaultyFrames
         requires { AreShort frames.items }
         ensures left { ⟦<FaultyFrames as FrameSource>⟧.left result ≡ Some frames.items }
@@ -153,7 +153,7 @@ impl Model for CalmFrames {
 }
 
 impl CalmFrames {
-    /// All of the frames are left.
+    /// All of the frames are left. Each piece of data has to have at most 4,294,967,295 bytes.
     pub fn new(frames: Vec<FramePart>) -> CalmFrames
         requires { AreShort frames.items }
         ensures left { ⟦<CalmFrames as FrameSource>⟧.left result ≡ Some frames.items }
