@@ -24,8 +24,9 @@ use std::alloc::Global;
 /// The generator is asked once for the invocation's id. Each attempt works on its own copy of `request`: it adds the trace of the
 /// environment and the bag's user agent, takes a moment from the clock and signs the copy at it, adds the invocation's id and the
 /// attempt's number, takes the moment of sending, sends, and takes the moment at which the reply came. Unless the bag disables
-/// that, the skew of the clocks is measured from each reply and shifts the moments of the attempts after it. `inputs.skew_millis`
-/// isn't looked at, and no override of the session token's name is asked. `moments` gains each moment that was taken.
+/// that, the skew of the clocks is measured from each reply and shifts the moments of the attempts after it; before the first
+/// reply it is 0. Where the bag disables it the bag's own skew shifts each. `inputs.skew_millis` isn't looked at, and no override of
+/// the session token's name is asked. `moments` gains each moment that was taken.
 ///
 /// A reply is worth one more attempt where [`AwsErrorCodeClassifier`](aws_intercept::AwsErrorCodeClassifier) calls it retryable,
 /// or else [`ServiceClockSkewClassifier`](aws_intercept::ServiceClockSkewClassifier) does, with the skew that was measured.
