@@ -6,6 +6,10 @@
 //! the messages that follow makes the links of the chain from that signature on (`specs/MessageSigner.antt`). The signer of
 //! chunks makes the signatures of an upload, each over the one before it (`specs/ChunkSigner.antt`), and so does a
 //! [`ChunkDeferredSigner`], which stands in `sigv4`, once it is wired.
+//!
+//! Which way to sign is for what: [`sigv4::sign`] is for a program that has its settings, region and name at hand, and answers
+//! what goes into the request; this crate is for operations, whose endpoint, config and call each say something of these, and for
+//! streams and uploads, which go on from the request's signature.
 #![tactic(auto)]
 
 mod chunk_signer;

@@ -25,7 +25,8 @@ pub struct SigningOptions {
     pub normalize_uri_path: bool,
     /// Whether the session token is left out of the signature. It goes out either way.
     pub omit_session_token: bool,
-    /// What is signed in place of the body's bytes.
+    /// What is signed in place of the body's bytes. An upload whose body goes out in chunks needs one: without it the digest of
+    /// the bytes that the request holds is signed, which are none then.
     pub payload_override: Option<PayloadSigningOverride>,
     /// Where the signature goes.
     pub signature_type: HttpSignatureType,

@@ -16,6 +16,7 @@ use std::fmt;
 use std::marker::Model;
 
 /// What a signed request carries of its signature: the key id, the moment, the names of the signed headers and the signature.
+/// For how long a presigned target is good isn't in it: that is read and tested by `presign_check`.
 ///
 /// Contracts see it as `SealParts`.
 #[derive(Drop)]
