@@ -24,12 +24,13 @@ use std::fmt;
 
 /// The signature that a request carries, and the one that was computed again.
 ///
-/// Both are of what a signature covers: the method, the target's path in its canonical form, the pairs of its query but the
-/// signature itself (and but the token where the settings exclude it), the headers that the seal lists, the payload that
-/// [`check_request`] was handed, and the seal's moment. Where they are equal, nothing is said of all else. A header that was added
-/// after signing and isn't listed leaves them equal, and so does the request's own body beside another payload that was handed in,
-/// such as `SignableBody::empty()`; in header form another key id does too. A service tests for itself that the names in the seal have
-/// `host` and each header that it relies on, that the payload is that of the body, and that the moment is recent.
+/// What a signature covers is the method, the target's path in its canonical form, the pairs of its query (of a presigned one
+/// without the signature, and without the token where the settings exclude it), the headers that the seal lists, the payload that
+/// [`check_request`] was handed, the seal's moment, and the region and the name. Where the two are equal, nothing is said of all
+/// else: a header that was added after signing and isn't listed leaves them equal, and so does the request's own body beside
+/// another payload that was handed in, such as `SignableBody::empty()`; in header form another key id does too. A service tests for
+/// itself that the names in the seal have `host` and each header that it relies on, that the payload is that of the body, and that
+/// the moment is recent.
 ///
 /// The signature that was computed again signs the request for whoever has it, also where another one is carried: it isn't
 /// printed, and it isn't to be told to whoever sent the request.
