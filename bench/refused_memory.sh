@@ -100,6 +100,9 @@ printf 'method GET\ntarget https://h.example/\n' > input
 tries presigned stream --name a --at 1440938160 --query --expires 9
 { grep '^c' "$crate/stdin" && echo record && cat "$crate/stdout"; } > input
 tries check check --name transcribe --config config
+{ echo '[default]' && sed -n 's/^credentials aws/aws/p' "$crate/stdin"; } > keys
+env -i "$program" stream --name transcribe --at 1440938160 --config config --raw < "$crate/stdin" > input
+tries watch watch --name transcribe --seed "$(sed -n 's/.*Signature=//p' "$crate/stdout")" --config config --credentials keys
 : > input
 tries settings settings
 printf hello > input
