@@ -48,7 +48,9 @@ pub const MOST_INPUT: usize = 67_108_864;
 /// are named, the lines of the texts, the credentials, the region, the moment, the target, each header of the request,
 /// the host, the token's name, the signature's own texts or the expiry, and the length of the signed target. Until then
 /// nothing is written. Then each event is tested before its frame is written, and last the closing frame's moment, so a
-/// refused event leaves the head and the frames of the events before it.
+/// refused event leaves the head and the frames of the events before it. `watch` tests the words, the files and what is
+/// selected before it reads, and then each frame as it comes: a refused frame, more bytes than an input may have and a
+/// read that fails leave the lines of the events before them.
 pub fn run<S: ByteSource, D: Disk, C: Clock, K: ByteSink, E: ByteSink>(
     alloc: Global,
     words: &[String],
