@@ -32,11 +32,15 @@ sent_agent bag agent = record agent {
   additional_metadata = agent.additional_metadata ++ option_to_list (option_map string_bytes bag.connector);
 }
 
+-- the headers with the text of this agent after them, under both of its names
+abbrev pub with_agent_text : List (List ℕ × List ℕ) → List ℕ → List (List ℕ × List ℕ)
+with_agent_text headers text = (headers ++ (codes "user-agent", text) ∷ []) ++ (codes "x-amz-user-agent", text) ∷ []
+
 -- the text goes into both headers, or the first test that fails: an agent is there, the connector is metadata, the text is a header's value
 abbrev pub SendsAgent : ConfigBag → List (List ℕ × List ℕ) → List (List ℕ × List ℕ) → Result (Unit {0}) UserAgentFault → Type 0
 SendsAgent bag old new (Ok _) = IsSomeAnd bag.user_agent (λ agent. let text = agent_text (sent_agent bag agent) in
     IsMetadataIfSome (option_map string_bytes bag.connector) × IsHeaderValue text
-    × (new ≡ (old ++ (codes "user-agent", text) ∷ []) ++ (codes "x-amz-user-agent", text) ∷ []))
+    × (new ≡ with_agent_text old text))
 SendsAgent bag old new (Err MissingUserAgent) = IsNone bag.user_agent × (new ≡ old)
 SendsAgent bag old new (Err InvalidMetadataValue) =
     IsSome bag.user_agent × ¬ (IsMetadataIfSome (option_map string_bytes bag.connector)) × (new ≡ old)

@@ -14,7 +14,7 @@ use Rattle.aws_auth.specs.Signer.{SpellsAs, refusal_before_override, refusal_bef
 use Rattle.aws_auth.specs.declared.error.SigV4SigningError.{SigV4SigningError}
 use Rattle.aws_auth.specs.declared.inputs.SigningInputs.{SigningInputs}
 use Rattle.aws_intercept.specs.Agent.{agent_text}
-use Rattle.aws_intercept.specs.Interceptor.{sent_agent}
+use Rattle.aws_intercept.specs.Interceptor.{sent_agent, with_agent_text}
 use Rattle.aws_intercept.specs.Invocation.{with_id_header}
 use Rattle.aws_intercept.specs.Metadata.{IsMetadataIfSome}
 use Rattle.aws_intercept.specs.Recursion.{traced}
@@ -32,10 +32,6 @@ pub record OperationParts : Type 0 where
   pub env : List (List ℕ × List ℕ)
 
 -- ## Dressed
-
--- the headers with the text of this agent after them, under both of its names
-abbrev pub with_agent_text : List (List ℕ × List ℕ) → List ℕ → List (List ℕ × List ℕ)
-with_agent_text headers text = (headers ++ (codes "user-agent", text) ∷ []) ++ (codes "x-amz-user-agent", text) ∷ []
 
 -- the headers with the bag's agent after them, where it has one
 abbrev pub with_bag_agent : ConfigBag → List (List ℕ × List ℕ) → List (List ℕ × List ℕ)
