@@ -9,10 +9,11 @@ use tool_case_lines::{bytes_of_hex, halves, has_part, part, with_repeats};
 pub fn request_of(alloc: Global, words: &[&str]) -> Mem<HttpRequest> {
     let line = with_repeats(alloc, first(words))?;
     let (method, target) = halves(line.as_str());
-    match HttpRequest::new(alloc, method, target) {
-        Ok(request) => with_parts(alloc, request, words),
-        Err(fault) => Err(fault),
-    }
+    let mut request = HttpRequest::new(alloc, method, target)?;
+    let body = bytes_of_hex(alloc, part(words, "body").unwrap_or(""))?;
+    request.body = Bytes::from_vec(body)?;
+    add_headers(&mut request.headers, words)?;
+    Ok(request)
 }
 
 fn first<'a>(words: &[&'a str]) -> &'a str {
@@ -20,18 +21,6 @@ fn first<'a>(words: &[&'a str]) -> &'a str {
         [word, ..] => *word,
         [] => "",
     }
-}
-
-fn with_parts(alloc: Global, request: HttpRequest, words: &[&str]) -> Mem<HttpRequest> {
-    let mut request = request;
-    add_parts(alloc, &mut request, words)?;
-    Ok(request)
-}
-
-fn add_parts(alloc: Global, request: &mut HttpRequest, words: &[&str]) -> Mem<()> {
-    let body = bytes_of_hex(alloc, part(words, "body").unwrap_or(""))?;
-    request.body = Bytes::copy_from_slice(alloc, body.as_slice())?;
-    add_headers(&mut request.headers, words)
 }
 
 fn add_headers(headers: &mut Headers, words: &[&str]) -> Mem<()> {
@@ -58,14 +47,7 @@ pub fn settings_of(alloc: Global, words: &[&str]) -> Mem<SigningSettings> {
     if has_part(words, "for-s3") {
         return SigningSettings::for_s3(alloc);
     }
-    match SigningSettings::new(alloc) {
-        Ok(settings) => changed(alloc, settings, words),
-        Err(fault) => Err(fault),
-    }
-}
-
-fn changed(alloc: Global, settings: SigningSettings, words: &[&str]) -> Mem<SigningSettings> {
-    let mut settings = settings;
+    let mut settings = SigningSettings::new(alloc)?;
     if has_part(words, "encode-once") {
         settings.percent_encoding_mode = PercentEncodingMode::Single;
     }
