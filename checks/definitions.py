@@ -3,8 +3,8 @@ import pathlib
 import re
 
 ROOT = pathlib.Path(__file__).resolve().parent.parent
-# The crates that run cases, time the work or show calls: nothing stands on their contracts.
-TOOLS = {"tool_bench", "tool_case_lines", "tool_client_cases", "tool_frame_cases", "tool_operation_cases", "tool_signing_cases", "tool_stream_cases", "tool_uses"}
+# The crates that run cases, time the work or show calls: nothing rests on their contracts.
+TOOLS = {"tool_bench", "tool_case_lines", "tool_client_cases", "tool_frame_cases", "tool_operation_cases", "tool_presign_cases", "tool_signing_cases", "tool_stream_cases", "tool_uses"}
 HEAD = re.compile(r" *(?:(?:abbrev|unfoldable) pub|pub (?:record|data)) (\S+)")
 CONSTRUCTOR = re.compile(r"  (?:pub )?(\w+) : ")
 IMPORT = re.compile(r"ghost use Rattle\.(\w+)\.specs\.(\w+)\.\{([^}]*)\};")
@@ -16,7 +16,7 @@ NAME = re.compile(r"[A-Za-z_]\w*")
 
 
 def comment_above(lines, number):
-    """The comment that stands directly above a line, in one text: the definition's own. A heading and the file's first line
+    """The comment directly above a line, in one text: the definition's own. A heading and the file's first line
     aren't."""
     found = []
     while number > 1 and re.match(r" *-- (?!#)", lines[number - 1]):
@@ -74,7 +74,7 @@ def is_public(function, owner, kind, exported):
 
 
 def without_parameters(text):
-    """The text without what stands between angle brackets, up to three deep."""
+    """The text without what is between angle brackets, up to three deep."""
     for _ in range(3):
         text = re.sub(r"<[^<>]*>", "", text)
     return text

@@ -1,17 +1,14 @@
 #!/usr/bin/env python3
-"""Tells where a page says what the sources don't: a line for each place, and then the status 1.
+"""Says where a page and the sources differ: a line for each place, and then the status 1.
 
-docs/CALLING.md: each function that it shows stands so in crates/tool_uses/src.
-docs/DEFINITIONS.md: each name stands in the file that is told for it, and once. A file is told as `crate/specs/File.antt`, or as
-`specs/File.antt` of the crate that was told last in the row; the names that it holds follow behind a colon. What follows the
-heading "Every other name" is made from the sources, by `checks/docs.py --write`: each name that clauses of public functions or
-docs/CLAIMS.md cite and that has no row above, with the comment that stands above its definition.
+docs/CALLING.md: each function that it shows is so in crates/tool_uses/src.
+crates/*/specs: each definition that clauses of public functions, or docs/CLAIMS.md, cite has a comment of its own, directly above
+it, which no other definition has.
 README.md: each file, and each name beside it, of the table of claims is in the crate's src.
-Every page: each link, and each path that begins with a folder of the repository, leads to something.
+Every page: each link with its heading, and each path that begins with a folder of the repository, leads to something.
 docs/CLAIMS.md: each name in round brackets is that of a clause, a definition or a part of one, or a function.
-docs/FROM_THE_SDK.md: each name that is told of a crate here is one that this crate hands out.
-docs/ARCHITECTURE.md: it tells of each file of specs/ that has no file of its name in src/; and each definition, function, wrong
-body and case of "From a rule to its files" stands where it is told.
+docs/FROM_THE_SDK.md: each name beside a crate here is one that this crate hands out.
+docs/ARCHITECTURE.md: each definition, function, wrong body and case of "From a rule to its files" is where the page says.
 """
 import collections
 import pathlib
@@ -20,13 +17,20 @@ import sys
 
 from definitions import ROOT, cited_names, exported_names, meanings
 
-DEFINITIONS = ROOT / "docs/DEFINITIONS.md"
-HEADING = "## Every other name\n"
-PATH = re.compile(r"^(?:(\w+)/)?((?:specs|src|proofs)/[\w/]+\.(?:antt|rt))$")
-# What a copy shares with what it was made of: names that the page has together.
+PAGES = [*ROOT.glob("*.md"), *ROOT.glob("docs/*"), *ROOT.glob("bench/*.md")]
+# What a copy shares with what it was made of: the same sentence holds for each.
 COPIES = re.compile(r"IsSame\w+|Is\w+Copy|IsCopied")
-# Crates whose definitions still lack comments of their own: a name there without one is left out.
-PASSED_OVER = {"aws_chunked", "chain_watch", "env_config", "job_text", "signed_stream"}
+# Definitions that still lack a comment of their own, by their crates.
+LACKING = {
+    "aws_chunked": {"DecodesOnly", "Trailer", "total_of"},
+    "chain_watch": {"Feeds", "chain_fault_shown", "chain_part_name"},
+    "env_config": {
+        "FileText", "asked_of", "chosen_of", "faulty_line_of", "file_places", "found_at", "key_of", "no_sections", "profile_section",
+        "put_at_key", "sections_of", "session_section", "values_of",
+    },
+    "job_text": {"no_record", "no_texts"},
+    "signed_stream": {"done", "no_memory"},
+}
 
 
 def shown_functions(page):
@@ -42,106 +46,32 @@ def calling_faults():
             yield f"docs/CALLING.md: crates/tool_uses has no such function: {function.splitlines()[0]}"
 
 
-def told_names(row):
-    """The file of each name in a row's last column, as (file, name), and of the name that is its first column; a file without
-    names has the name ''."""
-    crate, file = None, None
-    first, last = row.split(" | ", 1)[0], row.rsplit(" | ", 1)[1]
-    for text in re.findall(r"`([^`]+)`", last + first):
-        path = PATH.match(text)
-        if path:
-            crate = path.group(1) or crate
-            file = f"crates/{crate}/{path.group(2)}"
-            yield file, ""
-        else:
-            yield file, text
-
-
 def rows_of(page, title):
     """The rows of a page's tables, without their heads."""
     return [row for row in page.splitlines() if row.startswith("| ") and not row.startswith(f"| {title} |")]
 
 
-def definition_faults(page):
-    told = set()
-    for file, name in (told for row in rows_of(page, "name") for told in told_names(row)):
-        if not (ROOT / str(file)).is_file():
-            yield f"docs/DEFINITIONS.md: there is no file {file}"
-        elif name and (file, name) in told:
-            yield f"docs/DEFINITIONS.md: {name} of {file} stands twice"
-        elif name and not re.search(rf"(?<!\w){re.escape(name)}(?!\w)", (ROOT / file).read_text()):
-            yield f"docs/DEFINITIONS.md: {file} has no {name}"
-        told.add((file, name))
-
-
-def other_names(page):
-    """The meaning of each name that is cited and has no row on the page, as {(file, name): meaning}."""
-    told = {told for row in rows_of(page, "name") for told in told_names(row)}
+def cited_meanings():
+    """The meaning of each definition that is cited, as {(file, name): meaning}."""
     claimed = set(re.findall(r"`(\w*[A-Z_]\w*)`", (ROOT / "docs/CLAIMS.md").read_text()))
     cited = cited_names()
-    for (crate, subject, name), meaning in meanings().items():
-        place = f"crates/{crate}/specs/{subject}.antt", name
-        if ((crate, subject, name) in cited or name in claimed) and place not in told:
-            if meaning or crate not in PASSED_OVER:
-                yield place, meaning
+    for place, meaning in meanings().items():
+        crate, subject, name = place
+        if (place in cited or name in claimed) and name not in LACKING.get(crate, ()):
+            yield (f"crates/{crate}/specs/{subject}.antt", name), meaning
 
 
-def listed(names):
-    """The names that the page lists one by one."""
-    return {place: meaning for place, meaning in names.items() if not COPIES.fullmatch(place[1])}
-
-
-def other_text(names):
-    """The part of the page behind its heading: the names of each file, in the files' order."""
-    lines, last = [], None
-    for (file, name), meaning in listed(names).items():
-        if file != last:
-            lines += ["", f"### `{file.removeprefix('crates/')}`", ""]
-        lines.append(f"- `{name}`: {meaning}")
-        last = file
-    return "\n".join(lines) + "\n"
-
-
-def meaning_faults(names):
-    """Where a name has no comment of its own: none at all, or another name's."""
+def meaning_faults():
+    """Where a definition has no comment of its own: none at all, or another one's."""
     sharing = collections.defaultdict(list)
-    for (file, name), meaning in names.items():
+    for (file, name), meaning in cited_meanings():
         if not meaning:
-            yield f"{file}: {name}, which public clauses cite, has no comment of its own"
-        elif file.split("/")[1] not in PASSED_OVER:
+            yield f"{file}: {name}, which is cited, has no comment of its own"
+        elif not COPIES.fullmatch(name):
             sharing[meaning].append(f"{name} of {file}")
     for meaning, places in sharing.items():
         if len(places) > 1:
-            yield f"one comment stands for several names: {', '.join(places)}: {meaning}"
-
-
-def other_faults(page, names):
-    """Where the part that is made isn't what `--write` would make."""
-    found, file = {}, None
-    for line in page.splitlines():
-        head, row = re.match(r"### `(.+)`$", line), re.match(r"- `([^`]+)`: (.*)$", line)
-        if head:
-            file = f"crates/{head.group(1)}"
-        elif row:
-            found[file, row.group(1)] = row.group(2)
-    names = listed(names)
-    for place in found.keys() | names.keys():
-        if found.get(place) != names.get(place):
-            here = "has another comment" if place in names else "isn't cited, or has no comment"
-            fault = here if place in found else "isn't there"
-            yield f"docs/DEFINITIONS.md: {place[1]} of {place[0]} {fault} (checks/docs.py --write)"
-
-
-def page_faults(write):
-    page, made = DEFINITIONS.read_text().split(HEADING)
-    names = dict(other_names(page))
-    intro = made.split("\n### ", 1)[0].rstrip("\n")
-    if write:
-        DEFINITIONS.write_text(page + HEADING + intro + "\n" + other_text(names))
-        made = DEFINITIONS.read_text().split(HEADING)[1]
-    yield from definition_faults(page)
-    yield from meaning_faults(names)
-    yield from sorted(other_faults(made, names))
+            yield f"one comment is that of several names: {', '.join(places)}: {meaning}"
 
 
 def cited_places(cell):
@@ -178,17 +108,6 @@ def map_faults():
             for place, name in places:
                 if not place or not is_there(place, name):
                     yield f"docs/ARCHITECTURE.md: {rule}: {place} has no {name}"
-
-
-def subject_faults():
-    """Where a file of specs/ that has no file of its name in src/ isn't in the page's table of such files."""
-    rows = rows_of((ROOT / "docs/ARCHITECTURE.md").read_text(), "crate")
-    for file in sorted(ROOT.glob("crates/*/specs/*.antt")):
-        crate, subject = file.parts[-3], file.stem
-        name = re.sub(r"(?<!^)(?=[A-Z])", "_", subject).lower()
-        if subject != "Lib" and not any((ROOT / "crates" / crate / "src").glob(f"**/{name}.rt")):
-            if not any(f"`{crate}`" in row.split(" | ")[0] and f"`{subject}`" in row for row in rows):
-                yield f"docs/ARCHITECTURE.md: nothing is said of crates/{crate}/specs/{subject}.antt"
 
 
 def has_case(file, text):
@@ -229,16 +148,27 @@ def readme_faults():
                 yield f"README.md: {crates} has no {name}"
 
 
+def headings(page):
+    """The anchors of a page's headings."""
+    for heading in re.findall(r"(?m)^#+ (.*)$", page.read_text()):
+        yield re.sub(r"[^\w -]", "", heading.lower()).replace(" ", "-")
+
+
 def path_faults():
     """Where a page names a path that leads nowhere."""
-    for page in [*ROOT.glob("*.md"), *ROOT.glob("docs/*.md"), *ROOT.glob("bench/*.md")]:
+    for page in PAGES:
         text = page.read_text()
-        for link in re.findall(r"\]\(([^)#:]+)(?:#[^)]*)?\)", text):
-            if not (page.parent / link).exists():
-                yield f"{page.relative_to(ROOT)}: the link {link} leads nowhere"
+        for link, heading in re.findall(r"\]\(([^)#:]*)(?:#([^)]*))?\)", text):
+            target = page.parent / link if link else page
+            if not target.exists() or heading and heading not in headings(target):
+                yield f"{page.relative_to(ROOT)}: the link {link}#{heading} leads nowhere"
         for path in re.findall(r"`((?:crates|docs|checks|bench|completions)/[\w./]+\w)`", text):
             if not (ROOT / path).exists() and not path.startswith("crates/NAME") and "/out/" not in path:
                 yield f"{page.relative_to(ROOT)}: there is no {path}"
+        for crate, names in re.findall(r"`(\w+)/specs/\{?([\w,]+)\}?\.antt`", text):
+            for name in names.split(","):
+                if not (ROOT / f"crates/{crate}/specs/{name}.antt").is_file():
+                    yield f"{page.relative_to(ROOT)}: there is no {crate}/specs/{name}.antt"
 
 
 def file_has(file, pattern):
@@ -249,9 +179,8 @@ def file_has(file, pattern):
 
 faults = [
     *calling_faults(),
-    *page_faults("--write" in sys.argv[1:]),
+    *meaning_faults(),
     *map_faults(),
-    *subject_faults(),
     *claim_faults(),
     *sdk_faults(),
     *readme_faults(),

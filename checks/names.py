@@ -1,5 +1,5 @@
 #!/usr/bin/env python3
-"""Tells where one name stands for two definitions in specs/: a line for each place, and then the status 1.
+"""Says where one name means two definitions in specs/: a line for each place, and then the status 1.
 
 Two definitions of one name pass where their texts are the same, as a sign's number in crates that share no other.
 """
