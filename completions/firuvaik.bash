@@ -1,8 +1,13 @@
-# Completion of the words of firuvaik for bash: source this file, or put it where bash-completion looks for it.
+# Completion of the words of firuvaik for bash: source this file, or put it where bash-completion looks.
 _firuvaik() {
   local word=${COMP_WORDS[COMP_CWORD]} before=${COMP_WORDS[COMP_CWORD - 1]} words
   local profile='--service-id --config --credentials'
   case $before in
+    '<' | '>' | '>>')
+      # The file of a redirection: bash's own completion finds it.
+      COMPREPLY=()
+      return
+      ;;
     --config | --credentials)
       mapfile -t COMPREPLY < <(compgen -f -- "$word")
       return
@@ -26,6 +31,8 @@ _firuvaik() {
       *) words= ;;
     esac
   fi
+  # A word isn't a file, even where a folder has its name.
+  compopt +o filenames 2> /dev/null
   mapfile -t COMPREPLY < <(compgen -W "$words" -- "$word")
 }
 complete -o bashdefault -o default -o filenames -F _firuvaik firuvaik
