@@ -9,6 +9,7 @@ Every page: each link with its heading, and each path that begins with a folder 
 docs/CLAIMS.md: each name in round brackets is that of a clause, a definition or a part of one, or a function.
 docs/FROM_THE_SDK.md: each name beside a crate here is one that this crate hands out.
 docs/ARCHITECTURE.md: each definition, function, wrong body and case of "From a rule to its files" is where the page says.
+The pages together have fewer than MOST_WORDS words, as `wc -w` counts them.
 """
 import collections
 import pathlib
@@ -18,6 +19,8 @@ import sys
 from definitions import ROOT, cited_names, exported_names, meanings
 
 PAGES = [*ROOT.glob("*.md"), *ROOT.glob("docs/*"), *ROOT.glob("bench/*.md")]
+# So many can be read in two hours.
+MOST_WORDS = 25_000
 # What a copy shares with what it was made of: the same sentence holds for each.
 COPIES = re.compile(r"IsSame\w+|Is\w+Copy|IsCopied")
 # Definitions that still lack a comment of their own, by their crates.
@@ -171,6 +174,13 @@ def path_faults():
                     yield f"{page.relative_to(ROOT)}: there is no {crate}/specs/{name}.antt"
 
 
+def length_faults():
+    """Where the pages are too long to be read."""
+    words = sum(len(page.read_text().split()) for page in PAGES)
+    if words >= MOST_WORDS:
+        yield f"the pages have {words} words, and may have fewer than {MOST_WORDS}"
+
+
 def file_has(file, pattern):
     """Whether a file below crates/ is there and holds a text of this pattern."""
     path = ROOT / "crates" / file
@@ -185,6 +195,7 @@ faults = [
     *sdk_faults(),
     *readme_faults(),
     *path_faults(),
+    *length_faults(),
 ]
 print(*faults, sep="\n", end="\n" if faults else "")
 sys.exit(1 if faults else 0)
