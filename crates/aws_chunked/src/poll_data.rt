@@ -20,7 +20,8 @@ impl<F: FrameSource, G> AwsChunkedBody<F, G> {
     /// empty chunk, and the trailers with the empty line. [`ChunkNext::NotYet`] comes only where the source waited; where the data has
     /// ended its length was compared then. [`ChunkNext::OutOfTurns`] comes where this call took 65,536 frames without data, of which
     /// each frame after the first trailers counts as one. Data after the first trailers is ignored. A closed body answers
-    /// [`ChunkNext::End`], and stays as it is. Trailers in further frames take the time that [`AwsChunkedBody::poll_frame`] tells.
+    /// [`ChunkNext::End`], and stays as it is. What [`AwsChunkedBody::poll_frame`] says of the time that trailers in further frames
+    /// take, and of CR and LF in them, holds here too.
     ///
     /// # Errors
     ///

@@ -25,7 +25,9 @@ impl<F: FrameSource, G: SignChunk> AwsChunkedBody<F, G> {
     /// [`ChunkNext::End`], and stays as it is.
     ///
     /// The first frame of trailers is kept as it is. Each trailer of a further frame is looked up among all trailers so far, so that
-    /// n trailers in further frames take some n² steps: a source that hands on a stranger's trailers bounds their number.
+    /// n trailers in further frames take some n² steps: a source that hands on a stranger's trailers bounds their number. Names and
+    /// values of trailers are written as they are, CR and LF in them too: [`sigv4::parts::test_headers`] says whether a stranger's
+    /// are those of headers.
     ///
     /// # Errors
     ///
