@@ -1,6 +1,6 @@
 -- How a receiver takes frames, and what the bytes that it has taken hold.
 use Rattle.std.proofs.Common.{◌≡◌, ◌⊎◌, inl, inr, ℕ, zero, suc, ◌+◌, ◌<◌, ◌≤◌, ◌==◌, ◌||◌, Bool, true, false, if◌then◌else◌, List, [], ◌∷◌, ◌++◌, length, take, drop, Option, Some, None, Result, Ok, Err, ap, refl, sym, subst, ◌∙◌, append-nil, append_assoc, length-append, arith}
-use Rattle.std.proofs.lemmas.Bool.{cases_lt, eqb-false, eqb-true, false≢true, ne_eqb}
+use Rattle.std.proofs.lemmas.Bool.{cases_lt, eqb-false, eqb-true, ne_eqb}
 use Rattle.std.proofs.lemmas.Grind.{flat_map-append}
 use Rattle.std.proofs.lemmas.List.Sums.{sum_by-append}
 use Rattle.smithy_core.specs.FrameSource.{IsDrained, TakesFrame}
@@ -27,13 +27,16 @@ use Rattle.event_io.specs.declared.received.Received.{Received}
 use Rattle.event_io.specs.declared.received.Received.TheVariants as received
 use Rattle.event_io.specs.declared.response_fault.ResponseFault.TheVariants.{Frame, UnexpectedEndOfStream, Unmarshall, Preprocessor}
 use Rattle.event_io.specs.ResponseFault.{ReceiveError}
-use Rattle.event_io.specs.Receiver.{Begins, Cuts, CutsAt, Finds, KeepsNone, Receives, Rest, Tries, TriesFirst, TriesMessage, Unmarshals, is_no_memory, is_terminated, kept_by, kept_message, recv_stop, rest_after, rest_of, terminated, terminates, tried_stop, unread, untold}
+use Rattle.event_io.specs.Receiver.{Begins, Comes, Cuts, CutsAt, Finds, KeepsNone, Makes, Receives, Rest, Settles, Tries, TriesFirst, TriesMessage, Unmarshals, after_frame, frames_of, is_terminated, kept_by, kept_message, put_back, recv_stop, rest_after, rest_of, terminated, terminates, tried_stop, unread, untold}
 use Rattle.event_io.specs.declared.received.InitialMessageType.{InitialMessageType}
 use Rattle.event_io.specs.declared.received.Tried.{Tried}
 use Rattle.event_io.specs.declared.received.Tried.TheVariants as tried
 use Rattle.eventstream.proofs.ReadingLemmas.{begin_fault, begin_unfinished, fault_stays, first_stays}
 use Rattle.event_io.specs.declared.receiver.Receiver.{Receiver}
-use Rattle.event_io.specs.declared.stop.Front.{Front}
+use Rattle.event_io.specs.declared.coming.Coming.{Coming}
+use Rattle.event_io.specs.declared.coming.Front.{Front}
+use Rattle.event_io.specs.declared.coming.Made.{Made}
+use Rattle.event_io.specs.declared.coming.Made.TheVariants.{Answer, Back}
 use Rattle.event_io.specs.declared.stop.Stop.{Stop}
 use Rattle.event_io.specs.declared.stop.Stop.TheVariants as stop
 
@@ -339,13 +342,6 @@ tried_no_stop answers kind message (Err (ResponseError (UnexpectedEndOfStream en
 tried_no_stop answers kind message (Err (ResponseError (Unmarshall error) raw)) says = absurd says
 tried_no_stop answers kind message (Err (ResponseError (Preprocessor error) raw)) says = refl
 
--- where memory doesn't run out, there is an answer of the message
-tried_says : {M E : Type 0} (answers : Parts → Result (Parts × M) Error → Type 0) (kind : InitialMessageType) (message : Parts) (result : Result (Tried M) (ReceiveError E))
-    → TriesMessage answers kind message result ⊎ (result ≡ Err NoMemory) → is_no_memory result ≡ false → TriesMessage answers kind message result
-tried_says answers kind message result (inl says) is = says
-tried_says {M = M} {E = E} answers kind message result (inr want) is =
-    absurd (false≢true (sym is ∙ ap (λ (r : Result (Tried M) (ReceiveError E)). is_no_memory r) want))
-
 -- ## What is still to be read
 
 -- the frames that are left end the stream where the reason says so
@@ -461,17 +457,6 @@ module _ {F U : Type 0} (source : FrameSource.Ghosts F) where
       by false was = cuts_going (stop_in result) (terminates result) over (said result) old between was (going was) (is ∙ rw was refl)
 
   module _ {T E : Type 0} (unmarshaller : UnmarshallMessage.Ghosts U T E) where
-    -- a message is handed over, and taken
-    pub reads_said : (result : Result (Received T) (ReceiveError E)) (old between new : Receiver F U) (front : Front) → PullsFront source old between (Ok front)
-        → Unmarshals unmarshaller between.unmarshaller front.message result → new.source ≡ between.source → new.buffer.bytes ≡ drop front.len between.buffer.bytes
-        → Reads source (recv_stop result) (λ message. Unmarshals unmarshaller old.unmarshaller message result) old new
-    reads_said result old between new front pulls says same left =
-        let by : between.unmarshaller ≡ old.unmarshaller = ap (λ (receiver : Receiver F U). receiver.unmarshaller) pulls.pulls.others_stay in
-        let said : Unmarshals unmarshaller old.unmarshaller front.message result = subst (λ (u : U). Unmarshals unmarshaller u front.message result) by says in
-        subst (λ (why : Option Stop). Reads source why (λ message. Unmarshals unmarshaller old.unmarshaller message result) old new)
-        (sym (said_no_stop unmarshaller old.unmarshaller front.message result said))
-        (reads_message source (λ message. Unmarshals unmarshaller old.unmarshaller message result) old between new front pulls said same left)
-
     -- what `recv` answers without a kept message, as it is said of the rest
     pub any_cut : (result : Result (Received T) (ReceiveError E)) (old between : Receiver F U) (over : Bool)
         → Receives source unmarshaller (kept_message old) (is_terminated old) old between result → over ≡ (old.over || terminates result) → kept_message old ≡ None
@@ -499,24 +484,69 @@ module _ {F U : Type 0} (source : FrameSource.Ghosts F) where
         open_tries : TriesFirst source answers kind None old.over old between result
         open_tries = subst (λ (kept : Option Parts). TriesFirst source answers kind kept old.over old between result) none tries
 
-    -- a message is tried, and taken
-    pub reads_tried : (result : Result (Tried M) (ReceiveError E)) (old between new : Receiver F U) (front : Front) → PullsFront source old between (Ok front)
-        → TriesMessage answers kind front.message result ⊎ (result ≡ Err NoMemory) → is_no_memory result ≡ false → kept_message new ≡ kept_by front.message result → new.source ≡ between.source
-        → new.buffer.bytes ≡ drop front.len between.buffer.bytes
-        → Reads source (tried_stop result) (λ message. Tries answers kind message (kept_message new) result) old new × KeepsNone (tried_stop result) new
-    reads_tried result old between new front pulls tries told keeps same left =
-        let says = tried_says answers kind front.message result tries told in
-        subst
-        (λ (why : Option Stop). Reads source why (λ message. Tries answers kind message (kept_message new) result) old new × KeepsNone why new)
-        (sym (tried_no_stop answers kind front.message result says))
-        (reads_message source (λ message. Tries answers kind message (kept_message new) result) old between new front pulls (says, keeps) same left, tt)
-
 -- ## What is said of a message
 
 finds_weaker : (why : Option Stop) (said also : Parts → Type 0) (bytes left : List ℕ) → ((message : Parts) → said message → also message) → Finds why said bytes left
     → Finds why also bytes left
 finds_weaker (Some why) said also bytes left weaker found = found
 finds_weaker None said also bytes left weaker found = (found.0, weaker found.0 found.1, found.2)
+
+-- ## A step of receiving
+
+module _ {F U M E : Type 0} (source : FrameSource.Ghosts F) (answers : Parts → Result (Parts × M) Error → Type 0) (kind : InitialMessageType) where
+  -- a message came, and was answered
+  first_answered : (kept : Option Parts) (over : Bool) (old between new : Receiver F U) (coming : Coming) (answer : Result (Tried M) (ReceiveError E)) (left : Option Parts)
+      → Comes source kept over old between (Ok coming) → TriesMessage answers kind coming.message answer → left ≡ kept_by coming.message answer
+      → new ≡ record between { buffer = new.buffer; kept = left } → taken_bytes new ≡ after_frame coming.len (taken_bytes between)
+      → TriesFirst source answers kind kept over old new answer
+  first_answered (Some message) over old between new coming answer left (is, none, before) says keeps same bytes = (
+    record {
+      source_stays = ap (λ (r : Receiver F U). frames_of r) same ∙ ap (λ (r : Receiver F U). frames_of r) before;
+      bytes_stay = bytes ∙ ap (λ (len : Option ℕ). after_frame len (taken_bytes between)) none ∙ ap (λ (r : Receiver F U). taken_bytes r) before;
+    },
+    inl
+        (subst (λ (m : Parts). Tries answers kind m (kept_message new) answer) is (says, ap (λ (r : Receiver F U). kept_message r) same ∙ keeps)),
+  )
+  first_answered None true old between new coming answer left comes says keeps same bytes = absurd comes
+  first_answered None false old between new coming answer left (len, some, pulls) says keeps same bytes =
+      subst
+      (λ (why : Option Stop). Reads source why (λ message. Tries answers kind message (kept_message new) answer) old new × KeepsNone why new)
+      (sym (tried_no_stop answers kind coming.message answer says)) (
+        reads_message source (λ message. Tries answers kind message (kept_message new) answer) old between new (record { message = coming.message; len = len }) pulls
+            (says, ap (λ (r : Receiver F U). kept_message r) same ∙ keeps) (ap (λ (r : Receiver F U). frames_of r) same)
+            (bytes ∙ ap (λ (l : Option ℕ). after_frame l (taken_bytes between)) some),
+        tt,
+      )
+
+  -- a message came, and memory ran out
+  first_put_back : (kept : Option Parts) (over : Bool) (old between new : Receiver F U) (coming : Coming) (result : Result (Tried M) (ReceiveError E)) → result ≡ Err NoMemory
+      → Comes source kept over old between (Ok coming) → kept_message between ≡ None → new ≡ put_back coming.len coming.message between
+      → TriesFirst source answers kind kept over old new result
+  first_put_back (Some message) over old between new coming result want (is, none, before) empty back =
+      let same : new ≡ record between { kept = Some coming.message } = back ∙ ap (λ (len : Option ℕ). put_back len coming.message between) none in (
+        record {
+          source_stays = ap (λ (r : Receiver F U). frames_of r) same ∙ ap (λ (r : Receiver F U). frames_of r) before;
+          bytes_stay = ap (λ (r : Receiver F U). taken_bytes r) same ∙ ap (λ (r : Receiver F U). taken_bytes r) before;
+        },
+        inr (want, ap (λ (r : Receiver F U). kept_message r) same ∙ ap (λ (m : Parts). Some m) is),
+      )
+  first_put_back None true old between new coming result want comes empty back = absurd comes
+  first_put_back None false old between new coming result want (len, some, pulls) empty back =
+      let same : new ≡ between = back ∙ ap (λ (l : Option ℕ). put_back l coming.message between) some in
+      subst (TriesFirst source answers kind None false old new) (sym want)
+      (subst (λ (r : Receiver F U). TriesFirst {M = M} {E = E} source answers kind None false old r (Err NoMemory)) (sym same)
+      (reads_want source (λ message. Tries {M = M} {E = E} answers kind message (kept_message between) (Err NoMemory)) old between (record { message = coming.message; len = len }) pulls, empty))
+
+  -- a message came
+  pub first_settled : (old between new : Receiver F U) (coming : Coming) (made : Made (Tried M) E) (result : Result (Tried M) (ReceiveError E))
+      → Comes source (kept_message old) (is_terminated old) old between (Ok coming) → kept_message between ≡ None
+      → Makes (TriesMessage answers kind) kept_by coming.message made → Settles coming.len made between new result
+      → TriesFirst source answers kind (kept_message old) (is_terminated old) old new result
+  first_settled old between new coming (Answer answer left) result comes none makes (is, same, bytes) =
+      subst (TriesFirst source answers kind (kept_message old) (is_terminated old) old new) (sym is)
+      (first_answered (kept_message old) (is_terminated old) old between new coming answer left comes makes.0 makes.1 same bytes)
+  first_settled old between new coming (Back message) result comes none makes (is, same) =
+      first_put_back (kept_message old) (is_terminated old) old between new coming result is comes none (same ∙ ap (λ (m : Parts). put_back coming.len m between) makes)
 
 cuts_weaker : (why : Option Stop) (ends : Bool) (said also : Parts → Type 0) (before now : Rest) → ((message : Parts) → said message → also message) → Cuts why ends said before now
     → Cuts why ends also before now

@@ -20,13 +20,16 @@ use Rattle.event_io.specs.Frames.{TakesFrames, frames_data, idle_count, most_idl
 use Rattle.event_io.specs.Received.{is_initial}
 use Rattle.event_io.specs.ResponseFault.{ReceiveError, is_want}
 use Rattle.event_io.specs.Stop.{NamesStopWant}
+use Rattle.event_io.specs.declared.coming.Coming.{Coming}
+use Rattle.event_io.specs.declared.coming.Front.{Front}
+use Rattle.event_io.specs.declared.coming.Made.{Made}
+use Rattle.event_io.specs.declared.coming.Made.TheVariants.{Answer, Back}
 use Rattle.event_io.specs.declared.received.InitialMessageType.{InitialMessageType}
 use Rattle.event_io.specs.declared.received.Received.{Received}
 use Rattle.event_io.specs.declared.received.Received.TheVariants as received
 use Rattle.event_io.specs.declared.received.Tried.{Tried}
 use Rattle.event_io.specs.declared.received.Tried.TheVariants as tried
 use Rattle.event_io.specs.declared.receiver.Receiver.{Receiver}
-use Rattle.event_io.specs.declared.stop.Front.{Front}
 use Rattle.event_io.specs.declared.response_fault.ResponseFault.{ResponseFault}
 use Rattle.event_io.specs.declared.response_fault.ResponseFault.TheVariants.{Frame, UnexpectedEndOfStream, Unmarshall, Preprocessor}
 use Rattle.event_io.specs.declared.stop.Silence.{Silence}
@@ -169,10 +172,15 @@ abbrev pub PassesMessages : {U : Type 0} → UnmarshallMessage.Ghosts U Parts Er
 PassesMessages {U = U} unmarshaller =
     (by : U) (message : Parts) (answer : Result (UnmarshalledMessage Parts Error) Error) → unmarshaller.answers by message answer → PassesMessage message answer
 
--- the answer of which a message is handed over, and which isn't `NoMemory`; or the message, given back
-abbrev pub Hands : {U T E : Type 0} → UnmarshallMessage.Ghosts U T E → U → Parts → Result (Result (Received T) (ReceiveError E)) Parts → Type 0
-Hands unmarshaller by message (Ok answer) = Unmarshals unmarshaller by message answer × NamesWantOfMemory answer
-Hands unmarshaller by message (Err back) = back ≡ message
+-- an answer of which this is said for the message, with the message that is then kept; or the message, given back
+abbrev pub Makes : {A E : Type 0} → (Parts → Result A (ReceiveError E) → Type 0) → (Parts → Result A (ReceiveError E) → Option Parts) → Parts → Made A E → Type 0
+Makes said keeps message (Answer answer kept) = said message answer × (kept ≡ keeps message answer)
+Makes said keeps message (Back back) = back ≡ message
+
+-- a fault that was made of a message isn't `NoMemory`
+abbrev pub NamesMadeWant : {A E : Type 0} → Made A E → Type 0
+NamesMadeWant (Answer answer kept) = NamesWantOfMemory answer
+NamesMadeWant (Back message) = Unit {0}
 
 -- a preprocessor that leaves messages as they are, and makes nothing along with them
 abbrev pub LeavesMessage : Parts → Result (Parts × Unit {0}) Error → Type 0
@@ -184,11 +192,6 @@ TriesMessage answers kind message (Ok (tried.Initial first beside)) = answers me
 TriesMessage {M = M} answers kind message (Ok tried.Other) = (found : Parts × M) × answers message (Ok found) × (is_initial kind found.0 ≡ false)
 TriesMessage answers kind message (Err (ResponseError (Preprocessor error) (Invalid None))) = answers message (Err error)
 TriesMessage answers kind message result = ⊥
-
--- whether an answer is `NoMemory`
-abbrev pub is_no_memory : {A E : Type 0} → Result A (ReceiveError E) → Bool
-is_no_memory (Err NoMemory) = true
-is_no_memory result = false
 
 -- a message is kept that doesn't begin the stream
 abbrev pub kept_by : {M E : Type 0} → Parts → Result (Tried M) (ReceiveError E) → Option Parts
@@ -326,3 +329,37 @@ module _ {F U : Type 0} (source : FrameSource.Ghosts F) where
     pub found : FindsFront (taken_bytes new) result
     pub cause : IsCause source (front_stop result) (frames_of old) (frames_of new)
     pub turns : TakesTurns (front_stop result) (idle_count frames)
+
+-- ## A step of receiving
+
+-- the bytes have the frame of a message that wasn't kept
+abbrev pub HoldsFrame : Option ℕ → List ℕ → Type 0
+HoldsFrame None bytes = Unit {0}
+HoldsFrame (Some len) bytes = len ≤ length bytes
+
+-- what follows the frame of a message that wasn't kept
+abbrev pub after_frame : Option ℕ → List ℕ → List ℕ
+after_frame None bytes = bytes
+after_frame (Some len) bytes = drop len bytes
+
+module _ {F U : Type 0} where
+  -- the message that comes next: the kept one, which is kept no more, or the first of the stream, which stays; or why there is none
+  abbrev pub Comes : FrameSource.Ghosts F → Option Parts → Bool → Receiver F U → Receiver F U → Result Coming Stop → Type 0
+  Comes source (Some message) over old new (Ok coming) = (coming.message ≡ message) × (coming.len ≡ None) × (new ≡ record old { kept = None })
+  Comes source (Some message) over old new (Err why) = ⊥
+  Comes source None true old new (Ok coming) = ⊥
+  Comes source None true old new (Err why) = (why ≡ stop.End) × (new ≡ old)
+  Comes source None false old new (Ok coming) =
+      (len : ℕ) × (coming.len ≡ Some len) × PullsFront source old new (Ok (record { message = coming.message; len = len }))
+  Comes source None false old new (Err why) = PullsFront source old new (Err why)
+
+  -- a receiver to which a message came back that was kept before; any other is still in the buffer
+  abbrev pub put_back : Option ℕ → Parts → Receiver F U → Receiver F U
+  put_back None message receiver = record receiver { kept = Some message }
+  put_back (Some len) message receiver = receiver
+
+  -- what was made of the message is answered, which is taken and kept where it is to be; where memory ran out it is where it was
+  abbrev pub Settles : {A E : Type 0} → Option ℕ → Made A E → Receiver F U → Receiver F U → Result A (ReceiveError E) → Type 0
+  Settles len (Answer answer kept) old new result =
+      (result ≡ answer) × (new ≡ record old { buffer = new.buffer; kept = kept }) × (taken_bytes new ≡ after_frame len (taken_bytes old))
+  Settles len (Back message) old new result = (result ≡ Err NoMemory) × (new ≡ put_back len message old)

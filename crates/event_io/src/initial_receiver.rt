@@ -1,12 +1,11 @@
-ghost use Rattle.std.specs.Prelude.{◌≡◌, ◌⊎◌, ◌||◌, Err, None, option_copied};
-ghost use Rattle.smithy_core.specs.declared.sdk_error.SdkError.TheVariants.{NoMemory};
+ghost use Rattle.std.specs.Prelude.{◌≡◌, ◌||◌, None, option_copied};
 ghost use Rattle.event_io.specs.Received.{first_named, is_initial, is_text};
-ghost use Rattle.event_io.specs.Receiver.{Cuts, KeepsNone, KeepsOthers, LeavesMessage, Reads, NamesWantOfMemory, Tries, TriesFirst, TriesKept, TriesMessage, is_no_memory, is_terminated, kept_by, kept_message, rest_of, terminates, tried_stop, unmarshaller_of};
+ghost use Rattle.event_io.specs.Receiver.{Cuts, KeepsOthers, LeavesMessage, Makes, NamesMadeWant, NamesWantOfMemory, Tries, TriesFirst, TriesMessage, is_terminated, kept_by, kept_message, rest_of, terminates, tried_stop};
 
+use crate::coming::{Coming, Made};
 use crate::received::{InitialMessageType, Tried};
 use crate::receiver::{Receiver, is_last};
-use crate::response_fault::{ReceiveError, ResponseFault, response_error};
-use crate::stop::Front;
+use crate::response_fault::{ReceiveError, ResponseFault, is_want};
 use eventstream::{Error, UnmarshallMessage};
 use smithy_core::{FrameSource, Header, HeaderValue, Message, RawMessage, SdkError};
 
@@ -73,65 +72,13 @@ impl<F: FrameSource, U: UnmarshallMessage> Receiver<F, U> {
         ensures others { KeepsOthers F.FrameSource self.old self.new }
         ensures want { NamesWantOfMemory result }
     {
-        match self.kept.take() {
-            Some(message) => self.try_kept(message_type, preprocessor, message),
-            None if self.over => Ok(Tried::End),
-            None => self.try_next(message_type, preprocessor),
+        match self.come() {
+            Ok(Coming { message, len }) => {
+                let made = try_message(message_type, preprocessor, message);
+                self.settle(len, made)
+            }
+            Err(stop) => stop.tried(),
         }
-    }
-
-    // Tries the message that was kept, and keeps it again unless it begins the stream or is refused.
-    fn try_kept<P, M: Drop>(
-        &mut self,
-        message_type: InitialMessageType,
-        preprocessor: P,
-        message: Message,
-    ) -> Result<Tried<M>, ReceiveError<U::Error>>
-    where
-        P: FnOnce(Message) -> Result<(Message, M), Error>,
-        requires none { kept_message self.old ≡ None }
-        requires callable { P.IsAlwaysCallable preprocessor }
-        ensures tries { TriesKept (λ first answer. P.post preprocessor first answer) message_type message self.old self.new result }
-        ensures open { is_terminated self.new ≡ is_terminated self.old }
-        ensures unmarshaller { unmarshaller_of self.new ≡ unmarshaller_of self.old }
-        ensures want { NamesWantOfMemory result }
-    {
-        let answer = tried_message(message_type, preprocessor, &message);
-        self.kept = if wants_memory(&answer) {
-            Some(message)
-        } else {
-            kept_by(message, &answer)
-        };
-        answer
-    }
-
-    // Tries the next message of the stream. Where memory runs out it stays at the front of the buffer.
-    fn try_next<P, M: Drop>(
-        &mut self,
-        message_type: InitialMessageType,
-        preprocessor: P,
-    ) -> Result<Tried<M>, ReceiveError<U::Error>>
-    where
-        P: FnOnce(Message) -> Result<(Message, M), Error>,
-        requires none { kept_message self.old ≡ None }
-        requires callable { P.IsAlwaysCallable preprocessor }
-        ensures reads { Reads F.FrameSource (tried_stop result) (λ message. Tries (λ first answer. P.post preprocessor first answer) message_type message (kept_message self.new) result) self.old self.new }
-        ensures kept { KeepsNone (tried_stop result) self.new }
-        ensures open { is_terminated self.new ≡ is_terminated self.old }
-        ensures others { KeepsOthers F.FrameSource self.old self.new }
-        ensures want { NamesWantOfMemory result }
-    {
-        let Front { message, len } = match self.find() {
-            Ok(front) => front,
-            Err(stop) => return stop.tried(),
-        };
-        let answer = tried_message(message_type, preprocessor, &message);
-        if wants_memory(&answer) {
-            return answer;
-        }
-        self.buffer.advance(len);
-        self.kept = kept_by(message, &answer);
-        answer
     }
 }
 
@@ -142,46 +89,34 @@ fn left_as_it_is(message: Message) -> Result<(Message, ()), Error>
     Ok((message, ()))
 }
 
-// What the preprocessor makes of a copy of the message.
-fn tried_message<P, M: Drop, E>(
+// What the preprocessor makes of a copy of the message, which is kept where it doesn't begin the stream.
+fn try_message<P, M: Drop, E>(
     message_type: InitialMessageType,
     preprocessor: P,
-    message: &Message,
-) -> Result<Tried<M>, ReceiveError<E>>
+    message: Message,
+) -> Made<Tried<M>, E>
 where
     P: FnOnce(Message) -> Result<(Message, M), Error>,
     requires { P.IsAlwaysCallable preprocessor }
-    ensures tries { TriesMessage (λ first answer. P.post preprocessor first answer) message_type message.now result ⊎ (result ≡ Err NoMemory) }
-    ensures want { NamesWantOfMemory result }
+    ensures tries { Makes (TriesMessage (λ first answer. P.post preprocessor first answer) message_type) kept_by message result }
+    ensures want { NamesMadeWant result }
 {
-    match preprocessor(message.try_clone()?) {
-        Ok((first, made)) => {
-            if is_initial(&first, message_type) {
-                return Ok(Tried::Initial(first, made));
-            }
-            Ok(Tried::Other)
+    let Ok(copy) = message.try_clone() else {
+        return Made::Back(message);
+    };
+    match preprocessor(copy) {
+        Ok((first, made)) if is_initial(&first, message_type) => {
+            Made::Answer(Ok(Tried::Initial(first, made)), None)
         }
-        Err(error) => Err(response_error(
-            ResponseFault::Preprocessor(error),
-            RawMessage::Invalid(None),
-        )),
-    }
-}
-
-// Whether an answer is `NoMemory`.
-fn wants_memory<A, E>(answer: &Result<A, ReceiveError<E>>) -> bool
-    ensures { result ≡ is_no_memory answer.now }
-{
-    matches!(answer, Err(SdkError::NoMemory))
-}
-
-// The message, where it doesn't begin the stream.
-fn kept_by<M, E>(message: Message, answer: &Result<Tried<M>, ReceiveError<E>>) -> Option<Message>
-    ensures { result ≡ kept_by message answer.now }
-{
-    match answer {
-        Ok(Tried::Other) => Some(message),
-        _ => None,
+        Ok(_) => Made::Answer(Ok(Tried::Other), Some(message)),
+        Err(error) if is_want(&error) => Made::Back(message),
+        Err(error) => Made::Answer(
+            Err(SdkError::ResponseError {
+                source: ResponseFault::Preprocessor(error),
+                raw: RawMessage::Invalid(None),
+            }),
+            None,
+        ),
     }
 }
 

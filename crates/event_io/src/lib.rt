@@ -12,6 +12,7 @@
 
 mod adapter;
 mod adapter_fault;
+mod coming;
 mod drain;
 mod event_source;
 mod initial;

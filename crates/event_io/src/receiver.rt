@@ -1,14 +1,15 @@
-ghost use Rattle.std.specs.Prelude.{◌≡◌, ℕ, ◌<◌, ◌||◌, length, Option, Result, None, Some};
+ghost use Rattle.std.specs.Prelude.{◌≡◌, ◌<◌, ◌||◌, length, IfErr, IfOk, None};
 ghost use Rattle.smithy_core.specs.Message.{Parts};
 ghost use Rattle.smithy_core.specs.declared.outside.frame_part.FramePart.TheVariants.{Data};
 ghost use Rattle.eventstream.specs.Frame.{most_frame};
 ghost use Rattle.event_io.specs.Frames.{one_if_idle};
-ghost use Rattle.event_io.specs.Receiver.{Cuts, Hands, IsNew, KeepsOthers, LacksFrame, PullsFront, PullsOne, Reads, Receives, ReceivesKept, NamesWantOfMemory, Unmarshals, ends_reading, is_terminated, kept_message, recv_stop, rest_of, taken_bytes, terminates, unmarshaller_of};
-ghost use Rattle.event_io.specs.Stop.{IsEnd};
+ghost use Rattle.event_io.specs.Receiver.{Comes, Cuts, IsNew, HoldsFrame, KeepsOthers, LacksFrame, Makes, NamesMadeWant, NamesWantOfMemory, PullsFront, PullsOne, Receives, Settles, Unmarshals, ends_reading, is_terminated, kept_message, recv_stop, rest_of, taken_bytes, terminates, unmarshaller_of};
+ghost use Rattle.event_io.specs.Stop.{IsEnd, NamesStopWant};
 
+use crate::coming::{Coming, Front, Made};
 use crate::received::Received;
 use crate::response_fault::{ReceiveError, ResponseFault, is_want};
-use crate::stop::{Front, Stop};
+use crate::stop::Stop;
 use bytes::Bytes;
 use eventstream::{UnmarshallMessage, UnmarshalledMessage, peek_message};
 use seg_buf::SegBuf;
@@ -25,9 +26,9 @@ pub struct Receiver<F, U> {
     unmarshaller: U,
     source: F,
     // What was taken of the source and not yet answered.
-    pub(crate) buffer: SegBuf,
+    buffer: SegBuf,
     // The first message, where it was looked at and isn't the one that begins the stream.
-    pub(crate) kept: Option<Message>,
+    kept: Option<Message>,
     // Nothing more is read.
     pub(crate) over: bool,
 }
@@ -79,76 +80,91 @@ impl<F: FrameSource, U: UnmarshallMessage> Receiver<F, U> {
         ensures others { KeepsOthers F.FrameSource self.old self.new }
         ensures want { NamesWantOfMemory result }
     {
-        match self.kept.take() {
-            Some(message) => self.receive_kept(message),
-            None if self.over => Ok(Received::End),
-            None => self.receive_next(),
+        match self.come() {
+            Ok(Coming { message, len }) => {
+                let made = self.hand(message);
+                self.settle(len, made)
+            }
+            Err(stop) => stop.received(),
         }
     }
 
-    // Hands the message that was kept to the unmarshaller. Where memory runs out it is kept again.
-    fn receive_kept(
-        &mut self,
-        message: Message,
-    ) -> Result<Received<U::Output>, ReceiveError<U::Error>>
-        requires { kept_message self.old ≡ None }
-        ensures receives { ReceivesKept U.UnmarshallMessage message self.old self.new result }
+    // The message that comes next, which stays in the buffer unless it was kept.
+    pub(crate) fn come(&mut self) -> Result<Coming, Stop>
+        ensures comes { Comes F.FrameSource (kept_message self.old) (is_terminated self.old) self.old self.new result }
+        ensures within { IfOk result (λ coming. HoldsFrame coming.len (taken_bytes self.new)) }
+        ensures kept { kept_message self.new ≡ None }
         ensures open { is_terminated self.new ≡ is_terminated self.old }
-        ensures unmarshaller { unmarshaller_of self.new ≡ unmarshaller_of self.old }
+        ensures others { KeepsOthers F.FrameSource self.old self.new }
+        ensures want { IfErr result NamesStopWant }
+    {
+        match self.kept.take() {
+            Some(message) => Ok(Coming { message, len: None }),
+            None if self.over => Err(Stop::End),
+            None => {
+                let Front { message, len } = self.find()?;
+                Ok(Coming {
+                    message,
+                    len: Some(len),
+                })
+            }
+        }
+    }
+
+    // Answers what was made of the message that came: it is taken, and kept where it is to be. Where memory ran out it is
+    // where it was.
+    pub(crate) fn settle<A>(
+        &mut self,
+        len: Option<usize>,
+        made: Made<A, U::Error>,
+    ) -> Result<A, ReceiveError<U::Error>>
+        requires within { HoldsFrame len (taken_bytes self.old) }
+        requires none { kept_message self.old ≡ None }
+        requires want { NamesMadeWant made }
+        ensures settles { Settles len made self.old self.new result }
+        ensures open { is_terminated self.new ≡ is_terminated self.old }
+        ensures others { KeepsOthers F.FrameSource self.old self.new }
         ensures want { NamesWantOfMemory result }
     {
-        match self.hand(message) {
-            Ok(answer) => answer,
-            Err(message) => {
-                self.kept = Some(message);
+        match made {
+            Made::Answer(answer, kept) => {
+                if let Some(len) = len {
+                    self.buffer.advance(len);
+                }
+                self.kept = kept;
+                answer
+            }
+            Made::Back(message) => {
+                if len.is_none() {
+                    self.kept = Some(message);
+                }
                 Err(SdkError::NoMemory)
             }
         }
     }
 
-    // Hands the next message of the stream to the unmarshaller. Where memory runs out it stays at the front of the buffer.
-    fn receive_next(&mut self) -> Result<Received<U::Output>, ReceiveError<U::Error>>
-        ensures reads { Reads F.FrameSource (recv_stop result) (λ message. Unmarshals U.UnmarshallMessage (unmarshaller_of self.old) message result) self.old self.new }
-        ensures kept { kept_message self.new ≡ kept_message self.old }
-        ensures open { is_terminated self.new ≡ is_terminated self.old }
-        ensures others { KeepsOthers F.FrameSource self.old self.new }
-        ensures want { NamesWantOfMemory result }
-    {
-        let Front { message, len } = match self.find() {
-            Ok(front) => front,
-            Err(stop) => return stop.received(),
-        };
-        match self.hand(message) {
-            Ok(answer) => {
-                self.buffer.advance(len);
-                answer
-            }
-            Err(_) => Err(SdkError::NoMemory),
-        }
-    }
-
-    // Hands a message to the unmarshaller, or gives it back where memory runs out.
-    fn hand(
-        &self,
-        message: Message,
-    ) -> Result<Result<Received<U::Output>, ReceiveError<U::Error>>, Message>
-        ensures { Hands U.UnmarshallMessage (unmarshaller_of self.now) message result }
+    // Hands a message to the unmarshaller.
+    fn hand(&self, message: Message) -> Made<Received<U::Output>, U::Error>
+        ensures hands { Makes (Unmarshals U.UnmarshallMessage (unmarshaller_of self.now)) (λ message answer. None) message result }
+        ensures want { NamesMadeWant result }
     {
         match self.unmarshaller.unmarshall(&message) {
-            Ok(UnmarshalledMessage::Event(event)) => Ok(Ok(Received::Event(event))),
-            Ok(UnmarshalledMessage::Error(source)) => Ok(Err(SdkError::ServiceError {
-                source,
-                raw: RawMessage::Decoded(message),
-            })),
-            Err(error) => {
-                if is_want(&error) {
-                    return Err(message);
-                }
-                Ok(Err(SdkError::ResponseError {
+            Ok(UnmarshalledMessage::Event(event)) => Made::Answer(Ok(Received::Event(event)), None),
+            Ok(UnmarshalledMessage::Error(source)) => Made::Answer(
+                Err(SdkError::ServiceError {
+                    source,
+                    raw: RawMessage::Decoded(message),
+                }),
+                None,
+            ),
+            Err(error) if is_want(&error) => Made::Back(message),
+            Err(error) => Made::Answer(
+                Err(SdkError::ResponseError {
                     source: ResponseFault::Unmarshall(error),
                     raw: RawMessage::Decoded(message),
-                }))
-            }
+                }),
+                None,
+            ),
         }
     }
 
@@ -187,7 +203,7 @@ impl<F: FrameSource, U: UnmarshallMessage> Receiver<F, U> {
     }
 
     // Takes frames until a whole message is at the front of the buffer, where it stays.
-    pub(crate) fn find(&mut self) -> Result<Front, Stop>
+    fn find(&mut self) -> Result<Front, Stop>
         ensures { PullsFront F.FrameSource self.old self.new result }
     {
         let mut idle = 0;

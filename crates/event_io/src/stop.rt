@@ -1,23 +1,20 @@
-ghost use Rattle.std.specs.Prelude.{◌≡◌, None, Some};
+ghost use Rattle.std.specs.Prelude.{◌≡◌, None, Ok, Some};
 ghost use Rattle.smithy_core.specs.declared.raw_message.RawMessage.TheVariants.{Invalid};
 ghost use Rattle.event_io.specs.Receiver.{NamesWantOfMemory, recv_stop, silent_stop, tried_stop};
 ghost use Rattle.event_io.specs.ResponseFault.{response_error};
 ghost use Rattle.event_io.specs.Stop.{NamesStopWant};
+ghost use Rattle.event_io.specs.declared.received.Received.TheVariants as received;
+ghost use Rattle.event_io.specs.declared.received.Tried.TheVariants as tried;
 ghost use Rattle.event_io.specs.declared.response_fault.ResponseFault.TheVariants.{Frame};
+ghost use Rattle.event_io.specs.declared.stop.Silence.TheVariants as silence;
+ghost use Rattle.event_io.specs.declared.stop.Stop.TheVariants.{End};
 
 use crate::received::{Received, Tried};
 use crate::response_fault::{ReceiveError, ReceiverError, ResponseFault, is_want, response_error};
 use bytes::Bytes;
 use eventstream::Error;
-use smithy_core::{Message, RawMessage, SdkError};
+use smithy_core::{RawMessage, SdkError};
 use std::alloc::AllocError;
-
-// A message whose frame is at the front of a buffer, and how many bytes the frame has.
-#[derive(Drop)]
-pub(crate) struct Front {
-    pub(crate) message: Message,
-    pub(crate) len: usize,
-}
 
 // Why there is no message.
 #[derive(Drop)]
@@ -51,6 +48,7 @@ impl Stop {
     pub(crate) fn received<T, E>(self) -> Result<Received<T>, ReceiveError<E>>
         requires { NamesStopWant self }
         ensures stop { recv_stop result ≡ Some self }
+        ensures end { self ≡ End → result ≡ Ok received.End }
         ensures want { NamesWantOfMemory result }
     {
         Ok(match self.silence()? {
@@ -64,6 +62,7 @@ impl Stop {
     pub(crate) fn tried<M, E>(self) -> Result<Tried<M>, ReceiveError<E>>
         requires { NamesStopWant self }
         ensures stop { tried_stop result ≡ Some self }
+        ensures end { self ≡ End → result ≡ Ok tried.End }
         ensures want { NamesWantOfMemory result }
     {
         Ok(match self.silence()? {
@@ -77,6 +76,7 @@ impl Stop {
     fn silence<E>(self) -> Result<Silence, ReceiveError<E>>
         requires { NamesStopWant self }
         ensures stop { silent_stop result ≡ Some self }
+        ensures end { self ≡ End → result ≡ Ok silence.End }
         ensures want { NamesWantOfMemory result }
     {
         match self {
