@@ -25,8 +25,6 @@ MOST_WORDS = 25_000
 COPIES = re.compile(r"IsSame\w+|Is\w+Copy|IsCopied")
 # Definitions that still lack a comment of their own, by their crates.
 LACKING = {
-    "aws_chunked": {"DecodesOnly", "Trailer", "total_of"},
-    "chain_watch": {"Feeds", "chain_fault_shown", "chain_part_name"},
     "env_config": {
         "FileText", "asked_of", "chosen_of", "faulty_line_of", "file_places", "found_at", "key_of", "no_sections", "profile_section",
         "put_at_key", "sections_of", "session_section", "values_of",

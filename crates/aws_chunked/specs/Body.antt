@@ -25,6 +25,7 @@ use Rattle.aws_chunked.specs.declared.stop.Stop.TheVariants as stop
 
 -- ## Frames
 
+-- a trailer: its name and its value
 abbrev pub Trailer : Type 0
 Trailer = List ℕ × List ℕ
 
@@ -335,10 +336,11 @@ module _ {F G : Type 0} where
     abbrev pub text_to_come : AwsChunkedBody F G → Option TextLeft
     text_to_come body = option_map (text_to_come_with body) (source.left body.source)
 
-    -- the parts of the text that aren't made yet, and how much data there is in all, where the source tells its frames
+    -- the parts of the text that aren't made yet, where the source tells its frames
     abbrev pub parts_due : AwsChunkedBody F G → Option (List Part)
     parts_due body = option_map (λ (rest : TextLeft). rest.parts) (text_to_come body)
 
+    -- how much data there is in all, where the source tells its frames
     abbrev pub total_of : AwsChunkedBody F G → Option ℕ
     total_of body = option_map (λ (rest : TextLeft). rest.total) (text_to_come body)
 

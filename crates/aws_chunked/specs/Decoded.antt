@@ -82,6 +82,7 @@ abbrev pub IsOnly : List ℕ → Decoded → Type 0
 IsOnly bytes decoded = (body : List ℕ) (signatures : List (List ℕ)) (trailers : List Trailer) → IsTextOf body signatures trailers bytes
     → (body ≡ decoded.body) × (signatures ≡ map string_bytes decoded.signatures.items) × (trailers ≡ decoded.trailers)
 
+-- where data, signatures and trailers are answered, no others have that text
 abbrev pub DecodesOnly : List ℕ → Result Decoded DecodeFault → Type 0
 DecodesOnly bytes (Ok decoded) = IsOnly bytes decoded
 DecodesOnly bytes (Err fault) = Unit {0}

@@ -6,7 +6,7 @@ use Rattle.chain_watch.specs.declared.chain_fault.ChainPart.TheVariants.{NotFram
 use Rattle.chain_watch.specs.declared.chain_fault.ChainFault.{ChainFault}
 use Rattle.chain_watch.specs.declared.chain_fault.ChainFault.TheVariants.{NotChain, Mismatch, NoMemory}
 
--- the name of a part
+-- the name of a part of a frame in a chain
 abbrev pub chain_part_name : ChainPart → List ℕ
 chain_part_name NotFrame = codes "NotFrame"
 chain_part_name Headers = codes "Headers"
@@ -30,7 +30,7 @@ chain_fault_text (NotChain frame part) = codes "frame " ++ (decimal frame ++ (co
 chain_fault_text (Mismatch frame carried recomputed) = codes "frame " ++ (decimal frame ++ codes " carries another signature than its own")
 chain_fault_text NoMemory = codes "no memory"
 
--- and shown as, for whoever looks for a mistake
+-- what a fault of a chain is shown as, for whoever looks for a mistake: no recomputed signature
 abbrev pub chain_fault_shown : ChainFault → List ℕ
 chain_fault_shown (NotChain frame part) = codes "NotChain { frame: " ++ (decimal frame ++ (codes ", part: " ++ (chain_part_name part ++ codes " }")))
 chain_fault_shown (Mismatch frame carried recomputed) = codes "Mismatch { frame: " ++ (decimal frame ++ codes ", .. }")

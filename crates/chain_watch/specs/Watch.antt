@@ -74,6 +74,7 @@ FeedsAt (failed told) old piece events new gained result = (result ≡ Err told)
 FeedsAt at old piece events new gained result =
     FeedsPiece old piece events new gained result ⊎ ((result ≡ Err NoMemory) × DoesNothing old events new gained)
 
+-- what a call of `feed` does, at the point where the watch is
 abbrev pub Feeds : Watching → List ℕ → List Parts → Watching → List Parts → Result Watched ChainFault → Type 0
 Feeds old = FeedsAt old.at old
 
