@@ -1,0 +1,25 @@
+use Rattle.std.proofs.Common.{sym, ◌∙◌}
+use Rattle.request_check.proofs.ReadingLemmas.{unread_spaced, unread_undigited, unread_unlabelled, unread_unmarked, unread_unnamed}
+use Rattle.request_door.proofs.authorization.read_parts.Goals as goal
+
+pub returns-in_err-front : goal.returns-in_err-front
+returns-in_err-front c = rw c.from_residual.ensures (unread_unmarked c.args.text.now c.in_err-front.ensures)
+
+pub returns-in_err-front-2 : goal.returns-in_err-front-2
+returns-in_err-front-2 c =
+    rw c.from_residual-in_err-front-2.ensures (unread_unnamed c.args.text.now (c.in_ok-front.front, c.in_ok-front.signature) c.in_ok-front.ensures c.in_err-front-2.ensures)
+
+pub returns-in_err-credential : goal.returns-in_err-credential
+returns-in_err-credential c =
+    rw c.from_residual-in_err-credential.ensures (unread_unlabelled c.args.text.now (c.in_ok-front.front, c.in_ok-front.signature)
+    (c.in_ok-front-2.front, c.in_ok-front-2.names) c.in_ok-front.ensures c.in_ok-front-2.ensures c.in_err-credential.ensures.cases)
+
+pub returns-then-not-is_signature : goal.returns-then-not-is_signature
+returns-then-not-is_signature c =
+    unread_undigited c.args.text.now (c.in_ok-front.front, c.in_ok-front.signature) (c.in_ok-front-2.front, c.in_ok-front-2.names)
+    c.in_ok-front.ensures c.in_ok-front-2.ensures (sym c.is_signature.ensures ∙ c.if-not-is_signature.true)
+
+pub returns-then-has_space : goal.returns-then-has_space
+returns-then-has_space c =
+    unread_spaced c.args.text.now (c.in_ok-front.front, c.in_ok-front.signature) (c.in_ok-front-2.front, c.in_ok-front-2.names)
+    c.in_ok-front.ensures c.in_ok-front-2.ensures (sym c.has_space.ensures ∙ c.if-has_space.true)

@@ -1,0 +1,26 @@
+use Rattle.std.proofs.Common.{ℕ, List, Option, Ok, Err, ap, subst, ◌∙◌}
+use Rattle.std.proofs.lemmas.Result.{err_from_is_err_and}
+use Rattle.smithy_core.specs.Moment.{Instant}
+use Rattle.smithy_core.specs.TextPairs.{text_pairs}
+use Rattle.smithy_core.specs.declared.request.HttpRequest.{HttpRequest}
+use Rattle.sigv4.specs.Query.{Pair}
+use Rattle.sigv4.specs.Settings.{Settings, settings_of}
+use Rattle.request_door.specs.DoorCarried.{ReadsCarried}
+use Rattle.request_door.specs.Doors.{DoorInput}
+use Rattle.request_door.specs.declared.limits.Limits.{Limits}
+use Rattle.request_door.proofs.DoorOrderLemmas.{input, refused_carried}
+use Rattle.request_door.proofs.door.admit_pairs.Goals as goal
+
+pub admit_texts-requires : goal.admit_texts-requires
+admit_texts-requires g c = record {
+  uri = c.requires.uri;
+  accepted = c.requires.accepted;
+  reads = subst (λ (pairs : List Pair). ReadsCarried c.args.request.now.headers pairs (Ok c.in-Ok.texts)) c.requires.pairs_are c.in-Ok.ensures;
+}
+
+pub returns-in-Err : goal.returns-in-Err
+returns-in-Err g c =
+    let asked = input c.args.request.now c.args.body.now (settings_of c.args.settings.now) c.args.region.now c.args.name.now (g.K.Keys.secrets c.args.keys.now)
+    c.args.now c.args.limits.now in
+    let reads = subst (λ (pairs : List Pair). ReadsCarried c.args.request.now.headers pairs (Err c.in-Err.fault)) c.requires.pairs_are c.in-Err.ensures in
+    refused_carried asked c.requires.uri c.requires.accepted _ reads

@@ -1,0 +1,11 @@
+use Rattle.eventstream.specs.Key.{Signer}
+use Rattle.std.proofs.Common.{◌∙◌, sym}
+use Rattle.std.proofs.lemmas.Result.{err_from_is_err_and}
+use Rattle.sigv4.specs.Settings.{settings_of}
+use Rattle.request_door.proofs.DoorLemmas.{last_tested, last_untested}
+use Rattle.request_door.proofs.door.test_last.Goals as goal
+
+pub returns : goal.returns
+returns c = λ seal uri so.
+    last_tested c.args.request.now (settings_of c.args.settings.now) c.args.body.now _ c.args.form seal uri _ _ c.test_signature.result c.shown_payload.ensures
+    c.in_ok-payload.ensures.0 c.in_ok-payload.ensures.1 (c.test_signature.ensures seal uri so)

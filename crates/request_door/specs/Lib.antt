@@ -1,0 +1,12 @@
+pub mod DoorAcceptance
+pub mod DoorCarried
+pub mod DoorCodes
+pub mod DoorFaults
+pub mod DoorLaws
+pub mod DoorNames
+pub mod DoorOneAnswer
+pub mod DoorOrder
+pub mod DoorPayloads
+pub mod DoorSignature
+pub mod DoorTerms
+pub mod Doors

@@ -1,0 +1,276 @@
+ghost use Rattle.std.specs.Prelude.{ℕ, List, None, IsSome, IfOk, MatchBool, ◌≡◌, string_bytes};
+ghost use Rattle.http_uri.specs.declared.uri.Uri.{Uri as Target};
+ghost use Rattle.smithy_core.specs.TextPairs.{text_pairs};
+ghost use Rattle.smithy_http.specs.Target.{target_of};
+ghost use Rattle.sigv4.specs.Settings.{settings_of};
+ghost use Rattle.request_check.specs.Recomputed.{unfit_sent};
+ghost use Rattle.request_check.specs.Sealed.{SealParts};
+ghost use Rattle.request_door.specs.DoorCarried.{texts_carried};
+ghost use Rattle.request_door.specs.DoorSignature.{IsSealedSo, SomeSeal};
+ghost use Rattle.request_door.specs.DoorTerms.{told_terms};
+ghost use Rattle.request_door.specs.Doors.{AcceptsTarget, AnswersDoor, CarriesTerms, CarriesTexts, FindsSecret, HasPairs, TellsRequest, TestsLast};
+
+use crate::admitted::Admitted;
+use crate::carried::{Carried, read_carried};
+use crate::fault::DoorFault;
+use crate::keys::Keys;
+use crate::limits::Limits;
+use crate::names::test_names;
+use crate::payload::{DoorPayload, read_payload, shown_payload, signed_payload};
+use crate::signature::test_signature;
+use crate::terms::{Terms, read_terms, timely_until};
+use http_uri::Uri;
+use request_check::parts::query_pairs;
+use sigv4::parts::{test_headers, test_host};
+use sigv4::{SignableBody, SigningSettings};
+use smithy_core::{Headers, HttpRequest, Mem, Moment};
+use smithy_http::read_target;
+use std::alloc::Global;
+
+/// A service's door: what is told of a signed request that passes each of its tests at a moment, and else exactly the first test
+/// that is met (`specs/Doors.antt`).
+///
+/// The signature stands in the `authorization` header or in the parameters of a presigned target. The region and the service's name
+/// are the service's own, and so are the settings: of these are read the two on the path, `payload_checksum_kind`, by which the
+/// body of a presigned request without the header `x-amz-content-sha256` is taken as unsigned, as S3 takes it, and
+/// `session_token_mode`, by which a token may be added after signing.
+///
+/// ```rust
+/// match admit(alloc, &request, body, &settings, "us-east-1", "s3", &keys, now, &Limits::new()) {
+///     Ok(admitted) => serve(&admitted.key_id, ..),
+///     Err(fault) => refuse(fault.code()),
+/// }
+/// ```
+///
+/// What a service still has to decide: what a key may do; whether a presigned target may be used more than once; and, where the
+/// payload isn't signed as a digest, whether it takes such a body, whose chunks it tests itself from
+/// [`Admitted::signature`](crate::Admitted::signature) on. A header that isn't among the names isn't signed.
+///
+/// The tests that need no hash come first, and the key is looked up after them. The names are tested for their number first, and
+/// each of them is looked for among the headers, so time grows with the request's length times that limit. Memory stays within a
+/// small multiple of the request's size. The two signatures are compared over their whole lengths.
+///
+/// # Errors
+///
+/// In this order, each exactly where its test is the first that is met:
+///
+/// - [`DoorFault::InvalidTarget`] where the target isn't accepted, and [`DoorFault::InvalidHeader`] where a header is outside its
+///   grammar, or there is no host;
+/// - [`DoorFault::BothForms`] and [`DoorFault::NoForm`] where a signature is carried in both forms, or in none;
+/// - [`DoorFault::Missing`] and [`DoorFault::Repeated`] for each part that has to be there once: the `authorization` and the
+///   `x-amz-date` header, or the six parameters in the order of [`PresignPart`](presign_check::PresignPart);
+/// - [`DoorFault::OtherAlgorithm`], and [`DoorFault::Malformed`] where the header or the signature isn't in its form;
+/// - [`DoorFault::BadDate`]; [`DoorFault::BadCredential`], [`DoorFault::OtherService`], [`DoorFault::OtherRegion`] and
+///   [`DoorFault::OtherDay`], by the credential's end; [`DoorFault::BadExpiry`] and [`DoorFault::LongExpiry`];
+/// - [`DoorFault::TooManyNames`]; [`DoorFault::BadNames`]; [`DoorFault::AbsentHeader`]; [`DoorFault::UnsignedHost`];
+///   [`DoorFault::UnsignedHeader`] for an `x-amz-` header;
+/// - [`DoorFault::TooEarly`] and [`DoorFault::TooLate`] by the limits and the moment's second;
+/// - [`DoorFault::RepeatedPayload`] and [`DoorFault::BadPayload`] by the header `x-amz-content-sha256`;
+/// - [`DoorFault::UnknownKey`]; [`DoorFault::OtherPayload`] where that header has another digest than the body;
+///   [`DoorFault::Mismatch`].
+pub fn admit<K: Keys>(
+    alloc: Global,
+    request: &HttpRequest,
+    body: &[u8],
+    settings: &SigningSettings,
+    region: &str,
+    name: &str,
+    keys: &K,
+    now: Moment,
+    limits: &Limits,
+) -> Result<Admitted, DoorFault>
+    ensures { AnswersDoor (record {
+      request = request.now;
+      body = body.now;
+      settings = settings_of settings.now;
+      region = region.now;
+      name = name.now;
+      secrets = K.secrets keys.now;
+      now = now;
+      limits = limits.now;
+    }) result }
+{
+    let uri = accepted_target(alloc, request)?;
+    let pairs = query_pairs(alloc, &uri)?;
+    let pairs = pairs.as_slice();
+    admit_pairs(
+        alloc, request, pairs, body, settings, region, name, keys, now, limits,
+    )
+}
+
+// What is told of a request whose target is accepted and has these pairs in its query.
+fn admit_pairs<'a, K: Keys>(
+    alloc: Global,
+    request: &'a HttpRequest,
+    pairs: &'a [(String, String)],
+    body: &[u8],
+    settings: &SigningSettings,
+    region: &str,
+    name: &str,
+    keys: &K,
+    now: Moment,
+    limits: &Limits,
+) -> Result<Admitted, DoorFault>
+    requires { HasPairs request.now (text_pairs pairs.now) }
+    ensures { AnswersDoor (record {
+      request = request.now;
+      body = body.now;
+      settings = settings_of settings.now;
+      region = region.now;
+      name = name.now;
+      secrets = K.secrets keys.now;
+      now = now;
+      limits = limits.now;
+    }) result }
+{
+    match read_carried(&request.headers, pairs) {
+        Ok(texts) => admit_texts(
+            alloc, request, &texts, body, settings, region, name, keys, now, limits,
+        ),
+        Err(fault) => Err(fault),
+    }
+}
+
+// What is told of a request that carries these texts.
+fn admit_texts<K: Keys>(
+    alloc: Global,
+    request: &HttpRequest,
+    texts: &Carried<'_>,
+    body: &[u8],
+    settings: &SigningSettings,
+    region: &str,
+    name: &str,
+    keys: &K,
+    now: Moment,
+    limits: &Limits,
+) -> Result<Admitted, DoorFault>
+    requires { CarriesTexts request.now texts.now }
+    ensures { AnswersDoor (record {
+      request = request.now;
+      body = body.now;
+      settings = settings_of settings.now;
+      region = region.now;
+      name = name.now;
+      secrets = K.secrets keys.now;
+      now = now;
+      limits = limits.now;
+    }) result }
+{
+    match read_terms(alloc, texts, region, name, limits) {
+        Ok(terms) => admit_terms(
+            alloc, request, texts, &terms, body, settings, region, name, keys, now, limits,
+        ),
+        Err(fault) => Err(fault),
+    }
+}
+
+// What is told of a request whose texts tell these terms.
+fn admit_terms<K: Keys>(
+    alloc: Global,
+    request: &HttpRequest,
+    texts: &Carried<'_>,
+    terms: &Terms<'_>,
+    body: &[u8],
+    settings: &SigningSettings,
+    region: &str,
+    name: &str,
+    keys: &K,
+    now: Moment,
+    limits: &Limits,
+) -> Result<Admitted, DoorFault>
+    requires { CarriesTerms request.now region.now name.now limits.now texts.now terms.now }
+    ensures { AnswersDoor (record {
+      request = request.now;
+      body = body.now;
+      settings = settings_of settings.now;
+      region = region.now;
+      name = name.now;
+      secrets = K.secrets keys.now;
+      now = now;
+      limits = limits.now;
+    }) result }
+{
+    let (place, mode) = (texts.place, settings.session_token_mode);
+    test_names(alloc, &request.headers, place, mode, limits, texts.names)?;
+    let until = timely_until(place, limits, now, terms)?;
+    let form = read_payload(place, settings.payload_checksum_kind, &request.headers)?;
+    let secret = known_secret(alloc, keys, terms.key_id)?;
+    let secret = secret.as_str();
+    test_last(alloc, request, body, settings, region, name, form, secret)?;
+    let admitted = told(alloc, texts, terms, until, form)?;
+    Ok(admitted)
+}
+
+// The target of a request whose headers and host are fit for signing.
+fn accepted_target(alloc: Global, request: &HttpRequest) -> Result<Uri, DoorFault>
+    ensures { AcceptsTarget request.now result }
+{
+    let uri = read_target(alloc, request.target.as_str())?;
+    if is_fit(&uri, &request.headers) {
+        Ok(uri)
+    } else {
+        Err(DoorFault::InvalidHeader)
+    }
+}
+
+// Whether headers and host are fit for signing.
+fn is_fit(uri: &Uri, headers: &Headers) -> bool
+    ensures { MatchBool result (unfit_sent (target_of uri.now) headers.now ≡ None) (IsSome (unfit_sent (target_of uri.now) headers.now)) }
+{
+    match test_headers(headers) {
+        Ok(()) => test_host(uri, headers).is_ok(),
+        Err(_) => false,
+    }
+}
+
+// The secret of a key.
+fn known_secret<K: Keys>(alloc: Global, keys: &K, key_id: &str) -> Result<String, DoorFault>
+    ensures { FindsSecret (K.secrets keys.now key_id.now) result }
+{
+    match keys.secret(alloc, key_id)? {
+        Some(secret) => Ok(secret),
+        None => Err(DoorFault::UnknownKey),
+    }
+}
+
+// The tests under the secret: that the body is the one that was signed, and that the signature is the request's own.
+fn test_last(
+    alloc: Global,
+    request: &HttpRequest,
+    body: &[u8],
+    settings: &SigningSettings,
+    region: &str,
+    name: &str,
+    form: DoorPayload,
+    secret: &str,
+) -> Result<(), DoorFault>
+    requires { SomeSeal request.now region.now name.now }
+    ensures { (seal : SealParts) (uri : Target) → IsSealedSo request.now region.now name.now seal uri
+        → TestsLast request.now (settings_of settings.now) body.now
+        (record { secret = secret.now; region = region.now; name = name.now }) form seal uri result }
+{
+    let payload = signed_payload(alloc, shown_payload(&request.headers), form, body)?;
+    let payload = SignableBody::Precomputed(payload);
+    test_signature(alloc, request, settings, region, name, &payload, secret)
+}
+
+// What is told of an admitted request.
+fn told(
+    alloc: Global,
+    texts: &Carried<'_>,
+    terms: &Terms<'_>,
+    until: i128,
+    form: DoorPayload,
+) -> Mem<Admitted>
+    ensures { IfOk result (TellsRequest (texts_carried texts.now) (told_terms terms.now) until form) }
+{
+    Ok(Admitted {
+        key_id: String::from_str(alloc, terms.key_id)?,
+        place: texts.place,
+        at: terms.at,
+        until,
+        names: String::from_str(alloc, texts.names)?,
+        payload: form,
+        signature: String::from_str(alloc, texts.signature)?,
+    })
+}
