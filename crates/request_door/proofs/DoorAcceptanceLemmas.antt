@@ -20,7 +20,7 @@ use Rattle.request_check.proofs.AlikeLemmas.{sent_parts}
 use Rattle.request_check.proofs.HeaderFormLemmas as header
 use Rattle.request_check.proofs.QueryFormLemmas as query
 use Rattle.request_check.proofs.SealLemmas.{one_seal}
-use Rattle.request_door.specs.DoorAcceptance.{IsOwnSignature, IsSignedFor}
+use Rattle.request_door.specs.DoorAcceptance.{IsOwnSignature, IsSignedForDoor}
 use Rattle.request_door.specs.DoorTerms.{door_seal}
 use Rattle.request_door.specs.Doors.{DoorInput, DoorReading, HasKey, MeetsLast, door_payload, door_signature}
 use Rattle.request_door.specs.declared.fault.DoorFault.TheVariants.{Mismatch}

@@ -10,7 +10,7 @@ use Rattle.request_check.specs.Carried.{IsAuthorization, ReadsAuthorization}
 use Rattle.presign_check.specs.Terms.{algorithm_name}
 use Rattle.presign_check.specs.declared.part.PresignPart.{PresignPart}
 use Rattle.presign_check.specs.declared.part.PresignPart.TheVariants.{Algorithm, Credential, Date, Expires, SignedHeaders, Signature}
-use Rattle.request_door.specs.DoorCarried.{CarriesAt, DoorTexts, IsInForm, LacksFront, MeetsCarried, MeetsForm, ReadsCarried, ReadsCarriedAt, are_several, first_text, form_tests, has_authorization, has_parameters, part_values, tests_of, texts_carried}
+use Rattle.request_door.specs.DoorCarried.{CarriesAt, DoorTexts, IsInForm, LacksFront, MeetsCarried, MeetsDoorForm, ReadsCarried, ReadsCarriedAt, are_several, first_text, form_tests, has_authorization, has_parameters, part_values, tests_of, texts_carried}
 use Rattle.request_door.specs.DoorOrder.{IsFirstMet, NoneMet}
 use Rattle.request_door.specs.declared.carried.Carried.{Carried}
 use Rattle.request_door.specs.declared.fault.DoorFault.{DoorFault}
@@ -19,7 +19,7 @@ use Rattle.request_door.proofs.DoorLemmas.{unfailed, unmet}
 
 -- ---- the form
 
-pub in_one_form : (headers pairs : List Pair) (place : SignatureLocation) → IsInForm headers pairs place → NoneMet (MeetsForm headers pairs) form_tests
+pub in_one_form : (headers pairs : List Pair) (place : SignatureLocation) → IsInForm headers pairs place → NoneMet (MeetsDoorForm headers pairs) form_tests
 in_one_form headers pairs Headers is = (λ met. unmet (has_parameters pairs) is.1 met.1, (λ met. unfailed (has_authorization headers) is.0 met.0, tt))
 in_one_form headers pairs QueryParams is = (λ met. unmet (has_authorization headers) is.0 met.0, (λ met. unfailed (has_parameters pairs) is.1 met.1, tt))
 

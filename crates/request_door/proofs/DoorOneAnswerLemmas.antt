@@ -17,13 +17,13 @@ use Rattle.request_check.proofs.SealLemmas.{absent}
 use Rattle.request_check.proofs.StampLemmas.{stamped_once}
 use Rattle.request_check.specs.Carried.{IsAuthorization}
 use Rattle.presign_check.proofs.SignatureLemmas.{one_target, spelled_once}
-use Rattle.request_door.specs.DoorCarried.{CarriesAt, DoorTexts, IsInForm, MeetsCarried, MeetsForm, form_tests, has_authorization, tests_of}
+use Rattle.request_door.specs.DoorCarried.{CarriesAt, DoorTexts, IsInForm, MeetsCarried, MeetsDoorForm, form_tests, has_authorization, tests_of}
 use Rattle.request_door.specs.DoorNames.{MeetsName, name_tests}
 use Rattle.request_door.specs.DoorOneAnswer.{HasOneDoorAnswer, IsSameAtDoor, IsToldSame}
 use Rattle.request_door.specs.DoorOrder.{IsFirstMet, NoneMet}
 use Rattle.request_door.specs.DoorPayloads.{IsOtherPayload, MeetsPayload, payload_tests, shown_form, shown_payload, signed_payload}
 use Rattle.request_door.specs.DoorTerms.{DoorTerms, MeetsTerm, MeetsTime, TellsTerms, door_seal, good_until, term_tests, time_tests}
-use Rattle.request_door.specs.Doors.{AnswersDoor, DoorInput, DoorReading, HasForm, HasKey, HasNames, HasPayload, HasTarget, HasTexts, HasTold, IsAdmitted, IsTimely, MeetsLast, RefusesCarried, RefusesFirst, RefusesForm, RefusesHeader, RefusesKey, RefusesLast, RefusesNames, RefusesPayload, RefusesTarget, RefusesTerms, RefusesTime, door_signature, last_tests}
+use Rattle.request_door.specs.Doors.{AnswersDoor, DoorInput, DoorReading, HasForm, HasKey, HasNames, HasPayload, HasTarget, HasCarriedTexts, HasTold, IsAdmitted, IsTimely, MeetsLast, RefusesCarried, RefusesFirst, RefusesForm, RefusesHeader, RefusesKey, RefusesLast, RefusesNames, RefusesPayload, RefusesDoorTarget, RefusesTerms, RefusesTime, door_signature, last_tests}
 use Rattle.request_door.specs.declared.admitted.Admitted.{Admitted}
 use Rattle.request_door.specs.declared.fault.DoorFault.{DoorFault}
 use Rattle.request_door.specs.declared.fault.DoorFault.TheVariants.{NoMemory}
@@ -102,7 +102,7 @@ module _ (asked : DoorInput) where
       one_place asked.request.headers (decoded (target_of b.uri)) a.texts.place b.texts.place
       (subst (λ (t : Target). IsInForm asked.request.headers (decoded t) a.texts.place) (targets a b p.target q.target) p.in_form) q.in_form
 
-  texts : (a b : DoorReading) → HasTexts asked a → HasTexts asked b → a.texts ≡ b.texts
+  texts : (a b : DoorReading) → HasCarriedTexts asked a → HasCarriedTexts asked b → a.texts ≡ b.texts
   texts a b p q =
       let place = places a b p.form q.form in
       one_carried b.texts.place asked.request.headers (decoded (target_of b.uri)) a.texts b.texts place
@@ -127,9 +127,9 @@ module _ (asked : DoorInput) where
   -- ---- a test that is met of one reading is met of the other
 
   move_form : (a b : DoorReading) (f : DoorFault) → HasTarget asked a → HasTarget asked b
-      → IsFirstMet (MeetsForm asked.request.headers (decoded (target_of a.uri))) form_tests f
-      → IsFirstMet (MeetsForm asked.request.headers (decoded (target_of b.uri))) form_tests f
-  move_form a b f p q first = subst (λ (t : Target). IsFirstMet (MeetsForm asked.request.headers (decoded t)) form_tests f) (targets a b p q) first
+      → IsFirstMet (MeetsDoorForm asked.request.headers (decoded (target_of a.uri))) form_tests f
+      → IsFirstMet (MeetsDoorForm asked.request.headers (decoded (target_of b.uri))) form_tests f
+  move_form a b f p q first = subst (λ (t : Target). IsFirstMet (MeetsDoorForm asked.request.headers (decoded t)) form_tests f) (targets a b p q) first
 
   move_carried : (a b : DoorReading) (f : DoorFault) → HasForm asked a → HasForm asked b
       → IsFirstMet (MeetsCarried a.texts.place asked.request.headers (decoded (target_of a.uri))) (tests_of a.texts.place) f
@@ -138,7 +138,7 @@ module _ (asked : DoorInput) where
       subst (λ (t : Target). IsFirstMet (MeetsCarried b.texts.place asked.request.headers (decoded t)) (tests_of b.texts.place) f) (targets a b p.target q.target)
       (subst (λ (at : SignatureLocation). IsFirstMet (MeetsCarried at asked.request.headers (decoded (target_of a.uri))) (tests_of at) f) (places a b p q) first)
 
-  move_terms : (a b : DoorReading) (f : DoorFault) → HasTexts asked a → HasTexts asked b
+  move_terms : (a b : DoorReading) (f : DoorFault) → HasCarriedTexts asked a → HasCarriedTexts asked b
       → IsFirstMet (MeetsTerm asked.region asked.name asked.limits a.texts) term_tests f
       → IsFirstMet (MeetsTerm asked.region asked.name asked.limits b.texts) term_tests f
   move_terms a b f p q first = subst (λ (t : DoorTexts). IsFirstMet (MeetsTerm asked.region asked.name asked.limits t) term_tests f) (texts a b p q) first
@@ -189,7 +189,7 @@ module _ (asked : DoorInput) where
 
   -- ---- what passed a group of tests meets none of them
 
-  no_target : (f : DoorFault) (uri : Uri) → RefusesTarget asked f → SpellsTarget (string_bytes asked.request.target) uri → ⊥
+  no_target : (f : DoorFault) (uri : Uri) → RefusesDoorTarget asked f → SpellsTarget (string_bytes asked.request.target) uri → ⊥
   no_target f uri met spelled = spelled_once (string_bytes asked.request.target) uri spelled met.0
 
   no_header : (f : DoorFault) (r : DoorReading) → RefusesHeader asked f → HasTarget asked r → ⊥
@@ -199,9 +199,9 @@ module _ (asked : DoorInput) where
 
   no_form : (f : DoorFault) (r : DoorReading) → RefusesForm asked f → HasForm asked r → ⊥
   no_form f r (a, p, first) has =
-      none_first (MeetsForm asked.request.headers (decoded (target_of r.uri))) form_tests f has.untouched (move_form a r f p has.target first)
+      none_first (MeetsDoorForm asked.request.headers (decoded (target_of r.uri))) form_tests f has.untouched (move_form a r f p has.target first)
 
-  no_carried : (f : DoorFault) (r : DoorReading) → RefusesCarried asked f → HasTexts asked r → ⊥
+  no_carried : (f : DoorFault) (r : DoorReading) → RefusesCarried asked f → HasCarriedTexts asked r → ⊥
   no_carried f r (a, p, first) has =
       none_first (MeetsCarried r.texts.place asked.request.headers (decoded (target_of r.uri))) (tests_of r.texts.place) f has.whole (move_carried a r f p has.form first)
 
@@ -269,7 +269,7 @@ module _ (asked : DoorInput) where
   had_told f (inl (r, p, first)) = (r, p)
   had_told f (inr m) = let had = had_names f m in (had.0, had.1.told)
 
-  had_texts : (f : DoorFault) → FromTerms f → (r : DoorReading) × HasTexts asked r
+  had_texts : (f : DoorFault) → FromTerms f → (r : DoorReading) × HasCarriedTexts asked r
   had_texts f (inl (r, p, first)) = (r, p)
   had_texts f (inr m) = let had = had_told f m in (had.0, had.1.texts)
 
@@ -331,7 +331,7 @@ module _ (asked : DoorInput) where
 
   from_form : (f g : DoorFault) → FromForm f → FromForm g → g ≡ f
   from_form f g (inl (a, p, first)) (inl (b, q, other)) =
-      first_once (MeetsForm asked.request.headers (decoded (target_of b.uri))) form_tests f g (move_form a b f p q first) other
+      first_once (MeetsDoorForm asked.request.headers (decoded (target_of b.uri))) form_tests f g (move_form a b f p q first) other
   from_form f g (inl m) (inr n) = let had = had_form g n in absurd (no_form f had.0 m had.1)
   from_form f g (inr m) (inl n) = let had = had_form f m in absurd (no_form g had.0 n had.1)
   from_form f g (inr m) (inr n) = from_carried f g m n

@@ -11,13 +11,13 @@ use Rattle.sigv4.specs.Settings.{Settings}
 use Rattle.sigv4.specs.declared.settings.SignatureLocation.{SignatureLocation}
 use Rattle.sigv4.specs.declared.settings.SignatureLocation.TheVariants.{Headers, QueryParams}
 use Rattle.request_check.specs.Recomputed.{carried_names}
-use Rattle.request_door.specs.DoorCarried.{DoorTexts, IsInForm, MeetsForm, ReadsCarried, form_tests, has_authorization, has_parameters, texts_carried}
+use Rattle.request_door.specs.DoorCarried.{DoorTexts, IsInForm, MeetsDoorForm, ReadsCarried, form_tests, has_authorization, has_parameters, texts_carried}
 use Rattle.request_door.specs.DoorNames.{PassesNames}
 use Rattle.request_door.specs.DoorOrder.{NoneMet}
 use Rattle.request_door.specs.DoorPayloads.{ReadsPayload}
 use Rattle.request_door.specs.DoorSignature.{IsSealedSo, SomeSeal}
-use Rattle.request_door.specs.DoorTerms.{DoorTerms, ReadsTerms, TestsTime, door_seal, told_terms}
-use Rattle.request_door.specs.Doors.{AcceptsTarget, AnswersDoor, DoorInput, DoorReading, FindsSecret, HasForm, HasKey, HasNames, HasPayload, HasTarget, HasTexts, HasTold, IsTimely, TellsRequest, TestsLast}
+use Rattle.request_door.specs.DoorTerms.{DoorTerms, ReadsDoorTerms, TestsTime, door_seal, told_terms}
+use Rattle.request_door.specs.Doors.{AcceptsTarget, AnswersDoor, DoorInput, DoorReading, FindsSecret, HasForm, HasKey, HasNames, HasPayload, HasTarget, HasCarriedTexts, HasTold, IsTimely, TellsRequest, TestsLast}
 use Rattle.request_door.specs.declared.admitted.Admitted.{Admitted}
 use Rattle.request_door.specs.declared.carried.Carried.{Carried}
 use Rattle.request_door.specs.declared.fault.DoorFault.{DoorFault}
@@ -73,7 +73,7 @@ module _ (asked : DoorInput) (uri : Uri) (accepted : AcceptsTarget asked.request
       inl (inr (inr (inr (inl (reading, form, first)))))
 
   module _ (read : Carried) (reads : ReadsCarried asked.request.headers (decoded (target_of uri)) (Ok read)) where
-    left_texts : (terms : DoorTerms) (form : DoorPayload) (secret : List ℕ) → HasTexts asked (read_so_far uri (texts_carried read) terms form secret)
+    left_texts : (terms : DoorTerms) (form : DoorPayload) (secret : List ℕ) → HasCarriedTexts asked (read_so_far uri (texts_carried read) terms form secret)
     left_texts terms form secret = record {
       form = record { target = left_target (texts_carried read) terms form secret; untouched = reads.0; in_form = reads.1 };
       whole = reads.2;
@@ -81,12 +81,12 @@ module _ (asked : DoorInput) (uri : Uri) (accepted : AcceptsTarget asked.request
     }
 
     -- the texts don't tell what they have to
-    pub refused_terms : (fault : DoorFault) → ReadsTerms asked.region asked.name asked.limits (texts_carried read) (Err fault) → AnswersDoor asked (Err fault)
+    pub refused_terms : (fault : DoorFault) → ReadsDoorTerms asked.region asked.name asked.limits (texts_carried read) (Err fault) → AnswersDoor asked (Err fault)
     refused_terms fault (inl first) =
         inl (inr (inr (inr (inr (inl (read_so_far uri (texts_carried read) no_terms Unsigned [], left_texts no_terms Unsigned [], first))))))
     refused_terms fault (inr room) = inr room
 
-    module _ (told : Terms) (tells : ReadsTerms asked.region asked.name asked.limits (texts_carried read) (Ok told)) where
+    module _ (told : Terms) (tells : ReadsDoorTerms asked.region asked.name asked.limits (texts_carried read) (Ok told)) where
       left_told : (form : DoorPayload) (secret : List ℕ) → HasTold asked (read_so_far uri (texts_carried read) (told_terms told) form secret)
       left_told form secret = record { texts = left_texts (told_terms told) form secret; good = tells.0; told = tells.1 }
 

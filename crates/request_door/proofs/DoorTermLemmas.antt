@@ -9,7 +9,7 @@ use Rattle.request_check.proofs.SealLemmas.{absent}
 use Rattle.request_check.proofs.StampLemmas.{stamped_once}
 use Rattle.request_door.specs.DoorCarried.{DoorTexts, texts_carried}
 use Rattle.request_door.specs.DoorOrder.{IsFirstMet, NoneMet}
-use Rattle.request_door.specs.DoorTerms.{DoorTerms, LacksEnd, MeetsTerm, PassesScope, ReadsTerms, TellsTerms, term_tests, told_seconds, told_terms}
+use Rattle.request_door.specs.DoorTerms.{DoorTerms, LacksEnd, MeetsTerm, PassesScope, ReadsDoorTerms, TellsTerms, term_tests, told_seconds, told_terms}
 use Rattle.request_door.specs.declared.carried.Carried.{Carried}
 use Rattle.request_door.specs.declared.fault.DoorFault.{DoorFault}
 use Rattle.request_door.specs.declared.fault.DoorFault.TheVariants.{BadDate, OtherDay, BadExpiry, LongExpiry}
@@ -21,14 +21,14 @@ pub ends : (end text front : List ℕ) → text ≡ front ++ end → LacksEnd en
 ends end text front e lacks = lacks front e
 
 module _ (region name : List ℕ) (limits : Limits) (texts : DoorTexts) where
-  pub bad_date : ReadsStamp texts.date None → ReadsTerms region name limits texts (Err BadDate)
+  pub bad_date : ReadsStamp texts.date None → ReadsDoorTerms region name limits texts (Err BadDate)
   bad_date none = inl (inl (none, refl))
 
   module _ (at : Instant) (stamped : ReadsStamp texts.date (Some at)) where
     dated : ReadsStamp texts.date None → ⊥
     dated none = none at stamped.0 stamped.1
 
-    pub bad_scope : (fault : DoorFault) → PassesScope region name texts.credential (Err fault) → ReadsTerms region name limits texts (Err fault)
+    pub bad_scope : (fault : DoorFault) → PassesScope region name texts.credential (Err fault) → ReadsDoorTerms region name limits texts (Err fault)
     bad_scope fault (inl (inl met)) = inl (inr (dated, inl met))
     bad_scope fault (inl (inr (a, inl met))) = inl (inr (dated, inr (a, inl met)))
     bad_scope fault (inl (inr (a, inr (b, inl met)))) = inl (inr (dated, inr (a, inr (b, inl met))))
@@ -37,10 +37,10 @@ module _ (region name : List ℕ) (limits : Limits) (texts : DoorTexts) where
 
     module _ (scoped : PassesScope region name texts.credential (Ok tt)) where
       behind : (fault : DoorFault) → IsFirstMet (MeetsTerm region name limits texts) (OtherDay ∷ BadExpiry ∷ LongExpiry ∷ []) fault
-          → ReadsTerms region name limits texts (Err fault)
+          → ReadsDoorTerms region name limits texts (Err fault)
       behind fault first = inl (inr (dated, inr (scoped.0, inr (scoped.1.0, inr (scoped.1.1.0, first)))))
 
-      pub other_day : CutsScope (scope at region name) texts.credential None → ReadsTerms region name limits texts (Err OtherDay)
+      pub other_day : CutsScope (scope at region name) texts.credential None → ReadsDoorTerms region name limits texts (Err OtherDay)
       other_day uncut = behind OtherDay (inl ((at, stamped, uncut), refl))
 
       module _ (key_id : List ℕ) (cut : texts.credential ≡ key_id ++ codes "/" ++ scope at region name) where
@@ -49,14 +49,14 @@ module _ (region name : List ℕ) (limits : Limits) (texts : DoorTexts) where
             let same : at ≡ other = stamped_once at other stamped.0 stamp.0 (stamped.1 ∙ sym stamp.1) in
             uncut key_id (cut ∙ ap (λ (t : Instant). key_id ++ codes "/" ++ scope t region name) same)
 
-        pub bad_expiry : told_seconds texts.place texts.expires ≡ None → ReadsTerms region name limits texts (Err BadExpiry)
+        pub bad_expiry : told_seconds texts.place texts.expires ≡ None → ReadsDoorTerms region name limits texts (Err BadExpiry)
         bad_expiry none = behind BadExpiry (inr (same_day, inl (none, refl)))
 
         module _ (seconds : ℕ) (told : told_seconds texts.place texts.expires ≡ Some seconds) where
           spelled : told_seconds texts.place texts.expires ≡ None → ⊥
           spelled none = absent (sym none ∙ told)
 
-          pub long_expiry : limits.expiry < seconds → ReadsTerms region name limits texts (Err LongExpiry)
+          pub long_expiry : limits.expiry < seconds → ReadsDoorTerms region name limits texts (Err LongExpiry)
           long_expiry over = behind LongExpiry (inr (same_day, inr (spelled, inl ((seconds, told, over), refl))))
 
           short : seconds ≤ limits.expiry → MeetsTerm region name limits texts LongExpiry → ⊥

@@ -7,7 +7,7 @@ use Rattle.request_door.specs.declared.fault.DoorFault.TheVariants.{Mismatch}
 
 -- the request that came is the signed request of this case, which was signed in either form with these settings, for this region and name, with a key that is
 -- known by its secret; and what was signed of the payload is what the request shows, or goes without saying
-pub record IsSignedFor (asked : DoorInput) (c : Case) : Type 0 where
+pub record IsSignedForDoor (asked : DoorInput) (c : Case) : Type 0 where
   pub settings : c.settings ≡ asked.settings
   pub region : c.signer.region ≡ asked.region
   pub name : c.signer.name ≡ asked.name
@@ -18,4 +18,4 @@ pub record IsSignedFor (asked : DoorInput) (c : Case) : Type 0 where
 
 -- of a request that was signed the test of the signature isn't met
 abbrev pub IsOwnSignature : DoorInput → Type 0
-IsOwnSignature asked = (c : Case) → IsSignedFor asked c → (reading : DoorReading) → HasKey asked reading → MeetsLast asked reading Mismatch → ⊥
+IsOwnSignature asked = (c : Case) → IsSignedForDoor asked c → (reading : DoorReading) → HasKey asked reading → MeetsLast asked reading Mismatch → ⊥

@@ -38,10 +38,10 @@ abbrev pub form_tests : List DoorFault
 form_tests = BothForms ∷ NoForm ∷ []
 
 -- a test of the form: a signature is carried in both forms, or in none
-abbrev pub MeetsForm : List Pair → List Pair → DoorFault → Type 0
-MeetsForm headers pairs BothForms = (has_authorization headers ≡ true) × (has_parameters pairs ≡ true)
-MeetsForm headers pairs NoForm = (has_authorization headers ≡ false) × (has_parameters pairs ≡ false)
-MeetsForm headers pairs _ = ⊥
+abbrev pub MeetsDoorForm : List Pair → List Pair → DoorFault → Type 0
+MeetsDoorForm headers pairs BothForms = (has_authorization headers ≡ true) × (has_parameters pairs ≡ true)
+MeetsDoorForm headers pairs NoForm = (has_authorization headers ≡ false) × (has_parameters pairs ≡ false)
+MeetsDoorForm headers pairs _ = ⊥
 
 -- the one form in which a signature is carried
 abbrev pub IsInForm : List Pair → List Pair → SignatureLocation → Type 0
@@ -168,8 +168,8 @@ ReadsCarriedAt place headers pairs (Err fault) = IsFirstMet (MeetsCarried place 
 -- the form has no test that is met, and what is carried in it is read, or else the first test that is met
 abbrev pub ReadsCarried : List Pair → List Pair → Result Carried DoorFault → Type 0
 ReadsCarried headers pairs (Ok read) =
-    NoneMet (MeetsForm headers pairs) form_tests × IsInForm headers pairs read.place
+    NoneMet (MeetsDoorForm headers pairs) form_tests × IsInForm headers pairs read.place
     × NoneMet (MeetsCarried read.place headers pairs) (tests_of read.place) × CarriesAt read.place headers pairs (texts_carried read)
 ReadsCarried headers pairs (Err fault) =
-    IsFirstMet (MeetsForm headers pairs) form_tests fault
+    IsFirstMet (MeetsDoorForm headers pairs) form_tests fault
     ⊎ ((place : SignatureLocation) × IsInForm headers pairs place × IsFirstMet (MeetsCarried place headers pairs) (tests_of place) fault)

@@ -24,13 +24,13 @@ is_before Equal = false
 is_before Greater = false
 
 -- a text comes before another, byte by byte
-abbrev pub text_before : List ℕ → List ℕ → Bool
-text_before first second = is_before (slice_cmp nat_cmp first second)
+abbrev pub is_text_before : List ℕ → List ℕ → Bool
+is_text_before first second = is_before (slice_cmp nat_cmp first second)
 
 -- the names are in lower case, and each comes before the next; so none is empty, and none is there twice
 abbrev pub are_ordered_after : List ℕ → List (List ℕ) → Bool
 are_ordered_after last [] = true
-are_ordered_after last (name ∷ names) = text_before last name && (bytes_eq name (lower name) && are_ordered_after name names)
+are_ordered_after last (name ∷ names) = is_text_before last name && (bytes_eq name (lower name) && are_ordered_after name names)
 
 -- a header of this name is there; the host goes by the target where none is
 abbrev pub is_there : List Pair → List ℕ → Bool

@@ -88,9 +88,9 @@ pub record TellsTerms (region name : List ℕ) (texts : DoorTexts) (terms : Door
   pub expires : told_seconds texts.place texts.expires ≡ Some terms.seconds
 
 -- what the texts tell, where no test of them is met, and else the first that is, unless memory ran out
-abbrev pub ReadsTerms : List ℕ → List ℕ → Limits → DoorTexts → Result Terms DoorFault → Type 0
-ReadsTerms region name limits texts (Ok read) = NoneMet (MeetsTerm region name limits texts) term_tests × TellsTerms region name texts (told_terms read)
-ReadsTerms region name limits texts (Err fault) = IsFirstMet (MeetsTerm region name limits texts) term_tests fault ⊎ (fault ≡ NoMemory)
+abbrev pub ReadsDoorTerms : List ℕ → List ℕ → Limits → DoorTexts → Result Terms DoorFault → Type 0
+ReadsDoorTerms region name limits texts (Ok read) = NoneMet (MeetsTerm region name limits texts) term_tests × TellsTerms region name texts (told_terms read)
+ReadsDoorTerms region name limits texts (Err fault) = IsFirstMet (MeetsTerm region name limits texts) term_tests fault ⊎ (fault ≡ NoMemory)
 
 -- the seal that the texts are, with these terms
 abbrev pub door_seal : DoorTexts → DoorTerms → SealParts

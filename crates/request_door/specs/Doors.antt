@@ -11,12 +11,12 @@ use Rattle.sigv4.specs.Query.{Pair, decoded}
 use Rattle.sigv4.specs.Settings.{Settings}
 use Rattle.request_check.specs.Recomputed.{carried_names, recomputed, unfit_sent}
 use Rattle.request_check.specs.Sealed.{SealParts}
-use Rattle.request_door.specs.DoorCarried.{CarriesAt, DoorTexts, IsInForm, MeetsCarried, MeetsForm, ReadsCarried, form_tests, tests_of, texts_carried}
+use Rattle.request_door.specs.DoorCarried.{CarriesAt, DoorTexts, IsInForm, MeetsCarried, MeetsDoorForm, ReadsCarried, form_tests, tests_of, texts_carried}
 use Rattle.request_door.specs.DoorNames.{MeetsName, name_tests}
 use Rattle.request_door.specs.DoorOrder.{IsFirstMet, NoneMet}
 use Rattle.request_door.specs.DoorPayloads.{IsOtherPayload, MeetsPayload, payload_tests, shown_form, shown_payload, signed_payload}
 use Rattle.request_door.specs.DoorSignature.{seal_signature}
-use Rattle.request_door.specs.DoorTerms.{DoorTerms, MeetsTerm, MeetsTime, ReadsTerms, TellsTerms, door_seal, good_until, term_tests, time_tests}
+use Rattle.request_door.specs.DoorTerms.{DoorTerms, MeetsTerm, MeetsTime, ReadsDoorTerms, TellsTerms, door_seal, good_until, term_tests, time_tests}
 use Rattle.request_door.specs.declared.admitted.Admitted.{Admitted}
 use Rattle.request_door.specs.declared.carried.Carried.{Carried}
 use Rattle.request_door.specs.declared.fault.DoorFault.{DoorFault}
@@ -64,18 +64,18 @@ pub record HasTarget (asked : DoorInput) (reading : DoorReading) : Type 0 where
 -- and the signature is carried in one form
 pub record HasForm (asked : DoorInput) (reading : DoorReading) : Type 0 where
   pub target : HasTarget asked reading
-  pub untouched : NoneMet (MeetsForm asked.request.headers (decoded (target_of reading.uri))) form_tests
+  pub untouched : NoneMet (MeetsDoorForm asked.request.headers (decoded (target_of reading.uri))) form_tests
   pub in_form : IsInForm asked.request.headers (decoded (target_of reading.uri)) reading.texts.place
 
 -- and its texts are those
-pub record HasTexts (asked : DoorInput) (reading : DoorReading) : Type 0 where
+pub record HasCarriedTexts (asked : DoorInput) (reading : DoorReading) : Type 0 where
   pub form : HasForm asked reading
   pub whole : NoneMet (MeetsCarried reading.texts.place asked.request.headers (decoded (target_of reading.uri))) (tests_of reading.texts.place)
   pub carried : CarriesAt reading.texts.place asked.request.headers (decoded (target_of reading.uri)) reading.texts
 
 -- and they tell these terms
 pub record HasTold (asked : DoorInput) (reading : DoorReading) : Type 0 where
-  pub texts : HasTexts asked reading
+  pub texts : HasCarriedTexts asked reading
   pub good : NoneMet (MeetsTerm asked.region asked.name asked.limits reading.texts) term_tests
   pub told : TellsTerms asked.region asked.name reading.texts reading.terms
 
@@ -113,8 +113,8 @@ MeetsLast asked reading _ = ⊥
 -- ---- the groups of tests in their order, each with what those before it left
 
 -- 1: the target isn't accepted
-abbrev pub RefusesTarget : DoorInput → DoorFault → Type 0
-RefusesTarget asked fault = SpellsNoTarget (string_bytes asked.request.target) × (fault ≡ InvalidTarget)
+abbrev pub RefusesDoorTarget : DoorInput → DoorFault → Type 0
+RefusesDoorTarget asked fault = SpellsNoTarget (string_bytes asked.request.target) × (fault ≡ InvalidTarget)
 
 -- 2: a header or the host isn't fit for signing
 abbrev pub RefusesHeader : DoorInput → DoorFault → Type 0
@@ -124,7 +124,7 @@ RefusesHeader asked fault =
 -- 3: a signature is carried in both forms or in none
 abbrev pub RefusesForm : DoorInput → DoorFault → Type 0
 RefusesForm asked fault =
-    (reading : DoorReading) × HasTarget asked reading × IsFirstMet (MeetsForm asked.request.headers (decoded (target_of reading.uri))) form_tests fault
+    (reading : DoorReading) × HasTarget asked reading × IsFirstMet (MeetsDoorForm asked.request.headers (decoded (target_of reading.uri))) form_tests fault
 
 -- 4: what is carried isn't whole
 abbrev pub RefusesCarried : DoorInput → DoorFault → Type 0
@@ -135,7 +135,7 @@ RefusesCarried asked fault =
 -- 5: what it tells is outside its form, or another scope
 abbrev pub RefusesTerms : DoorInput → DoorFault → Type 0
 RefusesTerms asked fault =
-    (reading : DoorReading) × HasTexts asked reading × IsFirstMet (MeetsTerm asked.region asked.name asked.limits reading.texts) term_tests fault
+    (reading : DoorReading) × HasCarriedTexts asked reading × IsFirstMet (MeetsTerm asked.region asked.name asked.limits reading.texts) term_tests fault
 
 -- 6: the names aren't as they have to be
 abbrev pub RefusesNames : DoorInput → DoorFault → Type 0
@@ -165,7 +165,7 @@ RefusesLast asked fault = (reading : DoorReading) × HasKey asked reading × IsF
 -- a test of one of the groups is met, and none before it; this is its fault
 abbrev pub RefusesFirst : DoorInput → DoorFault → Type 0
 RefusesFirst asked fault =
-    RefusesTarget asked fault ⊎ (RefusesHeader asked fault ⊎ (RefusesForm asked fault ⊎ (RefusesCarried asked fault ⊎ (RefusesTerms asked fault
+    RefusesDoorTarget asked fault ⊎ (RefusesHeader asked fault ⊎ (RefusesForm asked fault ⊎ (RefusesCarried asked fault ⊎ (RefusesTerms asked fault
     ⊎ (RefusesNames asked fault ⊎ (RefusesTime asked fault ⊎ (RefusesPayload asked fault ⊎ (RefusesKey asked fault ⊎ RefusesLast asked fault))))))))
 
 -- what is told of a request with these texts, terms, end of its time and form of its payload
@@ -231,4 +231,4 @@ pub record CarriesTexts (request : HttpRequest) (read : Carried) : Type 0 where
 -- and they tell these terms
 pub record CarriesTerms (request : HttpRequest) (region name : List ℕ) (limits : Limits) (read : Carried) (told : Terms) : Type 0 where
   pub texts : CarriesTexts request read
-  pub tells : ReadsTerms region name limits (texts_carried read) (Ok told)
+  pub tells : ReadsDoorTerms region name limits (texts_carried read) (Ok told)

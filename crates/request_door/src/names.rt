@@ -4,7 +4,7 @@ ghost use Rattle.std.specs.Prelude.{◌≡◌, [], bytes_eq, codes, IfOk};
 ghost use Rattle.std.specs.List.{list_all, list_any};
 ghost use Rattle.sigv4.specs.Canonical.{excluded_token};
 ghost use Rattle.request_check.specs.Recomputed.{carried_names};
-ghost use Rattle.request_door.specs.DoorNames.{MeetsName, PassesNames, are_ordered_after, is_owed, is_signed_as_owed, is_there, name_tests, name_texts, text_before, unsigned_by_right};
+ghost use Rattle.request_door.specs.DoorNames.{MeetsName, PassesNames, are_ordered_after, is_owed, is_signed_as_owed, is_there, name_tests, name_texts, is_text_before, unsigned_by_right};
 ghost use Rattle.request_door.specs.DoorOrder.{Passes};
 
 use crate::carried::has_header;
@@ -86,7 +86,7 @@ fn are_ordered(names: &[&str]) -> bool
 
 // Whether a text comes before another, byte by byte.
 fn is_before(first: &[u8], second: &[u8]) -> bool
-    ensures { result ≡ text_before first.now second.now }
+    ensures { result ≡ is_text_before first.now second.now }
 {
     match first.cmp(second) {
         Ordering::Less => true,

@@ -1,6 +1,6 @@
 ghost use Rattle.std.specs.Prelude.{◌≡◌, ◌++◌, codes, IfOk, MatchBool, string_bytes};
 ghost use Rattle.request_door.specs.DoorCarried.{texts_carried};
-ghost use Rattle.request_door.specs.DoorTerms.{LacksEnd, PassesScope, ReadsTerms, TestsTime, good_from, good_until, region_end, service_end, told_seconds, told_terms};
+ghost use Rattle.request_door.specs.DoorTerms.{LacksEnd, PassesScope, ReadsDoorTerms, TestsTime, good_from, good_until, region_end, service_end, told_seconds, told_terms};
 
 use crate::authorization::cut_end;
 use crate::carried::Carried;
@@ -32,7 +32,7 @@ pub(crate) fn read_terms<'a>(
     name: &str,
     limits: &Limits,
 ) -> Result<Terms<'a>, DoorFault>
-    ensures { ReadsTerms region.now name.now limits.now (texts_carried texts.now) result }
+    ensures { ReadsDoorTerms region.now name.now limits.now (texts_carried texts.now) result }
 {
     let Some(at) = stamped_moment(texts.date) else {
         return Err(DoorFault::BadDate);
