@@ -144,14 +144,12 @@ fn taken_group(kind: EnvConfigFileKind, overridden: bool, profile: &str) -> Opti
 }
 
 // The values by their keys.
-fn without_places(alloc: Global, mut values: BTreeMap<String, (usize, String)>) -> Mem<Texts>
+fn without_places(alloc: Global, values: BTreeMap<String, (usize, String)>) -> Mem<Texts>
     ensures { IfOk result (λ texts. texts ≡ without_places (placed_of values.entries)) }
 {
-    // A clause of `len` is that the keys ascend, so that each value is put behind those before.
-    let _count = values.len();
     let mut texts = Texts::new(alloc);
-    while let Some((key, placed)) = values.pop_first() {
-        texts.put(key, placed.1)?;
+    for (key, (_, value)) in values {
+        texts.put(key, value)?;
     }
     Ok(texts)
 }

@@ -81,10 +81,11 @@ impl Texts {
 
     /// The values by their keys.
     pub fn entries(&self) -> Entries<'_>
-        ensures { left_in result ≡ map own self.now }
+        ensures left { left_in result ≡ map own self.now }
+        ensures ordered { IsStrictlySortedBy text_cmp (map (λ e. e.0) self.now) }
     {
         match &self.pairs {
-            Pairs::One(text) => Entries::One(text.split_once('=')),
+            Pairs::One(text) => one_entry(text.as_str()),
             Pairs::Few(pairs) => Entries::Few(pairs.as_slice()),
             Pairs::Many(pairs) => Entries::Many(pairs.iter()),
         }
@@ -92,8 +93,7 @@ impl Texts {
 
     /// How many there are.
     pub fn len(&self) -> usize
-        ensures len { result ≡ length self.now }
-        ensures ordered { IsStrictlySortedBy text_cmp (map (λ e. e.0) self.now) }
+        ensures { result ≡ length self.now }
     {
         match &self.pairs {
             Pairs::One(text) => one_len(text.as_str()),
@@ -106,8 +106,6 @@ impl Texts {
     pub fn has_identifiers(&self) -> bool
         ensures { result ≡ true → put_identifiers [] self.now ≡ self.now }
     {
-        // A clause of `len` is that the keys ascend, so that each pair is put behind those before.
-        let _count = self.len();
         has_identifiers(self.entries())
     }
 
@@ -124,11 +122,18 @@ impl Texts {
     }
 }
 
-// How many pairs the text has.
+// The pair of the text, if it has one.
 #[tactic(auto, using(crate::proofs::FewLemmas::one_in_order))]
-fn one_len(text: &str) -> usize
-    ensures len { result ≡ length (one_pair text.now) }
+fn one_entry(text: &str) -> Entries<'_>
+    ensures left { left_in result ≡ map own (one_pair text.now) }
     ensures ordered { IsStrictlySortedBy text_cmp (map (λ e. e.0) (one_pair text.now)) }
+{
+    Entries::One(text.split_once('='))
+}
+
+// How many pairs the text has.
+fn one_len(text: &str) -> usize
+    ensures { result ≡ length (one_pair text.now) }
 {
     match text.split_once('=') {
         Some(_) => 1,

@@ -7,7 +7,8 @@ use Rattle.env_config.proofs.latest.without_places.Goals as goal
 pub loop-key-preserved : goal.loop-key-preserved
 loop-key-preserved c =
     let all = without_places (placed_of c.args.values.entries) in
-    let rest = without_places (placed_of c.pop_first.new.self.entries) in
-    let left = ap (λ (es : List (String Global × (ℕ × String Global))). c.loop-key.texts ++ without_places (placed_of es)) c.in-Some.ensures.removal in
+    let rest = without_places (placed_of c.next.new.self) in
+    let left = ap (λ (es : List (String Global × (ℕ × String Global))). c.loop-key.texts ++ without_places (placed_of es)) c.in-Some.ensures.steps in
+    let ordered = c.into_iter-key-iterator.ensures.into_iter_gives.5 in
     ap (λ (texts : List (List ℕ × List ℕ)). texts ++ rest) c.in_ok-put.ensures
-    ∙ put_behind c.loop-key.texts all rest (string_bytes c.in-Some.key, string_bytes c.in-Some.placed.1) (sym left ∙ c.loop-key.invariant) (placed_in_order c.args.values.entries c.len-count.ensures.ordered)
+    ∙ put_behind c.loop-key.texts all rest (string_bytes c.in-Some.key, string_bytes c.in-Some.value) (sym left ∙ c.loop-key.invariant) (placed_in_order c.args.values.entries ordered)

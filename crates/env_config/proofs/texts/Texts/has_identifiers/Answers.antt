@@ -7,4 +7,4 @@ use Rattle.env_config.proofs.texts.Texts.has_identifiers.Goals as goal
 pub returns : goal.returns
 returns c is =
     let Identified : List (List ℕ × (List ℕ × List ℕ)) → Type 0 = AllByRecursion (λ e. is_identifier e.0 ≡ true) in
-    put_identified c.args.self.now c.len-count.ensures.ordered (subst Identified c.entries.ensures (c.has_identifiers.ensures is))
+    put_identified c.args.self.now c.entries.ensures.ordered (subst Identified c.entries.ensures.left (c.has_identifiers.ensures is))
