@@ -1,16 +1,18 @@
 -- List (A × List (B × X)) of entries, spread out: what a value that is put in a group, and a look-up in one, are among all entries.
-use Rattle.std.proofs.Common.{◌≡◌, ◌∙◌, Bool, true, false, cond, List, [], ◌∷◌, ◌++◌, map, Ordering, Less, Equal, Greater, is_eq, refl, sym, ap}
+use Rattle.std.proofs.Common.{◌≡◌, ◌∙◌, ℕ, Bool, true, false, cond, List, [], ◌∷◌, ◌++◌, map, Ordering, Less, Equal, Greater, is_eq, refl, sym, ap, ap₂}
 use Rattle.std.specs.Prelude.{Option, Some, None, option_map, unwrap_or, is_some}
 use Rattle.std.specs.Ordering.{match_ordering, ordering_then}
 use Rattle.std.specs.BTreeMap.{insert_entry, is_at}
 use Rattle.std.specs.Cmp.{IsTotalOrder, tied_itself}
+use Rattle.std.specs.Cmp.Lexicographic.{nat_list_cmp_total}
 use Rattle.std.specs.List.{AllByRecursion}
 use Rattle.std.specs.List.Sorted.{IsStrictlySortedBy}
 use Rattle.std.specs.Map.{lookup, set_value}
 use Rattle.std.proofs.lemmas.Bool.{false≢true}
 use Rattle.std.proofs.lemmas.Map.Steps.{set_value_same}
 use Rattle.env_config.specs.Properties.{spread}
-use Rattle.env_config.proofs.TextsLemmas.{entries_at}
+use Rattle.env_config.specs.Texts.{Named, put_named, text_cmp}
+use Rattle.env_config.proofs.TextsLemmas.{entries_at, named_of, named_twice}
 
 abbrev heads : {K X : Type 0} → List (K × X) → List K
 heads es = map (λ e. e.0) es
@@ -247,3 +249,16 @@ module _ {K J X Y : Type 0} (own : K → K → Ordering) (R : J → J → Orderi
   pub through_same : (es now : List (K × X)) (old w : X) → now ≡ set_value (is_at query) es w → Some old ≡ lookup (is_at query) es → f w ≡ f old → seen_all now ≡ seen_all es
   through_same es now old w is found same =
       ap seen_all is ∙ set_seen es w ∙ ap (set_value (is_at (R key)) (seen_all es)) same ∙ set_value_same (is_at (R key)) (seen_all es) (f old) (found_seen es (Some old) found)
+
+-- a value that is written under a name doesn't count once a later one is put there
+pub written_later : {K X : Type 0} (own : K → K → Ordering) (text : K → List ℕ) (alike : (a b : K) → own a b ≡ text_cmp (text a) (text b)) (names : List K) (es now : List (K × X)) (name : List ℕ) (old left : X)
+    → now ≡ set_value (is_at (λ k. text_cmp name (text k))) es left → IsStrictlySortedBy own (heads es) → Some old ≡ lookup (is_at (λ k. text_cmp name (text k))) es
+    → (value : X) → put_named (named_of text names now) name value ≡ put_named (named_of text names es) name value
+written_later {K} {X} own text alike names es now name old left is sorted found value =
+    let asked : K → Ordering = λ k. text_cmp name (text k) in
+    let make : List (List ℕ) → List (List ℕ × X) → Named X = λ ns values. record { names = ns; values = values } in
+    let ns = map text names in
+    let known = found_seen own text_cmp nat_list_cmp_total asked text (λ (x : X). x) name alike (λ _. refl) es (Some old) found in
+    let values = through own text_cmp nat_list_cmp_total asked text (λ (x : X). x) name alike (λ _. refl) es now old left is sorted found in
+    let put_is : named_of text names now ≡ put_named (named_of text names es) name left = ap₂ make (sym (ap (λ (o : Option X). cond (is_some o) ns (ns ++ name ∷ [])) known)) values in
+    ap (λ (n : Named X). put_named n name value) put_is ∙ named_twice (named_of text names es) name left value

@@ -1,12 +1,11 @@
 -- A map of strings as a map of texts, and what it has after a value was put.
 use Rattle.std.proofs.Common.{◌≡◌, ℕ, Bool, true, false, cond, List, [], ◌∷◌, ◌++◌, map, String, string_bytes, bytes_eq, refl, sym, ap, ap₂, ◌∙◌, Ordering, Bor, Less, Equal, Greater, is_eq}
-use Rattle.std.specs.Prelude.{Option, Some, None, option_map, is_some, Result, Ok, Err, OnOk}
+use Rattle.std.specs.Prelude.{Option, Some, None, option_map, is_some}
 use Rattle.std.specs.Ordering.{match_ordering}
 use Rattle.std.specs.BTreeMap.{insert_entry, is_at}
 use Rattle.std.specs.Cmp.{tied_itself}
 use Rattle.std.specs.Cmp.Lexicographic.{nat_list_cmp_total, nat_list_eq_equiv}
 use Rattle.std.specs.Map.{lookup}
-use Rattle.std.proofs.lemmas.Bool.{false≢true}
 use Rattle.std.proofs.lemmas.List.{map-append}
 use Rattle.std.proofs.lemmas.Map.Text.{is_eq-slice_cmp}
 use Rattle.env_config.specs.Texts.{Named, named_as, put, put_named, text_cmp, value_under, words_of}
@@ -73,12 +72,6 @@ module _ {X : Type 0} where
       let names = cond (is_some (value_under named.values name)) named.names (named.names ++ name ∷ []) in
       ap₂ make (ap (λ (o : Option X). cond (is_some o) names (names ++ name ∷ [])) (value_put named.values name value)) (put_twice named.values name value later)
 
-  -- what stood in between doesn't count
-  pub replaced_later : {E : Type 0} (result : Result (Option X) E) (named now : Named X) (name : List ℕ) (left : X) → OnOk result (now ≡ put_named named name left)
-      → OnOk result ((value : X) → put_named now name value ≡ put_named named name value)
-  replaced_later (Ok before) named now name left is = λ value. ap (λ (n : Named X). put_named n name value) is ∙ named_twice named name left value
-  replaced_later (Err e) named now name left is = is
-
 -- values by their names, as the code keeps them
 abbrev pub named_of : {K X : Type 0} → (K → List ℕ) → List K → List (K × X) → Named X
 named_of text names es = record { names = map text names; values = map (λ e. (text e.0, e.1)) es }
@@ -120,10 +113,6 @@ pub text_found : {Z X : Type 0} (es : List (String Z × X)) (key : List ℕ) →
 text_found {Z} {X} es key =
     sym (option_same (lookup (is_at (λ k. text_cmp key (string_bytes k))) es))
     ∙ entries_at (λ k. text_cmp key (string_bytes k)) text_cmp string_bytes (λ (x : X). x) key (λ _. refl) es
-
-pub none_is : {X : Type 0} (o : Option X) → is_some o ≡ false → None ≡ o
-none_is None is = refl
-none_is (Some x) is = absurd (false≢true (sym is))
 
 -- ## Borrowed names
 

@@ -7,6 +7,7 @@ use smithy_core::Mem;
 use std::alloc::Global;
 use std::collections::BTreeMap;
 use std::marker::Model;
+use std::mem;
 
 /// Values by their names, and the names in the order of their first appearance.
 #[derive(Drop)]
@@ -88,14 +89,12 @@ impl<V: Drop> ByName<V> {
     }
 
     /// Takes the value under the name, and leaves this one in its place. Where there is none nothing is changed.
-    pub fn take(&mut self, name: &str, left: V) -> Mem<Option<V>>
-        ensures before { IfOk result (λ before. before ≡ value_under self.old.values name.now) }
-        ensures later { OnOk result ((value : V) → put_named self.new name.now value ≡ put_named self.old name.now value) }
+    pub fn take(&mut self, name: &str, left: V) -> Option<V>
+        ensures before { result ≡ value_under self.old.values name.now }
+        ensures later { (value : V) → put_named self.new name.now value ≡ put_named self.old name.now value }
     {
-        if self.get(name).is_none() {
-            return Ok(None);
-        }
-        self.replace(name, left)
+        let value = self.values.get_mut(name)?;
+        Some(mem::replace(value, left))
     }
 
     /// The names in the order of their first appearance.

@@ -32,7 +32,7 @@ pub fn merge_into<S: SectionKind>(
     ensures keys { EachValue (λ s. IsKeyedSection (S.held s)) sections.old.values → OnOk result (EachValue (λ s. IsKeyedSection (S.held s)) sections.new.values) }
 {
     let empty = S::of_section(Section::new(String::new(alloc), SectionProperties::new(alloc)));
-    let before = sections.take(name, empty)?;
+    let before = sections.take(name, empty);
     let properties = merged_properties(alloc, before, pairs)?;
     let section = Section::new(String::from_str(alloc, name)?, properties);
     sections.replace(name, S::of_section(section))?;

@@ -6,6 +6,7 @@ use smithy_core::Mem;
 use std::alloc::Global;
 use std::collections::BTreeMap;
 use std::marker::Model;
+use std::mem;
 
 /// The raw sections of a text: their properties by the texts between their brackets, and these texts in the order of
 /// their first appearance. They are borrowed, since a section may have very many spellings.
@@ -50,14 +51,12 @@ impl<'t> RawSections<'t> {
 
     /// Takes the properties of the section, and leaves these in their place. Where there is no such section nothing is
     /// changed.
-    pub fn take(&mut self, name: &'t str, left: Texts) -> Mem<Option<Texts>>
-        ensures before { IfOk result (λ before. before ≡ value_under self.old.values name.now) }
-        ensures later { OnOk result ((value : List (List ℕ × List ℕ)) → put_named self.new name.now value ≡ put_named self.old name.now value) }
+    pub fn take(&mut self, name: &str, left: Texts) -> Option<Texts>
+        ensures before { result ≡ value_under self.old.values name.now }
+        ensures later { (value : List (List ℕ × List ℕ)) → put_named self.new name.now value ≡ put_named self.old name.now value }
     {
-        if !self.properties.contains_key(name) {
-            return Ok(None);
-        }
-        self.replace(name, left)
+        let properties = self.properties.get_mut(name)?;
+        Some(mem::replace(properties, left))
     }
 
     /// The names in the order of their first appearance, and the properties by them.

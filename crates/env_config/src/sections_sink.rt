@@ -52,11 +52,11 @@ impl<'t> SectionsSink<'t> {
     }
 
     // The properties of the section, to go on with.
-    fn take_properties(&mut self, alloc: Global, name: &'t str) -> Mem<Texts>
-        ensures { IfOk result (λ properties. put_named self.new.sections name.now properties ≡ put_named self.old.sections name.now (properties_of self.old.sections name.now)) }
+    fn take_properties(&mut self, alloc: Global, name: &str) -> Texts
+        ensures { put_named self.new.sections name.now result ≡ put_named self.old.sections name.now (properties_of self.old.sections name.now) }
     {
-        let before = self.sections.take(name, Texts::new(alloc))?;
-        Ok(before.unwrap_or(Texts::new(alloc)))
+        let before = self.sections.take(name, Texts::new(alloc));
+        before.unwrap_or(Texts::new(alloc))
     }
 }
 
@@ -67,8 +67,7 @@ impl<'t> Sink<'t> for SectionsSink<'t> {
 
     fn open(&mut self, alloc: Global, name: &'t str) -> Mem<()> {
         self.close(alloc)?;
-        let properties = self.take_properties(alloc, name)?;
-        self.properties = properties;
+        self.properties = self.take_properties(alloc, name);
         self.name = Some(name);
         Ok(())
     }
