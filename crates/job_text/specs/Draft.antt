@@ -1,7 +1,7 @@
 -- What the reader of a job promises of its draft and of the job.
 use Rattle.std.specs.Prelude.{◌≡◌, ℕ, Result, Ok, Err, Option, Some, None, option_map, string_bytes}
 use Rattle.job_text.specs.Job.{Event, Draft, JobParts}
-use Rattle.job_text.specs.ProfileTexts.{texts_of}
+use Rattle.job_text.specs.RequestLines.{request_drafted}
 use Rattle.job_text.specs.declared.job.event.OpenEvent.{OpenEvent}
 use Rattle.job_text.specs.declared.job.draft.Draft.{Draft as JobDraft}
 use Rattle.job_text.specs.declared.job.Job.{Job}
@@ -18,11 +18,7 @@ event_of event = record { headers = event.headers.items; payload = event.payload
 unfoldable pub draft_of : JobDraft → Draft
 draft_of draft =
     record {
-      method = option_map string_bytes draft.method;
-      target = option_map string_bytes draft.target;
-      headers = draft.headers;
-      body = draft.body;
-      profile = texts_of draft.profile;
+      request = request_drafted draft.request;
       events = draft.events.items;
       event = option_map event_of draft.event;
     }

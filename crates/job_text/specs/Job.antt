@@ -1,15 +1,12 @@
 -- The job: lines, each a word, or a word, one space and a rest. Each line moves the draft of the job on, or is bad.
-use Rattle.std.specs.Prelude.{ℕ, ◌==◌, ◌||◌, nat_lt, if◌then◌else◌, List, [], ◌∷◌, ◌++◌, length, codes, bytes_eq, Option, Some, None, is_some, is_none, option_map, unwrap_or, Result, Ok, Err}
+use Rattle.std.specs.Prelude.{ℕ, ◌==◌, not, ◌||◌, nat_lt, if◌then◌else◌, List, [], ◌∷◌, ◌++◌, length, codes, bytes_eq, Option, Some, None, is_some, option_map, unwrap_or, Result, Ok, Err}
 use Rattle.std.specs.Option.{option_to_list}
-use Rattle.std.specs.List.{list_any}
-use Rattle.smithy_core.specs.Text.{space}
-use Rattle.smithy_core.specs.TextPairs.{lower}
 use Rattle.smithy_core.specs.Message.{Parts}
 use Rattle.smithy_core.specs.Header.{Header}
 use Rattle.job_text.specs.EventHeader.{hex_bytes, event_header}
-use Rattle.job_text.specs.Lines.{after_text, header_of_line, after_word_of, text_lines, word_of}
+use Rattle.job_text.specs.Lines.{after_text, after_word_of, text_lines, word_of}
 use Rattle.job_text.specs.Pieces.{after_pieces, taken_from}
-use Rattle.job_text.specs.ProfileTexts.{ProfileTexts, no_texts, profile_step}
+use Rattle.job_text.specs.RequestLines.{RequestDraft, RequestParts, has_request, no_request, request_step, whole_request}
 
 -- ## Events
 
@@ -24,47 +21,23 @@ event_message event = record { headers = event.headers; payload = unwrap_or even
 
 -- ## The draft
 
--- what the lines so far gave: texts of profile files, the finished events, and the open one
+-- what the lines so far gave: the request with the texts of profile files, the finished events, and the open one
 pub record Draft : Type 0 where
-  pub method : Option (List ℕ)
-  pub target : Option (List ℕ)
-  pub headers : List (List ℕ × List ℕ)
-  pub body : Option (List ℕ)
-  pub profile : ProfileTexts
+  pub request : RequestDraft
   pub events : List Parts
   pub event : Option Event
 
 abbrev pub no_draft : Draft
-no_draft = record { method = None; target = None; headers = []; body = None; profile = no_texts; events = []; event = None }
+no_draft = record { request = no_request; events = []; event = None }
 
 -- the events, with the one that is open
 abbrev pub events_of : Draft → List Parts
 events_of draft = draft.events ++ option_to_list (option_map event_message draft.event)
 
--- `method M`: once; M isn't empty and has no space
-unfoldable pub method_step : Draft → List ℕ → Option Draft
-method_step draft rest =
-    if is_some draft.method || length rest == 0 || list_any (λ b. b == space) rest then None else Some (record draft { method = Some rest })
-
--- `target T`: once
-unfoldable pub target_step : Draft → List ℕ → Option Draft
-target_step draft rest = if is_some draft.target then None else Some (record draft { target = Some rest })
-
--- `header NAME: VALUE`: the name goes in lower case
-unfoldable pub header_step : Draft → List ℕ → Option Draft
-header_step draft rest =
-    option_map (λ header. record draft { headers = draft.headers ++ (lower header.0, header.1) ∷ [] }) (header_of_line rest)
-
--- `body HEX`: once, an even number of digits in either case
-unfoldable pub body_step : Draft → List ℕ → Option Draft
-body_step draft rest =
-    if is_some draft.body then None
-    else option_map (λ body. record draft { body = Some body }) (hex_bytes rest)
-
 -- `event`: its rest is empty, and the method and the target stood before
 unfoldable pub event_step : Draft → List ℕ → Option Draft
 event_step draft rest =
-    if nat_lt 0 (length rest) || is_none draft.method || is_none draft.target then None
+    if nat_lt 0 (length rest) || not (has_request draft.request) then None
     else Some (record draft { events = events_of draft; event = Some (record { headers = []; payload = None }) })
 
 -- `h NAME KIND VALUE`, of the event that is open
@@ -83,9 +56,9 @@ abbrev pub in_event : Option Event → (Event → Option Draft) → Option Draft
 in_event None step = None
 in_event (Some event) step = step event
 
--- a line of a profile file's text
-unfoldable pub text_step : Draft → List ℕ → List ℕ → Option Draft
-text_step draft word rest = option_map (λ profile. record draft { profile = profile }) (profile_step draft.profile word rest)
+-- a line of the request or of a profile file's text
+unfoldable pub before_events_step : Draft → List ℕ → List ℕ → Option Draft
+before_events_step draft word rest = option_map (λ request. record draft { request = request }) (request_step draft.request word rest)
 
 -- what a line of this word and this rest does; lines of the request stand before the first `event`
 unfoldable pub word_step : Draft → List ℕ → List ℕ → Option Draft
@@ -94,11 +67,7 @@ word_step draft word rest =
     else if bytes_eq word (codes "h") then in_event draft.event (λ event. event_header_step draft event rest)
     else if bytes_eq word (codes "payload") then in_event draft.event (λ event. payload_step draft event rest)
     else if is_some draft.event then None
-    else if bytes_eq word (codes "method") then method_step draft rest
-    else if bytes_eq word (codes "target") then target_step draft rest
-    else if bytes_eq word (codes "header") then header_step draft rest
-    else if bytes_eq word (codes "body") then body_step draft rest
-    else text_step draft word rest
+    else before_events_step draft word rest
 
 -- what a line does; an empty one does nothing
 unfoldable pub job_line_step : Draft → List ℕ → Option Draft
@@ -116,16 +85,15 @@ pub record JobParts : Type 0 where
   pub credentials : Option (List ℕ)
   pub events : List Parts
 
--- the lines are over: the job, or the place after the last line
-abbrev pub job_of : ℕ → Draft → Option (List ℕ) → Option (List ℕ) → Result JobParts ℕ
-job_of place draft (Some method) (Some target) =
-    Ok (record { method = method; target = target; headers = draft.headers; body = unwrap_or draft.body []; config = draft.profile.config; credentials = draft.profile.credentials; events = events_of draft })
-job_of place draft (Some method) None = Err place
-job_of place draft None target = Err place
+-- a request with events behind it
+abbrev pub with_events : List Parts → Result RequestParts ℕ → Result JobParts ℕ
+with_events events (Ok read) =
+    Ok (record { method = read.method; target = read.target; headers = read.headers; body = read.body; config = read.texts.config; credentials = read.texts.credentials; events = events })
+with_events events (Err place) = Err place
 
--- the job of all lines
+-- the lines are over: the job, or the place after the last line
 abbrev pub whole_job : ℕ → Draft → Result JobParts ℕ
-whole_job place draft = job_of place draft draft.method draft.target
+whole_job place draft = with_events (events_of draft) (whole_request place draft.request)
 
 -- the job that the bytes spell, or the place of the first bad line
 unfoldable pub job : List ℕ → Result JobParts ℕ

@@ -8,4 +8,5 @@ pub mod Numbers
 pub mod Pieces
 pub mod ProfileTexts
 pub mod Record
+pub mod RequestLines
 pub mod Words

@@ -11,8 +11,8 @@ use crate::fault::JobFault;
 use crate::job::draft::Draft;
 pub use crate::job::event_header::hex_bytes;
 use crate::lines::{take_lines, text_of};
+use crate::request_lines::RequestJob;
 use crate::text::copy_of;
-use bytes::Bytes;
 use smithy_core::{HttpRequest, Mem, Message};
 use std::alloc::Global;
 
@@ -93,18 +93,11 @@ fn into_job(mut draft: Draft, place: usize) -> Result<Job, JobFault>
     ensures { ReadsJob (whole_job place (draft_of draft)) result }
 {
     draft.close_event()?;
-    match (draft.method, draft.target) {
-        (Some(method), Some(target)) => Ok(Job {
-            request: HttpRequest {
-                method,
-                target,
-                headers: draft.headers,
-                body: draft.body.unwrap_or(Bytes::new()),
-            },
-            config: draft.profile.config,
-            credentials: draft.profile.credentials,
-            events: draft.events,
-        }),
-        _ => Err(JobFault::BadLine(place)),
-    }
+    let RequestJob { request, texts } = draft.request.finish(place)?;
+    Ok(Job {
+        request,
+        config: texts.config,
+        credentials: texts.credentials,
+        events: draft.events,
+    })
 }

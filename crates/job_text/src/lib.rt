@@ -13,6 +13,7 @@ mod lines;
 mod numbers;
 mod profile_texts;
 mod record;
+mod request_lines;
 mod text;
 mod words;
 
@@ -23,5 +24,6 @@ pub use crate::lines::{TakeLine, cut_pair, cut_word, take_lines, text_of};
 pub use crate::numbers::{parse_count, parse_i64, parse_u64};
 pub use crate::profile_texts::{ProfileTexts, take_profile_texts};
 pub use crate::record::{RecordDraft, take_record};
+pub use crate::request_lines::{RequestDraft, RequestJob, take_request_job};
 pub use crate::text::{copied, copy_of, lent};
 pub use crate::words::{TakeWord, WordsFault, take_words};

@@ -1,5 +1,5 @@
 //! The words of a command line.
-ghost use Rattle.std.specs.Prelude.{map};
+ghost use Rattle.std.specs.Prelude.{◌≤◌, map};
 ghost use Rattle.std.specs.String.{string_bytes};
 ghost use Rattle.job_text.specs.Pieces.{taken_from};
 ghost use Rattle.job_text.specs.Words.{TakesWords};
@@ -47,18 +47,21 @@ pub trait TakeWord<'a> {
         ensures { TakesWord (step (given self.old) word.now) place (given self.new) result };
 }
 
-/// Takes the words behind a command's name, whose place is 1, and answers the place behind the last one.
+/// Takes words, of which the first has this place in the command line: 1, or 2 behind a command's name. Answers the place behind
+/// the last one.
 ///
 /// # Errors
 ///
 /// [`WordsFault::BadWord`] with the place of the first word that is bad.
 pub fn take_words<'a, W: TakeWord<'a>>(
     given: &mut W,
+    first: usize,
     words: &'a [String],
 ) -> Result<usize, WordsFault>
-    ensures { TakesWords (taken_from W.step 2 (W.given given.old) (map string_bytes words.now)) (W.given given.new) result }
+    requires { first ≤ 2 }
+    ensures { TakesWords (taken_from W.step first (W.given given.old) (map string_bytes words.now)) (W.given given.new) result }
 {
-    let mut place = 2;
+    let mut place = first;
     for word in words {
         given.take_word(place, word.as_str())?;
         place += 1;

@@ -75,7 +75,7 @@ fn read_options<'a>(alloc: Global, words: &'a [String]) -> Result<StreamWords<'a
     ensures { ReadsStream (command_from stream_command (taken_from stream_word 2 no_options (map string_bytes words.now))) result }
 {
     let mut given = GivenOptions::new(alloc);
-    let place = take_words(&mut given, words)?;
+    let place = take_words(&mut given, 2, words)?;
     given.finish(place)
 }
 
@@ -84,7 +84,7 @@ fn read_profile<'a>(alloc: Global, words: &'a [String]) -> Result<ProfileOptions
     ensures { ReadsProfile (command_from settings_words (taken_from settings_word 2 no_profile_given (map string_bytes words.now))) result }
 {
     let mut given = GivenProfile::new(alloc);
-    let place = take_words(&mut given, words)?;
+    let place = take_words(&mut given, 2, words)?;
     given.finish(place)
 }
 
@@ -93,7 +93,7 @@ fn read_check<'a>(alloc: Global, words: &'a [String]) -> Result<CheckWords<'a>, 
     ensures { ReadsCheck (command_from check_words (taken_from check_word 2 no_check_given (map string_bytes words.now))) result }
 {
     let mut given = GivenCheck::new(alloc);
-    let place = take_words(&mut given, words)?;
+    let place = take_words(&mut given, 2, words)?;
     given.finish(place)
 }
 
@@ -102,6 +102,6 @@ fn read_chunk(alloc: Global, words: &[String]) -> Result<ChunkWords, WordsFault>
     ensures { ReadsChunk (command_from chunk_words (taken_from chunk_word 2 no_chunk_given (map string_bytes words.now))) result }
 {
     let mut given = GivenChunk::new(alloc);
-    let place = take_words(&mut given, words)?;
+    let place = take_words(&mut given, 2, words)?;
     given.finish(place)
 }

@@ -1,27 +1,22 @@
 use crate::fault::LineFault;
 use crate::job::event::OpenEvent;
 use crate::job::event_header::{header_of, hex_bytes};
-use crate::lines::{TakeLine, cut_pair, cut_word};
-use crate::profile_texts::ProfileTexts;
-use bytes::Bytes;
-use smithy_core::{Headers, Mem, Message};
+use crate::lines::{TakeLine, cut_word};
+use crate::request_lines::RequestDraft;
+use smithy_core::{Mem, Message};
 use std::alloc::Global;
 
-/// What the lines so far gave: texts of profile files, the finished events, and the open one.
+/// What the lines so far gave: the request with the texts of profile files, the finished events, and the open one.
 #[derive(Drop)]
 pub struct Draft {
-    pub method: Option<String>,
-    pub target: Option<String>,
-    pub headers: Headers,
-    pub body: Option<Bytes>,
-    pub profile: ProfileTexts,
+    pub request: RequestDraft,
     pub events: Vec<Message>,
     pub event: Option<OpenEvent>,
 }
 
 impl Draft {
     ghost use Rattle.std.specs.Prelude.{◌≡◌, None, OnOk};
-    ghost use Rattle.job_text.specs.Job.{body_step, event_header_step, event_step, events_of, header_step, in_event, method_step, no_draft, payload_step, target_step, text_step, word_step};
+    ghost use Rattle.job_text.specs.Job.{before_events_step, event_header_step, event_step, events_of, in_event, no_draft, payload_step, word_step};
     ghost use Rattle.job_text.specs.Draft.{draft_of};
     ghost use Rattle.job_text.specs.Lines.{Moves};
 
@@ -31,11 +26,7 @@ impl Draft {
         ensures { draft_of result ≡ no_draft }
     {
         Draft {
-            method: None,
-            target: None,
-            headers: Headers::new(alloc),
-            body: None,
-            profile: ProfileTexts::new(),
+            request: RequestDraft::new(alloc),
             events: Vec::new(alloc),
             event: None,
         }
@@ -51,66 +42,16 @@ impl Draft {
             "h" => self.take_event_header(alloc, rest),
             "payload" => self.take_payload(alloc, rest),
             _ if self.event.is_some() => Err(LineFault::Bad),
-            "method" => self.take_method(alloc, rest),
-            "target" => self.take_target(alloc, rest),
-            "header" => self.take_header(rest),
-            "body" => self.take_body(alloc, rest),
-            _ => self.take_text(alloc, word, rest),
+            _ => self.take_before_events(alloc, word, rest),
         }
     }
 
-    // `method M`.
-    #[tactic(auto, unfolding(crate::specs::Draft::draft_of, crate::specs::Job::method_step))]
-    fn take_method(&mut self, alloc: Global, rest: &str) -> Result<(), LineFault>
-        ensures { Moves (method_step (draft_of self.old) rest.now) (draft_of self.new) result }
+    // A line of the request or of a profile file's text.
+    #[tactic(auto, unfolding(crate::specs::Draft::draft_of, crate::specs::Job::before_events_step))]
+    fn take_before_events(&mut self, alloc: Global, word: &str, rest: &str) -> Result<(), LineFault>
+        ensures { Moves (before_events_step (draft_of self.old) word.now rest.now) (draft_of self.new) result }
     {
-        if self.method.is_some() || rest.is_empty() || rest.as_bytes().contains(&b' ') {
-            return Err(LineFault::Bad);
-        }
-        self.method = Some(String::from_str(alloc, rest)?);
-        Ok(())
-    }
-
-    // `target T`.
-    #[tactic(auto, unfolding(crate::specs::Draft::draft_of, crate::specs::Job::target_step))]
-    fn take_target(&mut self, alloc: Global, rest: &str) -> Result<(), LineFault>
-        ensures { Moves (target_step (draft_of self.old) rest.now) (draft_of self.new) result }
-    {
-        if self.target.is_some() {
-            return Err(LineFault::Bad);
-        }
-        self.target = Some(String::from_str(alloc, rest)?);
-        Ok(())
-    }
-
-    // `header NAME: VALUE`.
-    #[tactic(auto, unfolding(crate::specs::Draft::draft_of, crate::specs::Job::header_step))]
-    fn take_header(&mut self, rest: &str) -> Result<(), LineFault>
-        ensures { Moves (header_step (draft_of self.old) rest.now) (draft_of self.new) result }
-    {
-        let (name, value) = cut_pair(rest).ok_or(LineFault::Bad)?;
-        self.headers.append(name, value)?;
-        Ok(())
-    }
-
-    // `body HEX`.
-    #[tactic(auto, unfolding(crate::specs::Draft::draft_of, crate::specs::Job::body_step))]
-    fn take_body(&mut self, alloc: Global, rest: &str) -> Result<(), LineFault>
-        ensures { Moves (body_step (draft_of self.old) rest.now) (draft_of self.new) result }
-    {
-        if self.body.is_some() {
-            return Err(LineFault::Bad);
-        }
-        self.body = Some(hex_bytes(alloc, rest)?);
-        Ok(())
-    }
-
-    // A line of a profile file's text.
-    #[tactic(auto, unfolding(crate::specs::Draft::draft_of, crate::specs::Job::text_step))]
-    fn take_text(&mut self, alloc: Global, word: &str, rest: &str) -> Result<(), LineFault>
-        ensures { Moves (text_step (draft_of self.old) word.now rest.now) (draft_of self.new) result }
-    {
-        self.profile.take_text(alloc, word, rest)
+        self.request.take_word(alloc, word, rest)
     }
 
     // `event`.
@@ -118,7 +59,7 @@ impl Draft {
     fn begin_event(&mut self, alloc: Global, rest: &str) -> Result<(), LineFault>
         ensures { Moves (event_step (draft_of self.old) rest.now) (draft_of self.new) result }
     {
-        if !rest.is_empty() || self.method.is_none() || self.target.is_none() {
+        if !rest.is_empty() || !self.request.is_whole() {
             return Err(LineFault::Bad);
         }
         self.close_event()?;

@@ -149,6 +149,6 @@ pub fn read_watch<'a>(alloc: Global, words: &'a [String]) -> Result<WatchWords<'
     ensures { ReadsWatch (watch_from (taken_from watch_word 2 no_watch_given (map string_bytes words.now))) result }
 {
     let mut given = GivenWatch::new(alloc);
-    let place = take_words(&mut given, words)?;
+    let place = take_words(&mut given, 2, words)?;
     given.finish(place)
 }

@@ -8,6 +8,6 @@ abbrev pub invariant-loop-word : goal.invariant-loop-word
 invariant-loop-word g l =
     let word = g.W.TakeWord in
     record {
-      place : l.place ≡ l.word-index + 2;
-      same : taken_from word.step l.place (word.given l.given) (map string_bytes (drop l.word-index l.words)) ≡ taken_from word.step 2 (word.given l.fn.given) (map string_bytes l.words);
+      place : l.place ≡ l.word-index + l.first;
+      same : taken_from word.step l.place (word.given l.given) (map string_bytes (drop l.word-index l.words)) ≡ taken_from word.step l.first (word.given l.fn.given) (map string_bytes l.words);
     }
