@@ -20,12 +20,14 @@ use Rattle.signed_stream.specs.ProfileOptions.{place_of}
 use Rattle.job_text.specs.ProfileTexts.{ProfileTexts}
 use Rattle.signed_stream.specs.Settings.{GivesSettings, selected_in, settings}
 use Rattle.signed_stream.specs.Sources.{DiskGives, given_place, given_places, or_usual, selection, source_places}
-use Rattle.signed_stream.specs.Status.{could_not_read_file, ending_of, load_ending, settings_ending}
+use Rattle.signed_stream.specs.Selecting.{selection_ending}
+use Rattle.signed_stream.specs.Status.{Ending, could_not_read_file, load_ending, settings_ending}
 use Rattle.signed_stream.specs.declared.command.profile.NamedFile.{NamedFile}
 use Rattle.signed_stream.specs.declared.settings.Settings.{Settings}
 use Rattle.signed_stream.specs.declared.settings.SettingsFault.{SettingsFault}
 use Rattle.signed_stream.specs.declared.settings.SettingsFault.TheVariants as faults
-use Rattle.signed_stream.specs.declared.status.Status.{Status}
+use Rattle.signed_stream.specs.declared.sources.SelectFault.{SelectFault}
+use Rattle.signed_stream.specs.declared.sources.SelectFault.TheVariants as selections
 
 grows : (a b : Bool × Bool) (first second more : List Place) → second ≡ first ++ more → b ≡ a
     → usual_if b.0 Config ++ (usual_if b.1 Credentials ++ second) ≡ (usual_if a.0 Config ++ (usual_if a.1 Credentials ++ first)) ++ more
@@ -89,31 +91,31 @@ module _ {D : Type 0} (answers : D → List ℕ → Result (Vec ℕ) DiskError �
       by_texts (place ∷ places) read stops = read before now stops
   stops_named (place ∷ named) texts before now path stops = stops_in_front (place ∷ named) (given_places texts) before now path (λ b n given. givens_are_read texts b n path given) stops
 
-  pub load_names : (named : List Place) (texts : ProfileTexts) (before now : D) (fault : EnvConfigFileLoadError) (status : Status) (path : List ℕ)
-      → Loads answers reads tells env (source_places named texts) before now (Err fault) → ending_of status ≡ load_ending fault → ending_of status ≡ could_not_read_file path → StopsAtFile answers reads tells env named before now path
-  load_names named texts before now (loads.ParseError error) status path found ends is = absurd found
-  load_names named texts before now (loads.CouldNotReadFile fault) status path found ends is =
+  pub load_names : (named : List Place) (texts : ProfileTexts) (before now : D) (fault : EnvConfigFileLoadError) (end : Ending) (path : List ℕ)
+      → Loads answers reads tells env (source_places named texts) before now (Err fault) → end ≡ load_ending fault → end ≡ could_not_read_file path → StopsAtFile answers reads tells env named before now path
+  load_names named texts before now (loads.ParseError error) end path found ends is = absurd found
+  load_names named texts before now (loads.CouldNotReadFile fault) end path found ends is =
       let same : string_bytes fault.path ≡ path = (let e = sym ends ∙ is in cc) in stops_named named texts before now path (rw same at found)
-  load_names named texts before now loads.NoMemory status path found ends is = let e = sym ends ∙ is in cc
+  load_names named texts before now loads.NoMemory end path found ends is = let e = sym ends ∙ is in cc
 
   -- ## What is selected
 
   -- nothing, where the files aren't loaded
-  pub load_selects : (places : List Place) (service_id : Option (List ℕ)) (before now : D) (fault : EnvConfigFileLoadError) (status : Status)
-      → Loads answers reads tells env places before now (Err fault) → ending_of status ≡ load_ending fault
-      → (files : FilesRead) × DiskGives answers reads tells env before now places files × (selection env service_id files ≡ Err (ending_of status))
-  load_selects places service_id before now (loads.ParseError error) status found ends = absurd found
-  load_selects places service_id before now (loads.CouldNotReadFile fault) status found ends = (unreadable (string_bytes fault.path), found, rw ends refl)
-  load_selects places service_id before now loads.NoMemory status found ends = (unloaded, tt, rw ends refl)
+  pub load_selects : (places : List Place) (service_id : Option (List ℕ)) (before now : D) (fault : EnvConfigFileLoadError) (end : Ending)
+      → Loads answers reads tells env places before now (Err fault) → end ≡ load_ending fault
+      → (files : FilesRead) × DiskGives answers reads tells env before now places files × (selection env service_id files ≡ Err (end))
+  load_selects places service_id before now (loads.ParseError error) end found ends = absurd found
+  load_selects places service_id before now (loads.CouldNotReadFile fault) end found ends = (unreadable (string_bytes fault.path), found, rw ends refl)
+  load_selects places service_id before now loads.NoMemory end found ends = (unloaded, tt, rw ends refl)
 
   -- nothing, where the settings aren't whole
-  pub settings_lack : (places : List Place) (service_id : Option (List ℕ)) (before now : D) (source : Source) (fault : SettingsFault) (status : Status)
+  pub settings_lack : (places : List Place) (service_id : Option (List ℕ)) (before now : D) (source : Source) (fault : SettingsFault) (end : Ending)
       → Loads answers reads tells env places before now (Ok source) → GivesSettings (settings (map file_of source.files.items) (string_bytes source.profile) env service_id) (Err fault)
-      → ending_of status ≡ settings_ending fault → (files : FilesRead) × DiskGives answers reads tells env before now places files × (selection env service_id files ≡ Err (ending_of status))
-  settings_lack places service_id before now source (faults.ParseError error) status found gives ends = (loaded (map file_of source.files.items), found.0, rw (ends, ← found.1, gives) refl)
-  settings_lack places service_id before now source faults.MissingCredentials status found gives ends = (loaded (map file_of source.files.items), found.0, rw (ends, ← found.1, gives) refl)
-  settings_lack places service_id before now source faults.MissingSigningRegion status found gives ends = (loaded (map file_of source.files.items), found.0, rw (ends, ← found.1, gives) refl)
-  settings_lack places service_id before now source faults.NoMemory status found gives ends = (unloaded, tt, rw ends refl)
+      → end ≡ settings_ending fault → (files : FilesRead) × DiskGives answers reads tells env before now places files × (selection env service_id files ≡ Err (end))
+  settings_lack places service_id before now source (faults.ParseError error) end found gives ends = (loaded (map file_of source.files.items), found.0, rw (ends, ← found.1, gives) refl)
+  settings_lack places service_id before now source faults.MissingCredentials end found gives ends = (loaded (map file_of source.files.items), found.0, rw (ends, ← found.1, gives) refl)
+  settings_lack places service_id before now source faults.MissingSigningRegion end found gives ends = (loaded (map file_of source.files.items), found.0, rw (ends, ← found.1, gives) refl)
+  settings_lack places service_id before now source faults.NoMemory end found gives ends = (unloaded, tt, rw ends refl)
 
   pub settings_select : (places : List Place) (service_id : Option (List ℕ)) (before now : D) (source : Source) (given : Settings)
       → Loads answers reads tells env places before now (Ok source) → settings (map file_of source.files.items) (string_bytes source.profile) env service_id ≡ Ok (selected_in given)
@@ -132,3 +134,11 @@ settings_name_none (faults.ParseError error) path is = cc
 settings_name_none faults.MissingCredentials path is = cc
 settings_name_none faults.MissingSigningRegion path is = cc
 settings_name_none faults.NoMemory path is = cc
+
+-- nothing selected ends a run once its texts were read
+pub selects_after_texts : (fault : SelectFault) → IsAfterTexts (selection_ending fault)
+selects_after_texts (selections.CouldNotReadFile path) = tt
+selects_after_texts (selections.ParseError error) = tt
+selects_after_texts selections.MissingCredentials = tt
+selects_after_texts selections.MissingSigningRegion = tt
+selects_after_texts selections.NoMemory = tt

@@ -1,6 +1,6 @@
 -- What the functions below `run` promise to one another, and what carries the proofs of its promises. A reader of those needs none of it: they are in
 -- Running, and what they rest on in Plan, Stream and ShowSettings.
-use Rattle.std.specs.Prelude.{◌≡◌, ℕ, List, Option, Result, Ok, Err}
+use Rattle.std.specs.Prelude.{◌≡◌, ℕ, List, Option, Ok}
 use Rattle.smithy_core.specs.Moment.{Instant}
 use Rattle.env_config.specs.Files.{Place}
 use Rattle.signed_stream.specs.CheckRecord.{GaveRecord, check_plan}
@@ -11,13 +11,9 @@ use Rattle.signed_stream.specs.Plan.{FilesRead, GoesAsPlanned, IsNeeded, Plan, S
 use Rattle.job_text.specs.ProfileTexts.{ProfileTexts}
 use Rattle.job_text.specs.Record.{RecordParts}
 use Rattle.signed_stream.specs.Running.{Gave, OfClock, RunsAsPlanned, TakesMoments, TellsInput, read_plan}
-use Rattle.signed_stream.specs.Settings.{Selected, selected_in}
 use Rattle.signed_stream.specs.ShowSettings.{GaveTexts, settings_plan}
-use Rattle.signed_stream.specs.Sources.{selection, source_places}
-use Rattle.signed_stream.specs.Status.{Ending, bad_job, check_failed, could_not_read_file, done, ending_of, no_memory, output_fault, refused}
+use Rattle.signed_stream.specs.Status.{Ending, bad_job, check_failed, could_not_read_file, done, no_memory, output_fault, refused}
 use Rattle.signed_stream.specs.Stream.{GaveJob, job_plan}
-use Rattle.signed_stream.specs.declared.settings.Settings.{Settings}
-use Rattle.signed_stream.specs.declared.status.Status.{Status}
 
 -- what a function below `run` promises of a plan: there is what I/O supplied, for which the answer is as planned, and no moment was taken that the plan
 -- didn't need
@@ -66,22 +62,3 @@ IsAfterTexts end = ⊥
 abbrev pub IsAfterInput : Ending → Type 0
 IsAfterInput (bad_job place) = Unit {0}
 IsAfterInput end = IsAfterTexts end
-
--- ## What is selected
-
--- the settings are what is selected, or the run ends so
-abbrev pub AnswersSettings : Result Selected Ending → Result Settings Status → Type 0
-AnswersSettings outcome (Ok settings) = outcome ≡ Ok (selected_in settings)
-AnswersSettings outcome (Err status) = outcome ≡ Err (ending_of status)
-
--- there is what the disk gave for the files that are named and these texts, and what it selects is answered
-abbrev pub Selects : (List Place → FilesRead → Type 0) → List (List ℕ × List ℕ) → ProfileWanted → ProfileTexts → Result Settings Status → Type 0
-Selects gave env wanted texts result =
-    (files : FilesRead) × gave (source_places wanted.files texts) files × AnswersSettings (selection env wanted.service_id files) result
-
--- the ends without anything selected: before the target is read
-abbrev pub IsUnselected : Ending → Type 0
-IsUnselected (could_not_read_file path) = Unit {0}
-IsUnselected (refused fault) = Unit {0}
-IsUnselected no_memory = Unit {0}
-IsUnselected end = ⊥

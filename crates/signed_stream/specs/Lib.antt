@@ -13,10 +13,13 @@ pub mod Laws
 pub mod Options
 pub mod Plan
 pub mod ProfileOptions
+pub mod RequestWords
 pub mod Running
 pub mod Saying
+pub mod Selecting
 pub mod Sending
 pub mod Settings
+pub mod SharedStatus
 pub mod ShowSettings
 pub mod Shown
 pub mod Sign

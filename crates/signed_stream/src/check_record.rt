@@ -61,7 +61,7 @@ pub fn check_record<D: Disk, K: ByteSink>(
                 out,
             )
         }
-        Err(status) => status,
+        Err(fault) => Status::from(fault),
     }
 }
 

@@ -10,6 +10,7 @@ mod chunk;
 mod generator;
 mod options;
 mod profile;
+mod request;
 mod watch;
 
 pub use crate::command::check::CheckWords;
@@ -21,7 +22,8 @@ use crate::command::generator::read_generator;
 use crate::command::options::GivenOptions;
 pub use crate::command::options::StreamWords;
 use crate::command::profile::GivenProfile;
-pub use crate::command::profile::{NamedFile, ProfileOptions};
+pub use crate::command::profile::{NamedFile, ProfileOption, ProfileOptions};
+pub use crate::command::request::{RequestWords, read_request_words};
 pub use crate::command::watch::{WatchWords, read_watch};
 use job_text::{WordsFault, take_words};
 use std::alloc::Global;

@@ -26,6 +26,7 @@ mod own_events;
 mod running;
 mod saying;
 mod settings;
+mod shared_status;
 mod show_chunked;
 mod show_settings;
 mod shown;
@@ -37,11 +38,16 @@ mod streaming;
 mod watch_chain;
 mod written;
 
+pub use crate::command::{
+    NamedFile, ProfileOption, ProfileOptions, RequestWords, read_request_words,
+};
 pub use crate::form::Form;
 pub use crate::laws::{raw_streams_are_accepted, raw_streams_read_back};
-pub use crate::running::run;
+pub use crate::running::{MOST_INPUT, run};
 pub use crate::saying::say;
 pub use crate::settings::{Settings, SettingsFault, read_settings};
+pub use crate::shared_status::SharedStatus;
+pub use crate::sources::{SelectFault, select};
 pub use crate::status::{CheckFault, Status, StreamFault};
 pub use crate::streaming::{StreamOptions, sign_and_stream};
 pub use chain_watch::{ChainFault, ChainPart, check_chain};

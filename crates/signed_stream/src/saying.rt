@@ -1,9 +1,10 @@
 ghost use Rattle.std.specs.Prelude.{◌≡◌, ◌≤◌, ◌⊎◌, IfOk};
 ghost use Rattle.std.specs.String.{string_bytes};
 ghost use Rattle.signed_stream.specs.Saying.{SaysEnding, ending_line, failed_at};
-ghost use Rattle.signed_stream.specs.Status.{check_failed, done, ending_of, run_fault, no_memory, refused};
+ghost use Rattle.signed_stream.specs.Status.{check_failed, done, ending_of, no_memory};
 
-use crate::status::{CheckFault, Status, StreamFault};
+use crate::shared_status::SharedStatus;
+use crate::status::{CheckFault, Status};
 use chain_watch::ChainFault;
 use smithy_core::{ByteSink, Mem, SinkError, write_all};
 use std::alloc::Global;
@@ -42,45 +43,16 @@ fn line_of(alloc: Global, status: &Status) -> Mem<String>
 {
     match status {
         Status::Done => unreachable!(),
-        Status::BadWords(place) => format!(in alloc; "bad word {place}\n"),
-        Status::JobTooLarge => String::from_str(alloc, "input over 67108864 bytes\n"),
-        Status::BadJob(place) => format!(in alloc; "bad line {place}\n"),
-        Status::ReadFault => String::from_str(alloc, "read fault\n"),
-        Status::CouldNotReadFile(path) => {
-            let path = path.as_str();
-            format!(in alloc; "could not read file {path}\n")
-        }
-        Status::Refused(fault) => refusal_line(alloc, fault),
+        Status::BadWords(place) => SharedStatus::BadWords(*place).line(alloc),
+        Status::JobTooLarge => SharedStatus::JobTooLarge.line(alloc),
+        Status::BadJob(place) => SharedStatus::BadJob(*place).line(alloc),
+        Status::ReadFault => SharedStatus::ReadFault.line(alloc),
+        Status::CouldNotReadFile(path) => SharedStatus::CouldNotReadFile(path.as_str()).line(alloc),
+        Status::Refused(fault) => SharedStatus::Refused(fault).line(alloc),
         Status::CheckFailed(fault) => check_line(alloc, *fault),
-        Status::OutputFault => String::from_str(alloc, "output fault\n"),
-        Status::NoMemory => String::from_str(alloc, "no memory\n"),
+        Status::OutputFault => SharedStatus::OutputFault.line(alloc),
+        Status::NoMemory => SharedStatus::NoMemory.line(alloc),
     }
-}
-
-fn refusal_line(alloc: Global, fault: &StreamFault) -> Mem<String>
-    ensures { IfOk result (λ line. string_bytes line ≡ ending_line (refused (run_fault fault.now))) }
-{
-    let line = match fault {
-        StreamFault::ParseError(_) => "refused 1 ParseError\n",
-        StreamFault::MissingCredentials => "refused 2 MissingCredentials\n",
-        StreamFault::MissingSigningRegion => "refused 3 MissingSigningRegion\n",
-        StreamFault::MomentOutOfRange(_) => "refused 4 MomentOutOfRange\n",
-        StreamFault::InvalidUri => "refused 5 InvalidUri\n",
-        StreamFault::InvalidHeaderName(_) => "refused 6 InvalidHeaderName\n",
-        StreamFault::InvalidHeaderValue(_) => "refused 7 InvalidHeaderValue\n",
-        StreamFault::MissingHost => "refused 8 MissingHost\n",
-        StreamFault::InvalidTokenName => "refused 9 InvalidTokenName\n",
-        StreamFault::MissingExpires => "refused 10 MissingExpires\n",
-        StreamFault::InvalidHeaderNameLength(_) => "refused 11 InvalidHeaderNameLength\n",
-        StreamFault::HeaderValueTooLong(_) => "refused 12 HeaderValueTooLong\n",
-        StreamFault::TimestampValueTooLarge(_) => "refused 13 TimestampValueTooLarge\n",
-        StreamFault::HeadersTooLong(_) => "refused 14 HeadersTooLong\n",
-        StreamFault::PayloadTooLong(_) => "refused 15 PayloadTooLong\n",
-        StreamFault::MessageTooLong(_) => "refused 16 MessageTooLong\n",
-        StreamFault::SinkFault => "refused 17 SinkFault\n",
-        StreamFault::NoMemory => "refused 18 NoMemory\n",
-    };
-    String::from_str(alloc, line)
 }
 
 fn check_line(alloc: Global, fault: CheckFault) -> Mem<String>

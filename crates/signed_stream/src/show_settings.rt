@@ -42,7 +42,7 @@ pub fn show_settings<D: Disk, K: ByteSink>(
 {
     match select(alloc, env, disk, &options, texts) {
         Ok(settings) => status_of(write_settings(alloc, &settings, out)),
-        Err(status) => status,
+        Err(fault) => Status::from(fault),
     }
 }
 

@@ -2,42 +2,91 @@ ghost use Rattle.std.specs.Prelude.{◌≡◌, ◌≤◌, ◌++◌, ℕ, List, I
 ghost use Rattle.std.specs.String.{string_bytes};
 ghost use Rattle.env_config.specs.Files.{chosen_places, file_places};
 ghost use Rattle.env_config.specs.Loading.{Loads};
-ghost use Rattle.signed_stream.specs.Carriers.{IsUnselected, Selects};
+ghost use Rattle.signed_stream.specs.Selecting.{Selects, selection_ending};
 ghost use Rattle.signed_stream.specs.ProfileOptions.{place_of, profile_wanted};
 ghost use Rattle.signed_stream.specs.Plan.{unreadable};
 ghost use Rattle.job_text.specs.ProfileTexts.{texts_of};
 ghost use Rattle.signed_stream.specs.Sources.{DiskGives, given_place, given_places, source_places};
-ghost use Rattle.signed_stream.specs.Status.{could_not_read_file, ending_of};
+ghost use Rattle.signed_stream.specs.Status.{could_not_read_file};
 
 use crate::command::{NamedFile, ProfileOptions};
-use crate::settings::{Settings, read_settings};
-use crate::status::Status;
+use crate::settings::{Settings, SettingsFault, read_settings};
 use env_config::{
-    BuildFault, Builder, EnvConfigFileKind, EnvConfigFileLoadError, EnvConfigFiles, Source, load,
+    BuildFault, Builder, EnvConfigFileKind, EnvConfigFileLoadError, EnvConfigFiles,
+    EnvConfigParseError, Source, load,
 };
 use job_text::ProfileTexts;
 use smithy_core::{Disk, Env, Mem};
 use std::alloc::{AllocError, Global};
+
+/// Why nothing is selected.
+#[derive(Debug, PartialEq, Eq, Drop)]
+pub enum SelectFault {
+    /// The file at this path, which a word names, is absent, or its read failed.
+    CouldNotReadFile(String),
+    /// A line of a profile file is outside the grammar: the first one of the first faulty file.
+    ParseError(EnvConfigParseError),
+    /// The selected profile lacks `aws_access_key_id` or `aws_secret_access_key`.
+    MissingCredentials,
+    /// No place gives a region.
+    MissingSigningRegion,
+    /// Memory ran out.
+    NoMemory,
+}
+
+impl From<EnvConfigFileLoadError> for SelectFault {
+    ghost use Rattle.std.specs.Prelude.{◌≡◌};
+    ghost use Rattle.signed_stream.specs.Selecting.{selection_ending};
+    ghost use Rattle.signed_stream.specs.Status.{load_ending};
+
+    ghost from_gives = { λ inner fault. selection_ending fault ≡ load_ending inner };
+
+    fn from(inner: EnvConfigFileLoadError) -> SelectFault {
+        match inner {
+            EnvConfigFileLoadError::ParseError(error) => SelectFault::ParseError(error),
+            EnvConfigFileLoadError::CouldNotReadFile(fault) => {
+                SelectFault::CouldNotReadFile(fault.path)
+            }
+            EnvConfigFileLoadError::NoMemory => SelectFault::NoMemory,
+        }
+    }
+}
+
+impl From<SettingsFault> for SelectFault {
+    ghost use Rattle.std.specs.Prelude.{◌≡◌};
+    ghost use Rattle.signed_stream.specs.Selecting.{selection_ending};
+    ghost use Rattle.signed_stream.specs.Status.{settings_ending};
+
+    ghost from_gives = { λ inner fault. selection_ending fault ≡ settings_ending inner };
+
+    fn from(inner: SettingsFault) -> SelectFault {
+        match inner {
+            SettingsFault::ParseError(error) => SelectFault::ParseError(error),
+            SettingsFault::MissingCredentials => SelectFault::MissingCredentials,
+            SettingsFault::MissingSigningRegion => SelectFault::MissingSigningRegion,
+            SettingsFault::NoMemory => SelectFault::NoMemory,
+        }
+    }
+}
 
 /// What profile files select: those that the options name, in their order, and then the texts of the input; where there
 /// is none of both, the two default files.
 ///
 /// # Errors
 ///
-/// [`Status::CouldNotReadFile`] with the path of the first file that is named and is absent, or whose read failed;
-/// [`Status::Refused`] where the texts or the variables lack what is needed; [`Status::NoMemory`] where memory runs out.
+/// [`SelectFault::CouldNotReadFile`] with the path of the first file that is named and is absent, or whose read failed; and
+/// the others as those of [`read_settings`](crate::read_settings).
 pub fn select<D: Disk>(
     alloc: Global,
     env: &Env,
     disk: &mut D,
     options: &ProfileOptions<'_>,
     texts: ProfileTexts,
-) -> Result<Settings, Status>
+) -> Result<Settings, SelectFault>
     ensures count { D.faults disk.old ≤ D.faults disk.new }
     ensures same { D.files disk.new ≡ D.files disk.old }
     ensures selects { Selects (DiskGives D.answers D.faults (D.files disk.old) env.now disk.old disk.new) env.now (profile_wanted options.now) (texts_of texts) result }
-    ensures early { IfErr result (λ status. IsUnselected (ending_of status)) }
-    ensures named { IfErr result (λ status. (path : List ℕ) → ending_of status ≡ could_not_read_file path
+    ensures named { IfErr result (λ fault. (path : List ℕ) → selection_ending fault ≡ could_not_read_file path
         → DiskGives D.answers D.faults (D.files disk.old) env.now disk.old disk.new (profile_wanted options.now).files (unreadable path)) }
 {
     let source = load_source(alloc, env, disk, options, texts)?;

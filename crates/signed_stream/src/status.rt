@@ -3,6 +3,7 @@ ghost use Rattle.signed_stream.specs.Halt.{ended};
 ghost use Rattle.signed_stream.specs.Status.{ending_of};
 
 use crate::settings::SettingsFault;
+use crate::sources::SelectFault;
 use chain_watch::ChainFault;
 use env_config::{EnvConfigFileLoadError, EnvConfigParseError};
 use sigv4::ValuePlace;
@@ -221,15 +222,7 @@ impl From<EnvConfigFileLoadError> for Status {
     ghost from_gives = { λ fault status. ending_of status ≡ load_ending fault };
 
     fn from(fault: EnvConfigFileLoadError) -> Status {
-        match fault {
-            EnvConfigFileLoadError::ParseError(error) => {
-                Status::Refused(StreamFault::ParseError(error))
-            }
-            EnvConfigFileLoadError::CouldNotReadFile(fault) => {
-                Status::CouldNotReadFile(fault.path)
-            }
-            EnvConfigFileLoadError::NoMemory => Status::NoMemory,
-        }
+        Status::from(SelectFault::from(fault))
     }
 }
 
@@ -249,14 +242,23 @@ impl From<StreamFault> for Status {
     }
 }
 
-impl From<SettingsFault> for Status {
+impl From<SelectFault> for Status {
     ghost use Rattle.std.specs.Prelude.{◌≡◌};
-    ghost use Rattle.signed_stream.specs.Status.{ending_of, settings_ending};
+    ghost use Rattle.signed_stream.specs.Selecting.{selection_ending};
+    ghost use Rattle.signed_stream.specs.Status.{ending_of};
 
-    ghost from_gives = { λ fault status. ending_of status ≡ settings_ending fault };
+    ghost from_gives = { λ fault status. ending_of status ≡ selection_ending fault };
 
-    fn from(fault: SettingsFault) -> Status {
-        Status::from(StreamFault::from(fault))
+    fn from(fault: SelectFault) -> Status {
+        match fault {
+            SelectFault::CouldNotReadFile(path) => Status::CouldNotReadFile(path),
+            SelectFault::ParseError(error) => Status::Refused(StreamFault::ParseError(error)),
+            SelectFault::MissingCredentials => Status::Refused(StreamFault::MissingCredentials),
+            SelectFault::MissingSigningRegion => {
+                Status::Refused(StreamFault::MissingSigningRegion)
+            }
+            SelectFault::NoMemory => Status::NoMemory,
+        }
     }
 }
 

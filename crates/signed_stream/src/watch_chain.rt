@@ -78,7 +78,7 @@ fn watch_wanted<S: ByteSource, D: Disk, K: ByteSink>(
 {
     match select(alloc, env, disk, &words.profile, ProfileTexts::new()) {
         Ok(settings) => watch_selected(alloc, &words, &settings, input, out),
-        Err(status) => status,
+        Err(fault) => Status::from(fault),
     }
 }
 

@@ -28,7 +28,7 @@ pub returns-in-Err-clause-planned : goal.returns-in-Err-clause-planned
 returns-in-Err-clause-planned g c =
     let gave = DiskGives g.D.Disk.answers g.D.Disk.faults (g.D.Disk.files c.args.disk.now) c.args.env.now c.args.disk.now c.load_source.new.disk in
     let unasked = given_none g.C.Clock c.args.clock.now in
-    let found = load_selects g.D.Disk.answers g.D.Disk.faults (g.D.Disk.files c.args.disk.now) c.args.env.now _ (option_copied c.args.words.profile.service_id) c.args.disk.now c.load_source.new.disk c.in-Err.fault c.from.result
+    let found = load_selects g.D.Disk.answers g.D.Disk.faults (g.D.Disk.files c.args.disk.now) c.args.env.now _ (option_copied c.args.words.profile.service_id) c.args.disk.now c.load_source.new.disk c.in-Err.fault (ending_of c.from.result)
     c.in-Err.ensures.loads c.from.ensures in
     job_unselected gave (λ taken. Gives g.C.Clock c.args.clock.now taken c.args.clock.now) c.args.env.now (wanted_of c.args.words) (job_parts c.args.job) found.0 (ending_of c.from.result) (g.K.ByteSink.held c.args.out.now)
     (unasked_at (λ taken. Gives g.C.Clock c.args.clock.now taken c.args.clock.now) unasked c.args.words.at) found.1 found.2
@@ -50,5 +50,5 @@ returns-in-Err-clause-end g c = rw c.from.ensures (loads_after_texts c.in-Err.fa
 
 pub returns-in-Err-clause-named : goal.returns-in-Err-clause-named
 returns-in-Err-clause-named g c = λ path is.
-    load_names g.D.Disk.answers g.D.Disk.faults (g.D.Disk.files c.args.disk.now) c.args.env.now (map place_of c.args.words.profile.files.items) _ c.args.disk.now c.load_source.new.disk c.in-Err.fault c.from.result path
+    load_names g.D.Disk.answers g.D.Disk.faults (g.D.Disk.files c.args.disk.now) c.args.env.now (map place_of c.args.words.profile.files.items) _ c.args.disk.now c.load_source.new.disk c.in-Err.fault (ending_of c.from.result) path
     c.in-Err.ensures.loads c.from.ensures is
