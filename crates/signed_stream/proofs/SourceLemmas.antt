@@ -21,7 +21,7 @@ use Rattle.job_text.specs.ProfileTexts.{ProfileTexts}
 use Rattle.signed_stream.specs.Settings.{GivesSettings, selected_in, settings}
 use Rattle.signed_stream.specs.Sources.{DiskGives, given_place, given_places, or_usual, selection, source_places}
 use Rattle.signed_stream.specs.Selecting.{selection_ending}
-use Rattle.signed_stream.specs.Status.{Ending, could_not_read_file, load_ending, settings_ending}
+use Rattle.signed_stream.specs.Status.{Ending, could_not_read_file, load_ending, output_fault, read_fault, settings_ending}
 use Rattle.signed_stream.specs.declared.command.profile.NamedFile.{NamedFile}
 use Rattle.signed_stream.specs.declared.settings.Settings.{Settings}
 use Rattle.signed_stream.specs.declared.settings.SettingsFault.{SettingsFault}
@@ -142,3 +142,18 @@ selects_after_texts (selections.ParseError error) = tt
 selects_after_texts selections.MissingCredentials = tt
 selects_after_texts selections.MissingSigningRegion = tt
 selects_after_texts selections.NoMemory = tt
+
+-- it is neither a fault of the output nor one of the input
+pub selects_no_output : (fault : SelectFault) (end : Ending) → end ≡ selection_ending fault → end ≡ output_fault → ⊥
+selects_no_output (selections.CouldNotReadFile path) end ends is = let e = sym ends ∙ is in cc
+selects_no_output (selections.ParseError error) end ends is = let e = sym ends ∙ is in cc
+selects_no_output selections.MissingCredentials end ends is = let e = sym ends ∙ is in cc
+selects_no_output selections.MissingSigningRegion end ends is = let e = sym ends ∙ is in cc
+selects_no_output selections.NoMemory end ends is = let e = sym ends ∙ is in cc
+
+pub selects_no_read : (fault : SelectFault) (end : Ending) → end ≡ selection_ending fault → end ≡ read_fault → ⊥
+selects_no_read (selections.CouldNotReadFile path) end ends is = let e = sym ends ∙ is in cc
+selects_no_read (selections.ParseError error) end ends is = let e = sym ends ∙ is in cc
+selects_no_read selections.MissingCredentials end ends is = let e = sym ends ∙ is in cc
+selects_no_read selections.MissingSigningRegion end ends is = let e = sym ends ∙ is in cc
+selects_no_read selections.NoMemory end ends is = let e = sym ends ∙ is in cc

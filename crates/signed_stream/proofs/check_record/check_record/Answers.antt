@@ -1,3 +1,4 @@
+use Rattle.std.proofs.Common.{sym, ◌∙◌}
 use Rattle.signed_stream.specs.Options.{check_wanted}
 use Rattle.job_text.specs.Record.{record_parts}
 use Rattle.signed_stream.specs.Settings.{selected_in}
@@ -5,7 +6,7 @@ use Rattle.signed_stream.specs.Sources.{DiskGives}
 use Rattle.signed_stream.specs.Selecting.{selection_ending}
 use Rattle.signed_stream.specs.Status.{ending_of}
 use Rattle.signed_stream.proofs.FitLemmas.{record_sealed, record_unselected}
-use Rattle.signed_stream.proofs.SourceLemmas.{selects_after_texts}
+use Rattle.signed_stream.proofs.SourceLemmas.{selects_after_texts, selects_no_output}
 use Rattle.signed_stream.proofs.check_record.check_record.Goals as goal
 
 pub returns-in-Ok-clause-planned : goal.returns-in-Ok-clause-planned
@@ -27,3 +28,9 @@ returns-in-Err-clause-planned g c =
 
 pub returns-in-Err-clause-end : goal.returns-in-Err-clause-end
 returns-in-Err-clause-end g c = rw c.from.ensures (selects_after_texts c.in-Err.fault)
+
+pub returns-in-Err-clause-named : goal.returns-in-Err-clause-named
+returns-in-Err-clause-named g c = λ path is. c.in-Err.ensures.named path (sym c.from.ensures ∙ is)
+
+pub returns-in-Err-clause-output_failed : goal.returns-in-Err-clause-output_failed
+returns-in-Err-clause-output_failed g c = λ is. absurd (selects_no_output c.in-Err.fault (ending_of c.from.result) c.from.ensures is)

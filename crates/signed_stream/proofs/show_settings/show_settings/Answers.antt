@@ -7,7 +7,7 @@ use Rattle.signed_stream.specs.Sources.{DiskGives}
 use Rattle.signed_stream.specs.Selecting.{selection_ending}
 use Rattle.signed_stream.specs.Status.{ending_of}
 use Rattle.signed_stream.proofs.FitLemmas.{ended_after_texts, ended_failed, ended_unnamed, texts_shown, texts_unselected}
-use Rattle.signed_stream.proofs.SourceLemmas.{selects_after_texts}
+use Rattle.signed_stream.proofs.SourceLemmas.{selects_after_texts, selects_no_output}
 use Rattle.signed_stream.proofs.show_settings.show_settings.Goals as goal
 
 pub returns-in-Ok-clause-planned : goal.returns-in-Ok-clause-planned
@@ -39,3 +39,9 @@ returns-in-Ok-clause-output_failed g c = λ is. c.write_settings.ensures.failed 
 
 pub returns-in-Ok-clause-output_steady : goal.returns-in-Ok-clause-output_steady
 returns-in-Ok-clause-output_steady g c = λ other. c.write_settings.ensures.steady (λ is. other (c.status_of.ensures ∙ ap ended is))
+
+pub returns-in-Err-clause-named : goal.returns-in-Err-clause-named
+returns-in-Err-clause-named g c = λ path is. c.in-Err.ensures.named path (sym c.from.ensures ∙ is)
+
+pub returns-in-Err-clause-output_failed : goal.returns-in-Err-clause-output_failed
+returns-in-Err-clause-output_failed g c = λ is. absurd (selects_no_output c.in-Err.fault (ending_of c.from.result) c.from.ensures is)
