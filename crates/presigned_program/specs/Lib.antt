@@ -1,0 +1,3 @@
+pub mod PresignRun
+pub mod PresignSaying
+pub mod PresignStatus
