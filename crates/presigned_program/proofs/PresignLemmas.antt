@@ -177,6 +177,11 @@ presigned_cut (Ok text) (ends end) before now goes = said_goes (writes text done
 presigned_cut (Ok text) (fails fault) before now goes = absurd goes
 presigned_cut (Err end) answer before now goes = (inr (inr refl), goes.1)
 
+-- what goes as planned goes so once its line was said
+pub said_presigned : (plan : Result (List ℕ) PresignEnding) (answer told : PresignEnding) (before now : Option (List ℕ)) → GoesPresigned plan answer before now → IsSaidOf answer told → GoesPresigned plan told before now
+said_presigned plan answer told before now goes (inl is) = rw is goes
+said_presigned plan answer told before now goes (inr is) = rw is (presigned_cut plan answer before now goes)
+
 -- what an answer as planned keeps
 pub kept_presigned : (plan : Result (List ℕ) PresignEnding) (answer : PresignEnding) (before now : Option (List ℕ)) → GoesPresigned plan answer before now → KeepsPresigned answer before now
 kept_presigned plan (ends done) before now goes = tt
