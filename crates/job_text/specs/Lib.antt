@@ -5,6 +5,7 @@ pub mod Fault
 pub mod Job
 pub mod Lines
 pub mod Numbers
+pub mod OperationJob
 pub mod Pieces
 pub mod ProfileTexts
 pub mod Record
