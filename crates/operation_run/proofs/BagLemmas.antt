@@ -1,18 +1,15 @@
 -- The bag of an attempt, which differs from the one that its definition names in the time of sending.
 use Rattle.std.proofs.Common.{◌≡◌, ℕ, ℤ, Bool, true, false, List, [], ◌∷◌, ◌++◌, map, Option, Some, None, refl, ap, sym, ◌∙◌}
 use Rattle.std.specs.Option.{option_or}
-use Rattle.std.specs.Prelude.{codes, if◌then◌else◌, is_some, option_and_then}
-use Rattle.httpdate.specs.Date.{parse_secs}
-use Rattle.smithy_core.specs.TextPairs.{first_value}
 use Rattle.std.proofs.lemmas.List.{map-append}
 use Rattle.smithy_core.specs.Moment.{Instant}
-use Rattle.aws_intercept.specs.ClockSkew.{bag_with_skew, bag_with_time, is_off, skew_at}
+use Rattle.aws_intercept.specs.ClockSkew.{bag_with_skew, bag_with_time, is_off}
 use Rattle.aws_intercept.specs.FeatureMetrics.{feature_metrics}
 use Rattle.aws_intercept.specs.RequestInfo.{info_text}
 use Rattle.aws_intercept.specs.declared.bag.ConfigBag.{ConfigBag}
 use Rattle.aws_intercept.specs.declared.user_agent.interceptor.UserAgentFault.{UserAgentFault}
 use Rattle.aws_intercept.specs.declared.user_agent.interceptor.UserAgentFault.TheVariants as agents
-use Rattle.operation_run.specs.Again.{Round, attempt_bag, known_skew, round_skew}
+use Rattle.operation_run.specs.Again.{Round, attempt_bag, known_skew, own_skew, round_skew}
 use Rattle.operation_run.specs.Attempt.{IsSent, OperationParts, PassesAgent, RefusesAgent, RefusesSigning}
 use Rattle.operation_run.specs.Attempts.{IsBagAfter, EndsAttempt}
 use Rattle.operation_run.specs.Reply.{RequestTexts}
@@ -59,13 +56,8 @@ module _ (parts : OperationParts) (bag : ConfigBag) (t : Option Instant) where
 skew_off : (bag : ConfigBag) (round : Round) → is_off bag ≡ true → round_skew bag round ≡ None
 skew_off bag round is = let same : bag_with_time round.sent bag ≡ bag = rw is refl in rw (same, is) refl
 
--- where it isn't, the skew that the response and the two moments give
-abbrev pub own_skew : Round → Option ℤ
-own_skew round =
-    if is_some (first_value round.reply.response.headers (codes "age")) then None
-    else option_and_then (λ server. skew_at round.sent round.received server) (option_and_then parse_secs (first_value round.reply.response.headers (codes "date")))
-
-skew_on : (bag : ConfigBag) (round : Round) → is_off bag ≡ false → round_skew bag round ≡ own_skew round
+-- where it isn't, the skew is the round's own
+pub skew_on : (bag : ConfigBag) (round : Round) → is_off bag ≡ false → round_skew bag round ≡ own_skew round
 skew_on bag round is = let same : bag_with_time round.sent bag ≡ record bag { time_sent = Some round.sent } = rw is refl in rw (same, is) refl
 
 -- the skew of a reply looks at no more of a bag than whether the correction is disabled

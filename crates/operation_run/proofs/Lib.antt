@@ -2,8 +2,10 @@ pub mod AgainLemmas
 pub mod AttemptLemmas
 pub mod BagLemmas
 pub mod CourseLemmas
+pub mod ListLemmas
 pub mod OperateLemmas
 pub mod OperationLemmas
+pub mod OverLemmas
 pub mod PrepareLemmas
 pub mod ScriptLemmas
 pub mod SigningLemmas

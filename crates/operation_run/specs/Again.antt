@@ -1,9 +1,11 @@
 -- Whether an operation is tried once more after a reply, and how often it is tried.
-use Rattle.std.specs.Prelude.{ℕ, ◌+◌, Bool, ◌||◌, ◌&&◌, List, [], ◌∷◌, length, map, min, ℤ, Option, Some, if◌then◌else◌, is_some}
+use Rattle.std.specs.Prelude.{ℕ, ◌+◌, Bool, ◌||◌, ◌&&◌, List, [], ◌∷◌, codes, length, map, min, ℤ, Option, Some, None, if◌then◌else◌, is_some, option_and_then}
 use Rattle.std.specs.Option.{option_map_or, option_or}
+use Rattle.httpdate.specs.Date.{parse_secs}
 use Rattle.smithy_core.specs.Moment.{Instant}
+use Rattle.smithy_core.specs.TextPairs.{first_value}
 use Rattle.aws_intercept.specs.Classify.{is_skew_error, is_skewed, kind_of, transient_codes}
-use Rattle.aws_intercept.specs.ClockSkew.{bag_with_time, measured, response_with_skew}
+use Rattle.aws_intercept.specs.ClockSkew.{bag_with_time, measured, response_with_skew, skew_at}
 use Rattle.aws_intercept.specs.declared.bag.ConfigBag.{ConfigBag}
 use Rattle.operation_run.specs.Reply.{ReplyTexts, reply_code}
 
@@ -21,6 +23,12 @@ round_moments round = round.first ∷ round.sent ∷ round.received ∷ []
 -- the skew that its reply gives, if any: none where the bag disables the correction
 abbrev pub round_skew : ConfigBag → Round → Option ℤ
 round_skew bag round = measured (bag_with_time round.sent bag) round.reply.response.headers round.received
+
+-- the skew that its reply gives where the correction is on: none where the reply is from a cache
+abbrev pub own_skew : Round → Option ℤ
+own_skew round =
+    if is_some (first_value round.reply.response.headers (codes "age")) then None
+    else option_and_then (λ server. skew_at round.sent round.received server) (option_and_then parse_secs (first_value round.reply.response.headers (codes "date")))
 
 -- its reply with the skew that was measured
 abbrev pub answered : ConfigBag → Round → ReplyTexts
@@ -56,5 +64,9 @@ abbrev pub most_attempts : ConfigBag → ℕ
 most_attempts bag = option_map_or (λ retry. retry.max_attempts) bag.retry 1
 
 -- the number of the first attempt whose reply isn't worth one more, or the most attempts, where that is less
+abbrev pub attempts_by : ℕ → (Round → Bool) → List Round → ℕ
+attempts_by most again rounds = min most (leading again rounds + 1)
+
+-- how many attempts are made with a bag: the last one's reply isn't worth one more, or no more may be made
 abbrev pub attempts : ConfigBag → List Round → ℕ
-attempts bag rounds = min (most_attempts bag) (leading (is_again bag) rounds + 1)
+attempts bag rounds = attempts_by (most_attempts bag) (is_again bag) rounds

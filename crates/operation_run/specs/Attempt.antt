@@ -1,5 +1,5 @@
 -- One attempt of an operation: the request that it sends, and why it sends none.
-use Rattle.std.specs.Prelude.{◌≡◌, ℕ, List, [], ◌∷◌, ◌++◌, Option, Some, None, Ok, IsNone, IsSome, IsSomeAnd, codes, option_map, string_bytes}
+use Rattle.std.specs.Prelude.{◌≡◌, ℕ, List, Option, Some, None, Ok, IsNone, IsSome, IsSomeAnd, codes, option_map, string_bytes}
 use Rattle.std.specs.Option.{option_map_or}
 use Rattle.smithy_core.specs.HeaderGrammar.{IsHeaderValue}
 use Rattle.smithy_core.specs.Moment.{Instant}

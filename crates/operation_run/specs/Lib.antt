@@ -2,7 +2,9 @@ pub mod Again
 pub mod Attempt
 pub mod Attempts
 pub mod Fault
+pub mod Over
 pub mod Reply
+pub mod Rounds
 pub mod Script
 pub mod Steps
 pub mod Transport

@@ -1,5 +1,5 @@
 -- What contracts say of a transport, and what its faults print.
-use Rattle.std.specs.Prelude.{◌≡◌, ℕ, List, ◌++◌, codes, Option, Some, None}
+use Rattle.std.specs.Prelude.{◌≡◌, ℕ, ◌≤◌, List, ◌++◌, codes, length, Option, Some, None}
 use Rattle.operation_run.specs.declared.transport.SendFault.{SendFault}
 use Rattle.operation_run.specs.declared.transport.SendFault.TheVariants.{Failed, NoMemory}
 
@@ -7,6 +7,12 @@ use Rattle.operation_run.specs.declared.transport.SendFault.TheVariants.{Failed,
 abbrev pub Appends : {A : Type 0} → Option (List A) → Option (List A) → List A → Type 0
 Appends None now more = now ≡ None
 Appends (Some before) now more = now ≡ Some (before ++ more)
+
+-- as many replies came as are settled, where both are told
+abbrev pub HasGivenAll : {A : Type 0} → Option (List A) → Option (List A) → Type 0
+HasGivenAll None replied = Unit {0}
+HasGivenAll (Some all) None = Unit {0}
+HasGivenAll (Some all) (Some replied) = length all ≤ length replied
 
 -- what the fault of a transport prints
 abbrev pub send_fault_text : SendFault → List ℕ

@@ -7,6 +7,7 @@ ghost use Rattle.aws_intercept.specs.Invocation.{with_id_header};
 ghost use Rattle.aws_intercept.specs.RequestInfo.{info_text};
 ghost use Rattle.operation_run.specs.Reply.{request_texts};
 ghost use Rattle.operation_run.specs.Steps.{Dresses, Exchanges, Prepares, TriesOnce, operation_parts};
+ghost use Rattle.operation_run.specs.Transport.{HasGivenAll};
 
 use crate::fault::OperationFault;
 use crate::reply::Reply;
@@ -44,6 +45,8 @@ pub(crate) fn attempt<T: Transport, C: Clock>(
     ensures count { T.faults transport.old ≤ T.faults transport.new }
     ensures failed { IsErrOf result OperationFault.TransportFault → RoseOrStands (T.faults transport.old) (T.faults transport.new) }
     ensures steady { (IsErrOf result OperationFault.TransportFault → ⊥) → T.faults transport.new ≡ T.faults transport.old }
+    ensures settled { T.settled transport.new ≡ T.settled transport.old }
+    ensures all { IsErrOf result OperationFault.TransportFault → HasGivenAll (T.settled transport.new) (T.replied transport.new) }
 {
     moments.reserve(3)?;
     bag.attempts = Some(number);
@@ -68,6 +71,8 @@ fn attempt_on<T: Transport, C: Clock>(
     ensures count { T.faults transport.old ≤ T.faults transport.new }
     ensures failed { IsErrOf result OperationFault.TransportFault → RoseOrStands (T.faults transport.old) (T.faults transport.new) }
     ensures steady { (IsErrOf result OperationFault.TransportFault → ⊥) → T.faults transport.new ≡ T.faults transport.old }
+    ensures settled { T.settled transport.new ≡ T.settled transport.old }
+    ensures all { IsErrOf result OperationFault.TransportFault → HasGivenAll (T.settled transport.new) (T.replied transport.new) }
 {
     prepare(operation, request, bag, clock, moments)?;
     exchange(&mut operation.skew, request, bag, clock, transport, moments)
@@ -144,6 +149,8 @@ fn exchange<T: Transport, C: Clock>(
     ensures count { T.faults transport.old ≤ T.faults transport.new }
     ensures failed { IsErrOf result OperationFault.TransportFault → RoseOrStands (T.faults transport.old) (T.faults transport.new) }
     ensures steady { (IsErrOf result OperationFault.TransportFault → ⊥) → T.faults transport.new ≡ T.faults transport.old }
+    ensures settled { T.settled transport.new ≡ T.settled transport.old }
+    ensures all { IsErrOf result OperationFault.TransportFault → HasGivenAll (T.settled transport.new) (T.replied transport.new) }
 {
     let sent = next_moment(clock, moments);
     skew.read_before_transmit(sent, bag);

@@ -4,6 +4,7 @@ ghost use Rattle.smithy_core.specs.Outside.{RoseOrStands};
 ghost use Rattle.operation_run.specs.Again.{most_attempts};
 ghost use Rattle.operation_run.specs.Attempts.{Operates, Tried};
 ghost use Rattle.operation_run.specs.Steps.{operation_parts};
+ghost use Rattle.operation_run.specs.Transport.{HasGivenAll};
 
 use crate::again::is_worth_more;
 use crate::attempt::{Operation, attempt};
@@ -59,6 +60,8 @@ pub fn operate<T: Transport, C: Clock, G: InvocationIdGenerator>(
     ensures count { T.faults transport.old ≤ T.faults transport.new }
     ensures failed { IsErrOf result OperationFault.TransportFault → RoseOrStands (T.faults transport.old) (T.faults transport.new) }
     ensures steady { (IsErrOf result OperationFault.TransportFault → ⊥) → T.faults transport.new ≡ T.faults transport.old }
+    ensures settled { T.settled transport.new ≡ T.settled transport.old }
+    ensures all { IsErrOf result OperationFault.TransportFault → HasGivenAll (T.settled transport.new) (T.replied transport.new) }
 {
     InvocationIdInterceptor::new().modify_before_retry_loop(generator, bag)?;
     let mut skew = ServiceClockSkewInterceptor::new();
@@ -87,6 +90,8 @@ fn run_attempts<T: Transport, C: Clock>(
     ensures count { T.faults transport.old ≤ T.faults transport.new }
     ensures failed { IsErrOf result OperationFault.TransportFault → RoseOrStands (T.faults transport.old) (T.faults transport.new) }
     ensures steady { (IsErrOf result OperationFault.TransportFault → ⊥) → T.faults transport.new ≡ T.faults transport.old }
+    ensures settled { T.settled transport.new ≡ T.settled transport.old }
+    ensures all { IsErrOf result OperationFault.TransportFault → HasGivenAll (T.settled transport.new) (T.replied transport.new) }
 {
     let most = most_attempts(bag);
     for number in 1..most {

@@ -10,6 +10,7 @@ mod again;
 mod attempt;
 mod attempts;
 mod fault;
+mod over;
 mod reply;
 mod script;
 mod signing;
@@ -17,6 +18,7 @@ mod transport;
 
 pub use crate::attempts::operate;
 pub use crate::fault::OperationFault;
+pub use crate::over::operate_over;
 pub use crate::reply::{Outcome, Reply};
 pub use crate::script::ScriptedTransport;
 pub use crate::transport::{SendFault, Transport};

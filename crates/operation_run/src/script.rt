@@ -75,6 +75,8 @@ impl Transport for ScriptedTransport {
 
     ghost faults = { λ script. script.faults };
 
+    ghost settled = { λ script. Some script.replies };
+
     fn send(&mut self, request: &HttpRequest) -> Result<Reply, SendFault>
         ensures gives { GivesReply self.old (request_texts request.now) (answer_texts result) self.new }
     {

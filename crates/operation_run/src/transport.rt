@@ -1,7 +1,7 @@
-ghost use Rattle.std.specs.Prelude.{◌≡◌, ℕ, ◌≤◌, List, [], ◌∷◌, Option, IfOk, OnErr, IsErrOf};
+ghost use Rattle.std.specs.Prelude.{◌≡◌, ℕ, ◌≤◌, List, [], ◌∷◌, Option, None, IfOk, OnErr, IsErrOf};
 ghost use Rattle.smithy_core.specs.Outside.{RoseOrStands};
 ghost use Rattle.operation_run.specs.Reply.{ReplyTexts, RequestTexts, reply_texts, request_texts};
-ghost use Rattle.operation_run.specs.Transport.{Appends};
+ghost use Rattle.operation_run.specs.Transport.{Appends, HasGivenAll};
 
 use crate::reply::Reply;
 use smithy_core::HttpRequest;
@@ -80,17 +80,23 @@ pub trait Transport {
     // how often it has failed
     ghost faults: { Self → ℕ };
 
+    // replies that no call changes, where these are told: it fails only once it has given as many
+    ghost settled: { Self → Option (List ReplyTexts) } = { λ _. None };
+
     /// Sends a request, and gives the reply.
     ///
     /// # Errors
     ///
     /// [`SendFault::Failed`] where the count of faults rose, or is saturated; [`SendFault::NoMemory`] where memory runs out. Both
-    /// leave what was sent and what was replied. Any answer but the first leaves the count.
+    /// leave what was sent and what was replied. Any answer but the first leaves the count. A transport that tells `settled` fails
+    /// only once it has given all of these.
     fn send(&mut self, request: &HttpRequest) -> Result<Reply, SendFault>
         ensures count { faults self.old ≤ faults self.new }
         ensures cause { IsErrOf result SendFault.Failed → RoseOrStands (faults self.old) (faults self.new) }
         ensures steady { (IsErrOf result SendFault.Failed → ⊥) → faults self.new ≡ faults self.old }
         ensures sends { IfOk result (λ reply. Appends (sent self.old) (sent self.new) (request_texts request.now ∷ [])) }
         ensures replies { IfOk result (λ reply. Appends (replied self.old) (replied self.new) (reply_texts reply ∷ [])) }
-        ensures kept { OnErr result ((sent self.new ≡ sent self.old) × (replied self.new ≡ replied self.old)) };
+        ensures kept { OnErr result ((sent self.new ≡ sent self.old) × (replied self.new ≡ replied self.old)) }
+        ensures settled { settled self.new ≡ settled self.old }
+        ensures all { IsErrOf result SendFault.Failed → HasGivenAll (settled self.new) (replied self.new) };
 }

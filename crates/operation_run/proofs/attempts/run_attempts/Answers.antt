@@ -17,6 +17,7 @@ loop-number-init g c = record {
   going = going_start (λ (taken : List Instant). Gives g.C.Clock c.args.clock.now taken c.args.clock.now) (operation_parts c.args.operation.now) c.args.bag.now
       (g.T.Transport.sent c.args.transport.now) (g.T.Transport.replied c.args.transport.now) c.args.moments.now.items (given_none g.C.Clock c.args.clock.now) c.requires;
   steady = refl;
+  settled = refl;
 }
 
 pub returns-in_err-reply-clause-tried : goal.returns-in_err-reply-clause-tried
@@ -65,6 +66,7 @@ loop-number-preserved g c =
           c.args.moments.now.items before.moments.items now.moments.items (operation_parts c.args.operation.now) c.args.bag.now before.bag now.bag before.number
           before.invariant.going c.in_ok-reply.reply (rw before.invariant.parts at c.in_ok-reply.ensures.tries) more (rw before.invariant.most at c.loop-number-test.true);
       steady = (let same : transport.faults now.transport ≡ transport.faults before.transport = search rules in same ∙ before.invariant.steady);
+      settled = c.in_ok-reply.ensures.settled ∙ before.invariant.settled;
     }
 
 pub returns-in_err-reply-2-clause-tried : goal.returns-in_err-reply-2-clause-tried

@@ -13,4 +13,5 @@ invariant-loop-number g l = let transport = g.T.Transport in record {
   going : Going (λ taken. Gives g.C.Clock l.fn.clock taken l.clock) (operation_parts l.fn.operation) l.fn.bag l.bag
       (over (transport.sent l.fn.transport) (transport.sent l.transport) (transport.replied l.fn.transport) (transport.replied l.transport) l.fn.moments.items l.moments.items) l.number;
   steady : transport.faults l.transport ≡ transport.faults l.fn.transport;
+  settled : transport.settled l.transport ≡ transport.settled l.fn.transport;
 }
