@@ -23,15 +23,6 @@ PAGES = [*ROOT.glob("*.md"), *ROOT.glob("docs/*"), *ROOT.glob("bench/*.md")]
 MOST_WORDS = 25_000
 # What a copy shares with what it was made of: the same sentence holds for each.
 COPIES = re.compile(r"IsSame\w+|Is\w+Copy|IsCopied")
-# Definitions that still lack a comment of their own, by their crates.
-LACKING = {
-    "env_config": {
-        "FileText", "asked_of", "chosen_of", "faulty_line_of", "file_places", "found_at", "key_of", "no_sections", "profile_section",
-        "put_at_key", "sections_of", "session_section", "values_of",
-    },
-    "job_text": {"no_record", "no_texts"},
-    "signed_stream": {"done", "no_memory"},
-}
 
 
 def shown_functions(page):
@@ -58,7 +49,7 @@ def cited_meanings():
     cited = cited_names()
     for place, meaning in meanings().items():
         crate, subject, name = place
-        if (place in cited or name in claimed) and name not in LACKING.get(crate, ()):
+        if (place in cited or name in claimed):
             yield (f"crates/{crate}/specs/{subject}.antt", name), meaning
 
 

@@ -15,6 +15,7 @@ use Rattle.env_config.specs.Section.{IsKeyedSection, IsSameSection, section_of}
 use Rattle.env_config.specs.Sections.{FaultyLine, FileText, Sections, after_file, with_file}
 use Rattle.env_config.specs.Texts.{CopiedUnder, EachValue, named_as}
 
+-- the merged sections
 abbrev pub sections_of : EnvConfigSections → Sections
 sections_of sections = record {
   profiles = named_as (λ profile. section_of (profile_section profile)) sections.profiles;

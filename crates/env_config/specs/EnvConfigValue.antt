@@ -20,6 +20,7 @@ use Rattle.env_config.specs.declared.value_source.Origin.TheVariants.{Unknown}
 abbrev pub found_of : String Global × EnvConfigSource → Found
 found_of found = record { value = string_bytes found.0; at = found_at found.1 }
 
+-- the sections, and the name of the selected profile
 abbrev pub chosen_of : EnvConfigSections → Chosen
 chosen_of sections = record { sections = sections_of sections; selected = selected_of sections }
 
@@ -27,6 +28,7 @@ chosen_of sections = record { sections = sections_of sections; selected = select
 abbrev pub chosen_in : Option (Bor EnvConfigSections) → Option Chosen
 chosen_in sections = option_map chosen_of (option_copied sections)
 
+-- what is asked for: the variable, the key and the service
 abbrev pub asked_of : EnvConfigValue → Asked
 asked_of asked = record {
   env = option_copied asked.environment_variable;

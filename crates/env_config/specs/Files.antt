@@ -21,6 +21,7 @@ file_place (Default kind) = Usual kind
 file_place (FilePath kind path) = At kind (string_bytes path)
 file_place (FileContents kind contents) = Given kind (string_bytes contents)
 
+-- where the files of a list come from
 abbrev pub file_places : EnvConfigFiles → List Place
 file_places files = map file_place files.files.items
 

@@ -7,6 +7,7 @@ use Rattle.env_config.specs.declared.parse_fault.ParseFault.TheVariants.{Parse, 
 use Rattle.smithy_core.specs.Text.{line_feed, space}
 use Rattle.env_config.specs.Sections.{FaultyLine}
 
+-- the faulty line of an error
 abbrev pub faulty_line_of : EnvConfigParseError → FaultyLine
 faulty_line_of error = record { path = string_bytes error.path; line_number = error.line_number; message = string_bytes error.message }
 

@@ -12,6 +12,7 @@ use Rattle.env_config.specs.Sections.{Key}
 abbrev pub names_of : SectionNames → List ℕ × List ℕ
 names_of section = (string_bytes section.section_key, string_bytes section.section_name)
 
+-- the names in a key
 abbrev pub key_of : PropertiesKey → Key
 key_of key = record {
   section_key = (names_of key.section).0;

@@ -23,6 +23,7 @@ contents_in (Read values) = map own values
 abbrev pub property_values : List (List ℕ × (List ℕ × List ℕ)) → List (List ℕ × List ℕ)
 property_values contents = map (λ e. (e.0, e.1.1)) contents
 
+-- the values of properties under their keys
 abbrev pub values_of : List (String Global × Property) → List (List ℕ × List ℕ)
 values_of entries = property_values (contents_of entries)
 

@@ -96,6 +96,7 @@ key_cmp a b =
 abbrev pub value_at_key : List (Key × List ℕ) → Key → Option (List ℕ)
 value_at_key entries key = lookup (is_at (key_cmp key)) entries
 
+-- the value is put at its key, in place of any other
 abbrev pub put_at_key : List (Key × List ℕ) → Key → List ℕ → List (Key × List ℕ)
 put_at_key entries key value = insert_entry key_cmp entries key value
 
@@ -131,6 +132,7 @@ pub record Sections : Type 0 where
   pub sessions : Named Section
   pub others : List (Key × List ℕ)
 
+-- no section
 abbrev pub no_sections : Sections
 no_sections = record { profiles = nothing_named; sessions = nothing_named; others = [] }
 
@@ -158,6 +160,7 @@ with_file keeps sections kind file = with_names keeps sections kind (has_profile
 
 -- ## Files
 
+-- a file that was read: its kind, its path if it has one, and its text
 pub record FileText : Type 0 where
   pub kind : EnvConfigFileKind
   pub path : Option (List ℕ)

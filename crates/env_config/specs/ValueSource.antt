@@ -17,6 +17,7 @@ abbrev pub holder_of : Location → Holder
 holder_of location.Environment = Variables
 holder_of (location.Profile name) = InProfile (string_bytes name)
 
+-- where a value was found: its key, in what, and for which service
 abbrev pub found_at : EnvConfigSource → FoundAt
 found_at source = record { key = string_bytes source.key; holder = holder_of source.location; reach = reach_of source.scope }
 

@@ -81,6 +81,9 @@ impl EnvConfigSections {
     /// let region = sections.get("region");
     /// ```
     ///
+    /// All of it is kept, in time and memory that grow with the length of the files: up to 110 bytes for a byte of a file whose
+    /// sections are tiny. Of a stranger's file take what is asked for, by `SelectedProfile::parse`.
+    ///
     /// # Errors
     ///
     /// [`ParseFault::Parse`] with the first line outside the grammar in the first faulty file.

@@ -12,6 +12,7 @@ pub record ProfileTexts : Type 0 where
   pub config : Option (List ℕ)
   pub credentials : Option (List ℕ)
 
+-- no line of a text yet
 abbrev pub no_texts : ProfileTexts
 no_texts = record { config = None; credentials = None }
 

@@ -21,6 +21,7 @@ pub record RecordParts : Type 0 where
   pub headers : List (List ℕ × List ℕ)
   pub chain : List ℕ
 
+-- nothing of a record yet
 abbrev pub no_record : RecordParts
 no_record = record { stage = Texts; texts = no_texts; method = []; target = []; headers = []; chain = [] }
 

@@ -65,7 +65,7 @@ right_identity (Token token) can = absurd can
 -- ## The tests
 
 -- no test fails
-passed_fault : (years : Bool) (t : Instant) (error : Option SigningError)
+pub passed_fault : (years : Bool) (t : Instant) (error : Option SigningError)
     → option_or (if years then None else Some (auth.Signing (errors.MomentOutOfRange t))) (option_map auth.Signing error) ≡ None
     → option_or (if years then None else Some (moment_out_of_range t)) (option_map run_fault_for error) ≡ None
 passed_fault true t None none = refl
@@ -93,12 +93,12 @@ no_memory_told : (text : List ℕ) (at : Instant) (case : Target → Case) (erro
 no_memory_told text at case error is = rw is (tt, tt)
 
 -- the moment lies outside the years
-outside_told : (text : List ℕ) (at : Instant) (case : Target → Case) (error : SigV4SigningError) → is_in_years at ≡ false
+pub outside_told : (text : List ℕ) (at : Instant) (case : Target → Case) (error : SigV4SigningError) → is_in_years at ≡ false
     → error ≡ auth.Signing (errors.MomentOutOfRange at) → TellsFault text at case error
 outside_told text at case error years is = rw is (tt, (unread, tt, rw years refl))
 
 -- the target isn't read, or a test of the request fails
-target_told : (text : List ℕ) (at : Instant) (case : Target → Case) (error : SigV4SigningError) (target : Option Target) → is_in_years at ≡ true → SpellsAs text target
+pub target_told : (text : List ℕ) (at : Instant) (case : Target → Case) (error : SigV4SigningError) (target : Option Target) → is_in_years at ≡ true → SpellsAs text target
     → option_map auth.Signing (unsigned_target case target) ≡ Some error → TellsFault text at case error
 target_told text at case error None years reads is =
     let same : error ≡ auth.Signing errors.InvalidUri = cc in

@@ -46,6 +46,7 @@ pub data RunFault : Type 0 where
 
 -- how a run ends
 pub data Ending : Type 0 where
+  -- all was done
   done : Ending
   -- the word at this place
   bad_words : ℕ → Ending
@@ -58,6 +59,7 @@ pub data Ending : Type 0 where
   refused : RunFault → Ending
   check_failed : CheckFault → Ending
   output_fault : Ending
+  -- memory ran out, whatever for
   no_memory : Ending
 
 -- what contracts see of a fault

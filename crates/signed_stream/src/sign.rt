@@ -70,8 +70,8 @@ fn name_asked(name: &Option<String>) -> Result<Option<String>, OverrideError>
     }
 }
 
-// The fault that tells an error of signing a request.
-fn fault_of(error: &SigV4SigningError) -> StreamFault
+/// The fault that tells an error of signing a request.
+pub fn fault_of(error: &SigV4SigningError) -> StreamFault
     requires { IsRequestError error.now }
     ensures { halt_of result ≡ error_halt error.now }
 {

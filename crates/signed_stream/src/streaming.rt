@@ -64,6 +64,8 @@ impl StreamOptions {
 /// moment each of the clock, in this order; `moments` gains each that was taken, whatever the answer. In
 /// [`Form::Raw`] the frames alone are written, one piece each; in [`Form::HexLines`] the head is one piece more.
 ///
+/// The events are copied first, but for their payloads, which are shared; [`sign_and_send`] takes its own and copies none.
+///
 /// ```rust
 /// let source = load(alloc, &env, &mut disk, &files)?;
 /// let mut moments = Vec::new(alloc);
