@@ -90,7 +90,7 @@ with_replies replies (Err place) = Err place
 abbrev pub whole_operation : ℕ → OperationDraft → Result OperationInput ℕ
 whole_operation place draft = if length draft.replies == 0 then Err place else with_replies draft.replies (whole_request place draft.request)
 
--- the job that the bytes spell, or the place of the first bad line
+-- the job of an operation that the bytes spell, or the place of the first bad line
 unfoldable pub operation_job : List ℕ → Result OperationInput ℕ
 operation_job bytes = after_text (λ lines. after_pieces whole_operation (taken_from operation_line_step 1 no_operation lines)) (text_lines bytes)
 
@@ -114,7 +114,7 @@ operation_drafted draft = record { request = request_drafted draft.request; repl
 abbrev pub operation_input : OperationJob → OperationInput
 operation_input job = record { request = request_parts job.request; replies = map reply_parts job.replies.items }
 
--- the job is the one that is read; or the line at this place is bad; or memory ran out
+-- the job of an operation is the one that is read; or the line at this place is bad; or memory ran out
 abbrev pub ReadsOperation : Result OperationInput ℕ → Result OperationJob JobFault → Type 0
 ReadsOperation read (Ok job) = read ≡ Ok (operation_input job)
 ReadsOperation read (Err (BadLine place)) = read ≡ Err place

@@ -22,6 +22,7 @@ pub record RequestDraft : Type 0 where
   pub body : Option (List ℕ)
   pub texts : ProfileTexts
 
+-- nothing of a request yet
 abbrev pub no_request : RequestDraft
 no_request = record { method = None; target = None; headers = []; body = None; texts = no_texts }
 
@@ -114,7 +115,7 @@ request_parts job = record {
   texts = texts_of job.texts;
 }
 
--- the job is the one that is read; or the line at this place is bad; or memory ran out
+-- the job without events is the one that is read; or the line at this place is bad; or memory ran out
 abbrev pub ReadsRequest : Result RequestParts ℕ → Result RequestJob JobFault → Type 0
 ReadsRequest read (Ok job) = read ≡ Ok (request_parts job)
 ReadsRequest read (Err (BadLine place)) = read ≡ Err place

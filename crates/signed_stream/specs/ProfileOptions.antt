@@ -15,6 +15,7 @@ pub record ProfileWanted : Type 0 where
   pub service_id : Option (List ℕ)
   pub files : List Place
 
+-- no option of profiles
 abbrev pub nothing_wanted : ProfileWanted
 nothing_wanted = record { service_id = None; files = [] }
 
