@@ -7,10 +7,11 @@ of counts for each peer; the status is 1 where there was one.
 The peers are those that are there: botocore, whose signers and whose decoder of event streams are called (it has no encoder and no
 signer of events, which are Python's here, over `hmac`); the SDK for Go, by peers/peer.go, with Debian's packages golang-go and
 golang-github-aws-aws-sdk-go-v2-dev; and the gem aws-sigv4, by peers/peer.rb, with Debian's package ruby-aws-sigv4.
-What the peers are known to do otherwise isn't made up: a path that ends in `.` or `..` (all), has other empty or dotted pieces (Go,
-Ruby), repeated names (botocore's presigner, Ruby), a header `user-agent` or `expect`, headers `x-amz-` in a presigned request (Go
-puts them into the query), spaces other than U+0020. Ruby writes `:date` before `:chunk-signature`, which `watch` refuses, as
-docs/FORMATS.md has it: that is tried once a case, and then the other order.
+What the peers are known to do otherwise isn't made up: a path that ends in `.` or `..` (all), or has other empty or dotted pieces
+(Go, Ruby); a query whose names have escapes (Go sorts them before it escapes them) or repeat (botocore's presigner, Ruby); a
+header `user-agent` or `expect`, and headers `x-amz-` in a presigned request (Go puts them into the query); and white space other
+than U+0020. Ruby writes `:date` before `:chunk-signature`, which `watch` refuses, as docs/FORMATS.md has it: that is tried once a
+case, and then the other order.
 """
 import contextlib
 import datetime
@@ -58,27 +59,44 @@ def path_of(rng, dotted):
     return "/" + "/".join(pieces) + rng.choice(["", "/"] if pieces and not dotted else [""])
 
 
-def query_of(rng):
-    names = sorted({text(rng, UNRESERVED + " é&=+/", 5, 1) for _ in range(rng.randrange(4))})
+def query_of(rng, plain):
+    """A query whose names and values are escaped; the names have nothing to escape where plain ones are asked for."""
+    names = sorted({text(rng, UNRESERVED if plain else UNRESERVED + " é&=+/", 5, 1) for _ in range(rng.randrange(4))})
     rng.shuffle(names)
     pairs = [(quote(name, safe="-_.~"), quote(text(rng, UNRESERVED + " é&=+/%", 6), safe="-_.~")) for name in names]
     return "?" + "&".join("=".join(pair) for pair in pairs) if pairs else ""
 
 
-def request_of(rng, presigned, dotted):
-    """A request, how it is to be signed, and by whom, by the names of the peers' tasks."""
+def value_text(rng):
+    """A header's value of some words, with one space or two between."""
+    return rng.choice([" ", "  "]).join(text(rng, UNRESERVED + ",;=/", 6, 1) for _ in range(rng.randrange(1, 4)))
+
+
+def request_of(rng, presigned, peer):
+    """A request that the peer signs by the same rules, how and by whom, by the names of the peers' tasks."""
     once = rng.random() < 0.4
     body = b"" if presigned else rng.randbytes(rng.choice([0, 0, 5, 64, 1000]))
     names = ["content-type", "Range", "accept", "x-b", "X-Longer_Name.1", "If-Match"] + ["x-amz-meta-a", "X-Amz-Target"] * (not presigned)
-    headers = [[name, " ".join(text(rng, UNRESERVED + ",;=/", 6, 1) for _ in range(rng.randrange(1, 4))).replace(" ", rng.choice([" ", "  "]))] for name in rng.sample(names, rng.randrange(4))]
+    headers = [[name, value_text(rng)] for name in rng.sample(names, rng.randrange(4))]
     host = rng.choice(["h.example", "s3.us-east-1.amazonaws.com", "h.example:8443", "h.example:443"])
     # Go signs the host that a request names, botocore and Ruby the one of its address: they are the same.
-    url = "https://" + host + path_of(rng, dotted and not once) + query_of(rng)
+    url = "https://" + host + path_of(rng, peer.dotted and not once) + query_of(rng, peer.plain)
     digest = UNSIGNED if presigned and once else hashlib.sha256(body).hexdigest()
-    return {"Method": rng.choice(["GET", "PUT", "POST", "DELETE", "HEAD"]), "Url": url, "Headers": headers, "Body": body.hex(), "Digest": digest, "Once": once,
-            "Key": text(rng, UNRESERVED[:62], 20, 16), "Secret": text(rng, UNRESERVED + "/+", 40, 1), "Token": rng.choice(["", "", text(rng, UNRESERVED + "/+=", 60, 1)]),
-            "Region": rng.choice(["us-east-1", "eu-west-3", "r"]), "Name": rng.choice(["service", "s3", "transcribe"]),
-            "At": rng.randrange(0, 4_000_000_000), "Expires": rng.randrange(1, 604_801)}
+    return {
+        "Method": rng.choice(["GET", "PUT", "POST", "DELETE", "HEAD"]),
+        "Url": url,
+        "Headers": headers,
+        "Body": body.hex(),
+        "Digest": digest,
+        "Once": once,
+        "Key": text(rng, UNRESERVED[:62], 20, 16),
+        "Secret": text(rng, UNRESERVED + "/+", 40, 1),
+        "Token": rng.choice(["", "", text(rng, UNRESERVED + "/+=", 60, 1)]),
+        "Region": rng.choice(["us-east-1", "eu-west-3", "r"]),
+        "Name": rng.choice(["service", "s3", "transcribe"]),
+        "At": rng.randrange(0, 4_000_000_000),
+        "Expires": rng.randrange(1, 604_801),
+    }
 
 
 def value_of(rng, kind):
@@ -125,13 +143,14 @@ def event_of(rng):
 
 def profile_lines(task):
     token = [f"credentials aws_session_token = {task['Token']}"] if task["Token"] else []
-    return ["config [default]", f"config region = {task['Region']}", "credentials [default]", f"credentials aws_access_key_id = {task['Key']}",
-            f"credentials aws_secret_access_key = {task['Secret']}"] + token
+    keys = [f"credentials aws_access_key_id = {task['Key']}", f"credentials aws_secret_access_key = {task['Secret']}"]
+    return ["config [default]", f"config region = {task['Region']}", "credentials [default]", *keys, *token]
 
 
 def job_of(task, events):
-    lines = [f"method {task['Method']}", f"target {task['Url']}", *[f"header {name}: {value}" for name, value in task["Headers"]], *profile_lines(task)]
-    return "\n".join(lines + [f"body {task['Body']}"] + [line for event in events for line in event]).encode()
+    lines = [f"method {task['Method']}", f"target {task['Url']}", f"body {task['Body']}", *profile_lines(task)]
+    lines += [f"header {name}: {value}" for name, value in task["Headers"]]
+    return "\n".join(lines + [line for event in events for line in event]).encode()
 
 
 def how_of(task):
@@ -162,7 +181,8 @@ class Botocore:
     """botocore's signers and decoder, and Python's `hmac` for what it lacks."""
 
     name = "botocore"
-    dotted = True
+    # What of the peers' own ways a request may show: dotted pieces of a path, and names of a query that are escaped.
+    dotted, plain = True, False
 
     @staticmethod
     def is_there():
@@ -197,7 +217,8 @@ class Botocore:
             key = hmac.digest(key, part.encode(), "sha256")
         date = b"\x05:date\x08" + milliseconds.to_bytes(8, "big", signed=True)
         scope = f"{moment:%Y%m%d}/{task['Region']}/{task['Name']}/aws4_request"
-        lines = ["AWS4-HMAC-SHA256-PAYLOAD", f"{moment:%Y%m%dT%H%M%SZ}", scope, signature, hashlib.sha256(date).hexdigest(), hashlib.sha256(payload).hexdigest()]
+        digests = [hashlib.sha256(data).hexdigest() for data in (date, payload)]
+        lines = ["AWS4-HMAC-SHA256-PAYLOAD", f"{moment:%Y%m%dT%H%M%SZ}", scope, signature, *digests]
         return hmac.digest(key, "\n".join(lines).encode(), "sha256"), date
 
     def write(self, task):
@@ -234,8 +255,8 @@ class Spoken:
 
     dotted = False
 
-    def __init__(self, name, words):
-        self.name, self.words, self.process = name, words, None
+    def __init__(self, name, words, plain):
+        self.name, self.words, self.plain, self.process = name, words, plain, None
 
     def do(self, task):
         if self.process is None:
@@ -253,7 +274,7 @@ def go_peer(folder):
     env = {**os.environ, "GO111MODULE": "off", "GOPATH": source, "GOCACHE": f"{folder}/cache", "GOFLAGS": ""}
     with contextlib.suppress(OSError):
         if subprocess.run(["go", "build", "-o", f"{folder}/peer", f"{PEERS}/peer.go"], env=env, check=False).returncode == 0:
-            return Spoken("go", [f"{folder}/peer"])
+            return Spoken("go", [f"{folder}/peer"], True)
     return None
 
 
@@ -261,7 +282,7 @@ def ruby_peer():
     """The gems for Ruby, where they are there."""
     with contextlib.suppress(OSError):
         if subprocess.run(["ruby", "-e", "require 'aws-sigv4'; require 'aws-eventstream'"], stderr=subprocess.DEVNULL, check=False).returncode == 0:
-            return Spoken("ruby", ["ruby", f"{PEERS}/peer.rb"])
+            return Spoken("ruby", ["ruby", f"{PEERS}/peer.rb"], False)
     return None
 
 
@@ -278,7 +299,8 @@ class Compared:
         if found != wanted:
             self.failed += 1
             if self.failed <= 20:
-                print(f"peers.py: {self.peer.name}: {what} of case {self.number} of seed {self.seed}: {found!r} and not {wanted!r}: {json.dumps(task)}", flush=True)
+                case = f"{what} of case {self.number} of seed {self.seed}"
+                print(f"peers.py: {self.peer.name}: {case}: {found!r} and not {wanted!r}: {json.dumps(task)}", flush=True)
 
     def line(self):
         return ", ".join(f"{count} of {what}" for what, count in self.counts.items())
@@ -291,7 +313,7 @@ def with_digest(task):
 
 def compare_signed(compared, path, rng):
     """A request in header form: the same authorization."""
-    task = {"Do": "sign", **request_of(rng, False, compared.peer.dotted)}
+    task = {"Do": "sign", **request_of(rng, False, compared.peer)}
     found = stream(path, task, ["--sha256"] if task["Once"] else [])
     shown = [line.split(": ", 1)[1] for line in head_of(found) if line.startswith("authorization: ")]
     compared.expect("requests", shown[0] if shown else found, compared.peer.do(with_digest(task)), task)
@@ -299,7 +321,7 @@ def compare_signed(compared, path, rng):
 
 def compare_presigned(compared, path, rng):
     """A request in query form: the same parameters, signature and all."""
-    task = {"Do": "presign", **request_of(rng, True, compared.peer.dotted)}
+    task = {"Do": "presign", **request_of(rng, True, compared.peer)}
     found = stream(path, task, ["--query", "--expires", str(task["Expires"]), *["--unsigned"] * task["Once"]])
     url = head_of(found)[0].split(" ", 1)[-1]
     wanted = compared.peer.do(task)
@@ -309,7 +331,7 @@ def compare_presigned(compared, path, rng):
 
 def compare_read(compared, path, rng):
     """A chain that `stream --raw` wrote: the peer finds each signature right, and each event as it was given."""
-    task = {"Do": "read", **request_of(rng, False, False)}
+    task = {"Do": "read", **request_of(rng, False, compared.peer)}
     events = [event_of(rng) for _ in range(rng.randrange(5))]
     head = head_of(stream(path, task, []))
     seed = [line.rsplit("Signature=", 1)[1] for line in head if line.startswith("authorization: ")][0]
@@ -330,7 +352,7 @@ def forged(rng, frames):
 
 def compare_written(compared, path, rng, folder):
     """A request and a chain that the peer wrote: `check` and `watch` show its events, and name a frame whose signature is forged."""
-    task = {"Do": "write", **request_of(rng, False, compared.peer.dotted), "Once": False}
+    task = {"Do": "write", **request_of(rng, False, compared.peer), "Once": False}
     events = [frame.hex() for _, frame in (event_of(rng) for _ in range(rng.randrange(5)))]
     authorization = compared.peer.do({**task, "Do": "sign"})
     task.update(Seed=authorization.rsplit("Signature=", 1)[1], Frames=events)
@@ -344,8 +366,9 @@ def compare_written(compared, path, rng, folder):
     found = runner.run(path, words, {}, b"".join(frames))
     compared.expect("chains watched", (found.status, found.out.decode()), (0, f"{shown}ok {len(events)}\n"), task)
     stamp = datetime.datetime.fromtimestamp(task["At"], datetime.timezone.utc)
-    record = [*profile_lines(task), "record", f"{task['Method']} {task['Url']}", f"x-amz-date: {stamp:%Y%m%dT%H%M%SZ}", f"authorization: {authorization}", ""]
-    found = runner.run(path, ["check", "--name", task["Name"]], {}, "\n".join(record + [frame.hex() for frame in frames] + [""]).encode())
+    head = [f"{task['Method']} {task['Url']}", f"x-amz-date: {stamp:%Y%m%dT%H%M%SZ}", f"authorization: {authorization}", ""]
+    record = [*profile_lines(task), "record", *head, *[frame.hex() for frame in frames], ""]
+    found = runner.run(path, ["check", "--name", task["Name"]], {}, "\n".join(record).encode())
     compared.expect("records checked", (found.status, found.out.decode()), (0, f"ok {len(events)}\n{shown}"), task)
     bad, place = forged(rng, frames)
     found = runner.run(path, words, {}, b"".join(bad))
@@ -362,7 +385,7 @@ def compare_chunks(compared, path, rng):
         return
     body, size = rng.randbytes(rng.choice([0, 1, 15, 16, 17, 100, 5000])), rng.choice([1, 15, 16, 17, 26, 1000])
     wrapper = botocore.httpchecksum.AwsChunkedWrapper(io.BytesIO(body), botocore.httpchecksum.Crc32Checksum, "x-amz-checksum-crc32", size)
-    wanted = b"".join(chunk if at % 2 else chunk for at, chunk in enumerate(wrapper))
+    wanted = b"".join(wrapper)
     checksum = botocore.httpchecksum.Crc32Checksum()
     checksum.update(body)
     found = runner.run(path, ["chunk", "--size", str(size), "--trailer", "x-amz-checksum-crc32", checksum.b64digest()], {}, body)
