@@ -21,7 +21,7 @@ folder=$(mktemp -d) || exit 1
 trap 'rm -rf "$folder"' EXIT
 cd "$above" || exit 1
 
-# The kinds of cases of a program: of each batch these are made too, one for each ten others.
+# The kinds of a program's cases in `model.gen_cases_b`, which make up a tenth of each batch.
 kinds_of() {
   case $1 in
     firuvaik) echo settings,chunk ;;
@@ -36,8 +36,9 @@ compared() {
     [ -x "$built" ] || continue
     python3 -m "$model.compare" "$@" "$cases" "$built" > "$folder/said" || failed=1
     grep -v ' agree, 0 differ' "$folder/said"
-    ran=$((ran + $(sed -n 's/^\([0-9]*\) agree, \([0-9]*\) differ.*/\1 + \2/p' "$folder/said" | tail -1)))
-    differ=$((differ + $(sed -n 's/^[0-9]* agree, \([0-9]*\) differ.*/\1/p' "$folder/said" | tail -1)))
+    last=$(tail -1 "$folder/said" | grep ' agree, ' || echo '0 agree, 0 differ')
+    agree=${last%% agree*} other=${last#*agree, }
+    ran=$((ran + agree + ${other%% differ*})) differ=$((differ + ${other%% differ*}))
   done
 }
 
@@ -49,9 +50,10 @@ import sys
 
 for line in open(sys.argv[1], encoding="utf-8"):
     expect = json.loads(line).get("expect", {})
-    if "status" in expect:
+    status = expect.get("status")
+    if status is not None:
         said = bytes.fromhex(expect["stderr_hex"]).decode("utf-8", "replace").split()
-        print("exit", expect["status"], *[word for word in said[-2:] if expect["status"] in (7, 8) and not word.isdigit() and word not in ("refused", "failed", "frame")])
+        print("exit", status, *[word for word in said[-1:] if status in (7, 8)])
 END
 }
 

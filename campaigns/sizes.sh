@@ -90,7 +90,7 @@ compare 'a target of 65534 bytes' 0 '' 83 $((4 * mega / kilo)) job firuvaik stre
 target 65535
 compare 'a target of 65535 bytes' 7 'refused 5 InvalidUri' 0 $((4 * mega / kilo)) job firuvaik stream --name a --at 0 --raw
 target 10
-env -i "$crates/firuvaik/out/firuvaik" stream --name a --at 0 --query --expires 9 < job | head -1 > head
+env -i "$crates/firuvaik/out/firuvaik" stream --name a --at 0 --query --expires 9 < job | sed -n 1p > head
 added=$(($(wc -c < head) - 4 - 10 - 1))
 target $((65534 - added))
 compare 'a presigned target of 65534 bytes' 0 '' $((4 + 65534 + 2 + 167)) $((4 * mega / kilo)) job firuvaik stream --name a --at 0 --query --expires 9
@@ -127,6 +127,19 @@ frames 'a payload of 16777201 bytes' 7 'refused 15 PayloadTooLong' 0 $((4 * 2 * 
 frames 'a frame of 16777217 bytes' 7 'refused 16 MessageTooLong' 0 $((4 * 2 * file / kilo)) "b'h n text 0123456789\npayload ' + b'00' * 16777186"
 frames 'the last millisecond' 0 '' $((frame + 11)) $((4 * mega / kilo)) "b'h n time 9223372036854775 807999999'"
 frames 'the millisecond after the last' 7 'refused 13 TimestampValueTooLarge' 0 $((4 * mega / kilo)) "b'h n time 9223372036854775 808000000'"
+
+# Lines of a few bytes, up to 8 MiB of each shape: the list that holds them takes up to 32 times their length, and the time is linear.
+many=$((32 * 8 * mega / kilo))
+make job "open('front', 'rb').read() + b'header a: b\n' * 699050"
+compare '699050 headers' 0 '' 83 "$many" job firuvaik stream --name a --at 0 --raw
+make job "open('front', 'rb').read() + b'event\n' * 300000"
+compare '300000 events' 0 '' $((300000 * 99 + 83)) "$many" job firuvaik stream --name a --at 0 --raw
+make job "open('front', 'rb').read() + (b'event\n' + b'h a true\n' * 43690) * 21"
+compare '21 events of 43690 headers' 0 '' $((21 * (99 + 43690 * 3) + 83)) "$many" job firuvaik stream --name a --at 0 --raw
+make job "open('profile', 'rb').read() + b'record\nGET https://h/\n' + b'a: b\n' * 1677721 + b'\n'"
+compare 'a record of 1677721 headers' 8 'check failed at frame 0 NoSignature' 0 "$many" job firuvaik check --name a
+make job "open('profile', 'rb').read() + b''.join(b'config [profile p%d]\n' % n for n in range(340000))"
+compare '340000 profiles' 0 '' "$shown" "$many" job firuvaik settings
 
 # Moments, expiries, counts.
 cp front job
