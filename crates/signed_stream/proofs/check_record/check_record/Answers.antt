@@ -18,19 +18,19 @@ returns-in-Ok-clause-planned g c =
     record_sealed gave c.args.env.now (check_wanted c.args.words) (record_parts c.args.draft) found.0 (selected_in c.in-Ok.settings) goes.0 (ending_of c.show_checked.result)
     (g.K.ByteSink.held c.args.out.now) (g.K.ByteSink.held c.show_checked.new.out) found.1 found.2 goes.1 goes.2
 
-pub returns-in-Err-clause-planned : goal.returns-in-Err-clause-planned
+pub returns-clause-planned : goal.returns-clause-planned
 unfolding record_parts
-returns-in-Err-clause-planned g c =
+returns-clause-planned g c =
     let gave = DiskGives g.D.Disk.answers g.D.Disk.faults (g.D.Disk.files c.args.disk.now) c.args.env.now c.args.disk.now c.select.new.disk in
     let found = c.in-Err.ensures.selects in
     rw c.from.ensures
     (record_unselected gave c.args.env.now (check_wanted c.args.words) (record_parts c.args.draft) found.0 (selection_ending c.in-Err.fault) (g.K.ByteSink.held c.args.out.now) found.1 found.2)
 
-pub returns-in-Err-clause-end : goal.returns-in-Err-clause-end
-returns-in-Err-clause-end g c = rw c.from.ensures (selects_after_texts c.in-Err.fault)
+pub returns-clause-end : goal.returns-clause-end
+returns-clause-end g c = rw c.from.ensures (selects_after_texts c.in-Err.fault)
 
-pub returns-in-Err-clause-named : goal.returns-in-Err-clause-named
-returns-in-Err-clause-named g c = λ path is. c.in-Err.ensures.named path (sym c.from.ensures ∙ is)
+pub returns-clause-named : goal.returns-clause-named
+returns-clause-named g c = λ path is. c.in-Err.ensures.named path (sym c.from.ensures ∙ is)
 
-pub returns-in-Err-clause-output_failed : goal.returns-in-Err-clause-output_failed
-returns-in-Err-clause-output_failed g c = λ is. absurd (selects_no_output c.in-Err.fault (ending_of c.from.result) c.from.ensures is)
+pub returns-clause-output_failed : goal.returns-clause-output_failed
+returns-clause-output_failed g c = λ is. absurd (selects_no_output c.in-Err.fault (ending_of c.from.result) c.from.ensures is)

@@ -18,15 +18,15 @@ returns-in-Ok-clause-planned g c =
     (texts_shown gave c.args.env.now (profile_wanted c.args.options) (texts_of c.args.texts) found.0 (selected_in c.in-Ok.settings) c.write_settings.result
     (g.K.ByteSink.held c.args.out.now) (g.K.ByteSink.held c.write_settings.new.out) found.1 found.2 c.write_settings.ensures.sends)
 
-pub returns-in-Err-clause-planned : goal.returns-in-Err-clause-planned
-returns-in-Err-clause-planned g c =
+pub returns-clause-planned : goal.returns-clause-planned
+returns-clause-planned g c =
     let gave = DiskGives g.D.Disk.answers g.D.Disk.faults (g.D.Disk.files c.args.disk.now) c.args.env.now c.args.disk.now c.select.new.disk in
     let found = c.in-Err.ensures.selects in
     rw c.from.ensures
     (texts_unselected gave c.args.env.now (profile_wanted c.args.options) (texts_of c.args.texts) found.0 (selection_ending c.in-Err.fault) (g.K.ByteSink.held c.args.out.now) found.1 found.2)
 
-pub returns-in-Err-clause-end : goal.returns-in-Err-clause-end
-returns-in-Err-clause-end g c = rw c.from.ensures (selects_after_texts c.in-Err.fault)
+pub returns-clause-end : goal.returns-clause-end
+returns-clause-end g c = rw c.from.ensures (selects_after_texts c.in-Err.fault)
 
 pub returns-in-Ok-clause-end : goal.returns-in-Ok-clause-end
 returns-in-Ok-clause-end g c = rw c.status_of.ensures (ended_after_texts c.write_settings.result)
@@ -40,8 +40,8 @@ returns-in-Ok-clause-output_failed g c = λ is. c.write_settings.ensures.failed 
 pub returns-in-Ok-clause-output_steady : goal.returns-in-Ok-clause-output_steady
 returns-in-Ok-clause-output_steady g c = λ other. c.write_settings.ensures.steady (λ is. other (c.status_of.ensures ∙ ap ended is))
 
-pub returns-in-Err-clause-named : goal.returns-in-Err-clause-named
-returns-in-Err-clause-named g c = λ path is. c.in-Err.ensures.named path (sym c.from.ensures ∙ is)
+pub returns-clause-named : goal.returns-clause-named
+returns-clause-named g c = λ path is. c.in-Err.ensures.named path (sym c.from.ensures ∙ is)
 
-pub returns-in-Err-clause-output_failed : goal.returns-in-Err-clause-output_failed
-returns-in-Err-clause-output_failed g c = λ is. absurd (selects_no_output c.in-Err.fault (ending_of c.from.result) c.from.ensures is)
+pub returns-clause-output_failed : goal.returns-clause-output_failed
+returns-clause-output_failed g c = λ is. absurd (selects_no_output c.in-Err.fault (ending_of c.from.result) c.from.ensures is)
