@@ -1,5 +1,6 @@
 //! What a run is given, and how it ends.
 use crate::jobs::{clock_of, disk_of, env_of, fails_of, files_of, input_of};
+use presigned_program::{PresignStatus, run_presigned};
 use signed_stream::{Status, run};
 use smithy_core::{
     ByteSink, ByteSource, CalmDisk, CalmSource, Clock, Disk, Env, FaultyDisk, FaultySource,
@@ -71,6 +72,25 @@ pub fn ended<S: ByteSource, D: Disk, C: Clock, K: ByteSink>(
     err: &mut K,
 ) -> Status {
     run(
+        alloc,
+        given.words.as_slice(),
+        &given.env,
+        &mut given.input,
+        &mut given.disk,
+        &mut given.clock,
+        out,
+        err,
+    )
+}
+
+/// How a check of a presigned URL ends that writes to these sinks.
+pub fn checked<S: ByteSource, D: Disk, C: Clock, K: ByteSink>(
+    alloc: Global,
+    given: &mut Given<S, D, C>,
+    out: &mut K,
+    err: &mut K,
+) -> PresignStatus {
+    run_presigned(
         alloc,
         given.words.as_slice(),
         &given.env,

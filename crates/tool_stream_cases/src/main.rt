@@ -1,4 +1,4 @@
-//! Answers cases on jobs, settings, streams of requests in memory and whole runs: `stdin` says what each line means.
+//! Answers cases on jobs, settings, streams of requests in memory, whole runs and checks of presigned URLs: `stdin` says what each line means.
 #![tactic(auto)]
 
 mod by_hand;
@@ -6,6 +6,7 @@ mod calm;
 mod given;
 mod job_texts;
 mod jobs;
+mod presigned;
 mod runs;
 mod settings;
 mod streamed;
@@ -41,6 +42,7 @@ fn answer(alloc: Global, call: &str, words: &[&str]) -> Mem<String> {
         "sign_and_stream" => streams::answer(alloc, words),
         "by_hand" => by_hand::answer(alloc, words),
         "run_calm" => calm::answer(alloc, words),
+        "run_presigned" | "run_presigned_status" => presigned::answer(alloc, call, words),
         _ => runs::answer(alloc, call, words),
     }
 }

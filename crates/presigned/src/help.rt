@@ -1,0 +1,44 @@
+ghost use Rattle.std.specs.Prelude.{◌≡◌, map, option_copied};
+ghost use Rattle.std.specs.String.{string_bytes};
+ghost use Rattle.presigned.specs.PresignedTexts.{presigned_help, presigned_version};
+ghost use Rattle.program_start.specs.Texts.{text_asked};
+
+const HELP: &str = "\
+presigned checks a presigned URL, as AWS Signature Version 4 signs it.
+
+presigned --name NAME [--at N] [--service-id ID] [--config PATH]
+    [--credentials PATH]
+  Reads a request, and prints until when it is good, or says the first thing that
+  is wrong with it. NAME is the service's signing name. N is the moment of the
+  check, in seconds since 1970-01-01T00:00:00Z; without it that is the clock's.
+    presigned --name s3 < request
+
+The region, the key's id and its secret come from profile files. Named files and
+lines of them in the input are read in place of ~/.aws/config and
+~/.aws/credentials, or where AWS_CONFIG_FILE and AWS_SHARED_CREDENTIALS_FILE say.
+Of these one that is missing, can't be read, isn't UTF-8 or has over 16 MiB counts
+as empty, without a word. AWS_PROFILE and AWS_REGION come before.
+
+Standard input is read to its end; at a terminal Control-D ends it. It has these
+lines:
+  method METHOD, target TARGET     once each
+  header NAME: VALUE               any number
+  body HEX                         at most once
+  config TEXT, credentials TEXT    any number, a line of a profile file each
+
+How long a URL may be good at most, and how often it may be used, isn't checked.
+
+Exit status, 0 or with its line on standard error; N is a word or line, from 1:
+  2 bad word N    3 input over 67108864 bytes    4 bad line N    5 read fault
+  6 could not read file PATH    7 refused CODE NAME
+  8 check failed NAME    9 output fault    10 no memory
+";
+
+const VERSION: &str = "presigned 0.1.0\n";
+
+/// The text that a single word asks for.
+pub fn text_asked(words: &[String]) -> Option<&'static str>
+    ensures { option_copied result ≡ text_asked presigned_help presigned_version (map string_bytes words.now) }
+{
+    program_start::text_asked(HELP, VERSION, words)
+}

@@ -1,0 +1,83 @@
+//! The program: makes the real objects, hands them to `run_presigned`, and ends with the number of its status.
+#![tactic(auto)]
+
+ghost use Rattle.std.specs.Prelude.{◌≡◌, ◌≤◌, IfNone, IfSome, Ok, map};
+ghost use Rattle.std.specs.Process.{exit_status};
+ghost use Rattle.std.specs.String.{string_bytes};
+ghost use Rattle.smithy_core.specs.Given.{Gives};
+ghost use Rattle.presigned.specs.PresignedTexts.{presigned_help, presigned_version};
+ghost use Rattle.presigned_program.specs.PresignRun.{CountsOutput, GoesPresigned, RanPresigned};
+ghost use Rattle.presigned_program.specs.PresignSaying.{SaysPresigned};
+ghost use Rattle.presigned_program.specs.PresignStatus.{presign_code, presign_ending};
+ghost use Rattle.program_start.specs.Texts.{text_asked};
+ghost use Rattle.signed_stream.specs.RequestWords.{request_words};
+ghost use Rattle.signed_stream.specs.Sources.{DiskGives};
+
+mod help;
+
+use crate::help::text_asked;
+use presigned_program::{PresignStatus, run_presigned, say_presigned, write_text};
+use program_start::{StartFault, words_and_env};
+use smithy_core::{
+    ByteSink, ByteSource, Clock, Disk, Env, HostDisk, StdSink, StdSource, SystemClock,
+};
+use std::alloc::Global;
+use std::process::ExitCode;
+
+fn main(rt: HostRuntime) -> ExitCode {
+    let alloc = rt.alloc();
+    let mut out = StdSink::new(rt.stdout());
+    let mut err = StdSink::new(rt.stderr());
+    let status = match words_and_env(&rt) {
+        Ok((words, env)) => {
+            let mut input = StdSource::new(rt.reader());
+            let mut disk = HostDisk::new(alloc, &rt);
+            let mut clock = SystemClock::new(&rt);
+            answer(
+                alloc,
+                words.as_slice(),
+                &env,
+                &mut input,
+                &mut disk,
+                &mut clock,
+                &mut out,
+                &mut err,
+            )
+        }
+        Err(StartFault::BadWord) => say_presigned(alloc, PresignStatus::BadWords(1), &mut err),
+        Err(StartFault::NoMemory) => say_presigned(alloc, PresignStatus::NoMemory, &mut err),
+    };
+    exit_code_of(status)
+}
+
+// The exit code of a status.
+fn exit_code_of(status: PresignStatus) -> ExitCode
+    ensures { exit_status result ≡ presign_code (presign_ending status) }
+{
+    ExitCode::from(status.code())
+}
+
+// Prints the text that the words ask for, or else checks as `run_presigned` does, and says on `err` how it ended.
+fn answer<S: ByteSource, D: Disk, C: Clock, K: ByteSink, E: ByteSink>(
+    alloc: Global,
+    words: &[String],
+    env: &Env,
+    input: &mut S,
+    disk: &mut D,
+    clock: &mut C,
+    out: &mut K,
+    err: &mut E,
+) -> PresignStatus
+    ensures printed { IfSome (text_asked presigned_help presigned_version (map string_bytes words.now)) (λ text. GoesPresigned (Ok text) (presign_ending result) (K.held out.old) (K.held out.new)) }
+    ensures said { SaysPresigned (presign_ending result) (E.held err.old) (E.held err.new) (E.faults err.old) (E.faults err.new) }
+    ensures headline { IfNone (text_asked presigned_help presigned_version (map string_bytes words.now)) (RanPresigned (DiskGives D.answers D.faults (D.files disk.old) env.now disk.old disk.new)
+        (λ taken. Gives C.Clock clock.old taken clock.new) env.now
+        (request_words (map string_bytes words.now)) (S.left input.old) (presign_ending result) (S.faults input.old) (S.faults input.new)
+        (record { held_before = K.held out.old; held_now = K.held out.new; faults_before = K.faults out.old; faults_now = K.faults out.new })
+        (record { held_before = E.held err.old; held_now = E.held err.new; faults_before = E.faults err.old; faults_now = E.faults err.new })) }
+{
+    match text_asked(words) {
+        Some(text) => say_presigned(alloc, write_text(text, out), err),
+        None => run_presigned(alloc, words, env, input, disk, clock, out, err),
+    }
+}
