@@ -1,7 +1,7 @@
 ghost use Rattle.std.specs.Prelude.{◌≡◌, map, option_copied};
 ghost use Rattle.std.specs.String.{string_bytes};
 ghost use Rattle.presigned.specs.PresignedTexts.{presigned_help, presigned_version};
-ghost use Rattle.program_start.specs.Texts.{text_asked};
+ghost use Rattle.program_start.specs.Texts.{text_of_words};
 
 const HELP: &str = "\
 presigned checks a presigned URL, as AWS Signature Version 4 signs it.
@@ -38,7 +38,7 @@ const VERSION: &str = "presigned 0.1.0\n";
 
 /// The text that a single word asks for.
 pub fn text_asked(words: &[String]) -> Option<&'static str>
-    ensures { option_copied result ≡ text_asked presigned_help presigned_version (map string_bytes words.now) }
+    ensures { option_copied result ≡ text_of_words presigned_help presigned_version (map string_bytes words.now) }
 {
     program_start::text_asked(HELP, VERSION, words)
 }

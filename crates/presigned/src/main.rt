@@ -9,7 +9,7 @@ ghost use Rattle.presigned.specs.PresignedTexts.{presigned_help, presigned_versi
 ghost use Rattle.presigned_program.specs.PresignRun.{CountsOutput, GoesPresigned, RanPresigned};
 ghost use Rattle.presigned_program.specs.PresignSaying.{SaysPresigned};
 ghost use Rattle.presigned_program.specs.PresignStatus.{presign_code, presign_ending};
-ghost use Rattle.program_start.specs.Texts.{text_asked};
+ghost use Rattle.program_start.specs.Texts.{text_of_words};
 ghost use Rattle.signed_stream.specs.RequestWords.{request_words};
 ghost use Rattle.signed_stream.specs.Sources.{DiskGives};
 
@@ -68,9 +68,9 @@ fn answer<S: ByteSource, D: Disk, C: Clock, K: ByteSink, E: ByteSink>(
     out: &mut K,
     err: &mut E,
 ) -> PresignStatus
-    ensures printed { IfSome (text_asked presigned_help presigned_version (map string_bytes words.now)) (λ text. GoesPresigned (Ok text) (presign_ending result) (K.held out.old) (K.held out.new)) }
+    ensures printed { IfSome (text_of_words presigned_help presigned_version (map string_bytes words.now)) (λ text. GoesPresigned (Ok text) (presign_ending result) (K.held out.old) (K.held out.new)) }
     ensures said { SaysPresigned (presign_ending result) (E.held err.old) (E.held err.new) (E.faults err.old) (E.faults err.new) }
-    ensures headline { IfNone (text_asked presigned_help presigned_version (map string_bytes words.now)) (RanPresigned (DiskGives D.answers D.faults (D.files disk.old) env.now disk.old disk.new)
+    ensures headline { IfNone (text_of_words presigned_help presigned_version (map string_bytes words.now)) (RanPresigned (DiskGives D.answers D.faults (D.files disk.old) env.now disk.old disk.new)
         (λ taken. Gives C.Clock clock.old taken clock.new) env.now
         (request_words (map string_bytes words.now)) (S.left input.old) (presign_ending result) (S.faults input.old) (S.faults input.new)
         (record { held_before = K.held out.old; held_now = K.held out.new; faults_before = K.faults out.old; faults_now = K.faults out.new })

@@ -32,7 +32,7 @@ use Rattle.signed_stream.specs.declared.sources.SelectFault.{SelectFault}
 use Rattle.signed_stream.specs.declared.sources.SelectFault.TheVariants as selections
 use Rattle.signed_stream.proofs.RunLemmas.{all_read, goes_no_memory, goes_read_fault}
 use Rattle.signed_stream.proofs.SaidLemmas.{said_goes}
-use Rattle.presigned_program.specs.PresignRun.{Check, ChecksOnce, ChecksSelected, CompletesCheck, CountsInput, CountsOutput, FindsAsked, GavePresigned, GoesPresigned, HasAccepted, HasChecked, HasCheckedSelected, IsAcceptable, IsAfterRead, IsAfterRequest, IsAfterSelection, IsAtCheck, IsOfWords, IsRequestOf, KeepsDiskAt, KeepsPresigned, NeedsCheck, PlansPresigned, PresignSupplied, RanCheck, RanWords, TakesMoment, UnlessWords, check_plan, found_plan, input_check_plan, presign_asked, presign_plan, presign_settings, selected_check_plan, valid_until}
+use Rattle.presigned_program.specs.PresignRun.{Check, ChecksOnce, ChecksSelected, CompletesCheck, CountsInput, CountsOutput, FindsAsked, GavePresigned, GoesPresigned, HasAccepted, HasChecked, HasCheckedSelected, IsAcceptable, IsAfterRead, IsAfterRequest, IsAfterSelection, IsAtCheck, IsOfWords, IsRequestOf, KeepsDiskAt, KeepsPresigned, NeedsCheck, PlansPresigned, PresignSupplied, RanCheck, RanWords, TakesMomentOfCheck, UnlessWords, plan_of_check, found_plan, input_check_plan, presign_asked, presign_plan, presign_settings, selected_check_plan, valid_until}
 use Rattle.presigned_program.specs.PresignStatus.{PresignEnding, ends, fails, fault_ending}
 
 -- ## Ends
@@ -351,7 +351,7 @@ module _ (gave : List Place → FilesRead → Type 0) (env : List (List ℕ × L
 
   done_checked : (read : RequestParts) (selected : Selected) (check : Option Check) → length bytes ≤ most_input → request_job bytes ≡ Ok read
       → gave (source_places wanted.profile.files read.texts) given.files → selection env wanted.profile.service_id given.files ≡ Ok selected → given.check ≡ check
-      → ChecksOnce wanted read (Ok selected) check → GoesPresigned (check_plan check) (ends done) before now → HasAccepted gave env wanted bytes given before now
+      → ChecksOnce wanted read (Ok selected) check → GoesPresigned (plan_of_check check) (ends done) before now → HasAccepted gave env wanted bytes given before now
   done_checked read selected None short spelled gives settled is checks goes = absurd (stops_undone _ before now (λ e. cc) goes)
   done_checked read selected (Some check) short spelled gives settled is checks goes = done_found read selected check check.found short spelled gives settled is refl checks goes
 
@@ -411,7 +411,7 @@ accepted_completes until (Err fault) answer before now same goes = stops_complet
 
 module _ (gave : List Place → FilesRead → Type 0) (env : List (List ℕ × List ℕ)) (wanted : RequestWanted) (bytes : List ℕ) (given : PresignSupplied) (answer : PresignEnding) (before now : Option (List ℕ)) where
   completes_checked : (at : Instant) (input : IsAcceptable gave env wanted bytes given.files at) (check : Option Check) → IsAtCheck check at
-      → ChecksOnce wanted input.read (Ok input.selected) check → GoesPresigned (check_plan check) answer before now → CompletesCheck answer
+      → ChecksOnce wanted input.read (Ok input.selected) check → GoesPresigned (plan_of_check check) answer before now → CompletesCheck answer
   completes_checked at input None is checks goes = stops_completes answer before now goes
   completes_checked at input (Some check) is checks goes =
       let meets : MeetsNone (presign_asked wanted.name input.selected checks.0 check.now) input.until =
@@ -432,7 +432,7 @@ module _ (gave : List Place → FilesRead → Type 0) (env : List (List ℕ × L
 -- how a run went whose plan is known
 module _ (gave : List Place → FilesRead → Type 0) (clock : List Instant → Type 0) (env : List (List ℕ × List ℕ)) (wanted : RequestWanted) (left : Option (List ℕ)) where
   ran_as : (given : PresignSupplied) (answer : PresignEnding) (before now : Option (List ℕ)) → ((bytes : List ℕ) → left ≡ Some bytes → PlansPresigned gave env wanted bytes given answer before now)
-      → TakesMoment clock wanted.at given.check → NeedsCheck answer given.check → IsOfWords answer
+      → TakesMomentOfCheck clock wanted.at given.check → NeedsCheck answer given.check → IsOfWords answer
       → ((path : List ℕ) → answer ≡ ends (could_not_read_file path) → gave wanted.profile.files (unreadable path)) → RanCheck gave clock env wanted left answer before now
   ran_as given answer before now plans moments needed ended named = record {
     given = given;

@@ -81,9 +81,9 @@ TakesOne clock None now = clock (now ∷ [])
 TakesOne clock (Some at) now = (now ≡ at) × clock []
 
 -- so is that of the check; where it doesn't come to one the clock isn't asked
-abbrev pub TakesMoment : (List Instant → Type 0) → Option Instant → Option Check → Type 0
-TakesMoment clock at None = clock []
-TakesMoment clock at (Some check) = TakesOne clock at check.now
+abbrev pub TakesMomentOfCheck : (List Instant → Type 0) → Option Instant → Option Check → Type 0
+TakesMomentOfCheck clock at None = clock []
+TakesMomentOfCheck clock at (Some check) = TakesOne clock at check.now
 
 -- ## How it is to end
 
@@ -97,13 +97,13 @@ found_plan (Ok until) = Ok (valid_until until)
 found_plan (Err fault) = Err (fault_ending fault)
 
 -- as the check found; it didn't come to one where memory ran out before
-abbrev pub check_plan : Option Check → Result (List ℕ) PresignEnding
-check_plan None = Err (ends no_memory)
-check_plan (Some check) = found_plan check.found
+abbrev pub plan_of_check : Option Check → Result (List ℕ) PresignEnding
+plan_of_check None = Err (ends no_memory)
+plan_of_check (Some check) = found_plan check.found
 
 -- with what is selected
 abbrev pub selected_check_plan : Result Selected Ending → Option Check → Result (List ℕ) PresignEnding
-selected_check_plan (Ok selected) check = check_plan check
+selected_check_plan (Ok selected) check = plan_of_check check
 selected_check_plan (Err end) check = Err (ends end)
 
 -- with what was read, under these variables
@@ -171,11 +171,12 @@ abbrev pub KeepsDiskAt : {D : Type 0} → PresignEnding → D → D → Type 0
 KeepsDiskAt (ends end) before now = KeepsDisk end before now
 KeepsDiskAt (fails fault) before now = Unit {0}
 
--- the counts of faults of the input and of the output
+-- the count of the input's faults: it rose where the input failed, and else stayed
 abbrev pub CountsInput : PresignEnding → ℕ → ℕ → Type 0
 CountsInput (ends end) before now = CountsReads end before now
 CountsInput (fails fault) before now = now ≡ before
 
+-- the count of the output's faults, likewise
 abbrev pub CountsOutput : PresignEnding → ℕ → ℕ → Type 0
 CountsOutput (ends end) before now = CountsWrites end before now
 CountsOutput (fails fault) before now = now ≡ before
@@ -225,7 +226,7 @@ pub record RanCheck (gave : List Place → FilesRead → Type 0) (clock : List I
   pub complete : (bytes : List ℕ) → left ≡ Some bytes → (at : Instant) → IsAtCheck given.check at → IsAcceptable gave env wanted bytes given.files at → CompletesCheck answer
   -- where the input tells its bytes, it ended and the output gained as planned
   pub planned : (bytes : List ℕ) → left ≡ Some bytes → PlansPresigned gave env wanted bytes given answer before now
-  pub moments : TakesMoment clock wanted.at given.check
+  pub moments : TakesMomentOfCheck clock wanted.at given.check
   pub needed : NeedsCheck answer given.check
   pub ended : IsOfWords answer
   -- a file that couldn't be read is one that the words name
@@ -260,7 +261,7 @@ pub record HasChecked (gave : List Place → FilesRead → Type 0) (clock : List
   pub given : PresignSupplied
   pub supplied : GavePresigned gave env wanted read given
   pub goes : GoesPresigned (presign_plan env wanted given read) answer before now
-  pub moments : TakesMoment clock wanted.at given.check
+  pub moments : TakesMomentOfCheck clock wanted.at given.check
   pub needed : NeedsCheck answer given.check
   pub named : (path : List ℕ) → answer ≡ ends (could_not_read_file path) → gave wanted.profile.files (unreadable path)
 
@@ -272,6 +273,6 @@ FindsAsked wanted selected request (Some check) = ChecksPresigned (presign_asked
 -- how the check of a request went under what is selected
 pub record HasCheckedSelected (clock : List Instant → Type 0) (wanted : RequestWanted) (selected : Selected) (request : HttpRequest) (answer : PresignEnding) (before now : Option (List ℕ)) : Type 0 where
   pub check : Option Check
-  pub moments : TakesMoment clock wanted.at check
+  pub moments : TakesMomentOfCheck clock wanted.at check
   pub found : FindsAsked wanted selected request check
-  pub goes : GoesPresigned (check_plan check) answer before now
+  pub goes : GoesPresigned (plan_of_check check) answer before now
