@@ -19,7 +19,7 @@ import sys
 from definitions import ROOT, cited_names, exported_names, meanings
 
 PAGES = [*ROOT.glob("*.md"), *ROOT.glob("docs/*"), *ROOT.glob("bench/*.md")]
-# So many can be read in two hours.
+# So many can be read in two hours; a man page is read by who uses its program.
 MOST_WORDS = 25_000
 # What a copy shares with what it was made of: the same sentence holds for each.
 COPIES = re.compile(r"IsSame\w+|Is\w+Copy|IsCopied")
@@ -165,7 +165,7 @@ def path_faults():
 
 def length_faults():
     """Where the pages are too long to be read."""
-    words = sum(len(page.read_text().split()) for page in PAGES)
+    words = sum(len(page.read_text().split()) for page in PAGES if page.suffix == ".md")
     if words >= MOST_WORDS:
         yield f"the pages have {words} words, and may have fewer than {MOST_WORDS}"
 

@@ -237,8 +237,8 @@ abbrev pub RanWords : (List Place → FilesRead → Type 0) → (List Instant �
 RanWords gave clock env (Ok wanted) left answer before now = RanCheck gave clock env wanted left answer before now
 RanWords gave clock env (Err place) left answer before now = ((answer ≡ ends (bad_words place)) ⊎ (answer ≡ ends no_memory)) × clock []
 
--- How a run went with what I/O supplied: `gave` tells what the disk gave and `clock` what the clock gave, and the input had this left, whose count of faults
--- was `reads_before` and is `reads_now`.
+-- How a check of a presigned request went with what I/O supplied: `gave` tells what the disk gave and `clock` what the clock gave, and the input had this left,
+-- whose count of faults was `reads_before` and is `reads_now`.
 pub record RanPresigned (gave : List Place → FilesRead → Type 0) (clock : List Instant → Type 0) (env : List (List ℕ × List ℕ)) (read : Result RequestWanted ℕ) (left : Option (List ℕ)) (answer : PresignEnding) (reads_before reads_now : ℕ) (out err : SinkChange) : Type 0 where
   pub ran : RanWords gave clock env read left answer out.held_before out.held_now
   -- what the output keeps also where the input doesn't tell its bytes

@@ -13,7 +13,7 @@ pub data PresignEnding : Type 0 where
   -- with the first test that the request meets
   fails : PresignFault → PresignEnding
 
--- what contracts see of a status
+-- what contracts see of a status of the check's program
 abbrev pub presign_ending : PresignStatus → PresignEnding
 presign_ending Done = ends done
 presign_ending (BadWords place) = ends (bad_words place)
@@ -31,7 +31,7 @@ abbrev pub fault_ending : PresignFault → PresignEnding
 fault_ending faults.NoMemory = ends no_memory
 fault_ending fault = fails fault
 
--- the number that the process ends with
+-- the number that the check's process ends with
 abbrev pub presign_code : PresignEnding → ℕ
 presign_code (ends end) = exit_code end
 presign_code (fails fault) = 8
