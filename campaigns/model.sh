@@ -16,7 +16,7 @@ model=$(basename "$1")
 count=$2 seed=${3:-1}
 # How many cases a batch has.
 batch=2500
-programs='firuvaik'
+programs='firuvaik presigned'
 folder=$(mktemp -d) || exit 1
 trap 'rm -rf "$folder"' EXIT
 cd "$above" || exit 1
@@ -25,6 +25,7 @@ cd "$above" || exit 1
 kinds_of() {
   case $1 in
     firuvaik) echo settings,chunk ;;
+    presigned) echo presign ;;
   esac
 }
 

@@ -21,7 +21,7 @@ import runs
 from runs import Ended
 
 # The module and the function that stand for a program in the reference model.
-MODELS = {"firuvaik": ("program", "run")}
+MODELS = {"firuvaik": ("program", "run"), "presigned": ("presign", "run_presigned")}
 EXITS = {0, *range(2, 11)}
 # The second byte in place of one, by its place.
 SIGNS = b"\n \xff0:=\t[#A"

@@ -63,6 +63,8 @@ RUNS = [
     Run("chunk", "firuvaik", "body", "chunk --size 3 --trailer a b --trailer X-Amz-Meta-B c"),
     Run("chunk-whole", "firuvaik", "body", "chunk"),
     Run("gen", "firuvaik", "nothing", "gen 7 3"),
+    Run("presigned", "presigned", "presigned.stdin", "--name service --at 1440938160"),
+    Run("presigned-late", "presigned", "presigned.stdin", "--name service --at 1440939060"),
 ]
 
 
