@@ -1,16 +1,15 @@
 -- A request that was signed carries its own signature.
-use Rattle.std.proofs.Common.{◌≡◌, ℕ, false, List, [], Option, Some, None, refl, sym, ap, ◌∙◌, subst}
+use Rattle.std.proofs.Common.{◌≡◌, ℕ, false, List, [], Option, Some, refl, sym, ap, ◌∙◌, subst}
 use Rattle.std.specs.Prelude.{string_bytes}
 use Rattle.http_uri.specs.declared.uri.Uri.{Uri}
 use Rattle.smithy_core.specs.declared.request.HttpRequest.{HttpRequest}
 use Rattle.smithy_http.specs.QueryWriter.{SpellsTarget}
 use Rattle.smithy_http.specs.Target.{Target, target_of}
-use Rattle.eventstream.specs.Key.{Signer}
 use Rattle.sigv4.specs.Parameters.{with_params}
 use Rattle.sigv4.specs.Query.{Pair, decoded}
 use Rattle.sigv4.specs.Request.{Case}
-use Rattle.sigv4.specs.Settings.{Settings, is_query, is_query_form}
-use Rattle.sigv4.specs.Signed.{parameters, signature_of}
+use Rattle.sigv4.specs.Settings.{is_query, is_query_form}
+use Rattle.sigv4.specs.Signed.{parameters}
 use Rattle.sigv4.specs.declared.settings.SignatureLocation.{SignatureLocation}
 use Rattle.sigv4.specs.declared.settings.SignatureLocation.TheVariants.{Headers, QueryParams}
 use Rattle.request_check.specs.Recomputation.{HasFormApart, IsSentOf, IsSignedAsSent}
@@ -20,10 +19,9 @@ use Rattle.request_check.proofs.AlikeLemmas.{sent_parts}
 use Rattle.request_check.proofs.HeaderFormLemmas as header
 use Rattle.request_check.proofs.QueryFormLemmas as query
 use Rattle.request_check.proofs.SealLemmas.{one_seal}
-use Rattle.request_door.specs.DoorAcceptance.{IsOwnSignature, IsSignedForDoor}
+use Rattle.request_door.specs.DoorAcceptance.{IsOwnSignature}
 use Rattle.request_door.specs.DoorTerms.{door_seal}
-use Rattle.request_door.specs.Doors.{DoorInput, DoorReading, HasKey, MeetsLast, door_payload, door_signature}
-use Rattle.request_door.specs.declared.fault.DoorFault.TheVariants.{Mismatch}
+use Rattle.request_door.specs.Doors.{DoorInput}
 use Rattle.request_door.proofs.DoorLemmas.{sealed_at}
 
 -- the seal of a signed request, whose signature is its own

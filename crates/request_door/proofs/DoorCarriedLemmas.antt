@@ -1,7 +1,6 @@
 -- The first test of what is carried that is met.
-use Rattle.std.proofs.Common.{◌≡◌, ◌≢◌, ℕ, Bool, true, false, List, [], ◌∷◌, ◌++◌, Option, Some, None, Ok, Err, inl, inr, refl, sym, ap, ◌∙◌, subst, true≢false}
+use Rattle.std.proofs.Common.{◌≡◌, ◌≢◌, ℕ, true, false, List, [], ◌∷◌, ◌++◌, None, Ok, Err, inl, inr, refl, sym, ap, ◌∙◌, subst, true≢false}
 use Rattle.std.specs.Prelude.{Result, codes}
-use Rattle.std.specs.Borrow.{Bor}
 use Rattle.sigv4.specs.Query.{Pair}
 use Rattle.sigv4.specs.Signature.{is_signature}
 use Rattle.sigv4.specs.declared.settings.SignatureLocation.{SignatureLocation}
@@ -10,7 +9,7 @@ use Rattle.request_check.specs.Carried.{IsAuthorization, ReadsAuthorization}
 use Rattle.presign_check.specs.Terms.{algorithm_name}
 use Rattle.presign_check.specs.declared.part.PresignPart.{PresignPart}
 use Rattle.presign_check.specs.declared.part.PresignPart.TheVariants.{Algorithm, Credential, Date, Expires, SignedHeaders, Signature}
-use Rattle.request_door.specs.DoorCarried.{CarriesAt, DoorTexts, IsInForm, LacksFront, MeetsCarried, MeetsDoorForm, ReadsCarried, ReadsCarriedAt, are_several, first_text, form_tests, has_authorization, has_parameters, part_values, tests_of, texts_carried}
+use Rattle.request_door.specs.DoorCarried.{CarriesAt, IsInForm, LacksFront, MeetsCarried, MeetsDoorForm, ReadsCarried, ReadsCarriedAt, are_several, first_text, form_tests, has_authorization, has_parameters, part_values, tests_of, texts_carried}
 use Rattle.request_door.specs.DoorOrder.{IsFirstMet, NoneMet}
 use Rattle.request_door.specs.declared.carried.Carried.{Carried}
 use Rattle.request_door.specs.declared.fault.DoorFault.{DoorFault}

@@ -1,5 +1,5 @@
 -- What an admitted request is signed over.
-use Rattle.std.proofs.Common.{◌≡◌, ℕ, Bool, true, false, List, Option, Some, refl, sym, ap, ◌∙◌, subst}
+use Rattle.std.proofs.Common.{◌≡◌, ℕ, Bool, true, false, List, refl, sym, ap, ◌∙◌, subst}
 use Rattle.std.specs.Prelude.{bytes_eq, codes, string_bytes}
 use Rattle.std.specs.List.{flat_map, list_all, list_any}
 use Rattle.smithy_http.specs.Target.{target_of}
@@ -9,7 +9,7 @@ use Rattle.sigv4.specs.Path.{canonical_path}
 use Rattle.sigv4.specs.Query.{decoded, query}
 use Rattle.sigv4.specs.Signature.{signature}
 use Rattle.request_check.specs.Recomputed.{carried_names, recomputed, sent_pairs, sent_text}
-use Rattle.request_door.specs.DoorLaws.{Covers, covered_text}
+use Rattle.request_door.specs.DoorLaws.{Covers}
 use Rattle.request_door.specs.DoorNames.{is_signed_as_owed}
 use Rattle.request_door.specs.DoorPayloads.{IsOtherPayload, shown_payload, signed_payload}
 use Rattle.request_door.specs.Doors.{DoorInput, DoorReading, IsAdmitted, door_signature}

@@ -1,23 +1,22 @@
 -- What the steps of a service's door leave.
-use Rattle.std.proofs.Common.{◌≡◌, ◌≢◌, ℕ, Bool, true, false, List, [], ◌∷◌, ◌++◌, Option, Some, None, Ok, Err, inl, inr, refl, sym, ap, ◌∙◌, subst, true≢false}
-use Rattle.std.specs.Prelude.{IsSome, Result, codes, is_some, string_bytes}
+use Rattle.std.proofs.Common.{◌≡◌, ℕ, Bool, true, false, List, Option, Some, None, Ok, Err, inl, inr, refl, sym, ap, ◌∙◌, subst, true≢false}
+use Rattle.std.specs.Prelude.{Result, codes, is_some, string_bytes}
 use Rattle.http_uri.specs.declared.uri.Uri.{Uri}
 use Rattle.smithy_core.specs.TextPairs.{first_value}
 use Rattle.smithy_core.specs.declared.request.HttpRequest.{HttpRequest}
-use Rattle.smithy_http.specs.QueryWriter.{ReadsTarget, SpellsNoTarget, SpellsTarget}
+use Rattle.smithy_http.specs.QueryWriter.{ReadsTarget, SpellsTarget}
 use Rattle.smithy_http.specs.declared.uri_fault.UriFault.{UriFault}
 use Rattle.smithy_http.specs.declared.uri_fault.UriFault.TheVariants.{InvalidUri, NoMemory as NoRoom}
 use Rattle.smithy_http.specs.Target.{Target, target_of}
 use Rattle.eventstream.specs.Key.{Signer}
-use Rattle.sigv4.specs.Query.{Pair, decoded}
+use Rattle.sigv4.specs.Query.{decoded}
 use Rattle.sigv4.specs.Settings.{Settings}
 use Rattle.sigv4.specs.Signed.{authorization_text}
 use Rattle.sigv4.specs.declared.error.SigningError.{SigningError}
 use Rattle.sigv4.specs.declared.settings.SignatureLocation.{SignatureLocation}
 use Rattle.sigv4.specs.declared.settings.SignatureLocation.TheVariants.{Headers, QueryParams}
-use Rattle.request_check.specs.Recomputed.{ChecksRequest, Rechecks, RefusesSent, recomputed, unfit_sent}
+use Rattle.request_check.specs.Recomputed.{Rechecks, RefusesSent, recomputed, unfit_sent}
 use Rattle.request_check.specs.Sealed.{FindsSeal, IsSealed, IsSealedAt, SealParts}
-use Rattle.request_check.specs.declared.check.CheckRequestFault.TheVariants.{Signing}
 use Rattle.request_check.specs.declared.check.Checked.{Checked}
 use Rattle.request_check.proofs.SealLemmas.{absent, one_seal, unsealed_bare}
 use Rattle.presign_check.proofs.ParameterLemmas.{first_of_one}
@@ -29,7 +28,6 @@ use Rattle.request_door.specs.DoorFaults.{door_target_fault}
 use Rattle.request_door.specs.DoorPayloads.{IsOtherPayload, MakesPayload, shown_payload, signed_payload}
 use Rattle.request_door.specs.Doors.{AcceptsTarget, TestsLast}
 use Rattle.request_door.specs.declared.fault.DoorFault.{DoorFault}
-use Rattle.request_door.specs.declared.fault.DoorFault.TheVariants.{Mismatch}
 use Rattle.request_door.specs.declared.payload.DoorPayload.{DoorPayload}
 
 -- ---- tests

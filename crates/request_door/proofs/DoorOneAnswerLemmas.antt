@@ -1,10 +1,9 @@
 -- Of the tests of a service's door one is the first that is met.
-use Rattle.std.proofs.Common.{◌≡◌, ℕ, Bool, true, false, List, [], ◌∷◌, ◌++◌, Option, Some, None, Ok, Err, ℤ, inl, inr, ◌⊎◌, refl, sym, ap, ◌∙◌, subst, true≢false}
-use Rattle.std.specs.Prelude.{IsSome, Result, codes, string_bytes}
+use Rattle.std.proofs.Common.{◌≡◌, ℕ, List, [], ◌∷◌, ◌++◌, Option, Some, None, Ok, Err, inl, inr, ◌⊎◌, refl, sym, ap, ◌∙◌, subst, true≢false}
+use Rattle.std.specs.Prelude.{IsSome, codes, string_bytes}
 use Rattle.std.proofs.lemmas.List.{append_cancel_right}
 use Rattle.http_uri.specs.declared.uri.Uri.{Uri}
 use Rattle.smithy_core.specs.Moment.{Instant}
-use Rattle.smithy_core.specs.TextPairs.{named_values}
 use Rattle.smithy_http.specs.QueryWriter.{SpellsTarget}
 use Rattle.smithy_http.specs.Target.{Target, target_of}
 use Rattle.eventstream.specs.Key.{scope}
@@ -17,16 +16,15 @@ use Rattle.request_check.proofs.SealLemmas.{absent}
 use Rattle.request_check.proofs.StampLemmas.{stamped_once}
 use Rattle.request_check.specs.Carried.{IsAuthorization}
 use Rattle.presign_check.proofs.SignatureLemmas.{one_target, spelled_once}
-use Rattle.request_door.specs.DoorCarried.{CarriesAt, DoorTexts, IsInForm, MeetsCarried, MeetsDoorForm, form_tests, has_authorization, tests_of}
+use Rattle.request_door.specs.DoorCarried.{CarriesAt, DoorTexts, IsInForm, MeetsCarried, MeetsDoorForm, form_tests, tests_of}
 use Rattle.request_door.specs.DoorNames.{MeetsName, name_tests}
-use Rattle.request_door.specs.DoorOneAnswer.{HasOneDoorAnswer, IsSameAtDoor, IsToldSame}
+use Rattle.request_door.specs.DoorOneAnswer.{HasOneDoorAnswer, IsToldSame}
 use Rattle.request_door.specs.DoorOrder.{IsFirstMet, NoneMet}
 use Rattle.request_door.specs.DoorPayloads.{IsOtherPayload, MeetsPayload, payload_tests, shown_form, shown_payload, signed_payload}
 use Rattle.request_door.specs.DoorTerms.{DoorTerms, MeetsTerm, MeetsTime, TellsTerms, door_seal, good_until, term_tests, time_tests}
-use Rattle.request_door.specs.Doors.{AnswersDoor, DoorInput, DoorReading, HasForm, HasKey, HasNames, HasPayload, HasTarget, HasCarriedTexts, HasTold, IsAdmitted, IsTimely, MeetsLast, RefusesCarried, RefusesFirst, RefusesForm, RefusesHeader, RefusesKey, RefusesLast, RefusesNames, RefusesPayload, RefusesDoorTarget, RefusesTerms, RefusesTime, door_signature, last_tests}
+use Rattle.request_door.specs.Doors.{DoorInput, DoorReading, HasForm, HasKey, HasNames, HasPayload, HasTarget, HasCarriedTexts, HasTold, IsAdmitted, IsTimely, MeetsLast, RefusesCarried, RefusesFirst, RefusesForm, RefusesHeader, RefusesKey, RefusesLast, RefusesNames, RefusesPayload, RefusesDoorTarget, RefusesTerms, RefusesTime, door_signature, last_tests}
 use Rattle.request_door.specs.declared.admitted.Admitted.{Admitted}
 use Rattle.request_door.specs.declared.fault.DoorFault.{DoorFault}
-use Rattle.request_door.specs.declared.fault.DoorFault.TheVariants.{NoMemory}
 use Rattle.request_door.specs.declared.payload.DoorPayload.{DoorPayload}
 
 -- ---- one list of tests

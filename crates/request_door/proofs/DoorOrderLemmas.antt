@@ -1,19 +1,18 @@
 -- The first test of a service's door that is met, of those of each step.
-use Rattle.std.proofs.Common.{◌≡◌, ℕ, true, false, List, [], Option, Some, None, Ok, Err, ℤ, pos, inl, inr, refl, sym, true≢false, ◌∙◌}
+use Rattle.std.proofs.Common.{ℕ, List, [], Option, Ok, Err, ℤ, pos, inl, inr, ◌∙◌}
 use Rattle.std.specs.Prelude.{Result, String, string_bytes}
 use Rattle.std.specs.declared.alloc.Global.{Global}
 use Rattle.http_uri.specs.declared.uri.Uri.{Uri}
 use Rattle.smithy_core.specs.Moment.{Instant}
 use Rattle.smithy_core.specs.declared.request.HttpRequest.{HttpRequest}
 use Rattle.smithy_http.specs.Target.{target_of}
-use Rattle.sigv4.specs.Query.{Pair, decoded}
+use Rattle.sigv4.specs.Query.{decoded}
 use Rattle.sigv4.specs.Settings.{Settings}
 use Rattle.sigv4.specs.declared.settings.SignatureLocation.{SignatureLocation}
-use Rattle.sigv4.specs.declared.settings.SignatureLocation.TheVariants.{Headers, QueryParams}
+use Rattle.sigv4.specs.declared.settings.SignatureLocation.TheVariants.{Headers}
 use Rattle.request_check.specs.Recomputed.{carried_names}
-use Rattle.request_door.specs.DoorCarried.{DoorTexts, IsInForm, MeetsDoorForm, ReadsCarried, form_tests, has_authorization, has_parameters, texts_carried}
+use Rattle.request_door.specs.DoorCarried.{DoorTexts, ReadsCarried, texts_carried}
 use Rattle.request_door.specs.DoorNames.{PassesNames}
-use Rattle.request_door.specs.DoorOrder.{NoneMet}
 use Rattle.request_door.specs.DoorPayloads.{ReadsPayload}
 use Rattle.request_door.specs.DoorSignature.{IsSealedSo, SomeSeal}
 use Rattle.request_door.specs.DoorTerms.{DoorTerms, ReadsDoorTerms, TestsTime, door_seal, told_terms}

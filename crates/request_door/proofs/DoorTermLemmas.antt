@@ -1,20 +1,18 @@
 -- The first test of what the texts tell that is met.
 use Rattle.std.proofs.Common.{◌≡◌, ℕ, ◌<◌, ◌≤◌, List, [], ◌∷◌, ◌++◌, Option, Some, None, Ok, Err, inl, inr, refl, sym, ap, ◌∙◌, arith}
-use Rattle.std.specs.Prelude.{Result, codes}
+use Rattle.std.specs.Prelude.{codes}
 use Rattle.smithy_core.specs.Moment.{Instant}
 use Rattle.eventstream.specs.Key.{scope}
 use Rattle.request_check.specs.Carried.{CutsScope}
 use Rattle.request_check.specs.Stamped.{ReadsStamp}
 use Rattle.request_check.proofs.SealLemmas.{absent}
 use Rattle.request_check.proofs.StampLemmas.{stamped_once}
-use Rattle.request_door.specs.DoorCarried.{DoorTexts, texts_carried}
+use Rattle.request_door.specs.DoorCarried.{DoorTexts}
 use Rattle.request_door.specs.DoorOrder.{IsFirstMet, NoneMet}
-use Rattle.request_door.specs.DoorTerms.{DoorTerms, LacksEnd, MeetsTerm, PassesScope, ReadsDoorTerms, TellsTerms, term_tests, told_seconds, told_terms}
-use Rattle.request_door.specs.declared.carried.Carried.{Carried}
+use Rattle.request_door.specs.DoorTerms.{LacksEnd, MeetsTerm, PassesScope, ReadsDoorTerms, TellsTerms, term_tests, told_seconds}
 use Rattle.request_door.specs.declared.fault.DoorFault.{DoorFault}
 use Rattle.request_door.specs.declared.fault.DoorFault.TheVariants.{BadDate, OtherDay, BadExpiry, LongExpiry}
 use Rattle.request_door.specs.declared.limits.Limits.{Limits}
-use Rattle.request_door.specs.declared.terms.Terms.{Terms}
 
 -- a text that has an end doesn't lack it
 pub ends : (end text front : List ℕ) → text ≡ front ++ end → LacksEnd end text → ⊥

@@ -1,4 +1,4 @@
-use Rattle.std.proofs.Common.{◌≢◌, Err, refl, rules, sym, ◌∙◌}
+use Rattle.std.proofs.Common.{◌≢◌, refl, rules, sym, ◌∙◌}
 use Rattle.std.proofs.lemmas.Result.{err_from_is_err_and}
 use Rattle.smithy_core.specs.TextPairs.{text_pairs}
 use Rattle.presign_check.specs.Terms.{algorithm_name}

@@ -1,13 +1,7 @@
-use Rattle.std.proofs.Common.{ℕ, List, Option, Ok, Err, ap, subst, ◌∙◌}
+use Rattle.std.proofs.Common.{ap, ◌∙◌}
 use Rattle.std.proofs.lemmas.Result.{err_from_is_err_and}
-use Rattle.smithy_core.specs.Moment.{Instant}
 use Rattle.smithy_core.specs.TextPairs.{text_pairs}
-use Rattle.smithy_core.specs.declared.request.HttpRequest.{HttpRequest}
-use Rattle.sigv4.specs.Query.{Pair}
-use Rattle.sigv4.specs.Settings.{Settings, settings_of}
-use Rattle.request_door.specs.DoorCarried.{ReadsCarried}
-use Rattle.request_door.specs.Doors.{DoorInput}
-use Rattle.request_door.specs.declared.limits.Limits.{Limits}
+use Rattle.sigv4.specs.Settings.{settings_of}
 use Rattle.request_door.proofs.DoorOrderLemmas.{input, refused_target}
 use Rattle.request_door.proofs.door.admit.Goals as goal
 

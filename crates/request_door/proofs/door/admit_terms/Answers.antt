@@ -1,16 +1,9 @@
-use Rattle.std.proofs.Common.{ℕ, List, Option, rules}
+use Rattle.std.proofs.Common.{rules}
 use Rattle.std.proofs.lemmas.Int.{to_z-of_z}
 use mir.Syntax.{w128}
 use mir.Val.{SFits}
 use Rattle.std.proofs.lemmas.Result.{err_from_is_err_and}
-use Rattle.smithy_core.specs.Moment.{Instant}
-use Rattle.smithy_core.specs.TextPairs.{text_pairs}
-use Rattle.smithy_core.specs.declared.request.HttpRequest.{HttpRequest}
-use Rattle.sigv4.specs.Query.{Pair}
-use Rattle.sigv4.specs.Settings.{Settings, settings_of}
-use Rattle.request_door.specs.DoorCarried.{ReadsCarried}
-use Rattle.request_door.specs.Doors.{DoorInput}
-use Rattle.request_door.specs.declared.limits.Limits.{Limits}
+use Rattle.sigv4.specs.Settings.{settings_of}
 use Rattle.request_door.proofs.DoorOrderLemmas.{admits, input, refused_key, refused_last, refused_names, refused_payload, refused_time, sealed_so, some_seal}
 use Rattle.request_door.proofs.door.admit_terms.Goals as goal
 

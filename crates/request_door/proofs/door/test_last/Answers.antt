@@ -1,8 +1,5 @@
-use Rattle.eventstream.specs.Key.{Signer}
-use Rattle.std.proofs.Common.{◌∙◌, sym}
-use Rattle.std.proofs.lemmas.Result.{err_from_is_err_and}
 use Rattle.sigv4.specs.Settings.{settings_of}
-use Rattle.request_door.proofs.DoorLemmas.{last_tested, last_untested}
+use Rattle.request_door.proofs.DoorLemmas.{last_tested}
 use Rattle.request_door.proofs.door.test_last.Goals as goal
 
 pub returns : goal.returns

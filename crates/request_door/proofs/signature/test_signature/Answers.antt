@@ -1,4 +1,3 @@
-use Rattle.eventstream.specs.Key.{Signer}
 use Rattle.sigv4.specs.Body.{payload_text}
 use Rattle.sigv4.specs.Settings.{settings_of}
 use Rattle.request_door.proofs.DoorLemmas.{seal_there, tested, unrefused}
