@@ -1,0 +1,3 @@
+pub mod AttemptingLemmas
+pub mod GoesLemmas
+pub mod PartsLemmas
