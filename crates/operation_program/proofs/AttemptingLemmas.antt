@@ -1,8 +1,8 @@
 -- What an operation over the replies of its input does, by what is promised of each operation.
-use Rattle.std.proofs.Common.{◌≡◌, ℕ, ℤ, suc, ◌+◌, ◌<◌, ◌≤◌, Bool, true, false, List, [], ◌∷◌, ◌++◌, flat_map, drop, length, map, min, take, Option, Some, None, option_map, refl, ap, arith, sym, subst, ◌∙◌}
-use Rattle.std.specs.Prelude.{Result, Ok, Err, codes, string_bytes, if◌then◌else◌, nat_lt, pos, unwrap_or}
+use Rattle.std.proofs.Common.{◌≡◌, ℕ, ℤ, suc, ◌+◌, ◌<◌, ◌≤◌, Bool, true, false, List, [], ◌∷◌, ◌++◌, drop, length, map, min, take, Option, Some, None, option_map, refl, ap, arith, sym, subst, ◌∙◌}
+use Rattle.std.specs.Prelude.{Result, Ok, Err, codes, string_bytes, if◌then◌else◌, pos}
 use Rattle.std.specs.Option.{option_or}
-use Rattle.std.proofs.lemmas.List.{append-nil, append_assoc, length-map, length-take, map-append, take-append-drop, take-map}
+use Rattle.std.proofs.lemmas.List.{length-map, length-take, map-append, take-append-drop, take-map}
 use Rattle.smithy_core.specs.Civil.{is_in_years}
 use Rattle.smithy_core.specs.Identity.{secret_of}
 use Rattle.smithy_core.specs.Moment.{Instant}
@@ -36,16 +36,16 @@ use Rattle.operation_run.proofs.AgainLemmas.{leading_within}
 use Rattle.operation_run.proofs.BagLemmas.{skew_on}
 use Rattle.signed_stream.specs.Plan.{TargetRead, TargetSpells, accepted, unaccepted, unread}
 use Rattle.signed_stream.specs.Chain.{outside_years}
-use Rattle.signed_stream.specs.Sign.{IsRequestError, Unsigned, error_halt, request_fault, target_fault, unsigned}
+use Rattle.signed_stream.specs.Sign.{IsRequestError, Unsigned, error_halt, target_fault, unsigned}
 use Rattle.signed_stream.specs.Halt.{Halt, fails, refuses, wants}
 use Rattle.signed_stream.specs.Status.{RunFault, refused}
 use Rattle.signed_stream.proofs.SignLemmas.{TellsFault, outside_told, passed_fault, target_told}
 use Rattle.signed_stream.proofs.TargetLemmas.{reads_one, reads_one_way}
-use Rattle.operation_program.specs.Attempting.{Scripted, attempt_text, attempts_made, first_attempt_end, heads_text, operation_outcome, scripted_case, scripted_fault, scripted_moment, scripted_request, scripted_rounds, unless_stopped}
+use Rattle.operation_program.specs.Attempting.{Scripted, attempts_made, first_attempt_end, heads_text, operation_outcome, scripted_case, scripted_fault, scripted_moment, scripted_request, scripted_rounds, unless_stopped}
 use Rattle.operation_program.specs.Outcome.{GivesOutcome, HaltsAttempts}
-use Rattle.operation_run.specs.Over.{EndsOver, GoesOver, IsBegunBag, Over}
+use Rattle.operation_run.specs.Over.{GoesOver, IsBegunBag}
 use Rattle.operation_run.specs.Rounds.{first_there, fronts, is_retried, is_used_up, round_at, skew_after, standard_attempts, tries}
-use Rattle.operation_program.specs.Status.{OperationEnding, transport_fault, usual}
+use Rattle.operation_program.specs.Status.{transport_fault, usual}
 use Rattle.operation_run.proofs.ListLemmas.{first_there-append, first_there-more, fronts_next, leading_same, map_same, not_used_up, used_up}
 use Rattle.operation_run.proofs.OverLemmas.{agent_is, info_is}
 

@@ -2,7 +2,7 @@
 use Rattle.std.proofs.Common.{◌≡◌, ℕ, zero, suc, ◌≤◌, ◌<◌, ◌⊎◌, inl, inr, Bool, true, false, nat_lt, List, [], ◌∷◌, length, map, take, Option, Some, None, refl, sym, ap, subst, ◌∙◌, arith}
 use Rattle.std.specs.Prelude.{if◌then◌else◌, Result, Ok, Err}
 use Rattle.std.proofs.lemmas.Bool.Decides.{nat_tests}
-use Rattle.smithy_core.specs.Outside.{Gains, IsAllOf, IsLongerThan, RoseOrStands}
+use Rattle.smithy_core.specs.Outside.{Gains, IsAllOf, IsLongerThan}
 use Rattle.smithy_core.proofs.GainLemmas.{prefix_at_start, prefix_from_whole}
 use Rattle.env_config.specs.Files.{Place}
 use Rattle.env_config.specs.Loading.{selected_profile}
@@ -20,7 +20,7 @@ use Rattle.signed_stream.specs.Status.{Ending, RunFault, bad_job, bad_words, che
 use Rattle.operation_program.specs.Attempting.{Scripted, attempts_made, heads_text, operation_outcome, scripted_fault, scripted_moment, scripted_request, scripted_rounds, first_attempt_end, unless_stopped}
 use Rattle.operation_program.specs.Carriers.{GoesFor, GoesRead, GoesScripted, IsAfterBytes, IsAfterJob, IsAfterSelected}
 use Rattle.operation_program.specs.Outcome.{GivesText, IsStop}
-use Rattle.operation_program.specs.Running.{CanOperate, CountsFor, EndsByWords, EndsSo, GainsSo, GainsUsual, GoesSo, HasFailed, HasOperated, IsOperable, KeepsFiles, KeepsOut, NamesFile, OperationSupplied, OperationWanted, RanOperation, SaysOperation, Supplies, SuppliesRead, TellsFor, outcome_read, outcome_selected, run_outcome, scripted}
+use Rattle.operation_program.specs.Running.{CanOperate, CountsFor, EndsByWords, EndsSo, GainsSo, GoesSo, HasFailed, HasOperated, IsOperable, KeepsFiles, KeepsOut, NamesFile, OperationSupplied, OperationWanted, RanOperation, SaysOperation, Supplies, SuppliesRead, TellsFor, outcome_read, outcome_selected, run_outcome, scripted}
 use Rattle.operation_program.specs.Status.{OperationEnding, operation_ending, transport_fault, usual}
 use Rattle.operation_program.specs.declared.status.OperationStatus.{OperationStatus}
 use Rattle.operation_run.specs.Again.{Round}

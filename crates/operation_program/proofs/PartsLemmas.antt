@@ -1,6 +1,6 @@
 -- What the program gives an operation is what the operation is done with, and what it answers is what the program is to write, or how it ends.
-use Rattle.std.proofs.Common.{◌≡◌, ℕ, ℤ, inl, inr, List, map, Option, Some, None, refl, ap, sym, ◌∙◌}
-use Rattle.std.specs.Prelude.{Result, Ok, Err, string_bytes}
+use Rattle.std.proofs.Common.{◌≡◌, ℕ, inl, inr, List, map, Some, None, refl, ap, sym, ◌∙◌}
+use Rattle.std.specs.Prelude.{Result, Ok, Err}
 use Rattle.std.specs.Global.{Vec}
 use Rattle.smithy_core.specs.Moment.{Instant}
 use Rattle.smithy_core.specs.declared.identity.Identity.TheVariants.{Credentials}

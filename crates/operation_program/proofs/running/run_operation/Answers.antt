@@ -1,10 +1,9 @@
-use Rattle.std.proofs.Common.{List, ℕ, map}
+use Rattle.std.proofs.Common.{map}
 use Rattle.std.specs.Prelude.{string_bytes}
 use Rattle.signed_stream.specs.Sources.{DiskGives}
-use Rattle.signed_stream.specs.Status.{output_fault, read_fault}
 use Rattle.operation_program.specs.Running.{operation_words}
 use Rattle.operation_program.specs.Status.{operation_ending}
-use Rattle.operation_program.proofs.GoesLemmas.{said_counts, said_done, said_files, said_is, said_keeps, said_ran, said_words}
+use Rattle.operation_program.proofs.GoesLemmas.{said_done, said_files, said_ran}
 use Rattle.operation_program.proofs.running.run_operation.Goals as goal
 
 pub returns-clause-ran : goal.returns-clause-ran

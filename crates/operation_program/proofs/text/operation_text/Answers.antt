@@ -1,4 +1,4 @@
-use Rattle.std.proofs.Common.{◌≡◌, List, ℕ, map, None, subst, ◌∙◌}
+use Rattle.std.proofs.Common.{◌≡◌, map, None, subst, ◌∙◌}
 use Rattle.std.specs.Prelude.{Ok, Err}
 use Rattle.job_text.specs.OperationJob.{reply_parts}
 use Rattle.job_text.specs.ProfileTexts.{ProfileTexts}
