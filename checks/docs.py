@@ -103,8 +103,9 @@ def map_faults():
 
 
 def has_case(file, text):
-    """Whether a case, which is a line with tabs, holds a text."""
-    return file_has(file, rf"(?m)^(?=.*\t).*{re.escape(text)}")
+    """Whether a case holds a text: a line with tabs, or one of a program's stored input."""
+    tabs = r"(?=.*\t)" if file.startswith("tool_") else ""
+    return file_has(file, rf"(?m)^{tabs}.*{re.escape(text)}")
 
 
 def claim_faults():
