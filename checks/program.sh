@@ -183,11 +183,11 @@ sed '$d' record > open
 ends 'a record without its closing frame' 8 'check failed at frame 4 NoClosing' check --name transcribe --config "$crate/data/config" < open
 # Without a moment among the words the request has the clock's.
 begun=$(date +%s)
-"$program" stream --name a --config first < job | sed '/^$/q' > clock.head
+"$program" stream --name a --config first < job | sed -n '1,/^$/p' > clock.head
 over=$(date +%s)
 digits='s/^x-amz-date: \(....\)\(..\)\(..\)T\(..\)\(..\)\(..\)Z$/\1-\2-\3 \4:\5:\6/p'
 moment=$(date -u -d "$(sed -n "$digits" clock.head)" +%s)
-"$program" stream --name a --at "$moment" --config first < job | sed '/^$/q' > fixed.head
+"$program" stream --name a --at "$moment" --config first < job | sed -n '1,/^$/p' > fixed.head
 if [ "$moment" -lt "$begun" ] || [ "$moment" -gt "$over" ] || ! cmp -s clock.head fixed.head; then
   echo 'no moment among the words: another head than at the moment of the clock'
   failed=1
