@@ -4,6 +4,7 @@
 //! bench sign COUNT            signs a small request: three headers and no body
 //! bench kept-sign COUNT       signs such a request each time under one key
 //! bench operation COUNT       signs the small request by the inputs of its operation
+//! bench operate COUNT         runs an operation over a transport in memory
 //! bench chain COUNT SIZE      signs a chain of so many events with so many bytes each
 //! bench kept-chain COUNT SIZE signs such a chain by a signer that keeps its key
 //! bench checksum COUNT SIZE   the CRC-32 of so many bytes
@@ -23,6 +24,7 @@ mod chunked;
 mod digest;
 mod frames;
 mod kept;
+mod operating;
 mod profiles;
 mod receiving;
 mod signing;

@@ -69,7 +69,8 @@ pub fn operations(alloc: Global, count: u32) -> anyhow::Result<Digest> {
     Ok(digest)
 }
 
-fn example_config(alloc: Global) -> Result<SigV4OperationSigningConfig, AllocError> {
+/// The config of the small request's operation.
+pub fn example_config(alloc: Global) -> Result<SigV4OperationSigningConfig, AllocError> {
     let region = Region::new(String::from_str(alloc, "us-east-1")?);
     let name = SigningName::new(String::from_str(alloc, "service")?);
     Ok(SigV4OperationSigningConfig {

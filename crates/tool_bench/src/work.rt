@@ -1,5 +1,5 @@
 use crate::digest::Digest;
-use crate::{chunked, frames, kept, profiles, receiving, signing, sums};
+use crate::{chunked, frames, kept, operating, profiles, receiving, signing, sums};
 use std::alloc::{AllocError, Global};
 use std::fmt;
 
@@ -9,6 +9,7 @@ pub enum Work {
     Sign { count: u32 },
     KeptSign { count: u32 },
     Operation { count: u32 },
+    Operate { count: u32 },
     Chain { count: u32, size: usize },
     KeptChain { count: u32, size: usize },
     Checksum { count: u32, size: usize },
@@ -43,6 +44,7 @@ impl Work {
             Work::Sign { count },
             Work::KeptSign { count },
             Work::Operation { count },
+            Work::Operate { count },
             Work::Chain { count, size: 100 },
             Work::KeptChain { count, size: 100 },
             Work::Checksum { count, size: 100 },
@@ -75,6 +77,7 @@ impl Work {
             "sign" => Some(Work::Sign { count }),
             "kept-sign" => Some(Work::KeptSign { count }),
             "operation" => Some(Work::Operation { count }),
+            "operate" => Some(Work::Operate { count }),
             "decode" => Some(Work::Decode { count }),
             "receive" => Some(Work::Receive { count }),
             "profiles" => Some(Work::Profiles { count }),
@@ -102,6 +105,7 @@ impl Work {
             Work::Sign { count } => signing::signatures(alloc, count),
             Work::KeptSign { count } => kept::signatures(alloc, count),
             Work::Operation { count } => signing::operations(alloc, count),
+            Work::Operate { count } => operating::operations(alloc, count),
             Work::Chain { count, size } => signing::chain(alloc, count, size),
             Work::KeptChain { count, size } => kept::chain(alloc, count, size),
             Work::Checksum { count, size } => Ok(sums::checksums(alloc, count, size)?),
@@ -123,6 +127,7 @@ impl fmt::Display for Work {
             Work::Sign { count } => write!(f, "sign {count}"),
             Work::KeptSign { count } => write!(f, "kept-sign {count}"),
             Work::Operation { count } => write!(f, "operation {count}"),
+            Work::Operate { count } => write!(f, "operate {count}"),
             Work::Chain { count, size } => write!(f, "chain {count} {size}"),
             Work::KeptChain { count, size } => write!(f, "kept-chain {count} {size}"),
             Work::Checksum { count, size } => write!(f, "checksum {count} {size}"),
