@@ -16,7 +16,7 @@ model=$(basename "$1")
 count=$2 seed=${3:-1}
 # How many cases a batch has.
 batch=2500
-programs='firuvaik presigned'
+programs='firuvaik presigned operation'
 folder=$(mktemp -d) || exit 1
 trap 'rm -rf "$folder"' EXIT
 cd "$above" || exit 1
@@ -26,6 +26,7 @@ kinds_of() {
   case $1 in
     firuvaik) echo settings,chunk ;;
     presigned) echo presign ;;
+    operation) echo operation ;;
   esac
 }
 

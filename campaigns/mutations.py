@@ -21,8 +21,9 @@ import runs
 from runs import Ended
 
 # The module and the function that stand for a program in the reference model.
-MODELS = {"firuvaik": ("program", "run"), "presigned": ("presign", "run_presigned")}
-EXITS = {0, *range(2, 11)}
+MODELS = {"firuvaik": ("program", "run"), "presigned": ("presign", "run_presigned"), "operation": ("operation", "run_operation")}
+# 12 is the fault of an operation's transport.
+EXITS = {0, *range(2, 11), 12}
 # The second byte in place of one, by its place.
 SIGNS = b"\n \xff0:=\t[#A"
 # The most lines that are printed.

@@ -65,6 +65,7 @@ RUNS = [
     Run("gen", "firuvaik", "nothing", "gen 7 3"),
     Run("presigned", "presigned", "presigned.stdin", "--name service --at 1440938160"),
     Run("presigned-late", "presigned", "presigned.stdin", "--name service --at 1440939060"),
+    Run("operation", "operation", "operation.stdin", "--name service --at 1440938160"),
 ]
 
 
