@@ -56,33 +56,3 @@ fn push_visible(out: &mut String, c: char) -> Result<(), AllocError> {
         _ => out.push(c),
     }
 }
-
-/// The text with `{N PIECE}` written as the piece N times.
-pub fn with_repeats(alloc: Global, text: &str) -> Result<String, AllocError> {
-    let mut out = String::new(alloc);
-    for piece in text.split('}') {
-        push_piece(&mut out, piece)?;
-    }
-    Ok(out)
-}
-
-// Appends a text that ends in a repeat without its bracket, or has none.
-fn push_piece(out: &mut String, piece: &str) -> Result<(), AllocError> {
-    match piece.split_once('{') {
-        Some((plain, repeat)) => {
-            out.push_str(plain)?;
-            push_repeated(out, repeat)
-        }
-        None => out.push_str(piece),
-    }
-}
-
-// Appends `N PIECE` as the piece N times.
-fn push_repeated(out: &mut String, repeat: &str) -> Result<(), AllocError> {
-    let (count, piece) = halves(repeat);
-    let count: usize = count.parse().unwrap_or(0);
-    for _ in 0..count {
-        out.push_str(piece)?;
-    }
-    Ok(())
-}

@@ -37,6 +37,23 @@ fn word_of(alloc: Global, word: &str) -> Result<String, AllocError>
     text.into_owned(alloc)
 }
 
+/// Whether two hexadecimal digits stand behind each `%`.
+pub fn are_escapes(case: &str) -> bool {
+    for piece in case.split('%').skip(1) {
+        if !begins_with_digits(piece) {
+            return false;
+        }
+    }
+    true
+}
+
+fn begins_with_digits(piece: &str) -> bool {
+    match piece.as_bytes() {
+        [first, second, ..] => first.is_ascii_hexdigit() && second.is_ascii_hexdigit(),
+        _ => false,
+    }
+}
+
 /// The text, or the fault as its `Debug` shows it.
 pub fn shown<E: fmt::Debug + Drop>(
     alloc: Global,

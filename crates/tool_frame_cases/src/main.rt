@@ -3,8 +3,8 @@
 //!
 //! The first word of a line names the subject, and the second the call. In an argument
 //!
-//! - bytes are pieces between `+`, each of hexadecimal digits or a text in double quotes, as `00ff+"text"`; a long text
-//!   stands bare. `*` and a number at the end of either stands for so many copies, as `00*1024`;
+//! - bytes are pieces between `+`, each of hexadecimal digits or a text in double quotes, as `00ff+"text"`, and with
+//!   repeats, as `{1024 00}+{3 "ab"}`; a long text stands bare;
 //! - a moment is its seconds and its nanoseconds, as `-1 999000000`;
 //! - a header of a frame is its name, its kind and its value, as `some-header text value`, where the kind is one of
 //!   `bool`, `i8`, `i16`, `i32`, `i64`, `bytes`, `text`, `time` and `uuid`;

@@ -1,11 +1,11 @@
 use crate::shown::{digits, header, message, quoted, told, truth};
-use crate::words::{bytes_of, header_of, message_of, shared, text_of};
+use crate::words::{bytes_of, header_of, message_of, shared};
 use smithy_core::{
     AppName, Blob, Env, ErrorMetadata, Header, Mem, Message, RawMessage, Region, SigningName,
     StrBytes, is_header_name, is_header_value, is_lower_of, push_line,
 };
 use std::alloc::Global;
-use tool_case_lines::unknown;
+use tool_case_lines::{unknown, with_repeats};
 
 pub fn answer(alloc: Global, call: &[&str]) -> Mem<String> {
     match call {
@@ -61,7 +61,7 @@ fn of_words(alloc: Global, call: &str, words: &[&str]) -> Mem<String> {
 }
 
 fn header_name(alloc: Global, word: &str) -> Mem<String> {
-    let text = text_of(alloc, word)?;
+    let text = with_repeats(alloc, word)?;
     truth(alloc, is_header_name(text.as_str()))
 }
 

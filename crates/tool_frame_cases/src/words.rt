@@ -1,7 +1,7 @@
 use bytes::Bytes;
 use smithy_core::{DateTime, Header, HeaderValue, Message, StrBytes};
 use std::alloc::{AllocError, Global};
-use tool_case_lines::{bytes_of_hex, halves, number};
+use tool_case_lines::{bytes_of_hex, halves, number, with_repeats};
 
 // The bytes of the pieces between `+`.
 pub fn bytes_of(alloc: Global, word: &str) -> Result<Vec<u8>, AllocError> {
@@ -30,33 +30,25 @@ fn piece_of(alloc: Global, word: &str) -> Result<Vec<u8>, AllocError> {
     bytes_of_hex(alloc, word)
 }
 
-// What stands before a last `*` and a number, and that number.
+// The piece and the number of `{N PIECE}`, or else the word once.
 fn copies_of(word: &str) -> (&str, usize) {
-    match word.rsplit_once('*') {
-        Some((piece, times)) => match times.parse() {
-            Ok(times) => (piece, times),
-            Err(_) => (word, 1),
-        },
+    match word.strip_prefix('{') {
+        Some(repeat) => repeated(repeat.strip_suffix('}').unwrap_or(repeat)),
         None => (word, 1),
     }
+}
+
+fn repeated(repeat: &str) -> (&str, usize) {
+    let (times, piece) = halves(repeat);
+    (piece, times.parse().unwrap_or(0))
 }
 
 pub fn shared(alloc: Global, word: &str) -> Result<Bytes, AllocError> {
     Ok(Bytes::from_vec(bytes_of(alloc, word)?)?)
 }
 
-// The copies of a text.
-pub fn text_of(alloc: Global, word: &str) -> Result<String, AllocError> {
-    let (piece, times) = copies_of(word);
-    let mut text = String::new(alloc);
-    for _ in 0..times {
-        text.push_str(piece)?;
-    }
-    Ok(text)
-}
-
 fn shared_text(alloc: Global, word: &str) -> Result<StrBytes, AllocError> {
-    StrBytes::copy_from_str(alloc, text_of(alloc, word)?.as_str())
+    StrBytes::copy_from_str(alloc, word)
 }
 
 pub fn moment_of(word: &str) -> DateTime {
@@ -81,6 +73,11 @@ pub fn numbers_of(alloc: Global, word: &str) -> Result<Vec<u64>, AllocError> {
 }
 
 pub fn header_of(alloc: Global, word: &str) -> Result<Header, AllocError> {
+    let word = with_repeats(alloc, word)?;
+    header_in(alloc, word.as_str())
+}
+
+fn header_in(alloc: Global, word: &str) -> Result<Header, AllocError> {
     let (name, value) = halves(word);
     let (kind, value) = halves(value);
     let value = value_of(alloc, kind, value)?;
