@@ -9,7 +9,7 @@ use tool_case_lines::{bytes_of_hex, on_one_line};
 // The most bytes of data that are shown as a text.
 const MOST_SHOWN: usize = 100;
 
-/// What the text says that parts make up one after the other: `hex DIGITS`, or a text with repeats.
+/// What the text says that parts make up one after the other: `hex DIGITS`, or a text, of which `N of T` is N times T.
 pub fn answer(alloc: Global, parts: &[&str]) -> Mem<String> {
     let mut bytes = Vec::new(alloc);
     for part in parts {

@@ -1,7 +1,7 @@
 use bytes::Bytes;
 use smithy_core::{Headers, Mem};
 use std::alloc::Global;
-use tool_case_lines::{part, with_repeats};
+use tool_case_lines::part;
 
 /// The number of the key, and another one where there is none.
 pub fn number_of(parts: &[&str], key: &str, default: u64) -> u64 {
@@ -11,10 +11,17 @@ pub fn number_of(parts: &[&str], key: &str, default: u64) -> u64 {
     }
 }
 
-/// The bytes of a text with repeats.
+/// The bytes of a word: `N of T` are N times T.
 pub fn bytes_of(alloc: Global, word: &str) -> Mem<Bytes> {
-    let text = with_repeats(alloc, word)?;
-    Ok(Bytes::from_vec(text.into_bytes())?)
+    let (count, text) = match word.split_once(" of ") {
+        Some((count, text)) => (count.parse().unwrap_or(0u32), text),
+        None => (1, word),
+    };
+    let mut bytes = Vec::new(alloc);
+    for _ in 0..count {
+        bytes.extend_from_slice(text.as_bytes())?;
+    }
+    Ok(Bytes::from_vec(bytes)?)
 }
 
 /// The headers of words `name=value`.
