@@ -47,7 +47,7 @@ def calling_faults():
 def condition_faults():
     """Where the list of conditions lacks a public function that has one, or has another."""
     section = (ROOT / "docs/CALLING.md").read_text().split("\n## Conditions\n")[1].split("\n## ")[0]
-    # In an item the functions are before the first colon; only of `SegBuf`, which has none, more are behind it.
+    # Outside of brackets each name there is that of a function, but for `SegBuf`.
     listed = {text.rsplit("::", 1)[-1] for text in re.findall(r"`([\w:]+)`", re.sub(r"\([^)]*\)", "", section))} - {"SegBuf"}
     names = conditional_names()
     for name in sorted(names - listed):
