@@ -4,7 +4,7 @@ import re
 
 ROOT = pathlib.Path(__file__).resolve().parent.parent
 # The crates that run cases, time the work or show calls: nothing rests on their contracts.
-TOOLS = {"tool_bench", "tool_case_lines", "tool_client_cases", "tool_frame_cases", "tool_operation_cases", "tool_presign_cases", "tool_signing_cases", "tool_stream_cases", "tool_uses"}
+TOOLS = {"tool_bench", "tool_case_lines", "tool_client_cases", "tool_door_cases", "tool_frame_cases", "tool_operation_cases", "tool_presign_cases", "tool_signing_cases", "tool_stream_cases", "tool_uses"}
 HEAD = re.compile(r" *(?:(?:abbrev|unfoldable) pub|pub (?:record|data)) (\S+)")
 CONSTRUCTOR = re.compile(r"  (?:pub )?(\w+) : ")
 IMPORT = re.compile(r"ghost use Rattle\.(\w+)\.specs\.(\w+)\.\{([^}]*)\};")
@@ -80,8 +80,8 @@ def without_parameters(text):
     return text
 
 
-def public_clauses(file, exported):
-    """The clauses of the public functions of a file. Those of `impl Trait for Type` are the trait's own."""
+def public_functions(file, exported):
+    """The public functions of a file, each with its lines up to its body. Those of `impl Trait for Type` are the trait's own."""
     lines = file.read_text().splitlines()
     owner = kind = None
     for number, line in enumerate(lines):
@@ -93,24 +93,39 @@ def public_clauses(file, exported):
             owner = kind = None
         function = FUNCTION.match(line)
         if function and is_public(function, owner, kind, exported):
-            text = signature(lines, number)
-            clauses = CLAUSE.search(text)
-            if clauses:
-                yield text[clauses.start() :]
+            yield function.group(3), signature(lines, number)
+
+
+def public_clauses(file, exported):
+    """The clauses of the public functions of a file."""
+    for _, text in public_functions(file, exported):
+        clauses = CLAUSE.search(text)
+        if clauses:
+            yield text[clauses.start() :]
+
+
+def library_files():
+    """Each source of the libraries and the programs but the tools', with the names that its crate hands out."""
+    for folder in sorted((ROOT / "crates").iterdir()):
+        if folder.name not in TOOLS:
+            exported = exported_names(folder.name)
+            for file in sorted(folder.glob("src/**/*.rt")):
+                yield file, exported
+
+
+def conditional_names():
+    """The public functions that have a condition."""
+    return {name for file, exported in library_files() for name, text in public_functions(file, exported) if re.search(r"\brequires\b", text)}
 
 
 def cited_names():
     """The definitions, as (crate, file, name), that clauses of public functions of the libraries and the program cite."""
     found = set()
-    for folder in sorted((ROOT / "crates").iterdir()):
-        if folder.name in TOOLS:
-            continue
-        exported = exported_names(folder.name)
-        for file in sorted(folder.glob("src/**/*.rt")):
-            here = {}
-            for crate, subject, names in IMPORT.findall(file.read_text()):
-                for name in filter(None, (text.strip() for text in names.split(","))):
-                    here[name.rsplit(" as ", 1)[-1]] = (crate, subject, name.split(" as ")[0])
-            for clauses in public_clauses(file, exported):
-                found |= {here[name] for name in NAME.findall(clauses) if name in here}
+    for file, exported in library_files():
+        here = {}
+        for crate, subject, names in IMPORT.findall(file.read_text()):
+            for name in filter(None, (text.strip() for text in names.split(","))):
+                here[name.rsplit(" as ", 1)[-1]] = (crate, subject, name.split(" as ")[0])
+        for clauses in public_clauses(file, exported):
+            found |= {here[name] for name in NAME.findall(clauses) if name in here}
     return found

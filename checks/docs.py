@@ -5,7 +5,9 @@ docs/CALLING.md: each function that it shows is so in crates/tool_uses/src.
 crates/*/specs: each definition that clauses of public functions, or docs/CLAIMS.md, cite has a comment of its own, directly above
 it, which no other definition has.
 README.md: each file, and each name beside it, of the table of claims is in the crate's src.
+The pages that speak of this repository alone: each word that is a name by its form is in the sources.
 Every page: each link with its heading, and each path that begins with a folder of the repository, leads to something.
+docs/CALLING.md: "Conditions" lists each public function that has a condition, and no other.
 docs/CLAIMS.md: each name in round brackets is that of a clause, a definition or a part of one, or a function.
 docs/FROM_THE_SDK.md: each name beside a crate here is one that this crate hands out.
 docs/ARCHITECTURE.md: each definition, function, wrong body and case of "From a rule to its files" is where the page says.
@@ -16,13 +18,17 @@ import pathlib
 import re
 import sys
 
-from definitions import ROOT, cited_names, exported_names, meanings
+from definitions import ROOT, cited_names, conditional_names, exported_names, meanings
 
 PAGES = [*ROOT.glob("*.md"), *ROOT.glob("docs/*"), *ROOT.glob("bench/*.md")]
 # So many can be read in two hours; a man page is read by who uses its program.
 MOST_WORDS = 25_000
 # What a copy shares with what it was made of: the same sentence holds for each.
 COPIES = re.compile(r"IsSame\w+|Is\w+Copy|IsCopied")
+# The pages whose names are this repository's; the others tell of the SDK for Rust, or of keys and variables that nothing reads.
+OWN_PAGES = ["README.md", "CONTRIBUTING.md", "docs/ARCHITECTURE.md", "docs/CALLING.md", "docs/CLAIMS.md", "docs/DECISIONS.md"]
+# Names of the toolchain's that docs/DECISIONS.md has, and that nothing here uses.
+OF_THE_KIT = {"LendsIfOk", "RestsIfErr"}
 
 
 def shown_functions(page):
@@ -36,6 +42,18 @@ def calling_faults():
     for function in shown_functions((ROOT / "docs/CALLING.md").read_text()):
         if not any(function in source for source in sources):
             yield f"docs/CALLING.md: crates/tool_uses has no such function: {function.splitlines()[0]}"
+
+
+def condition_faults():
+    """Where the list of conditions lacks a public function that has one, or has another."""
+    section = (ROOT / "docs/CALLING.md").read_text().split("\n## Conditions\n")[1].split("\n## ")[0]
+    # Outside of brackets each name there is that of a function, but for `SegBuf`.
+    listed = {text.rsplit("::", 1)[-1] for text in re.findall(r"`([\w:]+)`", re.sub(r"\([^)]*\)", "", section))} - {"SegBuf"}
+    names = conditional_names()
+    for name in sorted(names - listed):
+        yield f"docs/CALLING.md: Conditions lacks {name}"
+    for name in sorted(listed - names):
+        yield f"docs/CALLING.md: Conditions has {name}, which has none"
 
 
 def rows_of(page, title):
@@ -120,6 +138,23 @@ def claim_faults():
                 yield f"docs/CLAIMS.md: there is no clause, definition or function {name}"
 
 
+def name_faults():
+    """Where a page has a word that is a name by its form, with an underscore or a capital behind a small letter, and that no
+    source and no file's name has."""
+    folders = [ROOT / folder for folder in ("checks", "campaigns", "bench")]
+    folders += [path for path in (ROOT / "crates").glob("*/*") if path.name != "out"]
+    known = set(OF_THE_KIT) | {folder.parent.name for folder in folders}
+    for path in [*folders, *(path for folder in folders for path in folder.rglob("*"))]:
+        known |= set(re.findall(r"\w+", path.name))
+        if path.is_file():
+            known |= set(re.findall(r"\w+", path.read_text(errors="replace")))
+    for page in OWN_PAGES:
+        for code in re.findall(r"`([^`\n]+)`", (ROOT / page).read_text().replace("```", "")):
+            for name in re.findall(r"(?<![\w])[A-Za-z]\w*", code):
+                if re.search(r"_|[a-z][A-Z]", name) and name not in known:
+                    yield f"{page}: nothing is called {name}"
+
+
 def sdk_faults():
     """Where the page on the SDK tells of a crate here a name that it doesn't hand out."""
     page = (ROOT / "docs/FROM_THE_SDK.md").read_text()
@@ -179,9 +214,11 @@ def file_has(file, pattern):
 
 faults = [
     *calling_faults(),
+    *condition_faults(),
     *meaning_faults(),
     *map_faults(),
     *claim_faults(),
+    *name_faults(),
     *sdk_faults(),
     *readme_faults(),
     *path_faults(),
