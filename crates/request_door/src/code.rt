@@ -2,6 +2,7 @@ ghost use Rattle.std.specs.Prelude.{◌≡◌};
 ghost use Rattle.request_door.specs.DoorCodes.{error_entry};
 
 use crate::fault::DoorFault;
+use presign_check::PresignPart;
 
 /// An error as a service's answer has it.
 #[derive(Clone, Copy, Debug)]
@@ -13,9 +14,15 @@ pub struct ErrorCode {
 }
 
 impl DoorFault {
-    /// The error of Amazon S3 that the fault is, with its HTTP status (Amazon S3, "List of error codes"). For a part of a presigned
-    /// target that is outside its form S3 has `AuthorizationQueryParametersError`, of the same status, and for one that is too
-    /// early or too late `AccessDenied`.
+    /// The error of Amazon S3 that the fault is, with its HTTP status. The names and statuses are those of S3's "List of error
+    /// codes", as botocore's model of S3 has it (1.43.11), but for `AuthorizationQueryParametersError`, which OpenStack Swift's
+    /// implementation of S3 answers (2.30.1), and `XAmzContentSHA256Mismatch`, which stands in neither.
+    ///
+    /// Which fault is which error goes by Swift, where it makes the test, and for [`DoorFault::OtherAlgorithm`] by that list. No
+    /// source was found for the rows of [`DoorFault::InvalidHeader`], [`DoorFault::BothForms`], [`DoorFault::TooManyNames`],
+    /// [`DoorFault::BadNames`], [`DoorFault::UnsignedHost`], the header `x-amz-content-sha256` and repeated parts. In header form
+    /// and in query form a fault has one error here: for a part of a presigned target that is outside its form Swift answers
+    /// `AuthorizationQueryParametersError`, of the same status, and for one that is too late `AccessDenied`, likewise.
     pub fn code(self) -> ErrorCode
         ensures name { result.name.now ≡ (error_entry self).name }
         ensures status { result.status ≡ (error_entry self).status }
@@ -26,15 +33,17 @@ impl DoorFault {
             DoorFault::BothForms | DoorFault::RepeatedPayload | DoorFault::BadPayload => {
                 ("InvalidArgument", 400)
             }
-            DoorFault::NoForm | DoorFault::UnsignedHost | DoorFault::UnsignedHeader => {
-                ("AccessDenied", 403)
-            }
+            DoorFault::NoForm
+            | DoorFault::Missing(PresignPart::Date)
+            | DoorFault::Repeated(PresignPart::Date)
+            | DoorFault::BadDate
+            | DoorFault::UnsignedHost
+            | DoorFault::UnsignedHeader => ("AccessDenied", 403),
             DoorFault::Missing(_)
             | DoorFault::Repeated(_)
             | DoorFault::BadExpiry
             | DoorFault::LongExpiry => ("AuthorizationQueryParametersError", 400),
             DoorFault::Malformed
-            | DoorFault::BadDate
             | DoorFault::BadCredential
             | DoorFault::OtherService
             | DoorFault::OtherRegion

@@ -1,0 +1,77 @@
+//! Answers cases on bodies in signed chunks: `stdin` says what each line means.
+#![tactic(auto)]
+
+ghost use Rattle.std.specs.Prelude.{◌<◌};
+
+use chunk_watch::{ChunkFault, ChunkLimits, ChunkWatch};
+use mac_core::sha256_hex;
+use smithy_core::{Mem, Moment};
+use std::alloc::Global;
+use std::io;
+use std::process::ExitCode;
+use tool_case_lines::{Answers, number, part, run_cases, with_repeats};
+
+fn main(rt: HostRuntime) -> io::Result<ExitCode> {
+    run_cases(rt, &Bodies)
+}
+
+// A body in signed chunks, by the words of a line.
+struct Bodies;
+
+impl Answers for Bodies {
+    fn answer(&self, alloc: Global, words: &[&str]) -> Mem<String> {
+        let text = text_of(alloc, words)?;
+        let mut out = Vec::new(alloc);
+        let answer = answer_of(alloc, words, text.as_slice(), &mut out);
+        told(alloc, out.as_slice(), answer)
+    }
+}
+
+// The bytes of the words `piece TEXT`, in order.
+fn text_of(alloc: Global, words: &[&str]) -> Mem<Vec<u8>> {
+    let mut text = Vec::new(alloc);
+    for word in words {
+        if let Some(("piece", piece)) = word.split_once(' ') {
+            let piece = with_repeats(alloc, piece)?;
+            text.extend_from_slice(piece.as_bytes())?;
+        }
+    }
+    Ok(text)
+}
+
+// Feeds the text, cut every so many bytes, and ends it.
+fn answer_of(
+    alloc: Global,
+    words: &[&str],
+    text: &[u8],
+    out: &mut Vec<u8>,
+) -> Result<(), ChunkFault> {
+    let seed = part(words, "seed").unwrap_or("");
+    let secret = part(words, "secret").unwrap_or("wJalrXUtnFEMI/K7MDENG/bPxRfiCYEXAMPLEKEY");
+    let at = Moment::new(number(part(words, "at").unwrap_or("1369353600")), 0);
+    let limits = ChunkLimits::new();
+    let mut watch = ChunkWatch::new(alloc, seed, secret, "us-east-1", "s3", at, limits)?;
+    for piece in text.chunks(size_of_pieces(words)) {
+        watch.feed(piece, out)?;
+    }
+    watch.finish()
+}
+
+// How many bytes a piece has.
+fn size_of_pieces(words: &[&str]) -> usize
+    ensures { 0 < result }
+{
+    match usize::try_from(number(part(words, "by").unwrap_or("65536"))) {
+        Ok(size) => size.max(1),
+        Err(_) => 1,
+    }
+}
+
+// How many bytes were handed out, their digest, and how the body ended.
+fn told(alloc: Global, out: &[u8], answer: Result<(), ChunkFault>) -> Mem<String> {
+    let (count, digest) = (out.len(), sha256_hex(alloc, out)?);
+    match answer {
+        Ok(()) => format!(in alloc; "{count} bytes {digest} | whole"),
+        Err(fault) => format!(in alloc; "{count} bytes {digest} | {fault:?} {fault}"),
+    }
+}
