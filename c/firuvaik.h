@@ -1,0 +1,150 @@
+/* Firuvaik: AWS Signature Version 4, for C and for all that calls C.
+
+   Everything that is read is lent for the call alone, and may be NULL where its length is 0. What is written goes into room that
+   the caller lends: nothing is written past it, and after every status but FIRUVAIK_DONE nothing is written at all. The pieces that
+   are read and the room don't overlap. The library keeps nothing between two calls and has no state: calls are safe from many
+   threads at once. Any bytes and any numbers get an answer; no call ends the process.
+
+   A text is UTF-8, without a zero at its end. A call that takes memory takes it with malloc and gives it back before it returns,
+   so don't make one in a signal handler, or in the child of a process with threads between fork and exec.
+
+   This is for machines whose long has 64 bits. */
+#ifndef FIRUVAIK_H
+#define FIRUVAIK_H
+
+#include <stddef.h>
+
+#define FIRUVAIK_VERSION "0.1.0"
+
+#ifdef __cplusplus
+extern "C" {
+#endif
+
+/* A text, or bytes. */
+typedef struct firuvaik_text {
+    const char *bytes;
+    size_t length;
+} firuvaik_text;
+
+/* A header: its name and its value. */
+typedef struct firuvaik_field {
+    firuvaik_text name;
+    firuvaik_text value;
+} firuvaik_field;
+
+/* Who signs, and for which region and service. */
+typedef struct firuvaik_signer {
+    firuvaik_text key_id;
+    firuvaik_text secret;
+    firuvaik_text token;   /* the session token; of no bytes: there is none */
+    firuvaik_text region;  /* as us-east-1 */
+    firuvaik_text service; /* as s3 */
+} firuvaik_signer;
+
+/* A request. */
+typedef struct firuvaik_request {
+    firuvaik_text method; /* taken as it is */
+    firuvaik_text target; /* an absolute URI, or a path with a query */
+    const firuvaik_field *headers;
+    size_t header_count;
+    firuvaik_text body; /* with FIRUVAIK_PAYLOAD_TEXT the payload's text */
+} firuvaik_request;
+
+/* The flags of firuvaik_settings: their sum. */
+#define FIRUVAIK_QUERY 1u          /* presign: the signature goes into the target's query */
+#define FIRUVAIK_SINGLE_ENCODE 2u  /* the path is escaped once, not twice */
+#define FIRUVAIK_KEEP_PATH 4u      /* the path isn't put into its normal form */
+#define FIRUVAIK_SHA256_HEADER 8u  /* the payload's text goes into the header x-amz-content-sha256 */
+#define FIRUVAIK_UNSIGNED_TOKEN 16u /* the session token goes out unsigned */
+#define FIRUVAIK_PAYLOAD_TEXT 32u  /* the body is the payload's text: a digest in hexadecimal, or a word as UNSIGNED-PAYLOAD */
+#define FIRUVAIK_EXCLUDED 64u      /* the headers that aren't signed are those of excluded, not the usual ones */
+
+/* The settings for Amazon S3. To presign for S3 add FIRUVAIK_QUERY and FIRUVAIK_PAYLOAD_TEXT, with the body UNSIGNED-PAYLOAD. */
+#define FIRUVAIK_S3 (FIRUVAIK_SINGLE_ENCODE | FIRUVAIK_KEEP_PATH | FIRUVAIK_SHA256_HEADER)
+
+/* How a request is signed. All of it zero: a signature in headers, with the path normalized and escaped twice. */
+typedef struct firuvaik_settings {
+    unsigned int flags;
+    unsigned long expires_in;      /* with FIRUVAIK_QUERY: for how many seconds the target is good; 0: none is given */
+    firuvaik_text token_name;      /* the name of the session token's header or parameter; of no bytes: the usual one */
+    const firuvaik_text *excluded; /* with FIRUVAIK_EXCLUDED: the names of the headers that aren't signed, in lower case */
+    size_t excluded_count;
+} firuvaik_settings;
+
+/* How a call went. */
+typedef struct firuvaik_answer {
+    unsigned int status;
+    size_t place;  /* the place of the header at fault, counted from 1, or else 0 */
+    size_t length; /* how many bytes were written, or with FIRUVAIK_ROOM how many are wanted */
+} firuvaik_answer;
+
+/* The statuses. The numbers stay. */
+#define FIRUVAIK_DONE 0u                 /* all was written */
+#define FIRUVAIK_ROOM 1u                 /* more room is wanted: length says how much */
+#define FIRUVAIK_NO_MEMORY 2u            /* memory ran out */
+#define FIRUVAIK_NOT_TEXT 3u             /* a text isn't UTF-8 */
+#define FIRUVAIK_UNKNOWN_FLAGS 4u        /* a flag is none of those above */
+#define FIRUVAIK_OUT_OF_YEARS 5u         /* the moment lies outside the years 0 to 9999 */
+#define FIRUVAIK_BAD_TARGET 6u           /* the target isn't accepted, or is too long when it is signed */
+#define FIRUVAIK_BAD_HEADER_NAME 7u      /* the header at this place has a bad name */
+#define FIRUVAIK_BAD_HEADER_VALUE 8u     /* the header at this place has a bad value */
+#define FIRUVAIK_BAD_HOST 9u             /* the host is no header's value */
+#define FIRUVAIK_BAD_TOKEN 10u           /* the session token is no header's value */
+#define FIRUVAIK_BAD_PAYLOAD_TEXT 11u    /* the payload's text is no header's value */
+#define FIRUVAIK_BAD_AUTHORIZATION 12u   /* key id, region or service can't stand in a header */
+#define FIRUVAIK_NO_HOST 13u             /* neither the target nor a header has a host */
+#define FIRUVAIK_BAD_TOKEN_NAME 14u      /* the token can't have this name */
+#define FIRUVAIK_NO_EXPIRY 15u           /* FIRUVAIK_QUERY without expires_in */
+#define FIRUVAIK_NAME_TOO_LONG 20u       /* the name of a message's header passes 255 bytes */
+#define FIRUVAIK_VALUE_TOO_LONG 21u      /* the value of a message's header passes 32,767 bytes */
+#define FIRUVAIK_HEADERS_TOO_LONG 23u    /* a message's headers pass 131,072 bytes */
+#define FIRUVAIK_PAYLOAD_TOO_LONG 24u    /* a message's payload passes 16,777,200 bytes */
+#define FIRUVAIK_MESSAGE_TOO_LONG 25u    /* the frame passes 16,777,216 bytes */
+
+/* Signs a request at a moment, in seconds since 1970-01-01T00:00:00Z.
+
+   Without FIRUVAIK_QUERY the text that is written are the headers to add, as lines "name: value\r\n": x-amz-date, authorization,
+   and where they are asked for x-amz-content-sha256 and the session token's. Headers of these names in the request are to be
+   replaced. With FIRUVAIK_QUERY the text is the signed target.
+
+   signature has room for 64 characters; it gets the signature in lower-case hexadecimal, with which an event stream or an upload
+   in chunks goes on.
+
+   FIRUVAIK_DONE, FIRUVAIK_ROOM, FIRUVAIK_NO_MEMORY, and else the first of these: FIRUVAIK_UNKNOWN_FLAGS, FIRUVAIK_NOT_TEXT,
+   FIRUVAIK_OUT_OF_YEARS, FIRUVAIK_BAD_TARGET, for each header in order FIRUVAIK_BAD_HEADER_NAME and FIRUVAIK_BAD_HEADER_VALUE,
+   FIRUVAIK_NO_HOST, FIRUVAIK_BAD_HOST, FIRUVAIK_BAD_TOKEN_NAME; in headers FIRUVAIK_BAD_TOKEN, FIRUVAIK_BAD_PAYLOAD_TEXT,
+   FIRUVAIK_BAD_AUTHORIZATION; with FIRUVAIK_QUERY FIRUVAIK_NO_EXPIRY, and FIRUVAIK_BAD_TARGET for a signed target of over 65,534
+   bytes. */
+firuvaik_answer firuvaik_sign(const firuvaik_signer *signer, const firuvaik_request *request, const firuvaik_settings *settings,
+                              long seconds, char *signature, char *out, size_t out_room);
+
+/* Writes the signing key of the secret, the day of a moment, the region and the service to key, which has room for 32 bytes. Key id
+   and token aren't read. It takes no memory.
+
+   FIRUVAIK_DONE, FIRUVAIK_NOT_TEXT, FIRUVAIK_OUT_OF_YEARS. */
+firuvaik_answer firuvaik_signing_key(const firuvaik_signer *signer, long seconds, unsigned char *key);
+
+/* Writes the frame of a message, as of an event before it is signed: headers whose values are texts, in order, and a payload.
+
+   FIRUVAIK_DONE, FIRUVAIK_ROOM, FIRUVAIK_NO_MEMORY, and else the first of FIRUVAIK_NOT_TEXT, for each header in order
+   FIRUVAIK_NAME_TOO_LONG and FIRUVAIK_VALUE_TOO_LONG, and then FIRUVAIK_HEADERS_TOO_LONG, FIRUVAIK_PAYLOAD_TOO_LONG and
+   FIRUVAIK_MESSAGE_TOO_LONG. */
+firuvaik_answer firuvaik_event(const firuvaik_field *headers, size_t header_count, const char *payload, size_t payload_length,
+                               char *out, size_t out_room);
+
+/* Writes the next frame of an event stream: event are the bytes of an event's own frame, as firuvaik_event writes them, or none for
+   the frame that ends the stream.
+
+   signature has 64 characters: the signature of the frame before, or for the first frame that of the request. With FIRUVAIK_DONE the
+   new signature takes its place. Key id and token aren't read.
+
+   FIRUVAIK_DONE, FIRUVAIK_ROOM, FIRUVAIK_NO_MEMORY, and else the first of FIRUVAIK_NOT_TEXT, FIRUVAIK_OUT_OF_YEARS,
+   FIRUVAIK_PAYLOAD_TOO_LONG and FIRUVAIK_MESSAGE_TOO_LONG. */
+firuvaik_answer firuvaik_next_frame(const firuvaik_signer *signer, long seconds, const char *event, size_t event_length,
+                                    char *signature, char *out, size_t out_room);
+
+#ifdef __cplusplus
+}
+#endif
+
+#endif

@@ -1,0 +1,211 @@
+"""Tests of firuvaik.py: published signatures, botocore's own signer, and an exchange over HTTP on this machine.
+
+The vectors in vectors.json are those of AWS's SDK for Rust and of its test suite for Signature Version 4 (Apache License 2.0). The
+tests that need botocore are skipped where it isn't there.
+"""
+import datetime
+import http.client
+import http.server
+import json
+import pathlib
+import random
+import threading
+import unittest
+import urllib.parse
+
+import firuvaik
+
+try:
+    import botocore.auth
+    import botocore.awsrequest
+    import botocore.credentials
+except ImportError:
+    botocore = None
+
+KEY_ID, SECRET = "AKIDEXAMPLE", "wJalrXUtnFEMI/K7MDENG+bPxRfiCYEXAMPLEKEY"
+NOW = datetime.datetime(2015, 8, 30, 12, 36, tzinfo=datetime.timezone.utc)
+SIGNER = firuvaik.Signer(KEY_ID, SECRET, "us-east-1", "service")
+# The frame of the message without headers and with the payload "hello world".
+EVENT = bytes.fromhex("0000001b00000000721279fa68656c6c6f20776f726c647c045795")
+
+
+class Published(unittest.TestCase):
+    def arguments(self, case):
+        settings = case["settings"]
+        return {
+            "headers": case["headers"],
+            "body": (case["body"] or "").encode(),
+            "at": case["secs"],
+            "payload": case.get("payload_text"),
+            "unsigned_token": settings.get("session_token_mode") == "Exclude",
+        }
+
+    def test_vectors(self):
+        for case in json.loads((pathlib.Path(__file__).parent / "vectors.json").read_text()):
+            settings = case["settings"]
+            signer = firuvaik.Signer(KEY_ID, SECRET, case["region"], case["name"], case.get("token") or "")
+            flags = (2 if settings.get("percent_encoding_mode") == "Single" else 0) | (
+                8 if settings.get("payload_checksum_kind") == "XAmzSha256" else 0)
+            flags |= (16 if settings.get("session_token_mode") == "Exclude" else 0) | (
+                1 if settings.get("signature_location") == "QueryParams" else 0)
+            with self.subTest(target=case["target"], headers=case["headers"]):
+                text, signature = firuvaik._signed(
+                    signer, case["method"], case["target"], case["headers"], (case["body"] or "").encode(), case["secs"], flags,
+                    settings.get("expires_in", 0), case.get("payload_text"), "", None)
+                self.assertEqual(signature, case["signature"])
+                if "signed_target" in case:
+                    self.assertEqual(text, case["signed_target"])
+
+    def test_signing_key(self):
+        # AWS, "Examples of how to derive a signing key": the key of this secret for 2015-08-30, us-east-1 and iam.
+        key = firuvaik.signing_key(firuvaik.Signer(KEY_ID, SECRET, "us-east-1", "iam"), NOW)
+        self.assertEqual(key.hex(), "c4afb1cc5771d871763a393e44b703571b55cc28424d1a5e86da6ed3c154a4b9")
+
+
+class Refused(unittest.TestCase):
+    def status(self, *arguments, **options):
+        with self.assertRaises(firuvaik.Error) as caught:
+            firuvaik.sign(*arguments, **options)
+        return caught.exception.status, caught.exception.place
+
+    def test_statuses(self):
+        self.assertEqual(self.status(SIGNER, "GET", b"https://h/\xff", at=NOW), (3, 0))
+        self.assertEqual(self.status(SIGNER, "GET", "not a target", at=NOW), (6, 0))
+        self.assertEqual(self.status(SIGNER, "GET", "/", at=NOW), (13, 0))
+        self.assertEqual(self.status(SIGNER, "GET", "https://h/", [("a", "b"), ("a b", "c")], at=NOW), (7, 2))
+        self.assertEqual(self.status(SIGNER, "GET", "https://h/", {"a": "b\n"}, at=NOW), (8, 1))
+        self.assertEqual(self.status(SIGNER, "GET", "https://h/", at=1 << 62), (5, 0))
+        self.assertEqual(self.status(SIGNER, "GET", "https://h/", at=NOW, token_name="Host"), (14, 0))
+        with self.assertRaises(firuvaik.Error) as caught:
+            firuvaik.presign(SIGNER, "GET", "https://h/", at=NOW, expires_in=0)
+        self.assertEqual(caught.exception.status, 15)
+
+    def test_no_secret_is_shown(self):
+        self.assertNotIn(SECRET, repr(SIGNER))
+
+
+class Streams(unittest.TestCase):
+    def test_event(self):
+        # The test vectors of the event stream encoding, payload_no_headers.
+        self.assertEqual(firuvaik.event({}, b"hello world"), EVENT)
+
+    def test_long_event(self):
+        with self.assertRaises(firuvaik.Error) as caught:
+            firuvaik.event({"a" * 256: "b"})
+        self.assertEqual(caught.exception.status, 20)
+
+    def test_chain(self):
+        _, signature = firuvaik.sign(SIGNER, "POST", "https://h/", at=NOW)
+        stream = firuvaik.Stream(SIGNER, signature)
+        first, last = stream.next_frame(EVENT, NOW), stream.end(NOW)
+        self.assertEqual(first[-4 - len(EVENT):-4], EVENT)
+        self.assertIn(bytes.fromhex(stream.signature), last)
+
+    @unittest.skipIf(botocore is None, "botocore isn't there")
+    def test_frames_are_read(self):
+        import botocore.eventstream
+        _, signature = firuvaik.sign(SIGNER, "POST", "https://h/", at=NOW)
+        stream = firuvaik.Stream(SIGNER, signature)
+        buffer = botocore.eventstream.EventStreamBuffer()
+        inner = botocore.eventstream.EventStreamBuffer()
+        inner.add_data(firuvaik.event({":message-type": "event", ":event-type": "é"}, b"payload"))
+        message = next(inner)
+        self.assertEqual((message.headers, message.payload), ({":message-type": "event", ":event-type": "é"}, b"payload"))
+        buffer.add_data(stream.next_frame(EVENT, NOW) + stream.end(NOW))
+        first, last = list(buffer)
+        self.assertEqual((first.payload, last.payload), (EVENT, b""))
+        self.assertEqual(first.headers[":date"], 1440938160000)
+        self.assertEqual(last.headers[":chunk-signature"].hex(), stream.signature)
+        self.assertNotEqual(first.headers[":chunk-signature"].hex(), signature)
+
+
+def by_botocore(kind, signer, method, target, headers, body, at, *more):
+    """The request as botocore signs it at a moment."""
+    kept = botocore.auth.get_current_datetime
+    botocore.auth.get_current_datetime = lambda: at.replace(tzinfo=None)
+    try:
+        keys = botocore.credentials.Credentials(signer.key_id, signer.secret, signer.token or None)
+        request = botocore.awsrequest.AWSRequest(method=method, url=target, headers=headers, data=body)
+        kind(keys, signer.service, signer.region, *more).add_auth(request)
+        return request
+    finally:
+        botocore.auth.get_current_datetime = kept
+
+
+def signature_of(authorization):
+    return authorization.rsplit("Signature=", 1)[1]
+
+
+@unittest.skipIf(botocore is None, "botocore isn't there")
+class AsBotocore(unittest.TestCase):
+    def requests(self):
+        source = random.Random(44)
+        for _ in range(300):
+            token = source.choice(["", "TOKEN/+="])
+            signer = firuvaik.Signer(KEY_ID, SECRET, source.choice(["us-east-1", "eu-west-3"]), source.choice(["iam", "sqs"]), token)
+            path = "/".join(urllib.parse.quote(source.choice(["a", "b c", "d~e", "é", "x.y"])) for _ in range(source.randrange(4)))
+            query = urllib.parse.urlencode({f"k{n}": source.choice(["v", "w x", "ü", ""]) for n in range(source.randrange(3))},
+                                           quote_via=urllib.parse.quote)
+            target = f"https://h{source.randrange(9)}.example.com/{path}" + (f"?{query}" if query else "")
+            headers = {f"X-Note-{n}": source.choice(["one", " two  three ", "4"]) for n in range(source.randrange(3))}
+            body = bytes(source.randrange(256) for _ in range(source.choice([0, 0, 1, 100])))
+            at = NOW + datetime.timedelta(seconds=source.randrange(10 ** 8))
+            yield signer, source.choice(["GET", "POST", "PUT"]), target, headers, body, at
+
+    def test_in_headers(self):
+        for signer, method, target, headers, body, at in self.requests():
+            wanted = by_botocore(botocore.auth.SigV4Auth, signer, method, target, dict(headers), body, at)
+            found, _ = firuvaik.sign(signer, method, target, headers, body, at=at)
+            self.assertEqual(found["authorization"], wanted.headers["Authorization"], target)
+
+    def test_for_s3(self):
+        for signer, method, target, headers, body, at in self.requests():
+            wanted = by_botocore(botocore.auth.S3SigV4Auth, signer, method, target, dict(headers), body, at)
+            found, _ = firuvaik.sign(signer, method, target, headers, body, at=at, s3=True)
+            self.assertEqual(found["authorization"], wanted.headers["Authorization"], target)
+
+    def test_presigned_for_s3(self):
+        for signer, _, target, _, _, at in self.requests():
+            if "?" in target:
+                continue
+            wanted = by_botocore(botocore.auth.S3SigV4QueryAuth, signer, "GET", target, {}, b"", at, 900)
+            found = firuvaik.presign(signer, "GET", target, at=at, expires_in=900, s3=True)
+            pairs = [sorted(urllib.parse.parse_qsl(urllib.parse.urlsplit(url).query)) for url in (found, wanted.url)]
+            self.assertEqual(*pairs)
+
+
+@unittest.skipIf(botocore is None, "botocore isn't there")
+class OverHttp(unittest.TestCase):
+    def test_exchange(self):
+        class Service(http.server.BaseHTTPRequestHandler):
+            def do_PUT(self):
+                body = self.rfile.read(int(self.headers["content-length"]))
+                at = datetime.datetime.strptime(self.headers["x-amz-date"], "%Y%m%dT%H%M%SZ")
+                target = f"http://{self.headers['host']}{self.path}"
+                own = by_botocore(botocore.auth.SigV4Auth, SIGNER, "PUT", target, {"x-note": self.headers["x-note"]}, body, at)
+                same = signature_of(own.headers["Authorization"]) == signature_of(self.headers["authorization"])
+                self.send_response(200 if same else 403)
+                self.end_headers()
+
+            def log_message(self, *_):
+                pass
+
+        server = http.server.HTTPServer(("127.0.0.1", 0), Service)
+        thread = threading.Thread(target=server.serve_forever)
+        thread.start()
+        try:
+            for spoiled, wanted in ((False, 200), (True, 403)):
+                place = f"127.0.0.1:{server.server_port}"
+                added, _ = firuvaik.sign(SIGNER, "PUT", f"http://{place}/a%20b?c=d", {"x-note": "one"}, b"hello")
+                connection = http.client.HTTPConnection(place)
+                connection.request("PUT", "/a%20b?c=d", b"hullo" if spoiled else b"hello", {"x-note": "one", **added})
+                self.assertEqual(connection.getresponse().status, wanted)
+                connection.close()
+        finally:
+            server.shutdown()
+            thread.join()
+            server.server_close()
+
+
+if __name__ == "__main__":
+    unittest.main()

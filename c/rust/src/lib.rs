@@ -1,0 +1,320 @@
+//! AWS Signature Version 4, by the C library of Firuvaik (`c/firuvaik.h`).
+//!
+//! ```
+//! use firuvaik::{sign, Request, Settings, Signer};
+//!
+//! let signer = Signer { key_id: "AKIDEXAMPLE", secret: "S", token: "", region: "us-east-1", service: "iam" };
+//! let request = Request { method: "GET", target: "https://iam.amazonaws.com/", headers: &[], body: b"" };
+//! let signed = sign(&signer, &request, &Settings::default(), 1_440_938_160)?;
+//! assert!(signed.text.starts_with("x-amz-date: 20150830T123600Z\r\n"));
+//! # Ok::<(), firuvaik::Error>(())
+//! ```
+#![warn(missing_docs)]
+
+use std::fmt;
+
+mod sys {
+    use std::marker::PhantomData;
+    use std::os::raw::{c_char, c_long, c_uint, c_ulong};
+
+    /// A text, or bytes.
+    #[repr(C)]
+    #[derive(Clone, Copy)]
+    pub struct Text<'a> {
+        bytes: *const c_char,
+        length: usize,
+        lent: PhantomData<&'a [u8]>,
+    }
+
+    impl<'a> Text<'a> {
+        pub fn new(bytes: &'a [u8]) -> Text<'a> {
+            Text { bytes: bytes.as_ptr().cast(), length: bytes.len(), lent: PhantomData }
+        }
+    }
+
+    #[repr(C)]
+    pub struct Field<'a> {
+        pub name: Text<'a>,
+        pub value: Text<'a>,
+    }
+
+    #[repr(C)]
+    pub struct Signer<'a> {
+        pub key_id: Text<'a>,
+        pub secret: Text<'a>,
+        pub token: Text<'a>,
+        pub region: Text<'a>,
+        pub service: Text<'a>,
+    }
+
+    #[repr(C)]
+    pub struct Request<'a> {
+        pub method: Text<'a>,
+        pub target: Text<'a>,
+        pub headers: *const Field<'a>,
+        pub header_count: usize,
+        pub body: Text<'a>,
+    }
+
+    #[repr(C)]
+    pub struct Settings<'a> {
+        pub flags: c_uint,
+        pub expires_in: c_ulong,
+        pub token_name: Text<'a>,
+        pub excluded: *const Text<'a>,
+        pub excluded_count: usize,
+    }
+
+    #[repr(C)]
+    pub struct Answer {
+        pub status: c_uint,
+        pub place: usize,
+        pub length: usize,
+    }
+
+    extern "C" {
+        pub fn firuvaik_sign(
+            signer: *const Signer<'_>,
+            request: *const Request<'_>,
+            settings: *const Settings<'_>,
+            seconds: c_long,
+            signature: *mut c_char,
+            out: *mut c_char,
+            out_room: usize,
+        ) -> Answer;
+
+        pub fn firuvaik_event(
+            headers: *const Field<'_>,
+            header_count: usize,
+            payload: *const c_char,
+            payload_length: usize,
+            out: *mut c_char,
+            out_room: usize,
+        ) -> Answer;
+
+        pub fn firuvaik_signing_key(signer: *const Signer<'_>, seconds: c_long, key: *mut u8) -> Answer;
+
+        pub fn firuvaik_next_frame(
+            signer: *const Signer<'_>,
+            seconds: c_long,
+            event: *const c_char,
+            event_length: usize,
+            signature: *mut c_char,
+            out: *mut c_char,
+            out_room: usize,
+        ) -> Answer;
+    }
+}
+
+/// Who signs, and for which region and service. It shows no secret.
+#[derive(Clone, Copy)]
+pub struct Signer<'a> {
+    /// The access key id.
+    pub key_id: &'a str,
+    /// The secret access key.
+    pub secret: &'a str,
+    /// The session token; an empty one stands for none.
+    pub token: &'a str,
+    /// The region.
+    pub region: &'a str,
+    /// The service's name.
+    pub service: &'a str,
+}
+
+impl fmt::Debug for Signer<'_> {
+    fn fmt(&self, f: &mut fmt::Formatter<'_>) -> fmt::Result {
+        write!(f, "Signer({}, {}, {})", self.key_id, self.region, self.service)
+    }
+}
+
+/// A request.
+#[derive(Clone, Copy)]
+pub struct Request<'a> {
+    /// The method.
+    pub method: &'a str,
+    /// The target: an absolute URI, or a path with a query.
+    pub target: &'a str,
+    /// The headers in order, each with its name and its value.
+    pub headers: &'a [(&'a str, &'a str)],
+    /// The body.
+    pub body: &'a [u8],
+}
+
+/// How a request is signed. The default are the settings of a signature in headers.
+#[derive(Clone, Copy, Debug, Default)]
+pub struct Settings<'a> {
+    /// The settings of Amazon S3: the path is escaped once and stays as it is, and the payload's text has a header.
+    pub s3: bool,
+    /// The signature goes into the target, which is good for so many seconds.
+    pub presigned_for: Option<u64>,
+    /// The payload's text in place of the body: a digest, or a word such as `UNSIGNED-PAYLOAD`.
+    pub payload: Option<&'a str>,
+    /// The session token goes out unsigned.
+    pub unsigned_token: bool,
+    /// The name of the session token's header or parameter; an empty one stands for the usual one.
+    pub token_name: &'a str,
+    /// The names of the headers that aren't signed, in lower case, where they aren't the usual ones.
+    pub excluded: Option<&'a [&'a str]>,
+}
+
+impl Settings<'_> {
+    fn flags(&self) -> u32 {
+        let flag = |set: bool, flag: u32| if set { flag } else { 0 };
+        flag(self.presigned_for.is_some(), 1)
+            | flag(self.s3, 2 | 4 | 8)
+            | flag(self.unsigned_token, 16)
+            | flag(self.payload.is_some(), 32)
+            | flag(self.excluded.is_some(), 64)
+    }
+}
+
+/// Why nothing is signed: the status of `c/firuvaik.h`, and the place of the header at fault, or 0.
+#[derive(Clone, Copy, Debug, PartialEq, Eq)]
+pub struct Error {
+    /// The status.
+    pub status: u32,
+    /// The place, counted from 1.
+    pub place: usize,
+}
+
+impl fmt::Display for Error {
+    fn fmt(&self, f: &mut fmt::Formatter<'_>) -> fmt::Result {
+        write!(f, "not signed: status {} at {}", self.status, self.place)
+    }
+}
+
+impl std::error::Error for Error {}
+
+/// What was signed.
+#[derive(Clone)]
+pub struct Signed {
+    /// The headers to add, as lines of HTTP/1.1, or the signed target.
+    pub text: String,
+    /// The signature, in lower-case hexadecimal.
+    pub signature: [u8; 64],
+}
+
+fn text(text: &str) -> sys::Text<'_> {
+    sys::Text::new(text.as_bytes())
+}
+
+fn field<'a>(name: &'a str, value: &'a str) -> sys::Field<'a> {
+    sys::Field { name: text(name), value: text(value) }
+}
+
+fn lent<'a>(signer: &Signer<'a>) -> sys::Signer<'a> {
+    sys::Signer {
+        key_id: text(signer.key_id),
+        secret: text(signer.secret),
+        token: text(signer.token),
+        region: text(signer.region),
+        service: text(signer.service),
+    }
+}
+
+// What a call writes. It is made again with as much room as it asked for.
+fn written(mut room: usize, mut call: impl FnMut(&mut [u8]) -> sys::Answer) -> Result<Vec<u8>, Error> {
+    loop {
+        let mut out = vec![0; room];
+        let answer = call(&mut out);
+        match answer.status {
+            0 => {
+                out.truncate(answer.length);
+                return Ok(out);
+            }
+            1 => room = answer.length,
+            status => return Err(Error { status, place: answer.place }),
+        }
+    }
+}
+
+/// Signs a request at a moment, in seconds since 1970-01-01T00:00:00Z.
+///
+/// # Errors
+///
+/// The first test that fails, as `c/firuvaik.h` has them.
+pub fn sign(signer: &Signer<'_>, request: &Request<'_>, settings: &Settings<'_>, seconds: i64) -> Result<Signed, Error> {
+    let fields: Vec<_> = request.headers.iter().map(|(name, value)| field(name, value)).collect();
+    let excluded: Vec<_> = settings.excluded.unwrap_or(&[]).iter().map(|name| text(name)).collect();
+    let body = settings.payload.map_or(request.body, str::as_bytes);
+    let signer = lent(signer);
+    let asked = sys::Request {
+        method: text(request.method),
+        target: text(request.target),
+        headers: fields.as_ptr(),
+        header_count: fields.len(),
+        body: sys::Text::new(body),
+    };
+    let how = sys::Settings {
+        flags: settings.flags(),
+        expires_in: settings.presigned_for.unwrap_or(0),
+        token_name: text(settings.token_name),
+        excluded: excluded.as_ptr(),
+        excluded_count: excluded.len(),
+    };
+    let mut signature = [0; 64];
+    let out = written(1024, |out| unsafe {
+        sys::firuvaik_sign(&signer, &asked, &how, seconds, signature.as_mut_ptr().cast(), out.as_mut_ptr().cast(), out.len())
+    })?;
+    let text = String::from_utf8(out).expect("what is made of texts is a text");
+    Ok(Signed { text, signature })
+}
+
+/// The signing key of a signer for the day of a moment.
+///
+/// # Errors
+///
+/// A moment outside the years 0 to 9999.
+pub fn signing_key(signer: &Signer<'_>, seconds: i64) -> Result<[u8; 32], Error> {
+    let mut key = [0; 32];
+    let answer = unsafe { sys::firuvaik_signing_key(&lent(signer), seconds, key.as_mut_ptr()) };
+    match answer.status {
+        0 => Ok(key),
+        status => Err(Error { status, place: answer.place }),
+    }
+}
+
+/// The frame of a message: of headers whose values are texts, in order, and of a payload.
+///
+/// # Errors
+///
+/// A header or a payload that is too long.
+pub fn event(headers: &[(&str, &str)], payload: &[u8]) -> Result<Vec<u8>, Error> {
+    let fields: Vec<_> = headers.iter().map(|(name, value)| field(name, value)).collect();
+    let (start, length) = (payload.as_ptr().cast(), payload.len());
+    written(payload.len().saturating_add(256), |out| unsafe {
+        sys::firuvaik_event(fields.as_ptr(), fields.len(), start, length, out.as_mut_ptr().cast(), out.len())
+    })
+}
+
+/// The signed frames of an event stream.
+pub struct Stream<'a> {
+    signer: Signer<'a>,
+    signature: [u8; 64],
+}
+
+impl<'a> Stream<'a> {
+    /// A stream that a request with this signature opens.
+    pub fn new(signer: Signer<'a>, signature: [u8; 64]) -> Stream<'a> {
+        Stream { signer, signature }
+    }
+
+    /// The signature of the last frame, or of the request before the first one.
+    pub fn signature(&self) -> &[u8; 64] {
+        &self.signature
+    }
+
+    /// The signed frame of an event, which is given as the bytes of its own frame, as [`event`] makes them. No bytes end the stream.
+    ///
+    /// # Errors
+    ///
+    /// A moment outside the years 0 to 9999, or an event that is too long. The signature stays.
+    pub fn next_frame(&mut self, event: &[u8], seconds: i64) -> Result<Vec<u8>, Error> {
+        let signer = lent(&self.signer);
+        let signature = self.signature.as_mut_ptr().cast();
+        written(event.len().saturating_add(256), |out| unsafe {
+            let room = out.len();
+            sys::firuvaik_next_frame(&signer, seconds, event.as_ptr().cast(), event.len(), signature, out.as_mut_ptr().cast(), room)
+        })
+    }
+}

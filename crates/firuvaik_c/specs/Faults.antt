@@ -1,0 +1,66 @@
+-- The numbers of what can go wrong. `c/firuvaik.h` has their names.
+use Rattle.std.specs.Prelude.{ℕ}
+use Rattle.sigv4.specs.declared.error.SigningError.{SigningError}
+use Rattle.sigv4.specs.declared.error.SigningError.TheVariants.{FailedToEncodeMessage, InvalidHeaderName, InvalidHeaderValue, InvalidTokenName, InvalidUri, MissingExpires, MissingHost, MomentOutOfRange, NoMemory}
+use Rattle.sigv4.specs.declared.error.ValuePlace.{ValuePlace}
+use Rattle.sigv4.specs.declared.error.ValuePlace.TheVariants.{Header, Host, Token, PayloadHash, Authorization}
+use Rattle.eventstream.specs.Error.{error_kind}
+use Rattle.eventstream.specs.declared.error.ErrorKind.{ErrorKind}
+use Rattle.eventstream.specs.declared.error.ErrorKind.TheVariants.{HeadersTooLong, HeaderValueTooLong, InvalidHeaderNameLength, MessageTooLong, PayloadTooLong, TimestampValueTooLarge, NoMemory as NoRoom}
+use Rattle.firuvaik_c.specs.declared.fault.Fault.{Fault}
+
+-- the fault of a status, at a place
+abbrev pub fault_numbered : ℕ → ℕ → Fault
+fault_numbered status place = record { status = status; place = place }
+
+-- memory ran out
+abbrev pub no_memory : Fault
+no_memory = fault_numbered 2 0
+
+-- a text isn't UTF-8
+abbrev pub not_text : Fault
+not_text = fault_numbered 3 0
+
+-- a flag is none of those that there are
+abbrev pub unknown_flags : Fault
+unknown_flags = fault_numbered 4 0
+
+-- the moment lies outside the years 0 to 9999
+abbrev pub beyond_years : Fault
+beyond_years = fault_numbered 5 0
+
+-- the target isn't accepted
+abbrev pub bad_target : Fault
+bad_target = fault_numbered 6 0
+
+-- the fault of a text that is no header's value: a header's own, the host, the token, the payload's text, the authorization
+abbrev pub value_fault : ValuePlace → Fault
+value_fault (Header place) = fault_numbered 8 place
+value_fault Host = fault_numbered 9 0
+value_fault Token = fault_numbered 10 0
+value_fault PayloadHash = fault_numbered 11 0
+value_fault Authorization = fault_numbered 12 0
+
+-- the fault of a message that has no frame; those that writing a frame can't have share a number
+abbrev pub frame_fault : ErrorKind → Fault
+frame_fault NoRoom = no_memory
+frame_fault InvalidHeaderNameLength = fault_numbered 20 0
+frame_fault HeaderValueTooLong = fault_numbered 21 0
+frame_fault (TimestampValueTooLarge moment) = fault_numbered 22 0
+frame_fault HeadersTooLong = fault_numbered 23 0
+frame_fault PayloadTooLong = fault_numbered 24 0
+frame_fault MessageTooLong = fault_numbered 25 0
+frame_fault _ = fault_numbered 26 0
+
+-- the fault of an error of signing; those that a request with a secret can't have share a number
+abbrev pub signing_fault : SigningError → Fault
+signing_fault NoMemory = no_memory
+signing_fault (MomentOutOfRange moment) = beyond_years
+signing_fault InvalidUri = bad_target
+signing_fault (InvalidHeaderName place) = fault_numbered 7 place
+signing_fault (InvalidHeaderValue place) = value_fault place
+signing_fault MissingHost = fault_numbered 13 0
+signing_fault InvalidTokenName = fault_numbered 14 0
+signing_fault MissingExpires = fault_numbered 15 0
+signing_fault (FailedToEncodeMessage error) = frame_fault (error_kind error)
+signing_fault _ = fault_numbered 16 0

@@ -1,0 +1,182 @@
+//! What a caller asks for, as the layers below take it.
+ghost use Rattle.std.specs.Prelude.{◌≡◌, ◌⊎◌, true, false, Some, IfOk, MatchResult, if◌then◌else◌, map, option_map, string_bytes};
+ghost use Rattle.smithy_core.specs.Identity.{IsCredentials, access_key_id, secret_access_key, secret_of, session_token};
+ghost use Rattle.sigv4.specs.Body.{payload_text};
+ghost use Rattle.sigv4.specs.Request.{key_id_of, token_of};
+ghost use Rattle.sigv4.specs.Settings.{default_exclusions, settings_of};
+ghost use Rattle.sigv4.specs.declared.modes.PercentEncodingMode.TheVariants.{Double, Single};
+ghost use Rattle.sigv4.specs.declared.settings.PayloadChecksumKind.TheVariants.{NoHeader, XAmzSha256};
+ghost use Rattle.sigv4.specs.declared.settings.SessionTokenMode.TheVariants.{Exclude, Include};
+ghost use Rattle.sigv4.specs.declared.settings.SignatureLocation.TheVariants.{Headers, QueryParams};
+ghost use Rattle.firuvaik_c.specs.Asked.{asked_exclusions, asked_expiry, asked_payload, asked_settings, given_text, has_flag, is_text_keys, is_text_payload, is_text_settings};
+ghost use Rattle.firuvaik_c.specs.Faults.{no_memory, not_text};
+
+use crate::fault::Fault;
+use crate::lent::{
+    EXCLUDED, KEEP_PATH, PAYLOAD_TEXT, QUERY, SHA256_HEADER, SINGLE_ENCODE, Settings, Signer,
+    UNSIGNED_TOKEN,
+};
+use crate::texts::{names_of, text_of};
+use sigv4::{
+    PayloadChecksumKind, PercentEncodingMode, SessionTokenMode, SignableBody, SignatureLocation,
+    SigningSettings, UriPathNormalizationMode,
+};
+use smithy_core::{Credentials, Identity, Mem};
+use std::alloc::Global;
+
+/// Whether a flag is one of the sum.
+pub(crate) fn has_flag(flags: u32, flag: u32) -> bool
+    ensures { result ≡ has_flag flags flag }
+{
+    flags & flag != 0
+}
+
+/// A copy of the text, where it has a byte.
+pub(crate) fn given_text(alloc: Global, text: &str) -> Mem<Option<String>>
+    ensures { IfOk result (λ copy. option_map string_bytes copy ≡ given_text text.now) }
+{
+    if text.is_empty() {
+        Ok(None)
+    } else {
+        Ok(Some(String::from_str(alloc, text)?))
+    }
+}
+
+/// The credentials of a signer.
+pub(crate) fn identity_of(alloc: Global, signer: &Signer<'_>) -> Result<Identity, Fault>
+    ensures texts { MatchResult result (λ _. is_text_keys signer.now ≡ true)
+        (λ fault. ((is_text_keys signer.now ≡ false) × (fault ≡ not_text)) ⊎ (fault ≡ no_memory)) }
+    ensures credentials { MatchResult result IsCredentials (λ _. Unit {0}) }
+    ensures key_id { MatchResult result (λ identity. key_id_of identity ≡ signer.now.key_id.now) (λ _. Unit {0}) }
+    ensures secret { MatchResult result (λ identity. secret_of identity ≡ signer.now.secret.now) (λ _. Unit {0}) }
+    ensures token { MatchResult result (λ identity. token_of identity ≡ given_text signer.now.token.now) (λ _. Unit {0}) }
+{
+    let key_id = text_of(signer.key_id)?;
+    let secret = text_of(signer.secret)?;
+    let token = text_of(signer.token)?;
+    Ok(Identity::Credentials(credentials_of(alloc, key_id, secret, token)?))
+}
+
+/// The settings that flags, expiry and names stand for.
+pub(crate) fn settings_asked(alloc: Global, asked: &Settings<'_>) -> Result<SigningSettings, Fault>
+    ensures { MatchResult result
+        (λ settings. (is_text_settings asked.now ≡ true) × (settings_of settings ≡ asked_settings asked.now))
+        (λ fault. ((is_text_settings asked.now ≡ false) × (fault ≡ not_text)) ⊎ (fault ≡ no_memory)) }
+{
+    let token_name = text_of(asked.token_name)?;
+    let names = names_of(alloc, asked.excluded)?;
+    let excluded = exclusions_of(alloc, asked.flags, names)?;
+    let token_name = given_text(alloc, token_name)?;
+    Ok(settings_with(asked, excluded, token_name))
+}
+
+// The settings of flags and expiry, with these names.
+fn settings_with(
+    asked: &Settings<'_>,
+    excluded: Option<Vec<String>>,
+    token_name: Option<String>,
+) -> SigningSettings
+    requires excluded { option_map (λ names. map string_bytes names.items) excluded ≡ Some (asked_exclusions asked.now) }
+    requires token_name { option_map string_bytes token_name ≡ given_text asked.now.token_name.now }
+    ensures { settings_of result ≡ asked_settings asked.now }
+{
+    SigningSettings {
+        percent_encoding_mode: encoding(asked.flags),
+        payload_checksum_kind: checksum_kind(asked.flags),
+        signature_location: location(asked.flags),
+        expires_in: expiry(asked.expires_in),
+        excluded_headers: excluded,
+        uri_path_normalization_mode: UriPathNormalizationMode::from(!has_flag(
+            asked.flags,
+            KEEP_PATH,
+        )),
+        session_token_mode: token_mode(asked.flags),
+        session_token_name_override: token_name,
+    }
+}
+
+fn encoding(flags: u32) -> PercentEncodingMode
+    ensures { result ≡ (if has_flag flags 2 then Single else Double) }
+{
+    if has_flag(flags, SINGLE_ENCODE) {
+        PercentEncodingMode::Single
+    } else {
+        PercentEncodingMode::Double
+    }
+}
+
+fn checksum_kind(flags: u32) -> PayloadChecksumKind
+    ensures { result ≡ (if has_flag flags 8 then XAmzSha256 else NoHeader) }
+{
+    if has_flag(flags, SHA256_HEADER) {
+        PayloadChecksumKind::XAmzSha256
+    } else {
+        PayloadChecksumKind::NoHeader
+    }
+}
+
+fn location(flags: u32) -> SignatureLocation
+    ensures { result ≡ (if has_flag flags 1 then QueryParams else Headers) }
+{
+    if has_flag(flags, QUERY) {
+        SignatureLocation::QueryParams
+    } else {
+        SignatureLocation::Headers
+    }
+}
+
+fn token_mode(flags: u32) -> SessionTokenMode
+    ensures { result ≡ (if has_flag flags 16 then Exclude else Include) }
+{
+    if has_flag(flags, UNSIGNED_TOKEN) {
+        SessionTokenMode::Exclude
+    } else {
+        SessionTokenMode::Include
+    }
+}
+
+fn expiry(seconds: u64) -> Option<u64>
+    ensures { result ≡ asked_expiry seconds }
+{
+    if seconds == 0 { None } else { Some(seconds) }
+}
+
+// The names that aren't signed: those that are given, or the default ones.
+fn exclusions_of(alloc: Global, flags: u32, names: Vec<String>) -> Mem<Option<Vec<String>>>
+    ensures { IfOk result (λ excluded. option_map (λ given. map string_bytes given.items) excluded
+        ≡ Some (if has_flag flags 64 then map string_bytes names.items else default_exclusions)) }
+{
+    if has_flag(flags, EXCLUDED) {
+        return Ok(Some(names));
+    }
+    Ok(SigningSettings::new(alloc)?.excluded_headers)
+}
+
+// The credentials of these texts.
+fn credentials_of(alloc: Global, key_id: &str, secret: &str, token: &str) -> Mem<Credentials>
+    ensures key_id { IfOk result (λ keys. access_key_id keys ≡ key_id.now) }
+    ensures secret { IfOk result (λ keys. secret_access_key keys ≡ secret.now) }
+    ensures token { IfOk result (λ keys. session_token keys ≡ given_text token.now) }
+{
+    let key_id = String::from_str(alloc, key_id)?;
+    let secret = String::from_str(alloc, secret)?;
+    let token = given_text(alloc, token)?;
+    Ok(Credentials::new(key_id, secret, token, None))
+}
+
+/// What is signed of a body.
+pub(crate) fn payload_asked<'a>(
+    alloc: Global,
+    flags: u32,
+    body: &'a [u8],
+) -> Result<SignableBody<'a>, Fault>
+    ensures { MatchResult result
+        (λ payload. (is_text_payload flags body.now ≡ true) × (payload_text payload ≡ asked_payload flags body.now))
+        (λ fault. ((is_text_payload flags body.now ≡ false) × (fault ≡ not_text)) ⊎ (fault ≡ no_memory)) }
+{
+    if !has_flag(flags, PAYLOAD_TEXT) {
+        return Ok(SignableBody::Bytes(body));
+    }
+    let text = text_of(body)?;
+    Ok(SignableBody::Precomputed(String::from_str(alloc, text)?))
+}

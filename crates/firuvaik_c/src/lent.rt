@@ -1,0 +1,78 @@
+//! What a caller lends.
+
+/// A text.
+#[repr(C)]
+#[derive(Clone, Copy)]
+pub struct Text<'a> {
+    /// Its bytes.
+    pub bytes: &'a [u8],
+}
+
+/// A name and a value: a header, or a variable.
+#[repr(C)]
+#[derive(Clone, Copy)]
+pub struct Field<'a> {
+    /// The name.
+    pub name: &'a [u8],
+    /// The value.
+    pub value: &'a [u8],
+}
+
+/// Who signs, and for which region and service.
+#[repr(C)]
+#[derive(Clone, Copy)]
+pub struct Signer<'a> {
+    /// The access key id.
+    pub key_id: &'a [u8],
+    /// The secret access key.
+    pub secret: &'a [u8],
+    /// The session token; one of no bytes stands for none.
+    pub token: &'a [u8],
+    /// The region.
+    pub region: &'a [u8],
+    /// The service's name.
+    pub service: &'a [u8],
+}
+
+/// A request.
+#[repr(C)]
+#[derive(Clone, Copy)]
+pub struct Request<'a> {
+    /// The method, as `GET`.
+    pub method: &'a [u8],
+    /// The target: an absolute URI, or a path with a query.
+    pub target: &'a [u8],
+    /// The headers in order.
+    pub headers: &'a [Field<'a>],
+    /// The body, or with the flag `PAYLOAD_TEXT` the payload's text.
+    pub body: &'a [u8],
+}
+
+/// How a request is signed. All of it zero are the settings of a signature in headers.
+#[repr(C)]
+#[derive(Clone, Copy)]
+pub struct Settings<'a> {
+    /// The sum of some flags.
+    pub flags: u32,
+    /// For how many seconds a signature in the query is good; 0 stands for none.
+    pub expires_in: u64,
+    /// The name of the session token's header or parameter; one of no bytes stands for the usual one.
+    pub token_name: &'a [u8],
+    /// With the flag `EXCLUDED` the names of the headers that aren't signed, in lower case.
+    pub excluded: &'a [Text<'a>],
+}
+
+/// The signature goes into the target's query.
+pub(crate) const QUERY: u32 = 1;
+/// The path is escaped once.
+pub(crate) const SINGLE_ENCODE: u32 = 2;
+/// The path isn't put into its normal form.
+pub(crate) const KEEP_PATH: u32 = 4;
+/// The payload's text goes into the header `x-amz-content-sha256`.
+pub(crate) const SHA256_HEADER: u32 = 8;
+/// The session token isn't signed. It goes out either way.
+pub(crate) const UNSIGNED_TOKEN: u32 = 16;
+/// What is given as body is the payload's text: a digest, or a word such as `UNSIGNED-PAYLOAD`.
+pub(crate) const PAYLOAD_TEXT: u32 = 32;
+/// The names of the headers that aren't signed are given.
+pub(crate) const EXCLUDED: u32 = 64;
