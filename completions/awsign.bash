@@ -1,0 +1,31 @@
+# Completion of the words of awsign for bash: source this file, or put it where bash-completion looks for it.
+_awsign() {
+  local word=${COMP_WORDS[COMP_CWORD]} before=${COMP_WORDS[COMP_CWORD - 1]} words
+  case $before in
+    --data | --config | --credentials)
+      mapfile -t COMPREPLY < <(compgen -f -- "$word")
+      return
+      ;;
+    --as)
+      mapfile -t COMPREPLY < <(compgen -W 'curl headers json url' -- "$word")
+      return
+      ;;
+    sign | presign)
+      mapfile -t COMPREPLY < <(compgen -W 'GET PUT POST HEAD DELETE PATCH' -- "$word")
+      return
+      ;;
+    -H | --payload-hash | --payload-text | --expires | --service | --region | --profile | --at)
+      COMPREPLY=()
+      return
+      ;;
+  esac
+  words='-H --data --payload-hash --payload-text --unsigned --as --service --s3 --region --profile --config --credentials --at'
+  case ${COMP_WORDS[1]} in
+    presign) words="$words --expires --long" ;;
+  esac
+  if ((COMP_CWORD == 1)); then
+    words='sign presign --help --version'
+  fi
+  mapfile -t COMPREPLY < <(compgen -W "$words" -- "$word")
+}
+complete -o bashdefault -o default -o filenames -F _awsign awsign

@@ -1,0 +1,31 @@
+#compdef awsign
+# Completion of the words of awsign for zsh: put it as _awsign where fpath looks.
+_awsign() {
+  local -a options
+  options=(
+    '*-H[a header]:header:'
+    '--data[the body]:file:_files'
+    '--payload-hash[the SHA-256 of the body]:digits:'
+    '--payload-text[a text in place of the digest]:text:'
+    '--unsigned[the body is not signed]'
+    '--as[the form]:form:(curl headers json url)'
+    '--service[the signing name]:name:'
+    '--s3[the settings of Amazon S3]'
+    '--region[the region]:name:'
+    '--profile[the profile]:name:'
+    '--config[a config file]:file:_files'
+    '--credentials[a credentials file]:file:_files'
+    '--at[the moment]:seconds:'
+  )
+  if ((CURRENT == 2)); then
+    _values command 'sign[prints a signed request]' 'presign[prints a presigned URL]' --help --version
+    return
+  fi
+  if [[ $words[2] == presign ]]; then
+    options+=('--expires[how long it is good]:seconds:' '--long[over seven days]')
+  fi
+  shift words
+  ((CURRENT--))
+  _arguments $options '1:method:(GET PUT POST HEAD DELETE PATCH)' '2:URL:_urls'
+}
+_awsign "$@"

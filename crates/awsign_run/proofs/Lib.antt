@@ -1,0 +1,8 @@
+pub mod ChosenLemmas
+pub mod DigestLemmas
+pub mod FileLemmas
+pub mod InPlaceLemmas
+pub mod PrintLemmas
+pub mod ProfileLemmas
+pub mod RunLemmas
+pub mod SigningLemmas

@@ -1,0 +1,48 @@
+-- The signed request of words, as it is printed.
+use Rattle.std.proofs.Common.{◌≡◌, ℕ, true, false, inl, inr, List, Option, refl, ◌∙◌, ap}
+use Rattle.std.specs.Prelude.{Result, Ok, Err, string_bytes}
+use Rattle.std.specs.Global.{Vec}
+use Rattle.smithy_core.specs.Moment.{Instant}
+use Rattle.smithy_core.specs.declared.request.HttpRequest.{HttpRequest}
+use Rattle.smithy_http.specs.Target.{Target}
+use Rattle.sigv4.specs.Request.{Case}
+use Rattle.env_config.specs.Sections.{FileText, sections}
+use Rattle.awsign_run.specs.Chosen.{IsFaultOf, Profile, SignRefusal, SignsFor, chosen_signer, profile_name, profile_of}
+use Rattle.awsign_run.specs.Signing.{GivesPrinted, PrintsFor, PrintsSigned, SignsAsked, SignsText, is_long}
+use Rattle.awsign_run.specs.Words.{SignWanted}
+use Rattle.awsign_run.specs.declared.fault.Fault.{Fault}
+use Rattle.awsign_run.specs.declared.fault.Fault.TheVariants.{LongExpiry, NoMemory}
+
+-- memory may always run out
+out_of_memory : (sign_wanted : SignWanted) (planned : Result SignsFor SignRefusal) (digest : Option (List ℕ)) (at : Instant) (fault : Fault) → fault ≡ NoMemory → PrintsFor sign_wanted planned digest at (Err fault)
+out_of_memory sign_wanted (Ok signer) digest at fault is = inr is
+out_of_memory sign_wanted (Err refusal) digest at fault is = inr is
+
+-- where nobody signs nothing is printed
+pub signer_lacks : (sign_wanted : SignWanted) (planned : Result SignsFor SignRefusal) (digest : Option (List ℕ)) (at : Instant) (fault : Fault) → IsFaultOf planned fault → PrintsFor sign_wanted planned digest at (Err fault)
+signer_lacks sign_wanted planned digest at fault (inl is) = rw is (inl refl)
+signer_lacks sign_wanted planned digest at fault (inr is) = out_of_memory sign_wanted planned digest at fault is
+
+-- a URL that would be good for too long isn't made
+pub long_refused : (sign_wanted : SignWanted) (env : List (List ℕ × List ℕ)) (files : List FileText) (digest : Option (List ℕ)) (at : Instant) → is_long sign_wanted.options ≡ true
+    → PrintsSigned sign_wanted env files digest at (Err LongExpiry)
+long_refused sign_wanted env files digest at long = rw long (inl refl)
+
+-- nothing is printed where there is no profile
+pub profile_lacks : (sign_wanted : SignWanted) (env : List (List ℕ × List ℕ)) (files : List FileText) (digest : Option (List ℕ)) (at : Instant) (fault : Fault) → is_long sign_wanted.options ≡ false
+    → IsFaultOf (profile_of (sections files) (profile_name sign_wanted.options env)) fault → PrintsSigned sign_wanted env files digest at (Err fault)
+profile_lacks sign_wanted env files digest at fault short (inl is) = rw (short, is) (inl refl)
+profile_lacks sign_wanted env files digest at fault short (inr is) = out_of_memory sign_wanted _ digest at fault is
+
+-- what a profile gives is printed
+pub by_profile : (sign_wanted : SignWanted) (env : List (List ℕ × List ℕ)) (files : List FileText) (digest : Option (List ℕ)) (at : Instant) (profile : Profile) (result : Result (Vec ℕ) Fault)
+    → is_long sign_wanted.options ≡ false → profile_of (sections files) (profile_name sign_wanted.options env) ≡ Ok profile
+    → PrintsFor sign_wanted (chosen_signer sign_wanted.options env profile) digest at result → PrintsSigned sign_wanted env files digest at result
+by_profile sign_wanted env files digest at profile result short is prints = rw (short, is) prints
+
+-- a signed request is printed
+pub request_printed : (sign_wanted : SignWanted) (case : Target → Case) (request : HttpRequest) (result : Result (Vec ℕ) Fault) → SignsAsked sign_wanted case (Ok request)
+    → GivesPrinted sign_wanted request result → SignsText sign_wanted case result
+request_printed sign_wanted case request (Ok text) signs printed =
+    (signs.0, signs.1, signs.2, rw (← signs.3, ← signs.4, ← signs.5) printed)
+request_printed sign_wanted case request (Err fault) signs printed = inr printed

@@ -1,0 +1,38 @@
+use Rattle.std.proofs.Common.{ap, refl}
+use Rattle.std.proofs.lemmas.Result.{err_from_is_err_and}
+use Rattle.std.specs.Prelude.{string_bytes}
+use Rattle.sigv4.specs.Body.{payload_text}
+use Rattle.sigv4.specs.Request.{identity_of, request_case}
+use Rattle.awsign_run.specs.InPlace.{in_place_case}
+use Rattle.awsign_run.proofs.InPlaceLemmas.{applied_case, case_made, refused, unread}
+use Rattle.awsign_run.proofs.in_place.sign_in_place.Goals as goal
+
+pub returns-in_err-signable : goal.returns-in_err-signable
+returns-in_err-signable c =
+    let exit = err_from_is_err_and c.from_residual.result c.from_residual.ensures.1 in
+    let params = c.args.params.now in
+    rw (exit.1, exit.2)
+    (unread (identity_of params) (in_place_case c.args.request.now (payload_text c.args.payload) params) c.args.request.now c.args.request.now _
+    (rw c.as_str-2.ensures.value at c.in_err-signable.ensures))
+
+pub returns-in_err-output : goal.returns-in_err-output
+returns-in_err-output c =
+    let exit = err_from_is_err_and c.from_residual-in_err-output.result c.from_residual-in_err-output.ensures.1 in
+    let signable = c.in_ok-signable.signable in
+    let params = c.args.params.now in
+    let made = rw (c.as_str.ensures.value, c.as_str-2.ensures.value) at c.in_ok-signable.ensures in
+    let same = case_made c.args.request.now (payload_text c.args.payload) params signable made.0 made.2 (ap payload_text made.3) in
+    rw (exit.1, exit.2) (refused (identity_of params) (in_place_case c.args.request.now (payload_text c.args.payload) params) (request_case signable params) signable.uri c.args.request.now c.args.request.now _ made.1 same
+    c.in_err-output.ensures)
+
+pub returns : goal.returns
+returns c =
+    let signable = c.in_ok-signable.signable in
+    let params = c.args.params.now in
+    let made = rw (c.as_str.ensures.value, c.as_str-2.ensures.value) at c.in_ok-signable.ensures in
+    let same = case_made c.args.request.now (payload_text c.args.payload) params signable made.0 made.2 (ap payload_text made.3) in
+    let signs = c.in_ok-output.ensures in
+    applied_case c.args.request.now c.apply_to_parsed.new.request (payload_text c.args.payload) params (identity_of params) (request_case signable params) signable.uri
+    c.in_ok-output.output.output c.apply_to_parsed.result same made.1 signs.0 signs.1.headers signs.1.params (ap string_bytes c.apply_to_parsed.ensures.method)
+    (rw c.into_parts-instructions.ensures at c.apply_to_parsed.ensures.headers)
+    (rw (c.into_parts-instructions.ensures, c.into_uri-uri.ensures) at c.apply_to_parsed.ensures.target)

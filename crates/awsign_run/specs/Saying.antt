@@ -1,0 +1,54 @@
+-- What is said of how a run ended.
+use Rattle.std.specs.Prelude.{◌≡◌, ◌⊎◌, ℕ, ◌-◌, List, [], ◌++◌, codes, Option, Some, None, slice_get, string_bytes}
+use Rattle.std.specs.Fmt.{decimal}
+use Rattle.smithy_core.specs.Outside.{Gains, GainsProperPrefix}
+use Rattle.smithy_core.specs.Text.{line}
+use Rattle.env_config.specs.declared.parse_fault.EnvConfigParseError.{EnvConfigParseError}
+use Rattle.sigv4.specs.Error.{error_text}
+use Rattle.awsign_run.specs.declared.fault.Fault.{Fault}
+use Rattle.awsign_run.specs.declared.fault.Fault.TheVariants.{ParseError, MissingKey, MissingSecret, MissingRegion, MissingService, LongExpiry, Signing, NoMemory as FaultNoMemory}
+use Rattle.awsign_run.specs.declared.status.Status.{Status}
+use Rattle.awsign_run.specs.declared.status.Status.TheVariants.{Done, BadWord, CouldNotReadFile, DataFault, Refused, OutputFault, NoMemory}
+
+-- a line of the tool
+abbrev pub tool_line : List ℕ → List ℕ
+tool_line text = line (codes "awsign: " ++ text)
+
+-- a bad word is quoted; where there is none at its place one is missing
+abbrev pub word_text : ℕ → Option (List ℕ) → List ℕ
+word_text place (Some word) = codes "word " ++ (decimal place ++ (codes " isn't understood here: " ++ (word ++ codes "; awsign --help lists the words")))
+word_text place None = codes "a word is missing at the end; awsign --help lists the words"
+
+-- a faulty line of a profile file
+abbrev pub faulty_text : EnvConfigParseError → List ℕ
+faulty_text error = string_bytes error.path ++ (codes ", line " ++ (decimal error.line_number ++ (codes ": " ++ string_bytes error.message)))
+
+-- why nothing is signed, and what to do
+abbrev pub fault_reason : Fault → List ℕ
+fault_reason (ParseError error) = faulty_text error
+fault_reason MissingKey = codes "no key: set AWS_ACCESS_KEY_ID and AWS_SECRET_ACCESS_KEY, or give the profile aws_access_key_id and aws_secret_access_key"
+fault_reason MissingSecret = codes "AWS_ACCESS_KEY_ID is set and AWS_SECRET_ACCESS_KEY isn't: set both, or neither"
+fault_reason MissingRegion = codes "no region: say --region, set AWS_REGION, or give the profile a region"
+fault_reason MissingService = codes "no service: say --service NAME, or --s3"
+fault_reason LongExpiry = codes "the URL would be good for over 604800 seconds, which AWS refuses; --long makes it all the same"
+fault_reason (Signing error) = codes "the request can't be signed: " ++ error_text error
+fault_reason FaultNoMemory = codes "no memory"
+
+-- the line of how a run ended
+abbrev pub status_line : List (List ℕ) → Status → List ℕ
+status_line words Done = []
+status_line words (BadWord place) = tool_line (word_text place (slice_get words (place - 1)))
+status_line words (CouldNotReadFile path) = tool_line (codes "could not read the profile file " ++ string_bytes path)
+status_line words DataFault = tool_line (codes "could not read the file that --data names")
+status_line words (Refused fault) = tool_line (fault_reason fault)
+status_line words OutputFault = tool_line (codes "the output failed")
+status_line words NoMemory = tool_line (codes "no memory")
+
+-- all of a line was gained, or a part of it
+abbrev pub GainsSome : Option (List ℕ) → Option (List ℕ) → List ℕ → Type 0
+GainsSome before now text = Gains before now text ⊎ GainsProperPrefix before now text
+
+-- what was said: nothing where all was printed, and else the line, or that memory ran out
+abbrev pub Says : List (List ℕ) → Status → Option (List ℕ) → Option (List ℕ) → Type 0
+Says words Done before now = now ≡ before
+Says words status before now = GainsSome before now (status_line words status) ⊎ GainsSome before now (tool_line (codes "no memory"))

@@ -1,0 +1,145 @@
+-- What `awsign` prints of the request that words ask for.
+use Rattle.std.specs.Prelude.{◌≡◌, ◌⊎◌, ℕ, Bool, true, false, not, nat_lt, ◌&&◌, ◌||◌, if◌then◌else◌, List, [], ◌∷◌, ◌++◌, codes, bytes_eq, map, Option, Some, None, unwrap_or, Result, Ok, Err, string_bytes}
+use Rattle.std.specs.Int.{w64}
+use Rattle.std.specs.Global.{Vec}
+use Rattle.std.specs.Option.{option_and_then, option_or}
+use Rattle.hex.specs.Hex.{encode_lower}
+use Rattle.sha2.specs.Sha256.{sha256}
+use Rattle.http_uri.specs.declared.uri.Uri.{Uri}
+use Rattle.smithy_core.specs.Civil.{is_in_years}
+use Rattle.smithy_core.specs.Moment.{Instant}
+use Rattle.smithy_core.specs.Outside.{IsAtEnd, IsCutOf}
+use Rattle.smithy_core.specs.TextPairs.{last_value}
+use Rattle.smithy_core.specs.declared.request.HttpRequest.{HttpRequest}
+use Rattle.smithy_http.specs.QueryWriter.{SpellsNoTarget, SpellsTarget}
+use Rattle.smithy_http.specs.Target.{Target, target_of}
+use Rattle.job_text.specs.Numbers.{natural_below}
+use Rattle.env_config.specs.Sections.{FileText, sections}
+use Rattle.sigv4.specs.Refusal.{unfit, unfit_signed_target}
+use Rattle.sigv4.specs.Request.{Case}
+use Rattle.sigv4.specs.Settings.{Settings, default_settings, s3_settings}
+use Rattle.sigv4.specs.Signed.{signed_headers, signed_target}
+use Rattle.sigv4.specs.declared.error.SigningError.{SigningError}
+use Rattle.sigv4.specs.declared.error.SigningError.TheVariants.{InvalidUri, MomentOutOfRange}
+use Rattle.sigv4.specs.declared.settings.SignatureLocation.TheVariants.{QueryParams}
+use Rattle.awsign_text.specs.Forms.{text_in_form}
+use Rattle.awsign_text.specs.declared.forms.Form.{Form}
+use Rattle.awsign_text.specs.declared.forms.Form.TheVariants.{Curl, Url}
+use Rattle.awsign_run.specs.Chosen.{SignRefusal, SignsFor, long_expiry, out_of_memory, profile_name, profile_of, refusal_of, signer_by, unsigned}
+use Rattle.awsign_run.specs.Words.{OptionValues, SignWanted, form_named, has}
+use Rattle.awsign_run.specs.declared.fault.Fault.{Fault}
+use Rattle.awsign_run.specs.declared.fault.Fault.TheVariants.{NoMemory}
+
+-- ## What is signed
+
+-- the settings are those of Amazon S3
+abbrev pub is_s3 : OptionValues → List ℕ → Bool
+is_s3 options service = has options (codes "--s3") || bytes_eq service (codes "s3")
+
+-- for how many seconds a presigned URL is good
+abbrev pub expiry : OptionValues → Option ℕ
+expiry options = option_and_then (natural_below 18446744073709551616) (last_value options (codes "--expires"))
+
+-- a presigned URL would be good for more than seven days, which no option asks for
+abbrev pub is_long : OptionValues → Bool
+is_long options = nat_lt 604800 (unwrap_or (expiry options) 0) && not (has options (codes "--long"))
+
+-- the settings of a service, with the signature in headers
+abbrev pub usual_settings : Bool → Settings
+usual_settings s3 = if s3 then s3_settings else default_settings
+
+-- the settings that words ask for: where a URL is presigned, the signature goes into its query
+abbrev pub asked_settings : SignWanted → Bool → Settings
+asked_settings sign_wanted s3 =
+    if sign_wanted.presigns
+    then record (usual_settings s3) { signature_location = QueryParams; expires_in = expiry sign_wanted.options }
+    else usual_settings s3
+
+-- the payload's text that no option gives: S3 signs none in a presigned URL, and else it is that of no bytes
+abbrev pub default_payload : SignWanted → Bool → List ℕ
+default_payload sign_wanted s3 =
+    if has sign_wanted.options (codes "--unsigned") || (sign_wanted.presigns && s3) then codes "UNSIGNED-PAYLOAD" else encode_lower (sha256 [])
+
+-- the payload's text: the digest or the text that an option gives, or the digest of the data
+abbrev pub asked_payload : SignWanted → Bool → Option (List ℕ) → List ℕ
+asked_payload sign_wanted s3 digest =
+    unwrap_or (option_or (option_or (last_value sign_wanted.options (codes "--payload-hash")) (last_value sign_wanted.options (codes "--payload-text"))) digest)
+    (default_payload sign_wanted s3)
+
+-- the request that is signed, for what the URL spells
+abbrev pub asked_case : SignWanted → SignsFor → List ℕ → Instant → Target → Case
+asked_case sign_wanted signer payload at target = record {
+  method = sign_wanted.method;
+  target = target;
+  headers = sign_wanted.headers;
+  payload = payload;
+  settings = asked_settings sign_wanted (is_s3 sign_wanted.options signer.service);
+  key_id = signer.key.key_id;
+  token = signer.key.token;
+  signer = record { secret = signer.key.secret; region = signer.region; name = signer.service };
+  at = at;
+}
+
+-- why it isn't signed: the moment lies outside the years 0 to 9999, the request is refused, or the signed URL would be too long
+abbrev pub asked_refusal : Case → Option SigningError
+asked_refusal c = option_or (option_or (if is_in_years c.at then None else Some (MomentOutOfRange c.at)) (unfit c)) (unfit_signed_target c)
+
+-- ## What is printed
+
+-- the form: the one that an option names, and else a config of curl, or the URL where one is presigned
+abbrev pub asked_form : SignWanted → Form
+asked_form sign_wanted = unwrap_or (option_and_then form_named (last_value sign_wanted.options (codes "--as"))) (if sign_wanted.presigns then Url else Curl)
+
+-- the signed request of a case, in the form that is asked for
+abbrev pub printed : SignWanted → Case → List ℕ
+printed sign_wanted c =
+    text_in_form (asked_form sign_wanted) sign_wanted.method (signed_target c sign_wanted.url) (signed_headers c) (last_value sign_wanted.options (codes "--data"))
+
+-- the signed request, for what the URL spells, as it is printed; or why it isn't signed
+abbrev pub SignsText : SignWanted → (Target → Case) → Result (Vec ℕ) Fault → Type 0
+SignsText sign_wanted case (Ok text) =
+    (uri : Uri) × SpellsTarget sign_wanted.url uri × (asked_refusal (case (target_of uri)) ≡ None) × (text.items ≡ printed sign_wanted (case (target_of uri)))
+SignsText sign_wanted case (Err fault) =
+    (((uri : Uri) × (error : SigningError) × SpellsTarget sign_wanted.url uri × (asked_refusal (case (target_of uri)) ≡ Some error) × (refusal_of fault ≡ unsigned error))
+    ⊎ (SpellsNoTarget sign_wanted.url × (refusal_of fault ≡ unsigned InvalidUri))) ⊎ (fault ≡ NoMemory)
+
+-- the text of the request that somebody signs with this digest of the data at this moment, or why there is none
+abbrev pub PrintsFor : SignWanted → Result SignsFor SignRefusal → Option (List ℕ) → Instant → Result (Vec ℕ) Fault → Type 0
+PrintsFor sign_wanted (Ok signer) digest at result =
+    SignsText sign_wanted (asked_case sign_wanted signer (asked_payload sign_wanted (is_s3 sign_wanted.options signer.service) digest) at) result
+PrintsFor sign_wanted (Err refusal) digest at (Ok text) = ⊥
+PrintsFor sign_wanted (Err refusal) digest at (Err fault) = (refusal_of fault ≡ refusal) ⊎ (fault ≡ NoMemory)
+
+-- who signs, by the texts of profile files and variables, unless a URL would be good for too long
+abbrev pub asked_signer : SignWanted → List (List ℕ × List ℕ) → List FileText → Result SignsFor SignRefusal
+asked_signer sign_wanted env files =
+    if is_long sign_wanted.options then Err long_expiry
+    else signer_by sign_wanted.options env (profile_of (sections files) (profile_name sign_wanted.options env))
+
+-- the text that words, variables, the texts of profile files, the digest of the data and a moment give, or why there is none
+abbrev pub PrintsSigned : SignWanted → List (List ℕ × List ℕ) → List FileText → Option (List ℕ) → Instant → Result (Vec ℕ) Fault → Type 0
+PrintsSigned sign_wanted env files digest at result = PrintsFor sign_wanted (asked_signer sign_wanted env files) digest at result
+
+-- the digest of all that a source had left
+abbrev pub DigestsAll : Option (List ℕ) → Option (List ℕ) → List ℕ → Type 0
+DigestsAll before now digest = (bytes : List ℕ) × IsCutOf before bytes now × IsAtEnd now × (digest ≡ encode_lower (sha256 bytes))
+
+-- the request of these words before it is signed
+pub record IsAsked (sign_wanted : SignWanted) (request : HttpRequest) : Type 0 where
+  pub method : string_bytes request.method ≡ sign_wanted.method
+  pub target : string_bytes request.target ≡ sign_wanted.url
+  pub headers : request.headers ≡ sign_wanted.headers
+
+-- the signed request, for what the URL spells, or why it isn't signed
+abbrev pub SignsAsked : SignWanted → (Target → Case) → Result HttpRequest Fault → Type 0
+SignsAsked sign_wanted case (Ok request) =
+    (uri : Uri) × SpellsTarget sign_wanted.url uri × (asked_refusal (case (target_of uri)) ≡ None)
+    × (string_bytes request.method ≡ sign_wanted.method) × (string_bytes request.target ≡ signed_target (case (target_of uri)) sign_wanted.url)
+    × (request.headers ≡ signed_headers (case (target_of uri)))
+SignsAsked sign_wanted case (Err fault) = SignsText sign_wanted case (Err fault)
+
+-- the text of a request in the form that is asked for, or memory ran out
+abbrev pub GivesPrinted : SignWanted → HttpRequest → Result (Vec ℕ) Fault → Type 0
+GivesPrinted sign_wanted request (Ok text) =
+    text.items ≡ text_in_form (asked_form sign_wanted) (string_bytes request.method) (string_bytes request.target) request.headers (last_value sign_wanted.options (codes "--data"))
+GivesPrinted sign_wanted request (Err fault) = fault ≡ NoMemory

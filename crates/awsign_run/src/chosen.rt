@@ -1,0 +1,189 @@
+//! Who signs, and for which region and service.
+ghost use Rattle.std.specs.Prelude.{◌≡◌, Ok, option_copied, option_map, string_bytes};
+ghost use Rattle.std.specs.Option.{option_or};
+ghost use Rattle.awsign_run.specs.Chosen.{GivesSignerKey, GivesSigner, chosen_key, signer_region, chosen_service, chosen_signer, filled, key_behind, key_in, signer_key, profile_name, refusal_of, signs_for, profile_values, variable, variable_key};
+
+use crate::fault::Fault;
+use crate::profile::ProfileValues;
+use job_text::copied;
+use smithy_core::{Credentials, Env, Mem};
+use std::alloc::Global;
+
+/// Who signs, and for which region and service. There is no [`Debug`](std::fmt::Debug), so that no secret is printed.
+#[derive(Drop)]
+pub struct Signer {
+    /// The key.
+    pub credentials: Credentials,
+    /// The region.
+    pub region: String,
+    /// The service's signing name.
+    pub service: String,
+}
+
+/// Who signs, by options, variables and a profile, in this order; an empty variable counts as unset.
+///
+/// # Errors
+///
+/// [`Fault::MissingSecret`] where the variables have half a key, and [`Fault::MissingKey`] where there is none; then
+/// [`Fault::MissingRegion`] and [`Fault::MissingService`].
+pub fn choose_signer(
+    alloc: Global,
+    options: &Env,
+    env: &Env,
+    profile: &ProfileValues,
+) -> Result<Signer, Fault>
+    ensures { GivesSigner (chosen_signer options.now env.now (profile_values profile.now)) result }
+{
+    match choose_key(alloc, options, env, profile) {
+        Ok(credentials) => {
+            let region = region_of(options, env, profile);
+            signer_of(alloc, credentials, region, service_of(options))
+        }
+        Err(fault) => Err(fault),
+    }
+}
+
+// The signer with this key, where there are a region and a service.
+fn signer_of(
+    alloc: Global,
+    credentials: Credentials,
+    region: Option<&str>,
+    service: Option<&str>,
+) -> Result<Signer, Fault>
+    ensures { GivesSigner (signs_for (Ok (key_in credentials)) (option_copied region.entry) (option_copied service.entry)) result }
+{
+    match region {
+        Some(region) => match service {
+            Some(service) => Ok(Signer {
+                credentials,
+                region: String::from_str(alloc, region)?,
+                service: String::from_str(alloc, service)?,
+            }),
+            None => Err(Fault::MissingService),
+        },
+        None => Err(Fault::MissingRegion),
+    }
+}
+
+// The key: that of the variables, or that of the profile.
+fn choose_key(
+    alloc: Global,
+    options: &Env,
+    env: &Env,
+    profile: &ProfileValues,
+) -> Result<Credentials, Fault>
+    ensures { GivesSignerKey (chosen_key options.now env.now (profile_values profile.now)) result }
+{
+    match variable_key(options, env) {
+        Some(key_id) => signer_key(
+            alloc,
+            Fault::MissingSecret,
+            Some(key_id),
+            variable(env, "AWS_SECRET_ACCESS_KEY"),
+            variable(env, "AWS_SESSION_TOKEN"),
+        ),
+        None => signer_key(
+            alloc,
+            Fault::MissingKey,
+            filled_text(&profile.key_id),
+            filled_text(&profile.secret),
+            filled_text(&profile.token),
+        ),
+    }
+}
+
+// The key of these parts.
+fn signer_key(
+    alloc: Global,
+    lack: Fault,
+    key_id: Option<&str>,
+    secret: Option<&str>,
+    token: Option<&str>,
+) -> Result<Credentials, Fault>
+    ensures { GivesSignerKey (signer_key (refusal_of lack) (option_copied key_id.entry) (option_copied secret.entry) (option_copied token.entry)) result }
+{
+    match (key_id, secret) {
+        (Some(key_id), Some(secret)) => Ok(Credentials::new(
+            String::from_str(alloc, key_id)?,
+            String::from_str(alloc, secret)?,
+            copied(alloc, token)?,
+            None,
+        )),
+        _ => Err(lack),
+    }
+}
+
+// The variable of the key id, which counts unless an option names a profile.
+fn variable_key<'a>(options: &Env, env: &'a Env) -> Option<&'a str>
+    ensures { option_copied result ≡ variable_key options.now env.now }
+{
+    if options.get("--profile").is_some() {
+        None
+    } else {
+        variable(env, "AWS_ACCESS_KEY_ID")
+    }
+}
+
+/// The name of the profile.
+pub fn profile_name<'a>(options: &'a Env, env: &'a Env) -> &'a str
+    ensures { result.now ≡ profile_name options.now env.now }
+{
+    let named = options.get("--profile");
+    named.or(variable(env, "AWS_PROFILE")).unwrap_or("default")
+}
+
+fn region_of<'a>(options: &'a Env, env: &'a Env, profile: &'a ProfileValues) -> Option<&'a str>
+    ensures { option_copied result ≡ signer_region options.now env.now (profile_values profile.now) }
+{
+    let set = either(options.get("--region"), variable(env, "AWS_REGION"));
+    let usual = either(set, variable(env, "AWS_DEFAULT_REGION"));
+    either(usual, filled_text(&profile.region))
+}
+
+// The first text, or else the second.
+fn either<'a>(first: Option<&'a str>, second: Option<&'a str>) -> Option<&'a str>
+    ensures { option_copied result ≡ option_or (option_copied first.entry) (option_copied second.entry) }
+{
+    match first {
+        Some(text) => Some(text),
+        None => second,
+    }
+}
+
+fn service_of(options: &Env) -> Option<&str>
+    ensures { option_copied result ≡ chosen_service options.now }
+{
+    let named = options.get("--service");
+    let usual = if options.get("--s3").is_some() {
+        Some("s3")
+    } else {
+        None
+    };
+    named.or(usual)
+}
+
+// A variable; an empty one counts as unset.
+fn variable<'a>(env: &'a Env, name: &str) -> Option<&'a str>
+    ensures { option_copied result ≡ variable env.now name.now }
+{
+    filled(env.get(name))
+}
+
+fn filled_text(text: &Option<String>) -> Option<&str>
+    ensures { option_copied result ≡ filled (option_map string_bytes text.now) }
+{
+    match text {
+        Some(text) => filled(Some(text.as_str())),
+        None => None,
+    }
+}
+
+// The text, unless it is empty.
+fn filled(text: Option<&str>) -> Option<&str>
+    ensures { option_copied result ≡ filled (option_copied text.entry) }
+{
+    match text {
+        Some(text) if !text.is_empty() => Some(text),
+        _ => None,
+    }
+}

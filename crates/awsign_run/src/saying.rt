@@ -1,0 +1,139 @@
+//! What is said of how a run ended.
+ghost use Rattle.std.specs.Prelude.{◌≡◌, ◌≤◌, ◌-◌, ◌++◌, Some, IfOk, codes, map, option_copied, option_map, slice_get};
+ghost use Rattle.std.specs.String.{string_bytes};
+ghost use Rattle.sigv4.specs.Error.{error_text};
+ghost use Rattle.awsign_run.specs.Saying.{GainsSome, Says, fault_reason, faulty_text, status_line, tool_line, word_text};
+
+use crate::fault::Fault;
+use crate::status::Status;
+use env_config::EnvConfigParseError;
+use sigv4::SigningError;
+use smithy_core::{ByteSink, Mem, write_all};
+use std::alloc::Global;
+
+/// Says on `err` how a run with these words ended, in a line that begins with the tool's name; nothing where all was printed.
+pub fn say<E: ByteSink>(alloc: Global, words: &[String], status: &Status, err: &mut E)
+    ensures said { Says (map string_bytes words.now) status.now (E.held err.old) (E.held err.new) }
+    ensures count { E.faults err.old ≤ E.faults err.new }
+{
+    if let Status::Done = status {
+        return;
+    }
+    match line_of(alloc, words, status) {
+        Ok(line) => write_some(line.as_str(), err),
+        Err(_) => write_some("awsign: no memory\n", err),
+    }
+}
+
+// Writes a line; a fault of the error stream can't be said anywhere.
+fn write_some<E: ByteSink>(line: &str, err: &mut E)
+    ensures gains { GainsSome (E.held err.old) (E.held err.new) line.now }
+    ensures count { E.faults err.old ≤ E.faults err.new }
+{
+    let _ = write_all(err, line.as_bytes());
+}
+
+fn line_of(alloc: Global, words: &[String], status: &Status) -> Mem<String>
+    ensures { IfOk result (λ line. string_bytes line ≡ status_line (map string_bytes words.now) status.now) }
+{
+    match status {
+        Status::Done => Ok(String::new(alloc)),
+        Status::BadWord(place) => word_line(alloc, *place, word_at(words, *place)),
+        Status::CouldNotReadFile(path) => unread_line(alloc, path.as_str()),
+        Status::DataFault => tool_line(alloc, "could not read the file that --data names"),
+        Status::Refused(fault) => fault_line(alloc, fault),
+        Status::OutputFault => tool_line(alloc, "the output failed"),
+        Status::NoMemory => tool_line(alloc, "no memory"),
+    }
+}
+
+// A line of the tool.
+fn tool_line(alloc: Global, text: &str) -> Mem<String>
+    ensures { IfOk result (λ line. string_bytes line ≡ tool_line text.now) }
+{
+    format!(in alloc; "awsign: {text}\n")
+}
+
+fn unread_line(alloc: Global, path: &str) -> Mem<String>
+    ensures { IfOk result (λ line. string_bytes line ≡ tool_line (codes "could not read the profile file " ++ path.now)) }
+{
+    let text = format!(in alloc; "could not read the profile file {path}")?;
+    tool_line(alloc, text.as_str())
+}
+
+// The word at a place, where there is one.
+fn word_at(words: &[String], place: usize) -> Option<&str>
+    ensures { option_copied result ≡ slice_get (map string_bytes words.now) (place - 1) }
+{
+    match words.get(place.saturating_sub(1)) {
+        Some(word) => Some(word.as_str()),
+        None => None,
+    }
+}
+
+fn word_line(alloc: Global, place: usize, word: Option<&str>) -> Mem<String>
+    ensures { IfOk result (λ line. string_bytes line ≡ tool_line (word_text place (option_copied word.entry))) }
+{
+    match word {
+        Some(word) => bad_word_line(alloc, place, word),
+        None => tool_line(
+            alloc,
+            "a word is missing at the end; awsign --help lists the words",
+        ),
+    }
+}
+
+fn bad_word_line(alloc: Global, place: usize, word: &str) -> Mem<String>
+    ensures { IfOk result (λ line. string_bytes line ≡ tool_line (word_text place (Some word.now))) }
+{
+    let text = format!(in alloc;
+        "word {place} isn't understood here: {word}; awsign --help lists the words"
+    )?;
+    tool_line(alloc, text.as_str())
+}
+
+fn fault_line(alloc: Global, fault: &Fault) -> Mem<String>
+    ensures { IfOk result (λ line. string_bytes line ≡ tool_line (fault_reason fault.now)) }
+{
+    match fault {
+        Fault::ParseError(error) => faulty_line(alloc, error),
+        Fault::Signing(error) => unsigned_line(alloc, error),
+        Fault::MissingKey => tool_line(
+            alloc,
+            "no key: set AWS_ACCESS_KEY_ID and AWS_SECRET_ACCESS_KEY, or give the profile aws_access_key_id and aws_secret_access_key",
+        ),
+        Fault::MissingSecret => tool_line(
+            alloc,
+            "AWS_ACCESS_KEY_ID is set and AWS_SECRET_ACCESS_KEY isn't: set both, or neither",
+        ),
+        Fault::MissingRegion => tool_line(
+            alloc,
+            "no region: say --region, set AWS_REGION, or give the profile a region",
+        ),
+        Fault::MissingService => tool_line(alloc, "no service: say --service NAME, or --s3"),
+        Fault::LongExpiry => tool_line(
+            alloc,
+            "the URL would be good for over 604800 seconds, which AWS refuses; --long makes it all the same",
+        ),
+        Fault::NoMemory => tool_line(alloc, "no memory"),
+    }
+}
+
+fn unsigned_line(alloc: Global, error: &SigningError) -> Mem<String>
+    ensures { IfOk result (λ line. string_bytes line ≡ tool_line (codes "the request can't be signed: " ++ error_text error.now)) }
+{
+    let text = format!(in alloc; "the request can't be signed: {error}")?;
+    tool_line(alloc, text.as_str())
+}
+
+fn faulty_line(alloc: Global, error: &EnvConfigParseError) -> Mem<String>
+    ensures { IfOk result (λ line. string_bytes line ≡ tool_line (faulty_text error.now)) }
+{
+    let (path, number, message) = (
+        error.path.as_str(),
+        error.line_number,
+        error.message.as_str(),
+    );
+    let text = format!(in alloc; "{path}, line {number}: {message}")?;
+    tool_line(alloc, text.as_str())
+}

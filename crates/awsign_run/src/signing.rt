@@ -1,0 +1,249 @@
+//! The signed request that words ask for, as it is printed.
+ghost use Rattle.std.specs.Prelude.{◌≡◌, ◌||◌, IfOk, codes, map, option_copied, option_map, string_bytes, true, false};
+ghost use Rattle.env_config.specs.Source.{file_of};
+ghost use Rattle.sigv4.specs.Settings.{settings_of};
+ghost use Rattle.awsign_run.specs.Chosen.{chosen_signer, profile_name, signs_for_of, profile_values};
+ghost use Rattle.awsign_run.specs.Signing.{GivesPrinted, IsAsked, PrintsFor, PrintsSigned, SignsAsked, SignsText, asked_case, asked_form, asked_payload, asked_settings, expiry, is_long, is_s3, default_payload, usual_settings};
+ghost use Rattle.awsign_run.specs.Words.{sign_wanted};
+
+use crate::chosen::{Signer, choose_signer};
+use crate::fault::Fault;
+use crate::in_place::sign_in_place;
+use crate::profile::{ProfileValues, read_profile};
+use crate::words::{Asked, form_named};
+use awsign_text::{Form, text_of};
+use env_config::Source;
+use job_text::parse_u64;
+use mac_core::sha256_hex;
+use sigv4::{SignableBody, SignatureLocation, SigningParams, SigningSettings, v4};
+use smithy_core::{Env, HttpRequest, Identity, Mem, Moment};
+use std::alloc::Global;
+
+/// The most seconds for which a service takes a presigned URL.
+const MOST_EXPIRY: u64 = 604_800;
+
+/// The signed request that words ask for, as it is printed: it is signed by options, variables and the source's profile, over the digest of
+/// the data where there is some, at a moment.
+///
+/// # Errors
+///
+/// The first of these: [`Fault::LongExpiry`]; [`Fault::ParseError`]; [`Fault::MissingSecret`] or [`Fault::MissingKey`];
+/// [`Fault::MissingRegion`]; [`Fault::MissingService`]; and [`Fault::Signing`] with the first test that the request fails.
+pub fn signed_text(
+    alloc: Global,
+    asked: &Asked<'_>,
+    env: &Env,
+    source: &Source,
+    digest: Option<&str>,
+    at: Moment,
+) -> Result<Vec<u8>, Fault>
+    requires { string_bytes source.now.profile ≡ profile_name asked.now.options env.now }
+    ensures { PrintsSigned (sign_wanted asked.now) env.now (map file_of source.now.files.items) (option_copied digest.entry) at result }
+{
+    if is_long(&asked.options) {
+        return Err(Fault::LongExpiry);
+    }
+    match read_profile(alloc, source) {
+        Ok(profile) => print_by(alloc, asked, env, &profile, digest, at),
+        Err(fault) => Err(fault),
+    }
+}
+
+// The request that words, variables and a profile ask for, as it is printed.
+fn print_by(
+    alloc: Global,
+    asked: &Asked<'_>,
+    env: &Env,
+    profile: &ProfileValues,
+    digest: Option<&str>,
+    at: Moment,
+) -> Result<Vec<u8>, Fault>
+    ensures { PrintsFor (sign_wanted asked.now) (chosen_signer asked.now.options env.now (profile_values profile.now)) (option_copied digest.entry) at result }
+{
+    match choose_signer(alloc, &asked.options, env, profile) {
+        Ok(signer) => print_signed(alloc, asked, signer, digest, at),
+        Err(fault) => Err(fault),
+    }
+}
+
+// The request that somebody signs, as it is printed.
+fn print_signed(
+    alloc: Global,
+    asked: &Asked<'_>,
+    signer: Signer,
+    digest: Option<&str>,
+    at: Moment,
+) -> Result<Vec<u8>, Fault>
+    ensures { let asks = sign_wanted asked.now in let s3 = is_s3 asks.options (string_bytes signer.service) in
+        SignsText asks (asked_case asks (signs_for_of signer) (asked_payload asks s3 (option_copied digest.entry)) at) result }
+{
+    let s3 = is_s3(&asked.options, signer.service.as_str());
+    match payload_of(alloc, asked, s3, digest) {
+        Ok(payload) => print_over(alloc, asked, signer, payload, at),
+        Err(_) => Err(Fault::NoMemory),
+    }
+}
+
+// The request that somebody signs over the payload of this text, as it is printed.
+fn print_over(
+    alloc: Global,
+    asked: &Asked<'_>,
+    signer: Signer,
+    payload: String,
+    at: Moment,
+) -> Result<Vec<u8>, Fault>
+    ensures { SignsText (sign_wanted asked.now) (asked_case (sign_wanted asked.now) (signs_for_of signer) (string_bytes payload) at) result }
+{
+    match signed_request(alloc, asked, signer, payload, at) {
+        Ok(request) => print_request(alloc, asked, &request),
+        Err(fault) => Err(fault),
+    }
+}
+
+// A signed request, as it is printed.
+fn print_request(alloc: Global, asked: &Asked<'_>, request: &HttpRequest) -> Result<Vec<u8>, Fault>
+    ensures { GivesPrinted (sign_wanted asked.now) request.now result }
+{
+    let file = asked.options.get("--data");
+    Ok(text_of(alloc, form_of(asked), request, file)?)
+}
+
+// The request, signed over the payload of this text.
+fn signed_request(
+    alloc: Global,
+    asked: &Asked<'_>,
+    signer: Signer,
+    payload: String,
+    at: Moment,
+) -> Result<HttpRequest, Fault>
+    ensures { SignsAsked (sign_wanted asked.now) (asked_case (sign_wanted asked.now) (signs_for_of signer) (string_bytes payload) at) result }
+{
+    let request = request_of(alloc, asked)?;
+    let settings = settings_of(alloc, asked, is_s3(&asked.options, signer.service.as_str()))?;
+    sign_as(alloc, asked, request, settings, signer, payload, at)
+}
+
+// The request of the words, signed under the settings that they ask for.
+fn sign_as(
+    alloc: Global,
+    asked: &Asked<'_>,
+    mut request: HttpRequest,
+    settings: SigningSettings,
+    signer: Signer,
+    payload: String,
+    at: Moment,
+) -> Result<HttpRequest, Fault>
+    requires asked { IsAsked (sign_wanted asked.now) request }
+    requires settings { settings_of settings ≡ asked_settings (sign_wanted asked.now) (is_s3 asked.now.options (string_bytes signer.service)) }
+    ensures { SignsAsked (sign_wanted asked.now) (asked_case (sign_wanted asked.now) (signs_for_of signer) (string_bytes payload) at) result }
+{
+    let identity = Identity::Credentials(signer.credentials);
+    let (region, service) = (signer.region.as_str(), signer.service.as_str());
+    let params = SigningParams::V4(v4::SigningParams::new(
+        &identity, region, service, at, settings,
+    ));
+    match sign_in_place(
+        alloc,
+        &mut request,
+        SignableBody::Precomputed(payload),
+        &params,
+    ) {
+        Ok(()) => Ok(request),
+        Err(error) => Err(Fault::from(error)),
+    }
+}
+
+// The request before it is signed.
+fn request_of(alloc: Global, asked: &Asked<'_>) -> Mem<HttpRequest>
+    ensures { IfOk result (IsAsked (sign_wanted asked.now)) }
+{
+    let headers = asked.headers.try_clone()?;
+    let mut request = HttpRequest::new(alloc, asked.method, asked.url)?;
+    request.headers = headers;
+    Ok(request)
+}
+
+// The settings that are asked for.
+fn settings_of(alloc: Global, asked: &Asked<'_>, s3: bool) -> Mem<SigningSettings>
+    ensures { IfOk result (λ settings. settings_of settings ≡ asked_settings (sign_wanted asked.now) s3) }
+{
+    let usual = usual_settings(alloc, s3)?;
+    if !asked.presigns {
+        return Ok(usual);
+    }
+    Ok(SigningSettings {
+        signature_location: SignatureLocation::QueryParams,
+        expires_in: expiry(&asked.options),
+        ..usual
+    })
+}
+
+fn usual_settings(alloc: Global, s3: bool) -> Mem<SigningSettings>
+    ensures { IfOk result (λ settings. settings_of settings ≡ usual_settings s3) }
+{
+    if s3 {
+        SigningSettings::for_s3(alloc)
+    } else {
+        SigningSettings::new(alloc)
+    }
+}
+
+// The payload's text.
+fn payload_of(alloc: Global, asked: &Asked<'_>, s3: bool, digest: Option<&str>) -> Mem<String>
+    ensures { IfOk result (λ text. string_bytes text ≡ asked_payload (sign_wanted asked.now) s3 (option_copied digest.entry)) }
+{
+    let options = &asked.options;
+    let named = options
+        .get("--payload-hash")
+        .or(options.get("--payload-text"));
+    match named.or(digest) {
+        Some(text) => String::from_str(alloc, text),
+        None => default_payload(alloc, asked, s3),
+    }
+}
+
+fn default_payload(alloc: Global, asked: &Asked<'_>, s3: bool) -> Mem<String>
+    ensures { IfOk result (λ text. string_bytes text ≡ default_payload (sign_wanted asked.now) s3) }
+{
+    if asked.options.get("--unsigned").is_some() || (asked.presigns && s3) {
+        String::from_str(alloc, "UNSIGNED-PAYLOAD")
+    } else {
+        sha256_hex(alloc, b"")
+    }
+}
+
+fn form_of(asked: &Asked<'_>) -> Form
+    ensures { result ≡ asked_form (sign_wanted asked.now) }
+{
+    let usual = if asked.presigns {
+        Form::Url
+    } else {
+        Form::Curl
+    };
+    asked
+        .options
+        .get("--as")
+        .and_then(form_named)
+        .unwrap_or(usual)
+}
+
+fn is_s3(options: &Env, service: &str) -> bool
+    ensures { result ≡ is_s3 options.now service.now }
+{
+    options.get("--s3").is_some() || service == "s3"
+}
+
+fn expiry(options: &Env) -> Option<u64>
+    ensures { result ≡ expiry options.now }
+{
+    match options.get("--expires") {
+        Some(text) => parse_u64(text),
+        None => None,
+    }
+}
+
+fn is_long(options: &Env) -> bool
+    ensures { result ≡ is_long options.now }
+{
+    expiry(options).unwrap_or(0) > MOST_EXPIRY && options.get("--long").is_none()
+}

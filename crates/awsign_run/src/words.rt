@@ -1,0 +1,297 @@
+//! The words of `awsign sign` and `awsign presign`.
+ghost use Rattle.std.specs.Prelude.{◌≡◌, ◌==◌, None, map, slice_index};
+ghost use Rattle.std.specs.List.{list_all};
+ghost use Rattle.std.specs.String.{string_bytes};
+ghost use Rattle.http_header.specs.Token.{is_token_byte};
+ghost use Rattle.job_text.specs.Words.{TakesWord};
+ghost use Rattle.awsign_run.specs.Words.{ReadsAsked, minus, all_words, command_words, form_named, given_words, has, has_payload, is_fit, is_flag, is_method, is_payload, is_payload_option, is_signing_option, no_words, is_spent, take_header, take_operand, take_other, take_value, takes_value, words_behind};
+ghost use Rattle.job_text.specs.Lines.{header_of_line};
+
+use awsign_text::Form;
+use http_header::is_token_char;
+use job_text::{TakeWord, WordsFault, cut_pair, parse_i64, parse_u64, take_words};
+use smithy_core::{Env, Headers};
+use std::alloc::Global;
+
+/// What the words ask for.
+#[derive(Drop)]
+pub struct Asked<'a> {
+    /// Whether a URL is presigned, and not a request signed.
+    pub presigns: bool,
+    /// The values of the options, by their words.
+    pub options: Env,
+    /// The headers in order.
+    pub headers: Headers,
+    /// The method.
+    pub method: &'a str,
+    /// The URL.
+    pub url: &'a str,
+}
+
+/// What the words so far gave, and the option that waits for its value.
+#[derive(Drop)]
+pub struct GivenWords<'a> {
+    presigns: bool,
+    options: Env,
+    headers: Headers,
+    method: Option<&'a str>,
+    url: Option<&'a str>,
+    awaited: Option<&'a str>,
+}
+
+impl<'a> GivenWords<'a> {
+    /// No words yet.
+    pub fn new(alloc: Global, presigns: bool) -> Self
+        ensures { given_words result ≡ no_words presigns }
+    {
+        GivenWords {
+            presigns,
+            options: Env::new(alloc),
+            headers: Headers::new(alloc),
+            method: None,
+            url: None,
+            awaited: None,
+        }
+    }
+
+    // Takes the value at a place of an option that no longer waits.
+    #[tactic(auto, unfolding(crate::specs::Words::take_value))]
+    fn take_value(&mut self, option: &str, place: usize, value: &str) -> Result<(), WordsFault>
+        requires { self.old.awaited ≡ None }
+        ensures { TakesWord (take_value (given_words self.old) option.now value.now) place (given_words self.new) result }
+    {
+        if option == "-H" {
+            return self.take_header(place, value);
+        }
+        if !is_fit(option, value) {
+            return Err(WordsFault::BadWord(place));
+        }
+        self.options.set(option, value)?;
+        Ok(())
+    }
+
+    // Takes a header at a place.
+    fn take_header(&mut self, place: usize, value: &str) -> Result<(), WordsFault>
+        requires { self.old.awaited ≡ None }
+        ensures { TakesWord (take_header (given_words self.old) (header_of_line value.now)) place (given_words self.new) result }
+    {
+        let (name, value) = cut_pair(value).ok_or(WordsFault::BadWord(place))?;
+        self.headers.append(name, value)?;
+        Ok(())
+    }
+
+    // Takes a word at a place that isn't a value.
+    #[tactic(auto, unfolding(crate::specs::Words::take_other))]
+    fn take_other(&mut self, place: usize, word: &'a str) -> Result<(), WordsFault>
+        requires { self.old.awaited ≡ None }
+        ensures { TakesWord (take_other (given_words self.old) word.now) place (given_words self.new) result }
+    {
+        if is_spent(&self.options, word) {
+            return Err(WordsFault::BadWord(place));
+        }
+        if takes_value(self.presigns, word) {
+            self.awaited = Some(word);
+        } else if is_flag(self.presigns, word) {
+            self.options.set(word, "")?;
+        } else if begins_with_minus(word) {
+            return Err(WordsFault::BadWord(place));
+        } else {
+            return self.take_operand(place, word);
+        }
+        Ok(())
+    }
+
+    // Takes an operand at a place.
+    fn take_operand(&mut self, place: usize, word: &'a str) -> Result<(), WordsFault>
+        requires { self.old.awaited ≡ None }
+        ensures { let given = given_words self.old in TakesWord (take_operand given given.method given.url word.now) place (given_words self.new) result }
+    {
+        match self.method {
+            None => {
+                if !is_method(word) {
+                    return Err(WordsFault::BadWord(place));
+                }
+                self.method = Some(word);
+            }
+            Some(_) => match self.url {
+                None => self.url = Some(word),
+                Some(_) => return Err(WordsFault::BadWord(place)),
+            },
+        }
+        Ok(())
+    }
+
+    /// What is asked, where the place behind the last word is reached.
+    pub fn finish(self, place: usize) -> Result<Asked<'a>, WordsFault>
+        ensures { ReadsAsked (all_words place (given_words self.entry)) result }
+    {
+        if self.presigns && !has(&self.options, "--expires") {
+            return Err(WordsFault::BadWord(place));
+        }
+        match (self.awaited, self.method, self.url) {
+            (None, Some(method), Some(url)) => Ok(Asked {
+                presigns: self.presigns,
+                options: self.options,
+                headers: self.headers,
+                method,
+                url,
+            }),
+            _ => Err(WordsFault::BadWord(place)),
+        }
+    }
+}
+
+impl<'a> TakeWord<'a> for GivenWords<'a> {
+    ghost use Rattle.awsign_run.specs.Words.{Given, given_words, given_word};
+
+    ghost Given = { Given };
+
+    ghost given = { given_words };
+
+    ghost step = { given_word };
+
+    fn take_word(&mut self, place: usize, word: &'a str) -> Result<(), WordsFault> {
+        match self.awaited.take() {
+            Some(option) => self.take_value(option, place, word),
+            None => self.take_other(place, word),
+        }
+    }
+}
+
+// Whether the option stood.
+fn has(options: &Env, word: &str) -> bool
+    ensures { result ≡ has options.now word.now }
+{
+    options.get(word).is_some()
+}
+
+// Whether the option can't stand any more.
+fn is_spent(options: &Env, word: &str) -> bool
+    ensures { result ≡ is_spent options.now word.now }
+{
+    has(options, word) || (is_payload(word) && has_payload(options))
+}
+
+fn has_payload(options: &Env) -> bool
+    ensures { result ≡ has_payload options.now }
+{
+    has(options, "--data")
+        || has(options, "--payload-hash")
+        || has(options, "--payload-text")
+        || has(options, "--unsigned")
+}
+
+fn is_payload(word: &str) -> bool
+    ensures { result ≡ is_payload word.now }
+{
+    is_payload_option(word) || word == "--unsigned"
+}
+
+fn is_payload_option(word: &str) -> bool
+    ensures { result ≡ is_payload_option word.now }
+{
+    word == "--data" || word == "--payload-hash" || word == "--payload-text"
+}
+
+fn is_signing_option(word: &str) -> bool
+    ensures { result ≡ is_signing_option word.now }
+{
+    word == "--profile"
+        || word == "--region"
+        || word == "--service"
+        || word == "--config"
+        || word == "--credentials"
+        || word == "--at"
+        || word == "-H"
+        || word == "--as"
+}
+
+fn takes_value(presigns: bool, word: &str) -> bool
+    ensures { result ≡ takes_value presigns word.now }
+{
+    is_signing_option(word) || is_payload_option(word) || (presigns && word == "--expires")
+}
+
+fn is_flag(presigns: bool, word: &str) -> bool
+    ensures { result ≡ is_flag presigns word.now }
+{
+    word == "--s3" || word == "--unsigned" || (presigns && word == "--long")
+}
+
+fn begins_with_minus(word: &str) -> bool
+    ensures { result ≡ slice_index word.now 0 == minus }
+{
+    match word.as_bytes() {
+        [b'-', ..] => true,
+        _ => false,
+    }
+}
+
+fn is_method(word: &str) -> bool
+    ensures { result ≡ is_method word.now }
+{
+    !word.is_empty() && has_token_bytes(word)
+}
+
+fn has_token_bytes(word: &str) -> bool
+    ensures { result ≡ list_all is_token_byte word.now }
+{
+    word.as_bytes().iter().all(|byte| is_token_char(*byte))
+}
+
+// Whether a value fits its option.
+fn is_fit(option: &str, value: &str) -> bool
+    ensures { result ≡ is_fit option.now value.now }
+{
+    match option {
+        "--at" => parse_i64(value).is_some(),
+        "--expires" => parse_u64(value).is_some(),
+        "--as" => form_named(value).is_some(),
+        _ => true,
+    }
+}
+
+/// The form that a word names.
+pub fn form_named(word: &str) -> Option<Form>
+    ensures { result ≡ form_named word.now }
+{
+    match word {
+        "curl" => Some(Form::Curl),
+        "headers" => Some(Form::Headers),
+        "json" => Some(Form::Json),
+        "url" => Some(Form::Url),
+        _ => None,
+    }
+}
+
+/// What the words behind the program's name ask for: `sign` or `presign`, a method, a URL, and options in any order.
+///
+/// # Errors
+///
+/// The place of the first bad word, or the place behind the last word where one is missing.
+pub fn read_asked<'a>(alloc: Global, words: &'a [String]) -> Result<Asked<'a>, WordsFault>
+    ensures { ReadsAsked (command_words (map string_bytes words.now)) result }
+{
+    let [first, rest @ ..] = words else {
+        return Err(WordsFault::BadWord(1));
+    };
+    match first.as_str() {
+        "sign" => read_behind(alloc, false, rest),
+        "presign" => read_behind(alloc, true, rest),
+        _ => Err(WordsFault::BadWord(1)),
+    }
+}
+
+// What the words behind the command's name ask for.
+#[tactic(auto, unfolding(crate::specs::Words::words_behind))]
+fn read_behind<'a>(
+    alloc: Global,
+    presigns: bool,
+    words: &'a [String],
+) -> Result<Asked<'a>, WordsFault>
+    ensures { ReadsAsked (words_behind presigns (map string_bytes words.now)) result }
+{
+    let mut given = GivenWords::new(alloc, presigns);
+    let place = take_words(&mut given, 2, words)?;
+    given.finish(place)
+}

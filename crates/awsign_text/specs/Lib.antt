@@ -1,0 +1,2 @@
+pub mod Curl
+pub mod Forms
