@@ -16,7 +16,7 @@ xor_zero_l a = xor_comm 0 a ∙ xor_zero_r a
 xor_twice : (a b p : ℕ) → bit_xor (bit_xor a p) (bit_xor b p) ≡ bit_xor a b
 xor_twice a b p = sym (xor_assoc (bit_xor a p) b p) ∙ ap (λ (x : ℕ). bit_xor x p) (xor_swap a p b) ∙ xor_assoc (bit_xor a b) p p ∙ ap (bit_xor (bit_xor a b)) (xor_self p) ∙ xor_zero_r (bit_xor a b)
 
-parity : (n : ℕ) → (n % 2 ≡ 0) ⊎ (n % 2 ≡ 1)
+pub parity : (n : ℕ) → (n % 2 ≡ 0) ⊎ (n % 2 ≡ 1)
 parity n = elim (cases_lt (n % 2) 1) [ inl l ↦ inl (omega arith) | inr l ↦ inr (omega arith) ]
 
 lowest : (a b : ℕ) → bit_xor a b % 2 ≡ (a + b) % 2
@@ -25,13 +25,13 @@ lowest a b = omega (arith, bit_at_xor a b 0)
 halved : (a b : ℕ) → bit_xor a b / 2 ≡ bit_xor (a / 2) (b / 2)
 halved a b = xor_shr a b 1
 
-even_bit : (r byte : ℕ) → (byte + r) % 2 ≡ 0 → after_bit r byte ≡ r / 2
+pub even_bit : (r byte : ℕ) → (byte + r) % 2 ≡ 0 → after_bit r byte ≡ r / 2
 even_bit r byte e = rw e refl
 
-odd_bit : (r byte : ℕ) → (byte + r) % 2 ≡ 1 → after_bit r byte ≡ bit_xor (r / 2) 0xEDB88320
+pub odd_bit : (r byte : ℕ) → (byte + r) % 2 ≡ 1 → after_bit r byte ≡ bit_xor (r / 2) 0xEDB88320
 odd_bit r byte e = rw e refl
 
-in_place : {a b c a' b' c' : ℕ} → a ≡ a' → b ≡ b' → c ≡ c' → a' ≡ bit_xor b' c' → a ≡ bit_xor b c
+pub in_place : {a b c a' b' c' : ℕ} → a ≡ a' → b ≡ b' → c ≡ c' → a' ≡ bit_xor b' c' → a ≡ bit_xor b c
 in_place e f g h = rw (e, f, g) h
 
 bit_linear : (x y b : ℕ) → after_bit (bit_xor x y) b ≡ bit_xor (after_bit x 0) (after_bit y b)
@@ -46,7 +46,7 @@ bit_linear x y b = elim (parity x) [
   ]
 ]
 
-linear : (k x y b : ℕ) → after_bits k (bit_xor x y) b ≡ bit_xor (after_bits k x 0) (after_bits k y b)
+pub linear : (k x y b : ℕ) → after_bits k (bit_xor x y) b ≡ bit_xor (after_bits k x 0) (after_bits k y b)
 unfolding after_bits
 linear zero x y b = refl
 linear (suc k) x y b = ap (λ (z : ℕ). after_bits k z (b / 2)) (bit_linear x y b) ∙ linear k (after_bit x 0) (after_bit y b) (b / 2)
@@ -112,7 +112,7 @@ absorbed s r b l =
     linear 8 s r b ∙ ap (bit_xor first) (byte_by_entry r b l) ∙ sym (xor_assoc first (after_bits 8 low 0) (r / 256))
     ∙ ap (λ (z : ℕ). bit_xor z (r / 256)) (sym (linear 8 s low 0) ∙ sym (merged 8 s low (xor_lt 8 (r % 256) b (omega arith) l)))
 
-bytes_linear : (n x y : ℕ) (bytes : List ℕ) → n ≡ 8 * length bytes → after_bytes (bit_xor x y) bytes ≡ bit_xor (after_bits n x 0) (after_bytes y bytes)
+pub bytes_linear : (n x y : ℕ) (bytes : List ℕ) → n ≡ 8 * length bytes → after_bytes (bit_xor x y) bytes ≡ bit_xor (after_bits n x 0) (after_bytes y bytes)
 bytes_linear n x y [] e = let none : n ≡ 0 = omega arith in rw none (ap (λ (z : ℕ). bit_xor z y) (sym (none_left x)))
 bytes_linear n x y (b ∷ bytes) e =
     ap (λ (z : ℕ). after_bytes z bytes) (linear 8 x y b) ∙ bytes_linear (n - 8) (after_bits 8 x 0) (after_bits 8 y b) bytes (omega arith)

@@ -1,6 +1,7 @@
-ghost use Rattle.std.specs.Prelude.{◌≡◌, ℕ, ◌+◌, ◌-◌, ◌*◌, ◌<◌, ◌≤◌};
+ghost use Rattle.std.specs.Prelude.{◌≡◌, ℕ, ◌+◌, ◌-◌, ◌*◌, ◌/◌, ◌%◌, ◌^◌, ◌<◌, ◌≤◌, List, length};
 ghost use Rattle.mac_core.specs.Crc.{after_bits, after_bytes, before_any, remainder};
 
+use crate::powers::POWERS;
 use crate::tables::TABLES;
 use std::marker::Model;
 
@@ -33,6 +34,25 @@ impl Crc {
         ensures { self.new ≡ after_bytes self.old bytes.now }
     {
         self.register = next_bytes(self.register, bytes);
+    }
+
+    /// Takes the bytes that another checksum took, so many, without looking at them again: in some ten steps for each bit of
+    /// their number. The remainder of joined texts follows from those of its parts and the length of the second, since the
+    /// steps of a checksum are linear.
+    ///
+    /// ```rust
+    /// let mut joined = Crc::new();
+    /// joined.update(first);
+    /// let mut other = Crc::new();
+    /// other.update(second);
+    /// joined.join(&other, second.len());
+    /// // joined.value() is crc32(first followed by second)
+    /// ```
+    #[tactic(auto, using(crate::proofs::PowerLemmas::joined_bytes))]
+    pub fn join(&mut self, second: &Crc, count: usize)
+        ensures { (bytes : List ℕ) → length bytes ≡ count → second.now ≡ after_bytes before_any bytes → self.new ≡ after_bytes self.old bytes }
+    {
+        self.register = past_zeros(self.register ^ 0xFFFF_FFFF, count) ^ second.register;
     }
 
     /// The CRC-32 of all bytes taken so far.
@@ -132,4 +152,56 @@ fn entry(byte: u8, zeros: usize) -> u32
     ensures { result ≡ after_bits (8 * zeros + 8) byte 0 }
 {
     TABLES[zeros][usize::from(byte)]
+}
+
+// What so many zero bytes leave of the register: the powers of 2 that make up the number, one after the other.
+fn past_zeros(register: u32, count: usize) -> u32
+    ensures { result ≡ after_bits (8 * count) register 0 }
+{
+    let mut left = register;
+    let mut rest = count;
+    let mut power = 0;
+    'powers: while rest > 0 {
+        left = past_lowest(left, power, rest);
+        rest /= 2;
+        power += 1;
+    }
+    left
+}
+
+// What 2^`power` zero bytes leave of the register, where the count is odd, and otherwise the register.
+#[tactic(auto, using(crate::proofs::PowerLemmas::lowest))]
+fn past_lowest(register: u32, power: usize, count: usize) -> u32
+    ensures { result ≡ after_bits (8 * (2 ^ power * (count % 2))) register 0 }
+{
+    if count % 2 == 1 {
+        past_power(register, power)
+    } else {
+        register
+    }
+}
+
+// What 2^`power` zero bytes leave of the register, each of whose eight hexadecimal digits is looked up alone.
+#[inline(always)]
+fn past_power(register: u32, power: usize) -> u32
+    ensures { result ≡ after_bits (8 * 2 ^ power) register 0 }
+{
+    digit_past(register, power, 0)
+        ^ digit_past(register, power, 1)
+        ^ digit_past(register, power, 2)
+        ^ digit_past(register, power, 3)
+        ^ digit_past(register, power, 4)
+        ^ digit_past(register, power, 5)
+        ^ digit_past(register, power, 6)
+        ^ digit_past(register, power, 7)
+}
+
+// What 2^`power` zero bytes leave of one hexadecimal digit of the register at its place.
+#[inline(always)]
+fn digit_past(register: u32, power: usize, place: usize) -> u32
+    requires { place < 8 }
+    ensures { result ≡ after_bits (8 * 2 ^ power) (register / 2 ^ (4 * place) % 16 * 2 ^ (4 * place)) 0 }
+{
+    let digit = (register >> (4 * place)) % 16;
+    POWERS[power % 32][16 * place + digit as usize]
 }

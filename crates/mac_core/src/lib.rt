@@ -9,6 +9,7 @@
 mod crc;
 mod hmac;
 mod laws;
+mod powers;
 mod same;
 mod tables;
 
