@@ -45,6 +45,11 @@ abbrev pub IsCredentials : Identity → Type 0
 IsCredentials (OfCredentials credentials) = Unit {0}
 IsCredentials (Token token) = ⊥
 
+-- the credentials, where the identity isn't a token
+abbrev pub credentials_in : Identity → Option Credentials
+credentials_in (OfCredentials credentials) = Some credentials
+credentials_in (Token token) = None
+
 -- the secret of credentials, and nothing of a token
 abbrev pub secret_of : Identity → List ℕ
 secret_of (OfCredentials credentials) = secret_access_key credentials

@@ -1,5 +1,5 @@
 ghost use Rattle.std.specs.Prelude.{◌≡◌, IfOk, option_copied};
-ghost use Rattle.smithy_core.specs.Identity.{IsSameCredentials, IsSameIdentity, access_key_id, credentials_expiry, credentials_of, secret_access_key, secret_of, session_token};
+ghost use Rattle.smithy_core.specs.Identity.{IsSameCredentials, IsSameIdentity, access_key_id, credentials_expiry, credentials_in, credentials_of, secret_access_key, secret_of, session_token};
 
 use crate::memory::Mem;
 use crate::moment::Moment;
@@ -95,6 +95,16 @@ impl From<Credentials> for Identity {
 }
 
 impl Identity {
+    /// The credentials, where the identity isn't a token.
+    pub fn credentials(&self) -> Option<&Credentials>
+        ensures { option_copied result ≡ credentials_in self.now }
+    {
+        match self {
+            Identity::Credentials(credentials) => Some(credentials),
+            Identity::Token(_) => None,
+        }
+    }
+
     /// The secret access key of credentials, and an empty text of a token.
     pub fn secret(&self) -> &str
         ensures { result.now ≡ secret_of self.now }

@@ -60,7 +60,7 @@ pub use crate::names::{Region, SigningName};
 pub use crate::outside::clock::{Clock, FixedClock, ListClock};
 pub use crate::outside::disk::{CalmDisk, Disk, DiskError, FaultyDisk};
 pub use crate::outside::frame_part::{FramePart, Polled};
-pub use crate::outside::frame_source::{CalmFrames, FaultyFrames, FrameSource};
+pub use crate::outside::frame_source::{CalmFrames, FaultyFrames, FrameSource, MOST_PIECE};
 pub use crate::outside::host::{HostDisk, StdSink, StdSource, SystemClock};
 pub use crate::outside::read_all::{ReadFault, read_all};
 pub use crate::outside::sink::{ByteSink, CalmSink, FaultySink, SinkError};

@@ -1,6 +1,7 @@
 ghost use Rattle.std.specs.Prelude.{◌≡◌, IfOk, string_bytes};
 
 use crate::memory::Mem;
+use std::alloc::Global;
 use std::marker::Model;
 
 /// The name of a region, as `us-east-1`. Nothing is tested.
@@ -25,6 +26,15 @@ impl Region {
         ensures { result ≡ string_bytes text }
     {
         Region { text }
+    }
+
+    /// The region of a name that is copied.
+    pub fn from_str(alloc: Global, text: &str) -> Mem<Region>
+        ensures { IfOk result (λ region. region ≡ text.now) }
+    {
+        Ok(Region {
+            text: String::from_str(alloc, text)?,
+        })
     }
 
     /// The text of the name.
@@ -66,6 +76,15 @@ impl SigningName {
         ensures { result ≡ string_bytes text }
     {
         SigningName { text }
+    }
+
+    /// The name of a text that is copied.
+    pub fn from_str(alloc: Global, text: &str) -> Mem<SigningName>
+        ensures { IfOk result (λ name. name ≡ text.now) }
+    {
+        Ok(SigningName {
+            text: String::from_str(alloc, text)?,
+        })
     }
 
     /// The text of the name.

@@ -1,5 +1,5 @@
-ghost use Rattle.std.specs.Prelude.{◌≡◌, ℕ, ◌≤◌, List, [], Option, Some, IfOk, true, false};
-ghost use Rattle.smithy_core.specs.FrameSource.{AreShort, GivesCalmly, GivesFrame, GivesShort, PollsAsListed};
+ghost use Rattle.std.specs.Prelude.{◌≡◌, ℕ, ◌≤◌, ◌↔◌, List, [], Option, Some, IfOk, IfSome, IsSome, IsTrue, true, false};
+ghost use Rattle.smithy_core.specs.FrameSource.{AreShort, GivesCalmly, GivesFrame, GivesShort, IsShort, PollsAsListed};
 ghost use Rattle.smithy_core.specs.Calls.{no_calls};
 ghost use Rattle.smithy_core.specs.Outside.{RoseOrStands};
 ghost use Rattle.smithy_core.specs.declared.outside.frame_part.FramePart.{FramePart as Part};
@@ -10,6 +10,9 @@ use crate::outside::calls::Calls;
 use crate::outside::frame_part::{FramePart, Polled};
 use std::collections::VecDeque;
 use std::marker::Model;
+
+/// How many bytes a piece of data has at most.
+pub const MOST_PIECE: usize = 4_294_967_295;
 
 /// Gives the frames of a body one by one.
 pub trait FrameSource {
@@ -165,6 +168,18 @@ impl CalmFrames {
         }
     }
 
+    /// All of the frames are left, or none exactly where a piece of data has more than 4,294,967,295 bytes.
+    pub fn checked(frames: Vec<FramePart>) -> Option<CalmFrames>
+        ensures frames { IfSome result (λ source. source ≡ frames.items) }
+        ensures short { IsSome result ↔ AreShort frames.items }
+    {
+        if are_short(frames.as_slice()) {
+            Some(CalmFrames::new(frames))
+        } else {
+            None
+        }
+    }
+
     /// A source with the same frames left.
     pub fn try_clone(&self) -> Mem<CalmFrames>
         ensures { IfOk result (λ copy. copy ≡ self.now) }
@@ -192,6 +207,23 @@ impl FrameSource for CalmFrames {
         ensures again { self.old ≡ [] → result ≡ polled.End }
     {
         next_frame(&mut self.left)
+    }
+}
+
+// Whether each piece of data has at most 4,294,967,295 bytes.
+fn are_short(frames: &[FramePart]) -> bool
+    ensures { IsTrue result ↔ AreShort frames.now }
+{
+    frames.iter().all(is_short)
+}
+
+// Whether a frame has at most 4,294,967,295 bytes of data.
+fn is_short(frame: &FramePart) -> bool
+    ensures { IsTrue result ↔ IsShort frame.now }
+{
+    match frame {
+        FramePart::Data(piece) => piece.len() <= MOST_PIECE,
+        FramePart::Trailers(_) => true,
     }
 }
 

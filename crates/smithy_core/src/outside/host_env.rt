@@ -1,6 +1,7 @@
 use crate::env::Env;
 use crate::memory::Mem;
 use std::alloc::{AllocError, Global};
+use std::collections::HashSet;
 use std::env::{Env as Variables, FillError};
 use std::str;
 
@@ -12,9 +13,10 @@ impl Env {
     /// value is kept.
     pub fn real<R: Variables>(alloc: Global, runtime: &R) -> Mem<Env> {
         let mut env = Env::new(alloc);
+        let mut names = HashSet::new(alloc);
         for at in 0..usize::MAX {
             match variable_at(alloc, runtime, at)? {
-                Some(bytes) => set_new(&mut env, bytes.as_slice())?,
+                Some(bytes) => set_new(alloc, &mut env, &mut names, bytes.as_slice())?,
                 None => break,
             }
         }
@@ -22,13 +24,17 @@ impl Env {
     }
 }
 
-// Sets a variable, given as `NAME=VALUE`, where it is text and its name is new.
-fn set_new(env: &mut Env, bytes: &[u8]) -> Mem<()> {
+// Sets a variable, given as `NAME=VALUE`, where it is text and its name is new. The names that were set are kept beside the pairs,
+// since a look-up among many pairs takes as many steps.
+fn set_new(alloc: Global, env: &mut Env, names: &mut HashSet<String>, bytes: &[u8]) -> Mem<()> {
     let Ok(text) = str::from_utf8(bytes) else {
         return Ok(());
     };
     match text.split_once('=') {
-        Some((name, value)) if !name.is_empty() && env.get(name).is_none() => env.set(name, value),
+        Some((name, value)) if !name.is_empty() && !names.contains(name) => {
+            names.insert(String::from_str(alloc, name)?)?;
+            env.set(name, value)
+        }
         _ => Ok(()),
     }
 }
