@@ -1,5 +1,5 @@
 -- What the program answers without a run.
-use Rattle.std.specs.Prelude.{ℕ, List, [], ◌∷◌, codes, bytes_eq, if◌then◌else◌, Option, Some, None}
+use Rattle.std.specs.Prelude.{ℕ, List, [], ◌∷◌, codes}
 use Rattle.std.specs.List.{flat_map}
 use Rattle.smithy_core.specs.Text.{line}
 
@@ -70,12 +70,3 @@ help = flat_map line
 -- the name and the version of the program
 unfoldable pub version : List ℕ
 version = line (codes "firuvaik 0.1.0")
-
--- the text that a word asks for
-abbrev pub text_for : List ℕ → Option (List ℕ)
-text_for word = if bytes_eq word (codes "--help") then Some help else if bytes_eq word (codes "--version") then Some version else None
-
--- the text that the words ask for: that of a single one
-abbrev pub text_asked : List (List ℕ) → Option (List ℕ)
-text_asked (word ∷ []) = text_for word
-text_asked words = None

@@ -1,6 +1,7 @@
 ghost use Rattle.std.specs.Prelude.{◌≡◌, map, option_copied};
 ghost use Rattle.std.specs.String.{string_bytes};
-ghost use Rattle.firuvaik.specs.Asked.{text_asked, text_for};
+ghost use Rattle.firuvaik.specs.Asked.{help, version};
+ghost use Rattle.program_start.specs.Texts.{text_of_words};
 
 const HELP: &str = "\
 firuvaik signs requests and event streams by AWS Signature Version 4.
@@ -68,22 +69,7 @@ const VERSION: &str = "firuvaik 0.1.0\n";
 
 /// The text that a single word asks for.
 pub fn text_asked(words: &[String]) -> Option<&'static str>
-    ensures { option_copied result ≡ text_asked (map string_bytes words.now) }
+    ensures { option_copied result ≡ text_of_words help version (map string_bytes words.now) }
 {
-    match words {
-        [word] => text_of(word.as_str()),
-        _ => None,
-    }
-}
-
-// The text that a word asks for.
-#[tactic(auto, unfolding(crate::specs::Asked::help, crate::specs::Asked::version))]
-fn text_of(word: &str) -> Option<&'static str>
-    ensures { option_copied result ≡ text_for word.now }
-{
-    match word {
-        "--help" => Some(HELP),
-        "--version" => Some(VERSION),
-        _ => None,
-    }
+    program_start::text_asked(HELP, VERSION, words)
 }

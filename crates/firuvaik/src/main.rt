@@ -1,34 +1,34 @@
 //! The program: makes the real objects, hands them to `run`, and ends with the number of its status.
 #![tactic(auto)]
 
-ghost use Rattle.std.specs.Prelude.{◌≡◌, ◌≤◌, ◌⊎◌, IfErr, IfNone, IfSome, map};
+ghost use Rattle.std.specs.Prelude.{◌≡◌, ◌≤◌, IfNone, IfSome, map};
 ghost use Rattle.std.specs.Process.{exit_status};
 ghost use Rattle.std.specs.String.{string_bytes};
 ghost use Rattle.smithy_core.specs.Given.{Gives};
-ghost use Rattle.firuvaik.specs.Asked.{text_asked};
+ghost use Rattle.firuvaik.specs.Asked.{help as firuvaik_help, version as firuvaik_version};
+ghost use Rattle.program_start.specs.Texts.{text_of_words};
 ghost use Rattle.signed_stream.specs.Plan.{GoesAsPlanned, writes};
 ghost use Rattle.signed_stream.specs.Running.{CountsWrites, Unless, UnlessTask, Went, task, takes_input};
 ghost use Rattle.signed_stream.specs.Saying.{SaysEnding};
 ghost use Rattle.signed_stream.specs.Sources.{DiskGives};
-ghost use Rattle.signed_stream.specs.Status.{bad_words, done, ending_of, exit_code, no_memory};
+ghost use Rattle.signed_stream.specs.Status.{done, ending_of, exit_code};
 
 mod help;
 
+use program_start::{StartFault, words_and_env};
 use signed_stream::{Status, run, say};
 use smithy_core::{
     ByteSink, ByteSource, Clock, Disk, Env, HostDisk, SinkError, StdSink, StdSource, SystemClock,
     write_all,
 };
 use std::alloc::Global;
-use std::io::ErrorKind;
 use std::process::ExitCode;
-use std::{env, rt};
 
 fn main(rt: HostRuntime) -> ExitCode {
     let alloc = rt.alloc();
     let mut out = StdSink::new(rt.stdout());
     let mut err = StdSink::new(rt.stderr());
-    let status = match given(&rt) {
+    let status = match words_and_env(&rt) {
         Ok((words, env)) => {
             let mut input = StdSource::new(rt.reader());
             let mut disk = HostDisk::new(alloc, &rt);
@@ -44,7 +44,8 @@ fn main(rt: HostRuntime) -> ExitCode {
                 &mut err,
             )
         }
-        Err(status) => say(alloc, status, &mut err),
+        Err(StartFault::BadWord) => say(alloc, Status::BadWords(1), &mut err),
+        Err(StartFault::NoMemory) => say(alloc, Status::NoMemory, &mut err),
     };
     exit_code_of(status)
 }
@@ -54,25 +55,6 @@ fn exit_code_of(status: Status) -> ExitCode
     ensures { exit_status result ≡ exit_code (ending_of status) }
 {
     ExitCode::from(status.code())
-}
-
-// The words after the program's name and the variables, or how the run ends without them.
-fn given<R: rt::Env + Alloc<A = Global>>(rt: &R) -> Result<(Vec<String>, Env), Status>
-    ensures { IfErr result (λ status. (ending_of status ≡ no_memory) ⊎ (ending_of status ≡ bad_words 1)) }
-{
-    let mut args = match env::args(rt) {
-        Ok(args) => args,
-        Err(e) if e.kind() == ErrorKind::OutOfMemory => return Err(Status::NoMemory),
-        Err(_) => return Err(Status::BadWords(1)),
-    };
-    args.next();
-    let Ok(words) = args.collect(rt.alloc()) else {
-        return Err(Status::NoMemory);
-    };
-    match Env::real(rt.alloc(), rt) {
-        Ok(env) => Ok((words, env)),
-        Err(_) => Err(Status::NoMemory),
-    }
 }
 
 // Prints the text that the words ask for, or else does what they ask for, as `run` does, and says on `err` how it ended.
@@ -86,15 +68,15 @@ fn answer<S: ByteSource, D: Disk, C: Clock, K: ByteSink, E: ByteSink>(
     out: &mut K,
     err: &mut E,
 ) -> Status
-    ensures printed { IfSome (text_asked (map string_bytes words.now)) (λ text. GoesAsPlanned (writes text done) (ending_of result) (K.held out.old) (K.held out.new)) }
+    ensures printed { IfSome (text_of_words firuvaik_help firuvaik_version (map string_bytes words.now)) (λ text. GoesAsPlanned (writes text done) (ending_of result) (K.held out.old) (K.held out.new)) }
     ensures counted { CountsWrites (ending_of result) (K.faults out.old) (K.faults out.new) }
     ensures said { SaysEnding (ending_of result) (E.held err.old) (E.held err.new) (E.faults err.old) (E.faults err.new) }
-    ensures headline { IfNone (text_asked (map string_bytes words.now)) (Went (DiskGives D.answers D.faults (D.files disk.old) env.now disk.old disk.new)
+    ensures headline { IfNone (text_of_words firuvaik_help firuvaik_version (map string_bytes words.now)) (Went (DiskGives D.answers D.faults (D.files disk.old) env.now disk.old disk.new)
         (λ taken. Gives C.Clock clock.old taken clock.new) env.now
         (task (map string_bytes words.now)) (S.left input.old) (S.left input.new) (ending_of result) (S.faults input.old) (S.faults input.new)
         (record { held_before = K.held out.old; held_now = K.held out.new; faults_before = K.faults out.old; faults_now = K.faults out.new })
         (record { held_before = E.held err.old; held_now = E.held err.new; faults_before = E.faults err.old; faults_now = E.faults err.new })) }
-    ensures untouched { IfNone (text_asked (map string_bytes words.now))
+    ensures untouched { IfNone (text_of_words firuvaik_help firuvaik_version (map string_bytes words.now))
         (UnlessTask (task (map string_bytes words.now)) ((K.held out.new ≡ K.held out.old) × (K.faults out.new ≡ K.faults out.old))) }
     ensures unread { Unless (takes_input (task (map string_bytes words.now))) ((S.left input.new ≡ S.left input.old) × (S.faults input.new ≡ S.faults input.old)) }
 {

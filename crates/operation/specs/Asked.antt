@@ -1,5 +1,5 @@
 -- What the program answers without a run.
-use Rattle.std.specs.Prelude.{ℕ, List, [], ◌∷◌, codes, bytes_eq, if◌then◌else◌, Option, Some, None}
+use Rattle.std.specs.Prelude.{ℕ, List, [], ◌∷◌, codes}
 use Rattle.std.specs.List.{flat_map}
 use Rattle.smithy_core.specs.Text.{line}
 
@@ -38,13 +38,3 @@ operation_help = flat_map line
 -- the name and the version of the program
 unfoldable pub operation_version : List ℕ
 operation_version = line (codes "operation 0.1.0")
-
--- the text that a word asks for
-abbrev pub operation_asked_by : List ℕ → Option (List ℕ)
-operation_asked_by word =
-    if bytes_eq word (codes "--help") then Some operation_help else if bytes_eq word (codes "--version") then Some operation_version else None
-
--- the text that the words ask for: that of a single one
-abbrev pub operation_asked : List (List ℕ) → Option (List ℕ)
-operation_asked (word ∷ []) = operation_asked_by word
-operation_asked words = None

@@ -1,6 +1,7 @@
 ghost use Rattle.std.specs.Prelude.{◌≡◌, map, option_copied};
 ghost use Rattle.std.specs.String.{string_bytes};
-ghost use Rattle.operation.specs.Asked.{operation_asked, operation_asked_by};
+ghost use Rattle.operation.specs.Asked.{operation_help, operation_version};
+ghost use Rattle.program_start.specs.Texts.{text_of_words};
 
 const HELP: &str = "\
 operation shows what an operation sends, attempt by attempt, over listed replies.
@@ -36,22 +37,7 @@ const VERSION: &str = "operation 0.1.0\n";
 
 /// The text that a single word asks for.
 pub fn text_asked(words: &[String]) -> Option<&'static str>
-    ensures { option_copied result ≡ operation_asked (map string_bytes words.now) }
+    ensures { option_copied result ≡ text_of_words operation_help operation_version (map string_bytes words.now) }
 {
-    match words {
-        [word] => text_of(word.as_str()),
-        _ => None,
-    }
-}
-
-// The text that a word asks for.
-#[tactic(auto, unfolding(crate::specs::Asked::operation_help, crate::specs::Asked::operation_version))]
-fn text_of(word: &str) -> Option<&'static str>
-    ensures { option_copied result ≡ operation_asked_by word.now }
-{
-    match word {
-        "--help" => Some(HELP),
-        "--version" => Some(VERSION),
-        _ => None,
-    }
+    program_start::text_asked(HELP, VERSION, words)
 }
