@@ -1,0 +1,206 @@
+-- A request that is signed by a signer, for what its target spells.
+use Rattle.std.proofs.Common.{◌≡◌, ℕ, ◌⊎◌, true, false, inl, inr, List, [], ◌∷◌, Option, Some, None, refl, sym, ap, ◌∙◌, subst}
+use Rattle.std.specs.Prelude.{Ok, Err, Result, string_bytes, if◌then◌else◌}
+use Rattle.http_uri.specs.declared.uri.Uri.{Uri}
+use Rattle.smithy_core.specs.Civil.{is_in_years}
+use Rattle.smithy_core.specs.Identity.{IsCredentials, IsSameIdentity}
+use Rattle.smithy_core.specs.Moment.{Instant}
+use Rattle.smithy_core.specs.declared.identity.Identity.{Identity}
+use Rattle.smithy_core.specs.declared.identity.Identity.TheVariants.{Credentials, Token}
+use Rattle.smithy_core.specs.declared.request.HttpRequest.{HttpRequest}
+use Rattle.smithy_http.specs.QueryWriter.{SpellsNoTarget, SpellsTarget}
+use Rattle.smithy_http.specs.Target.{Target, target_of}
+use Rattle.sigv4.specs.Body.{payload_text}
+use Rattle.sigv4.specs.ChunkTold.{unsigned_chunk_at}
+use Rattle.sigv4.specs.EventStream.{unsignable}
+use Rattle.sigv4.specs.Instructions.{Instructions, with_instructions}
+use Rattle.sigv4.specs.Parameters.{AppliesParams, AppliesTo, IsUntargeted, takes_no_more, target_text_with}
+use Rattle.sigv4.specs.KeptKey.{Kept, kept_at}
+use Rattle.sigv4.specs.Params.{signer_of, v4_identity, v4_settings, v4_time}
+use Rattle.sigv4.specs.Query.{Pair}
+use Rattle.sigv4.specs.Refusal.{request_refusal, unfit, unfit_signed_target}
+use Rattle.sigv4.specs.Request.{Case, identity_of, key_id_of, request_case, token_of}
+use Rattle.sigv4.specs.RequestSigning.{IsSigned, SignsCase}
+use Rattle.sigv4.specs.Settings.{settings_of}
+use Rattle.sigv4.specs.Signed.{instructions, parameters, signature_of, signed_headers, signed_target}
+use Rattle.sigv4.specs.SigningParams.{params_time}
+use Rattle.sigv4.specs.declared.error.SigningError.{SigningError}
+use Rattle.sigv4.specs.declared.error.SigningError.TheVariants.{InvalidUri, NoMemory}
+use Rattle.sigv4.specs.declared.instructions.SigningInstructions.{SigningInstructions}
+use Rattle.sigv4.specs.declared.output.SigningOutput.{SigningOutput}
+use Rattle.sigv4.specs.declared.params.SigningParams.{SigningParams as V4Params}
+use Rattle.sigv4.specs.declared.request.SignableRequest.{SignableRequest}
+use Rattle.sigv4.specs.declared.settings.SigningSettings.{SigningSettings}
+use Rattle.sigv4.specs.declared.signing_params.SigningParams.{SigningParams}
+use Rattle.sigv4.specs.declared.signing_params.SigningParams.TheVariants.{V4}
+use Rattle.sigv4.proofs.KeptKeyLemmas.{kept_signer}
+use Rattle.aws_auth.specs.Signer.{unsigned_target}
+use Rattle.aws_auth.specs.Steps.{RefusesTarget}
+use Rattle.presign_check.proofs.SignatureLemmas.{one_target, spelled_once}
+use Rattle.aws_signing.specs.KeyHolder.{HeldKey, IsHeldBy, key_kept}
+use Rattle.aws_signing.specs.declared.fault.AwsSigningError.{AwsSigningError}
+use Rattle.aws_signing.specs.SigningBy.{IsSignedRequestBy, unless_filled, RefusesBy, SigningState, SignsText, given_payload, in_form, signer_case, text_case}
+
+-- the case that is signed is that of the request
+pub text_case_made : (request : HttpRequest) (payload : Option (List ℕ)) (params : SigningParams) (signable : SignableRequest)
+    → signable.method.now ≡ string_bytes request.method → signable.headers.now ≡ request.headers → payload_text signable.body ≡ given_payload payload request.body
+    → request_case signable params ≡ text_case request payload params (target_of signable.uri)
+text_case_made request payload (V4 params) signable method headers body = rw (method, headers, body) refl
+
+-- who signs by parameters signs the case of a request
+pub text_case_able : (params : SigningParams) (signable : SignableRequest) → unsignable (identity_of params) (params_time params) ≡ None
+    → unsignable (identity_of params) (request_case signable params).at ≡ None
+text_case_able (V4 params) signable able = able
+
+-- a target takes the parameters of a case exactly where this test passes
+fits : (c : Case) (target : Target) (made : List Pair) → c.target ≡ target → made ≡ parameters c → takes_no_more made target ≡ false → unfit_signed_target c ≡ None
+unfolding unfit_signed_target
+fits c target made is given takes = rw (← given, is, takes) refl
+
+over : (c : Case) (target : Target) (made : List Pair) → c.target ≡ target → made ≡ parameters c → takes_no_more made target ≡ true
+    → unfit_signed_target c ≡ Some InvalidUri
+unfolding unfit_signed_target
+over c target made is given takes = rw (← given, is, takes) refl
+
+module _ (case : Target → Case) (aimed : (target : Target) → (case target).target ≡ target) where
+  -- a target that takes no more parameters is refused
+  pub not_put_in : (text new : List ℕ) (uri : Uri) (made : List Pair) (error : SigningError) → SpellsTarget text uri → unfit (case (target_of uri)) ≡ None
+      → made ≡ parameters (case (target_of uri)) → AppliesParams made text new (Err error) → RefusesTarget text case error
+  not_put_in text new uri made error spells fit is (inl (inl none, same)) = absurd (spelled_once text uri spells none)
+  not_put_in text new uri made error spells fit is (inl (inr other, same)) =
+      let one = one_target text other.0 uri other.1.0 spells in
+      let takes : takes_no_more made (target_of uri) ≡ true = rw (← one) other.2 in
+      let refusal = over (case (target_of uri)) (target_of uri) made (aimed (target_of uri)) is takes in
+      inl (Some (target_of uri), (uri, spells, refl), rw (fit, refusal, same) refl)
+  not_put_in text new uri made error spells fit is (inr memory) = inr memory
+
+  -- what a signature adds is put into the request
+  pub put_in : (at : Instant) (old new : HttpRequest) (uri : Uri) (made : Instructions) (signature : List ℕ) → unsigned_chunk_at at ≡ None
+      → (case (target_of uri)).headers ≡ old.headers → SpellsTarget (string_bytes old.target) uri → unfit (case (target_of uri)) ≡ None
+      → made.headers ≡ instructions (case (target_of uri)) → made.params ≡ parameters (case (target_of uri)) → signature ≡ signature_of (case (target_of uri))
+      → new.headers ≡ with_instructions old.headers made.headers
+      → AppliesParams made.params (string_bytes old.target) (string_bytes new.target) (Ok tt)
+      → IsSignedRequestBy case at (string_bytes old.target) new signature
+  unfolding signed_headers signed_target
+  put_in at old new uri made signature years headed spells fit headers_are params_are signature_is headers (other, spelled, applies) =
+      let one = one_target (string_bytes old.target) other uri spelled.0 spells in
+      let takes : takes_no_more made.params (target_of uri) ≡ false = rw (← one) applies.0 in
+      let passed = fits (case (target_of uri)) (target_of uri) made.params (aimed (target_of uri)) params_are takes in
+      let text : string_bytes new.target ≡ target_text_with made.params (target_of uri) (string_bytes old.target) = rw (← one) applies.1 in record {
+        target = target_of uri;
+        spelled = (uri, spells, refl);
+        in_years = years;
+        passed = rw (fit, passed) refl;
+        headers = rw (headers, headers_are, headed) refl;
+        text_is = rw (text, params_are, aimed (target_of uri)) refl;
+        signature_is = signature_is;
+      }
+
+-- ## By a signer
+
+-- a target that isn't read is refused
+pub unread : (text : List ℕ) (case : Target → Case) (error : SigningError) → (SpellsNoTarget text × (error ≡ InvalidUri)) ⊎ (error ≡ NoMemory) → RefusesTarget text case error
+unread text case error (inl none) = inl (None, none.0, ap Some (sym none.1))
+unread text case error (inr is) = inr is
+
+-- what signing a case refuses for who signs, when and the request
+refused : (text : List ℕ) (case : Target → Case) (identity : Identity) (c : Case) (uri : Uri) (error : SigningError) → SpellsTarget text uri
+    → c ≡ case (target_of uri) → unsignable identity c.at ≡ None → (request_refusal identity c ≡ Some error) ⊎ (error ≡ NoMemory) → RefusesTarget text case error
+refused text case identity c uri error spells same able (inl is) =
+    let refusal : unfit c ≡ Some error = rw able at is in
+    let unfit_case : unfit (case (target_of uri)) ≡ Some error = rw (← same) refusal in
+    inl (Some (target_of uri), (uri, spells, refl), rw unfit_case refl)
+refused text case identity c uri error spells same able (inr is) = inr is
+
+-- a copy of credentials is credentials with the same secret
+pub same_holder : (identity copy : Identity) (region region' name name' : List ℕ) (kept kept' : Kept) → IsHeldBy identity region name kept.signer
+    → IsSameIdentity identity copy → region' ≡ region → name' ≡ name → kept' ≡ kept → IsHeldBy copy region' name' kept'.signer
+same_holder (Credentials credentials) (Credentials copy) region region' name name' kept kept' held same regions names keeps =
+    record { credentials = tt; signs = rw (keeps, regions, names, same.secret) held.signs }
+same_holder (Credentials credentials) (Token token) region region' name name' kept kept' held same regions names keeps = absurd same
+same_holder (Token token) copy region region' name name' kept kept' held same regions names keeps = absurd held.credentials
+
+-- what a signer keeps for a moment is still of who signs
+pub holder_stays : (held : HeldKey) (at : Instant)
+    → ((key_kept held at).key_id ≡ held.key_id) × ((key_kept held at).token ≡ held.token) × ((key_kept held at).kept.signer ≡ held.kept.signer)
+holder_stays held at =
+    elim (is_in_years at) as (λ b. let kept = if b then record held { kept = kept_at held.kept at } else held in
+    (kept.key_id ≡ held.key_id) × (kept.token ≡ held.token) × (kept.kept.signer ≡ held.kept.signer))
+    [ true ↦ (refl, refl, kept_signer held.kept at) | false ↦ (refl, refl, refl) ]
+
+-- credentials sign at a moment in the years 0 to 9999
+pub able_at : (identity : Identity) (at : Instant) → IsCredentials identity → unsigned_chunk_at at ≡ None → unsignable identity at ≡ None
+able_at (Credentials credentials) at is years = years
+able_at (Token token) at is years = absurd is
+
+-- the case by the parameters of a signer is the signer's own
+pub case_by : (by : SigningState) (request : HttpRequest) (payload : Option (List ℕ)) (seconds : Option ℕ) (at : Instant) (params : V4Params SigningSettings)
+    → key_id_of (v4_identity params) ≡ by.holder.key_id → token_of (v4_identity params) ≡ by.holder.token → signer_of params ≡ by.holder.kept.signer
+    → v4_time params ≡ at → settings_of (v4_settings params) ≡ in_form by.settings seconds
+    → text_case request payload (V4 params) ≡ signer_case by (string_bytes request.method) request.headers (given_payload payload request.body) seconds at
+case_by by request payload seconds at params key_id token signer time settings = λ i target. record {
+  method = string_bytes request.method;
+  target = target;
+  headers = request.headers;
+  payload = given_payload payload request.body;
+  settings = settings i;
+  key_id = key_id i;
+  token = token i;
+  signer = signer i;
+  at = time i;
+}
+
+-- what signing a case answers, where who signs it and when are not refused
+pub signs_text : (text : List ℕ) (case : Target → Case) (identity : Identity) (c : Case) (uri : Uri) (result : Result (SigningOutput SigningInstructions) SigningError)
+    → SpellsTarget text uri → c ≡ case (target_of uri) → unsignable identity c.at ≡ None → SignsCase identity c result → SignsText text case result
+signs_text text case identity c uri (Ok output) spells same able signs =
+    let fit : unfit c ≡ None = rw able at signs.0 in (uri, spells, rw (← same) fit, rw (← same) signs.1)
+signs_text text case identity c uri (Err error) spells same able signs = refused text case identity c uri error spells same able signs
+
+-- a text that isn't empty
+pub filled : (text : List ℕ) (fault : AwsSigningError) → (text ≡ [] → ⊥) → unless_filled text fault ≡ None
+filled [] fault some = absurd (some refl)
+filled (byte ∷ bytes) fault some = refl
+
+-- the case by the parameters of a signer that keeps the key of the moment
+case_kept : (by : SigningState) (request : HttpRequest) (payload : Option (List ℕ)) (seconds : Option ℕ) (at : Instant) (params : V4Params SigningSettings)
+    (holder : HeldKey) → holder ≡ key_kept by.holder at → key_id_of (v4_identity params) ≡ holder.key_id → token_of (v4_identity params) ≡ holder.token
+    → signer_of params ≡ holder.kept.signer → v4_time params ≡ at → settings_of (v4_settings params) ≡ in_form by.settings seconds
+    → text_case request payload (V4 params) ≡ signer_case by (string_bytes request.method) request.headers (given_payload payload request.body) seconds at
+case_kept by request payload seconds at params holder kept key_id token signer time settings =
+    let stays = holder_stays by.holder at in
+    case_by by request payload seconds at params (key_id ∙ ap (λ (held : HeldKey). held.key_id) kept ∙ stays.0)
+    (token ∙ ap (λ (held : HeldKey). held.token) kept ∙ stays.1) (signer ∙ ap (λ (held : HeldKey). held.kept.signer) kept ∙ stays.2) time settings
+
+-- what a signer's signature adds isn't put into a request
+pub not_put_in_by : (by : SigningState) (request : HttpRequest) (payload : Option (List ℕ)) (seconds : Option ℕ) (at : Instant) (params : V4Params SigningSettings)
+    (holder : HeldKey) → holder ≡ key_kept by.holder at → key_id_of (v4_identity params) ≡ holder.key_id → token_of (v4_identity params) ≡ holder.token
+    → signer_of params ≡ holder.kept.signer → v4_time params ≡ at → settings_of (v4_settings params) ≡ in_form by.settings seconds
+    → unsigned_chunk_at at ≡ None → (output : SigningOutput SigningInstructions)
+    → SignsText (string_bytes request.target) (text_case request payload (V4 params)) (Ok output) → (new : List ℕ) (error : SigningError)
+    → AppliesParams output.output.params (string_bytes request.target) new (Err error)
+    → RefusesBy (signer_case by (string_bytes request.method) request.headers (given_payload payload request.body) seconds at) at (string_bytes request.target) error
+not_put_in_by by request payload seconds at params holder kept key_id token signer time settings years output signs new error applies =
+    let own = signer_case by (string_bytes request.method) request.headers (given_payload payload request.body) seconds at in
+    let same = case_kept by request payload seconds at params holder kept key_id token signer time settings in
+    let P : (Target → Case) → Type 0 = λ case. SignsText (string_bytes request.target) case (Ok output) in
+    let signed = subst P same signs in
+    inr (years, not_put_in own (λ target. refl) (string_bytes request.target) new signed.0 output.output.params error signed.1 signed.2 signed.3.params applies)
+
+-- what a signer's signature adds is put into a request
+pub put_in_by : (by : SigningState) (request new : HttpRequest) (payload : Option (List ℕ)) (seconds : Option ℕ) (at : Instant) (params : V4Params SigningSettings)
+    (holder : HeldKey) → holder ≡ key_kept by.holder at → key_id_of (v4_identity params) ≡ holder.key_id → token_of (v4_identity params) ≡ holder.token
+    → signer_of params ≡ holder.kept.signer → v4_time params ≡ at → settings_of (v4_settings params) ≡ in_form by.settings seconds
+    → unsigned_chunk_at at ≡ None → (output : SigningOutput SigningInstructions)
+    → SignsText (string_bytes request.target) (text_case request payload (V4 params)) (Ok output)
+    → new.headers ≡ with_instructions request.headers output.output.headers
+    → AppliesParams output.output.params (string_bytes request.target) (string_bytes new.target) (Ok tt)
+    → IsSignedRequestBy (signer_case by (string_bytes request.method) request.headers (given_payload payload request.body) seconds at) at (string_bytes request.target) new
+    (string_bytes output.signature)
+put_in_by by request new payload seconds at params holder kept key_id token signer time settings years output signs headers applies =
+    let own = signer_case by (string_bytes request.method) request.headers (given_payload payload request.body) seconds at in
+    let same = case_kept by request payload seconds at params holder kept key_id token signer time settings in
+    let P : (Target → Case) → Type 0 = λ case. SignsText (string_bytes request.target) case (Ok output) in
+    let signed = subst P same signs in
+    put_in own (λ target. refl) at request new signed.0 output.output (string_bytes output.signature) years refl signed.1 signed.2 signed.3.headers signed.3.params
+    signed.3.signature headers applies
