@@ -86,7 +86,7 @@ where
 
 impl<F: Clone + Drop> SigV4SessionTokenNameOverride<F> {
     /// The override by a copy of the closure. That the copy may be called follows from what a copy of this closure is, where its
-    /// type is known; of a type parameter `Clone` doesn't tell it.
+    /// type is known; of a type parameter `Clone` doesn't say so.
     pub fn try_clone(&self) -> Mem<SigV4SessionTokenNameOverride<F>>
         ensures { IfOk result (λ copy. F.is_clone self.now copy) }
     {

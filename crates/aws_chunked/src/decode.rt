@@ -63,7 +63,7 @@ pub enum DecodeFault {
 /// names in lower case.
 ///
 /// So `3\r\nhel\r\n2\r\nlo\r\n0\r\n\r\n` says `hello`, with neither signatures nor trailers, and of `5\r\nhelloX` the byte at the place 8
-/// is told: where the end of the chunk's line has to be.
+/// is named: where the end of the chunk's line has to be.
 ///
 /// It takes time and memory in proportion to the text: the data once, and for each trailer, whose line has 4 bytes at least, some 110
 /// bytes beside its name and value. A text of nothing but the shortest trailers takes up to 30 times its length, so a text from a
@@ -84,7 +84,7 @@ pub fn decode_chunked(alloc: Global, bytes: &[u8]) -> Result<Decoded, DecodeFaul
     }
 }
 
-// Reads a whole text, or tells where it stops.
+// Reads a whole text, or says where it stops.
 fn decode(alloc: Global, bytes: &[u8]) -> Result<Decoded, PartFault>
     ensures { ReadsWhole bytes.now result }
 {

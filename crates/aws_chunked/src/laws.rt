@@ -38,14 +38,14 @@ pub fn whole_texts_are_decoded()
         → IsTextOf body signatures trailers bytes → Decodes bytes result → DecodesOnly bytes result → AnswersDecoded body signatures trailers result }
 {}
 
-/// The text for HTTP 0.x is as long as its options tell ([`crate::AwsChunkedBody::data_size_hint`]): for data of the declared length
+/// The text for HTTP 0.x is as long as its options say ([`crate::AwsChunkedBody::data_size_hint`]): for data of the declared length
 /// in any pieces, and for trailers of the declared lengths.
 #[tactic(auto, using(crate::proofs::PassedLengthLemmas::passed_long))]
 pub fn passed_texts_are_as_long()
     ensures { (options : Options) → IsPassedLengthOf options (data_length options) }
 {}
 
-/// A signed text is as long as its options tell.
+/// A signed text is as long as its options say.
 #[tactic(auto, using(crate::proofs::LawLemmas::signed_long))]
 pub fn signed_texts_are_as_long()
     ensures { (options : Options) → IsChunkSize options.chunk_size → options.is_signed ≡ true → IsSignedLengthOf options (encoded_length options) }
@@ -60,7 +60,7 @@ pub fn sealed_texts_are_whole()
         → IsTextOf body (chunk_signatures signer t before (pieces_of_size size body) trailers) trailers (signed_chunked_text signer t before size body trailers) }
 {}
 
-/// Where the data and the lines of the trailers have the declared lengths, the signed text is as long as its options tell.
+/// Where the data and the lines of the trailers have the declared lengths, the signed text is as long as its options say.
 #[tactic(auto, using(crate::proofs::SealedLawLemmas::sealed_long))]
 pub fn sealed_texts_are_as_long()
     ensures { (options : Options) (signer : Signer) (t : Instant) (before bytes : List ℕ) (trailers : List Trailer) → IsChunkSize options.chunk_size

@@ -2,11 +2,11 @@
 //!
 //! The layer above is promised that the frames of [`AwsChunkedBody::poll_frame`] make up the text of the data and the trailers
 //! (`specs/Text.antt`), whatever the pieces in which the data comes: each call answers the front of the text that is due and leaves
-//! the rest, or tells why there is none (`specs/Body.antt`); in the text of a signed body each signature is made over the one before
+//! the rest, or says why there is none (`specs/Body.antt`); in the text of a signed body each signature is made over the one before
 //! it (`specs/Due.antt`). Those of [`AwsChunkedBody::poll_data`] are the pieces of the form for HTTP 0.x, one by one
 //! (`specs/Passing.antt`). A body has an engine for each of the two texts, and one record of what has come of its source, which both
 //! read. [`AwsChunkedBodyOptions::encoded_length`] is how long the text is (`specs/Options.antt`).
-//! [`decode_chunked`] reads a whole text back, or tells the least place where the bytes stop being one (`specs/Decoded.antt`).
+//! [`decode_chunked`] reads a whole text back, or names the least place where the bytes stop being one (`specs/Decoded.antt`).
 #![tactic(auto)]
 
 mod arrivals;

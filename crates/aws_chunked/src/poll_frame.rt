@@ -57,7 +57,7 @@ impl<F: FrameSource, G: SignChunk> AwsChunkedBody<F, G> {
         }
     }
 
-    // Makes text, where none is ready, or tells why none can be made.
+    // Makes text, where none is ready, or says why none can be made.
     fn fill(&mut self) -> Result<(), Stop>
         requires { IsBodyClosed self.old → ⊥ }
         ensures { HasTextOrStops F.FrameSource G.SignChunk self.old self.new result }
@@ -107,7 +107,7 @@ impl<F: FrameSource, G: SignChunk> AwsChunkedBody<F, G> {
         }
     }
 
-    // Takes a frame of the source, and tells how many frames without data it took: one or none.
+    // Takes a frame of the source, and returns how many frames without data it took: one or none.
     fn pull(&mut self) -> Result<u32, Stop>
         requires short { length (held_bytes self.old) < self.old.options.chunk_size }
         requires bound { self.old.options.chunk_size ≤ 4294967295 }

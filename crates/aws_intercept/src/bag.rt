@@ -29,13 +29,13 @@ pub struct ConfigBag {
     pub disable_skew: Option<DisableClockSkewCorrection>,
     /// The service that the client is for.
     pub api_metadata: Option<ApiMetadata>,
-    /// What the client tells of itself.
+    /// What the client says of itself.
     pub user_agent: Option<AwsUserAgent>,
     /// The name of the application.
     pub app_name: Option<AppName>,
     /// The id of the invocation.
     pub invocation_id: Option<InvocationId>,
-    /// What sends the requests, as the user agent tells it.
+    /// What sends the requests, as the user agent names it.
     pub connector: Option<String>,
     /// The frameworks that stand on the SDK.
     pub frameworks: Vec<FrameworkMetadata>,

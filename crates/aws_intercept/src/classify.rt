@@ -25,7 +25,7 @@ pub enum RetryAction {
     Retryable {
         /// What kind of error it was.
         kind: RetryKind,
-        /// The milliseconds to wait, where the service told them.
+        /// The milliseconds to wait, if the service named them.
         retry_after: Option<u64>,
     },
 }
@@ -159,7 +159,7 @@ impl AwsErrorCodeClassifier {
     }
 
     /// What [`classify_retry`](Self::classify_retry) says; where that is nothing, what was said before, if that was retryable
-    /// without a delay and the response tells one.
+    /// without a delay and the response has one.
     pub fn classify_retry_v2(
         &self,
         response: Option<&HttpResponse>,
@@ -260,7 +260,7 @@ fn code_of<'a>(error: Option<&'a ErrorMetadata>) -> Option<&'a str>
     }
 }
 
-// The milliseconds to wait, where the response tells them.
+// The milliseconds to wait, if the response has them.
 fn retry_after(response: Option<&HttpResponse>) -> Option<u64>
     ensures { IsDelay (delay_text (option_copied response.entry)) result }
 {

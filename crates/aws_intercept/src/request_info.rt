@@ -19,7 +19,7 @@ impl RequestInfoInterceptor {
 
     /// Sets the header `amz-sdk-request`: `ttl=STAMP; attempt=N; max=N`.
     ///
-    /// The stamp is the moment, shifted by the skew and by the read timeout. It is told from the second attempt on, where
+    /// The stamp is the moment, shifted by the skew and by the read timeout. It is there from the second attempt on, where
     /// there is a timeout and the shifted moment lies in the years 0 to 9999; `max` where there is a retry config.
     ///
     /// Call it on the attempt's copy of the operation's request, after it was signed: on a request of an earlier attempt the
@@ -56,7 +56,7 @@ fn info_text(alloc: Global, now: Moment, bag: &ConfigBag) -> Mem<String>
     Ok(text)
 }
 
-// Appends until when the answer is awaited, where that is told.
+// Appends until when the answer is awaited, if that is known.
 fn push_ttl(text: &mut String, ttl: &Option<String>) -> Mem<()>
     ensures { OnOk result (string_bytes text.new ≡ string_bytes text.old ++ ttl_front (option_map string_bytes ttl.now)) }
 {
@@ -66,7 +66,7 @@ fn push_ttl(text: &mut String, ttl: &Option<String>) -> Mem<()>
     Ok(())
 }
 
-// Appends how many attempts there may be, where that is told.
+// Appends how many attempts there may be, if that is known.
 fn push_max(text: &mut String, retry: &Option<RetryConfig>) -> Mem<()>
     ensures { OnOk result (string_bytes text.new ≡ string_bytes text.old ++ max_end retry.now) }
 {
@@ -77,7 +77,7 @@ fn push_max(text: &mut String, retry: &Option<RetryConfig>) -> Mem<()>
     Ok(())
 }
 
-// The stamp of the moment until which the answer is awaited, where that is told.
+// The stamp of the moment until which the answer is awaited, if that is known.
 fn ttl(alloc: Global, now: Moment, bag: &ConfigBag) -> Mem<Option<String>>
     ensures { IfOk result (λ stamp. option_map string_bytes stamp ≡ ttl now bag.now) }
 {

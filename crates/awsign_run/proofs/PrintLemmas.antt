@@ -8,7 +8,7 @@ use Rattle.smithy_http.specs.Target.{Target}
 use Rattle.sigv4.specs.Request.{Case}
 use Rattle.env_config.specs.Sections.{FileText, sections}
 use Rattle.awsign_run.specs.Chosen.{IsFaultOf, Profile, SignRefusal, SignsFor, chosen_signer, profile_name, profile_of}
-use Rattle.awsign_run.specs.Signing.{GivesPrinted, PrintsFor, PrintsSigned, SignsAsked, SignsText, is_long}
+use Rattle.awsign_run.specs.Signing.{GivesPrinted, PrintsFor, PrintsSigned, SignsAsked, SignsPrinted, is_long}
 use Rattle.awsign_run.specs.Words.{SignWanted}
 use Rattle.awsign_run.specs.declared.fault.Fault.{Fault}
 use Rattle.awsign_run.specs.declared.fault.Fault.TheVariants.{LongExpiry, NoMemory}
@@ -42,7 +42,7 @@ by_profile sign_wanted env files digest at profile result short is prints = rw (
 
 -- a signed request is printed
 pub request_printed : (sign_wanted : SignWanted) (case : Target → Case) (request : HttpRequest) (result : Result (Vec ℕ) Fault) → SignsAsked sign_wanted case (Ok request)
-    → GivesPrinted sign_wanted request result → SignsText sign_wanted case result
+    → GivesPrinted sign_wanted request result → SignsPrinted sign_wanted case result
 request_printed sign_wanted case request (Ok text) signs printed =
     (signs.0, signs.1, signs.2, rw (← signs.3, ← signs.4, ← signs.5) printed)
 request_printed sign_wanted case request (Err fault) signs printed = inr printed

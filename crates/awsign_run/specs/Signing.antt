@@ -96,17 +96,17 @@ printed sign_wanted c =
     text_in_form (asked_form sign_wanted) sign_wanted.method (signed_target c sign_wanted.url) (signed_headers c) (last_value sign_wanted.options (codes "--data"))
 
 -- the signed request, for what the URL spells, as it is printed; or why it isn't signed
-abbrev pub SignsText : SignWanted → (Target → Case) → Result (Vec ℕ) Fault → Type 0
-SignsText sign_wanted case (Ok text) =
+abbrev pub SignsPrinted : SignWanted → (Target → Case) → Result (Vec ℕ) Fault → Type 0
+SignsPrinted sign_wanted case (Ok text) =
     (uri : Uri) × SpellsTarget sign_wanted.url uri × (asked_refusal (case (target_of uri)) ≡ None) × (text.items ≡ printed sign_wanted (case (target_of uri)))
-SignsText sign_wanted case (Err fault) =
+SignsPrinted sign_wanted case (Err fault) =
     (((uri : Uri) × (error : SigningError) × SpellsTarget sign_wanted.url uri × (asked_refusal (case (target_of uri)) ≡ Some error) × (refusal_of fault ≡ unsigned error))
     ⊎ (SpellsNoTarget sign_wanted.url × (refusal_of fault ≡ unsigned InvalidUri))) ⊎ (fault ≡ NoMemory)
 
 -- the text of the request that somebody signs with this digest of the data at this moment, or why there is none
 abbrev pub PrintsFor : SignWanted → Result SignsFor SignRefusal → Option (List ℕ) → Instant → Result (Vec ℕ) Fault → Type 0
 PrintsFor sign_wanted (Ok signer) digest at result =
-    SignsText sign_wanted (asked_case sign_wanted signer (asked_payload sign_wanted (is_s3 sign_wanted.options signer.service) digest) at) result
+    SignsPrinted sign_wanted (asked_case sign_wanted signer (asked_payload sign_wanted (is_s3 sign_wanted.options signer.service) digest) at) result
 PrintsFor sign_wanted (Err refusal) digest at (Ok text) = ⊥
 PrintsFor sign_wanted (Err refusal) digest at (Err fault) = (refusal_of fault ≡ refusal) ⊎ (fault ≡ NoMemory)
 
@@ -136,7 +136,7 @@ SignsAsked sign_wanted case (Ok request) =
     (uri : Uri) × SpellsTarget sign_wanted.url uri × (asked_refusal (case (target_of uri)) ≡ None)
     × (string_bytes request.method ≡ sign_wanted.method) × (string_bytes request.target ≡ signed_target (case (target_of uri)) sign_wanted.url)
     × (request.headers ≡ signed_headers (case (target_of uri)))
-SignsAsked sign_wanted case (Err fault) = SignsText sign_wanted case (Err fault)
+SignsAsked sign_wanted case (Err fault) = SignsPrinted sign_wanted case (Err fault)
 
 -- the text of a request in the form that is asked for, or memory ran out
 abbrev pub GivesPrinted : SignWanted → HttpRequest → Result (Vec ℕ) Fault → Type 0

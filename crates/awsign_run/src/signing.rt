@@ -3,7 +3,7 @@ ghost use Rattle.std.specs.Prelude.{◌≡◌, ◌||◌, IfOk, codes, map, optio
 ghost use Rattle.env_config.specs.Source.{file_of};
 ghost use Rattle.sigv4.specs.Settings.{settings_of};
 ghost use Rattle.awsign_run.specs.Chosen.{chosen_signer, profile_name, signs_for_of, profile_values};
-ghost use Rattle.awsign_run.specs.Signing.{GivesPrinted, IsAsked, PrintsFor, PrintsSigned, SignsAsked, SignsText, asked_case, asked_form, asked_payload, asked_settings, expiry, is_long, is_s3, default_payload, usual_settings};
+ghost use Rattle.awsign_run.specs.Signing.{GivesPrinted, IsAsked, PrintsFor, PrintsSigned, SignsAsked, SignsPrinted, asked_case, asked_form, asked_payload, asked_settings, expiry, is_long, is_s3, default_payload, usual_settings};
 ghost use Rattle.awsign_run.specs.Words.{sign_wanted};
 
 use crate::chosen::{Signer, choose_signer};
@@ -75,7 +75,7 @@ fn print_signed(
     at: Moment,
 ) -> Result<Vec<u8>, Fault>
     ensures { let asks = sign_wanted asked.now in let s3 = is_s3 asks.options (string_bytes signer.service) in
-        SignsText asks (asked_case asks (signs_for_of signer) (asked_payload asks s3 (option_copied digest.entry)) at) result }
+        SignsPrinted asks (asked_case asks (signs_for_of signer) (asked_payload asks s3 (option_copied digest.entry)) at) result }
 {
     let s3 = is_s3(&asked.options, signer.service.as_str());
     match payload_of(alloc, asked, s3, digest) {
@@ -92,7 +92,7 @@ fn print_over(
     payload: String,
     at: Moment,
 ) -> Result<Vec<u8>, Fault>
-    ensures { SignsText (sign_wanted asked.now) (asked_case (sign_wanted asked.now) (signs_for_of signer) (string_bytes payload) at) result }
+    ensures { SignsPrinted (sign_wanted asked.now) (asked_case (sign_wanted asked.now) (signs_for_of signer) (string_bytes payload) at) result }
 {
     match signed_request(alloc, asked, signer, payload, at) {
         Ok(request) => print_request(alloc, asked, &request),

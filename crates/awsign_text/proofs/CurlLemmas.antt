@@ -6,7 +6,7 @@ use Rattle.std.proofs.lemmas.Bool.{and_parts, eqb-true}
 use Rattle.std.proofs.lemmas.List.{append-nil}
 use Rattle.std.proofs.lemmas.List.Concat.{flat_map-append}
 use Rattle.smithy_core.specs.TextPairs.{first_value}
-use Rattle.awsign_text.specs.Curl.{ConfigPlace, Setting, before_others, behind_name, behind_value, body_settings, config_settings, curl_config_text, escape, file_settings, flag, header_setting, in_escape, in_name, in_value, is_plain_name, is_uploaded, method_setting, no_content_type, quoted, request_settings, sent_settings, setting_line, config_settings_from, step, unescaped, valued}
+use Rattle.awsign_text.specs.Curl.{ConfigPlace, Setting, before_others, behind_name, behind_value, body_settings, config_settings, curl_config_text, escape, file_settings, flag, header_setting, in_escape, in_name, in_value, is_plain_name, is_uploaded, method_setting, no_content_type, quoted, request_settings, sent_settings, setting_line, config_settings_from, config_step, unescaped, valued}
 
 -- a test that is denied isn't true
 not_true : (v : Bool) → not v ≡ true → v ≡ false
@@ -15,7 +15,7 @@ not_true false h = refl
 
 -- a name is read to its end
 name_reads : (name acc rest : List ℕ) → is_plain_name name ≡ true → config_settings_from (in_name acc) (name ++ rest) ≡ config_settings_from (in_name (acc ++ name)) rest
-unfolding step
+unfolding config_step
 name_reads [] acc rest plain = ap (λ (n : List ℕ). config_settings_from (in_name n) rest) (sym (append-nil acc))
 name_reads (byte ∷ name) acc rest plain =
     let parts = and_parts (not (eqb byte 10) && not (eqb byte 32)) (is_plain_name name) plain in
@@ -27,7 +27,7 @@ name_reads (byte ∷ name) acc rest plain =
 
 -- a byte of a value is read as it was
 byte_reads : (name acc rest : List ℕ) (byte : ℕ) → config_settings_from (in_value name acc) (escape byte ++ rest) ≡ config_settings_from (in_value name (acc ++ byte ∷ [])) rest
-unfolding step escape unescaped
+unfolding config_step escape unescaped
 byte_reads name acc rest byte = by_quote (eqb byte 34) refl
   where
     Reads : List ℕ → Type 0
@@ -72,7 +72,7 @@ value_reads name (byte ∷ value) acc rest =
 line_reads : (name : List ℕ) (value : Option (List ℕ)) (rest : List ℕ) → is_plain_name name ≡ true
     → let setting : Setting = record { name = name; value = value } in
     config_settings_from (in_name []) (setting_line setting ++ rest) ≡ option_map (λ others. setting ∷ others) (config_settings_from (in_name []) rest)
-unfolding step quoted setting_line
+unfolding config_step quoted setting_line
 line_reads name None rest plain =
     let text : ((name ++ []) ++ 10 ∷ []) ++ rest ≡ name ++ (10 ∷ rest) = simp (append_assoc, append-nil) refl in
     ap (config_settings_from (in_name [])) text ∙ name_reads name [] (10 ∷ rest) plain

@@ -50,16 +50,16 @@ abbrev pub ends : List ℕ → Option (List ℕ) → Option Step
 ends name value = Some (record { place = in_name []; ended = Some (record { name = name; value = value }) })
 
 -- a byte at a place, where it may stand there: names end before a space, values stand in quotes
-unfoldable pub step : ConfigPlace → ℕ → Option Step
-step (in_name name) byte =
+unfoldable pub config_step : ConfigPlace → ℕ → Option Step
+config_step (in_name name) byte =
     if byte == line_feed then ends name None else if byte == space then goes (behind_name name) else goes (in_name (name ++ byte ∷ []))
-step (behind_name name) byte =
+config_step (behind_name name) byte =
     if byte == quote then goes (in_value name []) else if byte == equals_sign || byte == space then goes (behind_name name) else None
-step (in_value name value) byte =
+config_step (in_value name value) byte =
     if byte == quote then goes (behind_value name value)
     else if byte == backslash then goes (in_escape name value) else goes (in_value name (value ++ byte ∷ []))
-step (in_escape name value) byte = goes (in_value name (value ++ unescaped byte ∷ []))
-step (behind_value name value) byte = if byte == line_feed then ends name (Some value) else None
+config_step (in_escape name value) byte = goes (in_value name (value ++ unescaped byte ∷ []))
+config_step (behind_value name value) byte = if byte == line_feed then ends name (Some value) else None
 
 -- the start of a line
 abbrev pub is_start : ConfigPlace → Bool
@@ -74,7 +74,7 @@ before_others (Some setting) others = option_map (λ others. setting ∷ others)
 -- the options that a text spells from a place on; the text is over behind the end of a line
 abbrev pub config_settings_from : ConfigPlace → List ℕ → Option (List Setting)
 config_settings_from place [] = if is_start place then Some [] else None
-config_settings_from place (byte ∷ text) = option_and_then (λ read. before_others read.ended (config_settings_from read.place text)) (step place byte)
+config_settings_from place (byte ∷ text) = option_and_then (λ read. before_others read.ended (config_settings_from read.place text)) (config_step place byte)
 
 -- the options that a config spells
 unfoldable pub config_settings : List ℕ → Option (List Setting)

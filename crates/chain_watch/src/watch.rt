@@ -112,11 +112,11 @@ impl ChainWatch {
     /// # Errors
     ///
     /// The first test that a frame fails, as [`check_chain`](crate::check_chain) has them: of frames that aren't there
-    /// whole only what their preludes tell. The events before it are appended. Each later call answers the same fault, takes
+    /// whole only what their preludes say. The events before it are appended. Each later call answers the same fault, takes
     /// nothing and appends nothing.
     ///
     /// [`ChainFault::NoMemory`] where memory runs out. Where the piece had no room, it isn't taken, which
-    /// [`ChainWatch::fed`] tells, and nothing has changed; and else some of the events are appended, the first ones. The
+    /// [`ChainWatch::fed`] shows, and nothing has changed; and else some of the events are appended, the first ones. The
     /// next call goes on, also with an empty piece: no event is lost, and none comes twice.
     #[tactic(auto, using(crate::proofs::WatchLemmas::feeds))]
     pub fn feed(&mut self, piece: Bytes, events: &mut Vec<Message>) -> Result<Watched, ChainFault>
@@ -170,7 +170,7 @@ impl ChainWatch {
         Ok(())
     }
 
-    // Walks over the frames that are there whole, and tells the state then.
+    // Walks over the frames that are there whole, and returns the state then.
     #[tactic(auto, using(crate::proofs::WatchLemmas::goes))]
     fn go_on(&mut self, events: &mut Vec<Message>) -> Result<Watched, ChainFault>
         ensures goes { WalksOn self.old events.old.items self.new events.new.items }
@@ -192,7 +192,7 @@ impl ChainWatch {
         }
     }
 
-    // Walks over one frame more, where it is there whole, and tells whether there may be another. The event has its room
+    // Walks over one frame more, where it is there whole, and returns whether there may be another. The event has its room
     // before the frame is left behind.
     fn step(&mut self, events: &mut Vec<Message>) -> Mem<bool>
         ensures { StepsOn self.old events.old.items self.new events.new.items result }

@@ -12,6 +12,6 @@ pub record Signing : Type 0 where
   pub at : Instant
 
 -- they sign at a moment in the years 0 to 9999, and else the moment is refused, unless memory ran out
-abbrev pub MakesSigner : Signer → Instant → Result Signing ChunkFault → Type 0
-MakesSigner signer at (Ok made) = made ≡ record { signer = signer; at = at }
-MakesSigner signer at (Err fault) = ((fault ≡ MomentOutOfRange) × (is_in_years at ≡ false)) ⊎ (fault ≡ NoMemory)
+abbrev pub MakesChunkSigner : Signer → Instant → Result Signing ChunkFault → Type 0
+MakesChunkSigner signer at (Ok made) = made ≡ record { signer = signer; at = at }
+MakesChunkSigner signer at (Err fault) = ((fault ≡ MomentOutOfRange) × (is_in_years at ≡ false)) ⊎ (fault ≡ NoMemory)

@@ -1,6 +1,6 @@
 ghost use Rattle.std.specs.Prelude.{◌≡◌, IfOk, string_bytes};
 ghost use Rattle.sigv4.specs.Chunk.{chunk_signature};
-ghost use Rattle.chunk_watch.specs.Signing.{MakesSigner};
+ghost use Rattle.chunk_watch.specs.Signing.{MakesChunkSigner};
 
 use crate::fault::ChunkFault;
 use bytes::Bytes;
@@ -42,7 +42,7 @@ impl ChunkSigner {
         name: &str,
         at: Moment,
     ) -> Result<ChunkSigner, ChunkFault>
-        ensures { MakesSigner (record { secret = secret.now; region = region.now; name = name.now }) at result }
+        ensures { MakesChunkSigner (record { secret = secret.now; region = region.now; name = name.now }) at result }
     {
         if !is_in_years(at) {
             return Err(ChunkFault::MomentOutOfRange);

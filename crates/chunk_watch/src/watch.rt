@@ -156,7 +156,7 @@ impl ChunkWatch {
         }
     }
 
-    // Takes one step, where there is one, and tells whether there was.
+    // Takes one step, where there is one, and returns whether there was.
     #[tactic(auto, using(crate::proofs::StepLemmas::steps))]
     fn step(&mut self, out: &mut Vec<u8>) -> Mem<bool>
         ensures { StepsChunk self.old out.old.items self.new out.new.items result }

@@ -7,7 +7,7 @@ use crate::text::joined;
 use smithy_core::{Env, Mem};
 use std::alloc::Global;
 
-/// The system whose variables tell the home directory.
+/// The system whose variables name the home directory.
 #[derive(Clone, Copy, Debug, PartialEq, Eq)]
 pub enum Os {
     /// `HOME`, then `USERPROFILE`, then `HOMEDRIVE` with `HOMEPATH`.
@@ -25,7 +25,7 @@ impl Os {
     }
 }
 
-/// The home directory, where a variable tells it.
+/// The home directory, if a variable names it.
 pub fn home_dir(alloc: Global, env: &Env, os: Os) -> Mem<Option<String>>
     ensures { IfOk result (λ dir. option_map string_bytes dir ≡ home env.now os) }
 {

@@ -59,7 +59,7 @@ impl<'a> Kept<'a> {
     }
 }
 
-// `[profile default]` is kept too, since it tells whether `[default]` is taken.
+// `[profile default]` is kept too, since it decides whether `[default]` is taken.
 fn is_kept_profile(heading: &Heading<'_>, name: &str) -> bool
     ensures { result ≡ is_kept_profile name.now (heading_seen heading.now) }
 {

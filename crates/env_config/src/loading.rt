@@ -163,7 +163,7 @@ fn default_path(alloc: Global, env: &Env, kind: EnvConfigFileKind) -> Mem<String
     }
 }
 
-// The variable that tells the path of the default file.
+// The variable that names the path of the default file.
 fn path_variable(kind: EnvConfigFileKind) -> &'static str
     ensures { result.now ≡ path_variable kind }
 {
@@ -173,7 +173,7 @@ fn path_variable(kind: EnvConfigFileKind) -> &'static str
     }
 }
 
-// The path of the default file where no variable tells it.
+// The path of the default file where no variable names it.
 fn usual_path(kind: EnvConfigFileKind) -> &'static str
     ensures { result.now ≡ usual_path kind }
 {

@@ -22,7 +22,7 @@ pub enum Drained {
     Enough,
 }
 
-/// Takes messages, which `out` gains, until it has `most` of them, and tells why it takes no more.
+/// Takes messages, which `out` gains, until it has `most` of them, and says why it takes no more.
 ///
 /// The receiver has to keep no message: one that `try_recv_initial` kept is taken by [`Receiver::recv`] first.
 ///

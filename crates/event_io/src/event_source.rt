@@ -41,7 +41,7 @@ pub trait EventSource {
 
     type Error;
 
-    // the items that are left, where they are told
+    // the items that are left, if it shows them
     ghost left: { Self → Option (List (Result Self.Item Self.Error)) };
 
     // how often it has answered that nothing has come yet

@@ -10,7 +10,7 @@ use eventstream::{Error, UnmarshallMessage};
 use smithy_core::{FrameSource, Header, HeaderValue, Message, RawMessage, SdkError};
 
 impl<F: FrameSource, U: UnmarshallMessage> Receiver<F, U> {
-    /// The first message, where it begins the stream, as its first header `:event-type` tells. Else it is kept, and comes first
+    /// The first message, where it begins the stream, as its first header `:event-type` says. Else it is kept, and comes first
     /// at the next call.
     ///
     /// # Errors
@@ -31,7 +31,7 @@ impl<F: FrameSource, U: UnmarshallMessage> Receiver<F, U> {
     }
 
     /// What the preprocessor makes of the first message, where that begins the stream, as its first header `:event-type`
-    /// tells. Else the message itself is kept, and comes first at the next call. The preprocessor has to be one that may be called
+    /// says. Else the message itself is kept, and comes first at the next call. The preprocessor has to be one that may be called
     /// on every message.
     ///
     /// # Errors

@@ -42,7 +42,7 @@ pub fn calls_join()
 /// Over any list of calls of a receiver in which no message is kept, of [`Receiver::recv`](crate::Receiver::recv) and of
 /// [`receive_all`](crate::receive_all), the answers are the messages of the reading of the bytes that were still to be read, in
 /// order, and its one fault, and then the end again and again, however the bytes were cut (`tells`). A call of `recv` counts as one of
-/// `receive_all` that takes one message at most (`takes`). Where the source doesn't tell what it has left, the messages are those that
+/// `receive_all` that takes one message at most (`takes`). Where the source doesn't show what it has left, the messages are those that
 /// the bytes at hand and those that were taken begin with (`holds`).
 pub fn calls_tell_the_reading<
     F: FrameSource,
@@ -60,7 +60,7 @@ pub fn calls_tell_the_reading<
 
 /// Each call of an adapter whose items are messages as they are, and whose signer signs them, answers the next frame of the
 /// chain, or why there is none (`polled`); so the frames that it has answered are the chain's first (`sent`). Where memory ran out
-/// the signer is told as before, or one link on (`stays`).
+/// what is known of the signer is as before, or one link on (`stays`).
 pub fn chain_polled<
     S: EventSource<Item = Message>,
     M: MarshallMessage<Input = Message>,

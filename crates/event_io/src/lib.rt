@@ -6,7 +6,7 @@
 //! message that ends the stream; and that each other answer comes only for its cause. Of a [`Receiver`] it is promised that
 //! each call answers the kept message, or else the next one of the bytes that came and are to come, in whatever pieces, as its
 //! unmarshaller makes it an event, or why there is none, and that no other answer loses a byte (`specs/Receiver.antt`); and
-//! of [`receive_all`] that it takes the first messages of these bytes, and tells why it takes no more (`specs/Drain.antt`). Over any
+//! of [`receive_all`] that it takes the first messages of these bytes, and says why it takes no more (`specs/Drain.antt`). Over any
 //! list of these calls the answers are the messages of the bytes in order, their one fault, and then the end (`specs/Laws.antt`).
 #![tactic(auto)]
 

@@ -55,7 +55,7 @@ impl<F: FrameSource, U: UnmarshallMessage> Receiver<F, U> {
     /// # Errors
     ///
     /// [`SdkError::ServiceError`] with the error that the service sent, or [`SdkError::ResponseError`]: the unmarshaller
-    /// refused the message, the bytes are no frame, or the stream ended within a frame, after the bytes that are told. After
+    /// refused the message, the bytes are no frame, or the stream ended within a frame, after the bytes that are named. After
     /// these each call answers the end. After [`SdkError::DispatchFailure`], where the source failed, and after
     /// [`SdkError::NoMemory`] the next call goes on, and nothing is lost.
     pub fn recv(
@@ -168,7 +168,7 @@ impl<F: FrameSource, U: UnmarshallMessage> Receiver<F, U> {
         }
     }
 
-    // Takes a frame of the source, once there is room for it, and tells how many frames without data it took: one or none.
+    // Takes a frame of the source, once there is room for it, and returns how many frames without data it took: one or none.
     fn pull(&mut self) -> Result<u32, Stop>
         requires { length (taken_bytes self.old) < most_frame }
         ensures { PullsOne F.FrameSource self.old self.new result }

@@ -8,12 +8,12 @@ use std::fmt;
 #[derive(Debug, Drop)]
 pub struct MessageStreamError {
     source: ErrorMetadata,
-    // In place of the source, where nothing is told of it.
+    // In place of the source, if nothing else is known of it.
     told: Option<ErrorMetadata>,
 }
 
 impl MessageStreamError {
-    /// An error that tells nothing of its metadata but as its source.
+    /// An error whose metadata is its source alone.
     pub fn unhandled(meta: ErrorMetadata) -> MessageStreamError
         ensures { result ≡ unhandled_error meta }
     {
@@ -27,7 +27,7 @@ impl MessageStreamError {
         }
     }
 
-    /// An error that tells its metadata.
+    /// An error with its metadata.
     pub fn generic(meta: ErrorMetadata) -> MessageStreamError
         ensures { result ≡ generic_error meta }
     {
@@ -44,7 +44,7 @@ impl MessageStreamError {
         &self.source
     }
 
-    /// The metadata that it tells: none after [`MessageStreamError::unhandled`].
+    /// Its metadata: none after [`MessageStreamError::unhandled`].
     pub fn meta(&self) -> &ErrorMetadata
         ensures { result.now ≡ metadata_of self.now }
     {

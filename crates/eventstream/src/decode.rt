@@ -216,7 +216,7 @@ impl MessageFrameDecoder {
         self.finish(buffer, lengths.total, read)
     }
 
-    // Takes the prelude at the front of the buffer, which tells these lengths or is a fault, and keeps it.
+    // Takes the prelude at the front of the buffer, which has these lengths or is a fault, and keeps it.
     fn take_prelude(&mut self, buffer: &mut SegBuf, bytes: [u8; PRELUDE], lengths: Option<Lengths>)
         requires there { prelude_len ≤ length buffer.old.bytes }
         requires told { IfSome lengths (λ lengths. read_prelude bytes ≡ Ok lengths) }

@@ -11,12 +11,12 @@ use seg_buf::PRELUDE;
 pub(crate) struct KeptPrelude {
     /// Its bytes.
     pub(crate) bytes: [u8; PRELUDE],
-    /// The lengths that it tells, and none where it is a fault.
+    /// The lengths in it, and none if it is a fault.
     pub(crate) lengths: Option<Lengths>,
 }
 
 impl KeptPrelude {
-    /// The lengths that it tells.
+    /// The lengths in it.
     ///
     /// # Errors
     ///

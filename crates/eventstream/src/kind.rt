@@ -1,4 +1,4 @@
-//! The byte that tells the kind of a header's value.
+//! The byte that says the kind of a header's value.
 
 pub(crate) const TRUE: u8 = 0;
 

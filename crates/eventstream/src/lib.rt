@@ -5,7 +5,7 @@
 //! [`read_message_from`] takes the message of one frame, or nothing and the first fault
 //! (`specs/Read.antt`); that [`MessageFrameDecoder`] makes one step of the reading on the bytes that came,
 //! or all of them, in whatever pieces (`specs/Reading.antt`, `specs/Decode.antt`); and that a frame, whatever follows
-//! it, is read back as its message ([`frame_reads_back`]). [`MessageSizeHint`] tells how long a frame
+//! it, is read back as its message ([`frame_reads_back`]). [`MessageSizeHint`] says how long a frame
 //! will be, [`parse_response_headers`] and the calls that expect a value read headers
 //! (`specs/SizeHint.antt`, `specs/ResponseHeaders.antt`, `specs/Expect.antt`). The definitions of the
 //! signing key and of the chain of signed frames stand here too (`specs/Key.antt`, `specs/Link.antt`),

@@ -9,7 +9,7 @@ pub trait MarshallMessage {
 
     type Input;
 
-    // the answer for an event, where more is told of it than that there is one
+    // the answer for an event, if more is known of it than that there is one
     ghost answers: { Self → Self.Input → Result Parts Error → Type 0 } = { λ _ _ _. Unit {0} };
 
     /// The message of an event.

@@ -7,10 +7,10 @@ use crate::texts::{missing_text, no_text, refusal, unrecognized_text};
 use smithy_core::{Header, HeaderValue, Message, StrBytes};
 use std::alloc::Global;
 
-/// The headers by which a response tells what it is.
+/// The headers by which a response says what it is.
 #[derive(Debug, Drop)]
 pub struct ResponseHeaders<'a> {
-    /// The media type of the payload, where one is told.
+    /// The media type of the payload, if there is one.
     pub content_type: Option<&'a StrBytes>,
     /// `event` or `exception`.
     pub message_type: &'a StrBytes,
@@ -19,7 +19,7 @@ pub struct ResponseHeaders<'a> {
 }
 
 impl ResponseHeaders<'_> {
-    /// The media type of the payload, where one is told.
+    /// The media type of the payload, if there is one.
     pub fn content_type(&self) -> Option<&str>
         ensures { option_copied result ≡ option_copied self.now.content_type }
     {

@@ -10,10 +10,10 @@ pub trait SignMessage: Drop {
     ghost use Rattle.eventstream.specs.Told.{Signs, SignsEmpty, Told};
     ghost use Rattle.eventstream.specs.declared.sign_error.SignMessageError.{SignMessageError};
 
-    // what is told of it
+    // what contracts know of it
     ghost told: { Self → Told };
 
-    // the signing of a message, where more is told of it than the clauses below say
+    // the signing of a message, if more is known of it than the clauses below say
     ghost signs: { Self → Parts → Instant → Result Parts SignMessageError → Self → Type 0 } = { λ _ _ _ _ _. Unit {0} };
 
     // the signing of the empty message, likewise

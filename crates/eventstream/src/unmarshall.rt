@@ -35,7 +35,7 @@ pub trait UnmarshallMessage {
 
     type Error;
 
-    // the answer for a message, where more is told of it than that there is one
+    // the answer for a message, if more is known of it than that there is one
     ghost answers: { Self → Parts → Result (Made Self.Output Self.Error) Refusal → Type 0 } = { λ _ _ _. Unit {0} };
 
     /// The event of a message, or the error that the service sent.

@@ -42,8 +42,8 @@ use Rattle.sigv4.specs.declared.params.SigningParams.{SigningParams as V4Params}
 use Rattle.sigv4.specs.declared.settings.SigningSettings.{SigningSettings}
 use Rattle.sigv4.specs.declared.signing_params.SigningParams.{SigningParams}
 use Rattle.sigv4.specs.declared.signing_params.SigningParams.TheVariants.{V4}
-use Rattle.firuvaik_c.specs.Faults.{beyond_years, frame_fault, signing_fault, unknown_flags}
-use Rattle.firuvaik_c.specs.Asked.{are_plain_texts, asked_case, asked_payload, asked_settings, given_text, is_text_field, is_text_keys, is_text_payload, is_text_settings, lent_header, moment_at, unless_utf8, unreadable}
+use Rattle.firuvaik_c.specs.Faults.{beyond_years, frame_fault, fault_of_signing, unknown_flags}
+use Rattle.firuvaik_c.specs.Asked.{are_plain_texts, lent_case, lent_payload, lent_settings, given_text, is_text_field, is_text_keys, is_text_payload, is_text_settings, lent_header, moment_at, unless_utf8, unreadable}
 use Rattle.firuvaik_c.specs.Events.{GivesLink, GivesNextFrame, is_text_scope, key_signer}
 use Rattle.firuvaik_c.specs.Signing.{RefusesSpelled, SignsPieces, SignsSpelled, http_lines, is_query_params, pieces_case}
 use Rattle.firuvaik_c.specs.declared.answer.Made.{Made}
@@ -65,9 +65,9 @@ length-link_signature signer before bytes t = length-encode_with lower_digits _ 
 
 -- why a message has no frame, as the number that is told
 pub encoding_fault : (reason : Option ErrorKind) (error : SigningError) → option_map failed_encoding reason ≡ Some error
-    → option_map frame_fault reason ≡ Some (signing_fault error)
+    → option_map frame_fault reason ≡ Some (fault_of_signing error)
 encoding_fault None error is = cc
-encoding_fault (Some kind) error is = ap (option_map signing_fault) is
+encoding_fault (Some kind) error is = ap (option_map fault_of_signing) is
 
 -- the case that is signed is that of the pieces
 pub case_made : (texts : PlainTexts) (headers : List Pair) (payload : List ℕ) (params : SigningParams) (signable : SignableRequest)
@@ -159,10 +159,10 @@ applied texts headers payload (V4 params) uri text made answer spells fit header
 pub case_asked : (signer : LentSigner) (request : Request) (settings : Settings) (seconds : ℤ) (texts : PlainTexts) (headers : List Pair) (payload : List ℕ)
     (params : V4Params SigningSettings) (identity : Bor Identity) (region name : Bor (List ℕ)) (at : Instant) (made : SigningSettings)
     → params ≡ params_of identity region name at made → texts.method.now ≡ request.method.now → headers ≡ map lent_header request.headers.now
-    → payload ≡ asked_payload settings.flags request.body.now → settings_of made ≡ asked_settings settings → key_id_of identity.now ≡ signer.key_id.now
+    → payload ≡ lent_payload settings.flags request.body.now → settings_of made ≡ lent_settings settings → key_id_of identity.now ≡ signer.key_id.now
     → token_of identity.now ≡ given_text signer.token.now → secret_of identity.now ≡ signer.secret.now → region.now ≡ signer.region.now
     → name.now ≡ signer.service.now → at ≡ moment_at seconds → (target : Target)
-    → pieces_case texts headers payload (V4 params) target ≡ asked_case signer request settings seconds target
+    → pieces_case texts headers payload (V4 params) target ≡ lent_case signer request settings seconds target
 case_asked signer request settings seconds texts headers payload params identity region name at made built method fields body set key_id token secret place service when target =
     rw (built, method, fields, body, set, key_id, token, secret, place, service, when) refl
 
@@ -230,11 +230,11 @@ frame_made signer seconds bytes before made scope code years link =
 
 -- and so is the reason why there is none
 pub frame_refused : (signer : LentSigner) (seconds : ℤ) (bytes before : List ℕ) (error : SigningError) (fault : Fault) → is_text_scope signer ≡ true → is_utf8 before ≡ true
-    → is_in_years (moment_at seconds) ≡ true → fault ≡ signing_fault error
+    → is_in_years (moment_at seconds) ≡ true → fault ≡ fault_of_signing error
     → (option_map failed_encoding (unframed (link_message (key_signer signer) before bytes (moment_at seconds))) ≡ Some error) ⊎ (error ≡ NoMemory)
     → GivesNextFrame signer seconds bytes before (Err fault)
 frame_refused signer seconds bytes before error fault scope code years is (inl refused) =
     let reason = unframed (link_message (key_signer signer) before bytes (moment_at seconds)) in
     inl (frame_if (is_text_scope signer) (is_utf8 before) (is_in_years (moment_at seconds)) (option_map frame_fault reason) scope code years
     ∙ encoding_fault reason error refused ∙ ap Some (sym is))
-frame_refused signer seconds bytes before error fault scope code years is (inr memory) = inr (is ∙ ap signing_fault memory)
+frame_refused signer seconds bytes before error fault scope code years is (inr memory) = inr (is ∙ ap fault_of_signing memory)

@@ -10,8 +10,8 @@ abbrev pub fits : List ℕ → List ℕ → Bool
 fits text room = nat_le (length text) (length room)
 
 -- the room behind a call: the text at its front where it fits, and else as it was
-abbrev pub filled : List ℕ → List ℕ → List ℕ
-filled text room = if fits text room then text ++ drop (length text) room else room
+abbrev pub room_filled : List ℕ → List ℕ → List ℕ
+room_filled text room = if fits text room then text ++ drop (length text) room else room
 
 -- the answer to a text: done, or more room is wanted; either way it tells the length of the text
 abbrev pub told : List ℕ → List ℕ → Answer
@@ -23,7 +23,7 @@ refused fault = record { status = fault.status; place = fault.place; length = 0 
 
 -- a text is lent, or a fault told and nothing written
 abbrev pub Lends : Result (List ℕ) Fault → List ℕ → List ℕ → Answer → Type 0
-Lends (Ok text) old new answer = (new ≡ filled text old) × (answer ≡ told text old)
+Lends (Ok text) old new answer = (new ≡ room_filled text old) × (answer ≡ told text old)
 Lends (Err fault) old new answer = (new ≡ old) × (answer ≡ refused fault)
 
 -- bytes are lent, or a fault told and nothing written

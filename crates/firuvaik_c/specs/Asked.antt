@@ -46,8 +46,8 @@ abbrev pub asked_expiry : ℕ → Option ℕ
 asked_expiry seconds = if seconds == 0 then None else Some seconds
 
 -- the settings that flags, expiry and names stand for
-abbrev pub asked_settings : Settings → SigningSettings
-asked_settings settings = record {
+abbrev pub lent_settings : Settings → SigningSettings
+lent_settings settings = record {
   percent_encoding_mode = (if has_flag settings.flags 2 then Single else Double);
   payload_checksum_kind = (if has_flag settings.flags 8 then XAmzSha256 else NoHeader);
   signature_location = (if has_flag settings.flags 1 then QueryParams else Headers);
@@ -59,21 +59,21 @@ asked_settings settings = record {
 }
 
 -- the payload's text: the one that is given, or else the digest of the body
-abbrev pub asked_payload : ℕ → List ℕ → List ℕ
-asked_payload flags body = if has_flag flags 32 then body else encode_lower (sha256 body)
+abbrev pub lent_payload : ℕ → List ℕ → List ℕ
+lent_payload flags body = if has_flag flags 32 then body else encode_lower (sha256 body)
 
 -- the moment of a second
 abbrev pub moment_at : ℤ → Instant
 moment_at seconds = record { secs = seconds; nanos = 0 }
 
 -- the request that is to be signed, who signs it, and how, where its target has these parts
-abbrev pub asked_case : Signer → Request → Settings → ℤ → Target → Case
-asked_case signer request settings seconds target = record {
+abbrev pub lent_case : Signer → Request → Settings → ℤ → Target → Case
+lent_case signer request settings seconds target = record {
   method = request.method.now;
   target = target;
   headers = map lent_header request.headers.now;
-  payload = asked_payload settings.flags request.body.now;
-  settings = asked_settings settings;
+  payload = lent_payload settings.flags request.body.now;
+  settings = lent_settings settings;
   key_id = signer.key_id.now;
   token = given_text signer.token.now;
   signer = record { secret = signer.secret.now; region = signer.region.now; name = signer.service.now };

@@ -37,8 +37,8 @@ abbrev pub next_message : Signer → ℤ → List ℕ → List ℕ → Parts
 next_message signer seconds bytes signature = link_message (key_signer signer) signature bytes (moment_at seconds)
 
 -- why there is no next frame: a text isn't one, or the moment lies outside the years, or the message has no frame
-abbrev pub frame_refusal : Signer → ℤ → List ℕ → List ℕ → Option Fault
-frame_refusal signer seconds bytes signature =
+abbrev pub text_frame_refusal : Signer → ℤ → List ℕ → List ℕ → Option Fault
+text_frame_refusal signer seconds bytes signature =
     option_or (keyless_at (is_text_scope signer && is_utf8 signature) seconds) (option_map frame_fault (unframed (next_message signer seconds bytes signature)))
 
 -- the frame of a message that has one, and a signature
@@ -48,6 +48,6 @@ GivesLink message code made = (unframed message ≡ None) × (made.text.items �
 -- the frame of the signed message, and its signature; or the first reason why there is none, or memory ran out
 abbrev pub GivesNextFrame : Signer → ℤ → List ℕ → List ℕ → Result Made Fault → Type 0
 GivesNextFrame signer seconds bytes signature (Ok made) =
-    (frame_refusal signer seconds bytes signature ≡ None) × (made.text.items ≡ frame (next_message signer seconds bytes signature))
+    (text_frame_refusal signer seconds bytes signature ≡ None) × (made.text.items ≡ frame (next_message signer seconds bytes signature))
     × (made.signature ≡ link_signature (key_signer signer) signature bytes (moment_at seconds))
-GivesNextFrame signer seconds bytes signature (Err fault) = (frame_refusal signer seconds bytes signature ≡ Some fault) ⊎ (fault ≡ no_memory)
+GivesNextFrame signer seconds bytes signature (Err fault) = (text_frame_refusal signer seconds bytes signature ≡ Some fault) ⊎ (fault ≡ no_memory)

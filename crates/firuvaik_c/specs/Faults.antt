@@ -53,14 +53,14 @@ frame_fault MessageTooLong = fault_numbered 25 0
 frame_fault _ = fault_numbered 26 0
 
 -- the fault of an error of signing; those that a request with a secret can't have share a number
-abbrev pub signing_fault : SigningError → Fault
-signing_fault NoMemory = no_memory
-signing_fault (MomentOutOfRange moment) = beyond_years
-signing_fault InvalidUri = bad_target
-signing_fault (InvalidHeaderName place) = fault_numbered 7 place
-signing_fault (InvalidHeaderValue place) = value_fault place
-signing_fault MissingHost = fault_numbered 13 0
-signing_fault InvalidTokenName = fault_numbered 14 0
-signing_fault MissingExpires = fault_numbered 15 0
-signing_fault (FailedToEncodeMessage error) = frame_fault (error_kind error)
-signing_fault _ = fault_numbered 16 0
+abbrev pub fault_of_signing : SigningError → Fault
+fault_of_signing NoMemory = no_memory
+fault_of_signing (MomentOutOfRange moment) = beyond_years
+fault_of_signing InvalidUri = bad_target
+fault_of_signing (InvalidHeaderName place) = fault_numbered 7 place
+fault_of_signing (InvalidHeaderValue place) = value_fault place
+fault_of_signing MissingHost = fault_numbered 13 0
+fault_of_signing InvalidTokenName = fault_numbered 14 0
+fault_of_signing MissingExpires = fault_numbered 15 0
+fault_of_signing (FailedToEncodeMessage error) = frame_fault (error_kind error)
+fault_of_signing _ = fault_numbered 16 0

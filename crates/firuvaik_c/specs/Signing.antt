@@ -21,8 +21,8 @@ use Rattle.sigv4.specs.declared.instructions.SigningInstructions.{SigningInstruc
 use Rattle.sigv4.specs.declared.output.SigningOutput.{SigningOutput}
 use Rattle.sigv4.specs.declared.signing_params.SigningParams.{SigningParams}
 use Rattle.sigv4.specs.declared.signing_params.SigningParams.TheVariants.{V4}
-use Rattle.firuvaik_c.specs.Asked.{asked_case, unreadable}
-use Rattle.firuvaik_c.specs.Faults.{no_memory, signing_fault}
+use Rattle.firuvaik_c.specs.Asked.{lent_case, unreadable}
+use Rattle.firuvaik_c.specs.Faults.{no_memory, fault_of_signing}
 use Rattle.firuvaik_c.specs.declared.answer.Made.{Made}
 use Rattle.firuvaik_c.specs.declared.fault.Fault.{Fault}
 use Rattle.firuvaik_c.specs.declared.lent.Request.{Request}
@@ -64,13 +64,13 @@ SignsOrRefuses text case (Ok made) = SignsSpelled text case made
 SignsOrRefuses text case (Err error) = RefusesSpelled text case error
 
 -- a request is signed as it is asked for, or the first reason against it is told
-abbrev pub SignsAsked : Signer → Request → Settings → ℤ → Result Made Fault → Type 0
-SignsAsked signer request settings seconds (Ok made) =
-    (unreadable signer request settings seconds ≡ None) × SignsSpelled request.target.now (asked_case signer request settings seconds) made
-SignsAsked signer request settings seconds (Err fault) =
+abbrev pub SignsLent : Signer → Request → Settings → ℤ → Result Made Fault → Type 0
+SignsLent signer request settings seconds (Ok made) =
+    (unreadable signer request settings seconds ≡ None) × SignsSpelled request.target.now (lent_case signer request settings seconds) made
+SignsLent signer request settings seconds (Err fault) =
     (unreadable signer request settings seconds ≡ Some fault)
     ⊎ ((unreadable signer request settings seconds ≡ None)
-    × ((error : SigningError) × RefusesSpelled request.target.now (asked_case signer request settings seconds) error × (fault ≡ signing_fault error)))
+    × ((error : SigningError) × RefusesSpelled request.target.now (lent_case signer request settings seconds) error × (fault ≡ fault_of_signing error)))
     ⊎ (fault ≡ no_memory)
 
 -- the case of these texts, headers and payload under parameters, where the target has these parts

@@ -8,7 +8,7 @@ ghost use Rattle.sigv4.specs.declared.modes.PercentEncodingMode.TheVariants.{Dou
 ghost use Rattle.sigv4.specs.declared.settings.PayloadChecksumKind.TheVariants.{NoHeader, XAmzSha256};
 ghost use Rattle.sigv4.specs.declared.settings.SessionTokenMode.TheVariants.{Exclude, Include};
 ghost use Rattle.sigv4.specs.declared.settings.SignatureLocation.TheVariants.{Headers, QueryParams};
-ghost use Rattle.firuvaik_c.specs.Asked.{asked_exclusions, asked_expiry, asked_payload, asked_settings, given_text, has_flag, is_text_keys, is_text_payload, is_text_settings};
+ghost use Rattle.firuvaik_c.specs.Asked.{asked_exclusions, asked_expiry, lent_payload, lent_settings, given_text, has_flag, is_text_keys, is_text_payload, is_text_settings};
 ghost use Rattle.firuvaik_c.specs.Faults.{no_memory, not_text};
 
 use crate::fault::Fault;
@@ -60,7 +60,7 @@ pub(crate) fn identity_of(alloc: Global, signer: &Signer<'_>) -> Result<Identity
 /// The settings that flags, expiry and names stand for.
 pub(crate) fn settings_asked(alloc: Global, asked: &Settings<'_>) -> Result<SigningSettings, Fault>
     ensures { MatchResult result
-        (λ settings. (is_text_settings asked.now ≡ true) × (settings_of settings ≡ asked_settings asked.now))
+        (λ settings. (is_text_settings asked.now ≡ true) × (settings_of settings ≡ lent_settings asked.now))
         (λ fault. ((is_text_settings asked.now ≡ false) × (fault ≡ not_text)) ⊎ (fault ≡ no_memory)) }
 {
     let token_name = text_of(asked.token_name)?;
@@ -78,7 +78,7 @@ fn settings_with(
 ) -> SigningSettings
     requires excluded { option_map (λ names. map string_bytes names.items) excluded ≡ Some (asked_exclusions asked.now) }
     requires token_name { option_map string_bytes token_name ≡ given_text asked.now.token_name.now }
-    ensures { settings_of result ≡ asked_settings asked.now }
+    ensures { settings_of result ≡ lent_settings asked.now }
 {
     SigningSettings {
         percent_encoding_mode: encoding(asked.flags),
@@ -171,7 +171,7 @@ pub(crate) fn payload_asked<'a>(
     body: &'a [u8],
 ) -> Result<SignableBody<'a>, Fault>
     ensures { MatchResult result
-        (λ payload. (is_text_payload flags body.now ≡ true) × (payload_text payload ≡ asked_payload flags body.now))
+        (λ payload. (is_text_payload flags body.now ≡ true) × (payload_text payload ≡ lent_payload flags body.now))
         (λ fault. ((is_text_payload flags body.now ≡ false) × (fault ≡ not_text)) ⊎ (fault ≡ no_memory)) }
 {
     if !has_flag(flags, PAYLOAD_TEXT) {

@@ -1,5 +1,5 @@
 ghost use Rattle.std.specs.Prelude.{◌≡◌};
-ghost use Rattle.firuvaik_c.specs.Faults.{fault_numbered, frame_fault, no_memory, signing_fault, value_fault};
+ghost use Rattle.firuvaik_c.specs.Faults.{fault_numbered, frame_fault, no_memory, fault_of_signing, value_fault};
 
 use eventstream::{Error, ErrorKind};
 use sigv4::{SigningError, ValuePlace};
@@ -41,9 +41,9 @@ impl From<AllocError> for Fault {
 
 impl From<SigningError> for Fault {
     ghost use Rattle.std.specs.Prelude.{◌≡◌};
-    ghost use Rattle.firuvaik_c.specs.Faults.{signing_fault};
+    ghost use Rattle.firuvaik_c.specs.Faults.{fault_of_signing};
 
-    ghost from_gives = { λ error fault. fault ≡ signing_fault error };
+    ghost from_gives = { λ error fault. fault ≡ fault_of_signing error };
 
     fn from(error: SigningError) -> Fault {
         fault_of(&error)
@@ -52,7 +52,7 @@ impl From<SigningError> for Fault {
 
 // The fault of an error of signing.
 fn fault_of(error: &SigningError) -> Fault
-    ensures { result ≡ signing_fault error.now }
+    ensures { result ≡ fault_of_signing error.now }
 {
     match error {
         SigningError::NoMemory => plain(2),

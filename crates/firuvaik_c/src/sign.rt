@@ -12,7 +12,7 @@ ghost use Rattle.sigv4.specs.SigningParams.{params_time};
 ghost use Rattle.firuvaik_c.specs.Answers.{LendsSigned};
 ghost use Rattle.firuvaik_c.specs.Asked.{are_plain_texts};
 ghost use Rattle.firuvaik_c.specs.Faults.{not_text, unknown_flags};
-ghost use Rattle.firuvaik_c.specs.Signing.{GivesOutgoing, SignsAsked, SignsOrRefuses, SignsPieces, http_line, is_query_params, pieces_case};
+ghost use Rattle.firuvaik_c.specs.Signing.{GivesOutgoing, SignsLent, SignsOrRefuses, SignsPieces, http_line, is_query_params, pieces_case};
 ghost use Rattle.firuvaik_c.specs.declared.answer.Made.{Made};
 ghost use Rattle.firuvaik_c.specs.declared.fault.Fault.{Fault};
 
@@ -43,7 +43,7 @@ pub extern "C" fn firuvaik_sign(
     signature: &mut [u8; 64],
     out: &mut [u8],
 ) -> Answer
-    ensures { (made : Result Made Fault) × SignsAsked signer.now request.now settings.now seconds made
+    ensures { (made : Result Made Fault) × SignsLent signer.now request.now settings.now seconds made
         × LendsSigned made signature.old signature.new out.old out.new result }
 {
     let made = signed(alloc, signer, request, settings, seconds);
@@ -59,7 +59,7 @@ fn signed(
     settings: &Settings<'_>,
     seconds: i64,
 ) -> Result<Made, Fault>
-    ensures { SignsAsked signer.now request.now settings.now seconds result }
+    ensures { SignsLent signer.now request.now settings.now seconds result }
 {
     test_flags(settings.flags)?;
     let texts = plain_texts(signer, request)?;

@@ -12,7 +12,7 @@ pub trait TakeLine {
     ghost use Rattle.std.specs.Prelude.{ℕ, List, Option};
     ghost use Rattle.job_text.specs.Lines.{Moves};
 
-    // what is told of the lines so far
+    // what contracts know of the lines so far
     ghost Draft: { Type 0 };
 
     ghost draft: { Self → Draft };

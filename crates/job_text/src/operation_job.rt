@@ -10,7 +10,7 @@ use crate::request_lines::{RequestDraft, RequestJob};
 use smithy_core::Mem;
 use std::alloc::Global;
 
-/// A reply as its line tells it.
+/// A reply as its line spells it.
 #[derive(Debug, Drop)]
 pub struct ReplyLine {
     /// The status, 100 to 999.

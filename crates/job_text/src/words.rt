@@ -30,7 +30,7 @@ pub trait TakeWord<'a> {
     ghost use Rattle.std.specs.Prelude.{ℕ, List, Option};
     ghost use Rattle.job_text.specs.Words.{TakesWord};
 
-    // what is told of the words so far
+    // what contracts know of the words so far
     ghost Given: { Type 0 };
 
     ghost given: { Self → Given };

@@ -1,7 +1,7 @@
 ghost use Rattle.std.specs.Prelude.{◌≡◌, ◌↔◌, bytes_eq, length};
 
 /// Whether two texts are the same, as signatures are compared: where their lengths are the same, each byte is looked at, also
-/// behind the first that differs, so that the time doesn't tell how much of a wrong signature is right.
+/// behind the first that differs, so that the time doesn't show how much of a wrong signature is right.
 pub fn constant_time_eq(first: &[u8], second: &[u8]) -> bool
     ensures { result ≡ bytes_eq first.now second.now }
 {

@@ -1,4 +1,4 @@
-//! The replies that lines tell.
+//! The replies that lines spell.
 ghost use Rattle.std.specs.Prelude.{◌≡◌, IfOk, map, option_map};
 ghost use Rattle.std.specs.Option.{option_to_list};
 ghost use Rattle.std.specs.String.{string_bytes};
@@ -11,7 +11,7 @@ use operation_run::Reply;
 use smithy_core::{ErrorMetadata, Headers, HttpResponse, Mem};
 use std::alloc::Global;
 
-/// The replies that the lines tell, in order.
+/// The replies that the lines spell, in order.
 pub fn replies_of(alloc: Global, lines: &[ReplyLine]) -> Mem<Vec<Reply>>
     ensures { IfOk result (λ replies. map reply_texts replies.items ≡ map told_reply (map reply_parts lines.now)) }
 {
@@ -22,7 +22,7 @@ pub fn replies_of(alloc: Global, lines: &[ReplyLine]) -> Mem<Vec<Reply>>
     Ok(replies)
 }
 
-// The reply that a line tells.
+// The reply that a line spells.
 fn reply_of(alloc: Global, line: &ReplyLine) -> Mem<Reply>
     ensures { IfOk result (λ reply. reply_texts reply ≡ told_reply (reply_parts line.now)) }
 {

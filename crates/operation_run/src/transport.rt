@@ -46,7 +46,7 @@ impl From<AllocError> for SendFault {
 
 /// Sends requests, and gives the replies.
 ///
-/// A transport of one's own, which answers 200 to each request and tells nothing:
+/// A transport of one's own, which answers 200 to each request and shows nothing:
 ///
 /// ```
 /// #[derive(Drop)]
@@ -71,16 +71,16 @@ impl From<AllocError> for SendFault {
 /// }
 /// ```
 pub trait Transport {
-    // the requests that went out, where they are told
+    // the requests that went out, if it shows them
     ghost sent: { Self → Option (List RequestTexts) };
 
-    // the replies that came, where they are told
+    // the replies that came, if it shows them
     ghost replied: { Self → Option (List ReplyTexts) };
 
     // how often it has failed
     ghost faults: { Self → ℕ };
 
-    // replies that no call changes, where these are told: it fails only once it has given as many
+    // replies that no call changes, if it shows them: it fails only once it has given as many
     ghost settled: { Self → Option (List ReplyTexts) } = { λ _. None };
 
     /// Sends a request, and gives the reply.
@@ -88,7 +88,7 @@ pub trait Transport {
     /// # Errors
     ///
     /// [`SendFault::Failed`] where the count of faults rose, or is saturated; [`SendFault::NoMemory`] where memory runs out. Both
-    /// leave what was sent and what was replied. Any answer but the first leaves the count. A transport that tells `settled` fails
+    /// leave what was sent and what was replied. Any answer but the first leaves the count. A transport that shows `settled` fails
     /// only once it has given all of these.
     fn send(&mut self, request: &HttpRequest) -> Result<Reply, SendFault>
         ensures count { faults self.old ≤ faults self.new }

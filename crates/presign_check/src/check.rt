@@ -36,7 +36,7 @@ use std::alloc::Global;
 /// service that acts on a header has to look for its name there. A session token that the settings exclude isn't signed either.
 ///
 /// The texts are read in time and memory that grow with the request's length. The signature is computed again as
-/// [`check_request`](request_check::check_request) does it, where what names that are listed twice cost is told. It comes
+/// [`check_request`](request_check::check_request) does it, where its cost for names that are listed twice is said. It comes
 /// last, and the two signatures are compared over their whole lengths.
 ///
 /// # Errors

@@ -11,7 +11,7 @@ use std::fmt;
 /// Why a presigned request isn't accepted: the first test of [`check_presigned`](crate::check_presigned) that it doesn't pass.
 ///
 /// The signature that was computed again signs the request for whoever has it: [`Debug`](std::fmt::Debug) and
-/// [`Display`](std::fmt::Display) leave it out, and it isn't to be told to whoever sent the request.
+/// [`Display`](std::fmt::Display) leave it out, and don't show it to whoever sent the request.
 #[derive(Drop)]
 pub enum PresignFault {
     /// The request has an `authorization` header.

@@ -12,7 +12,7 @@ use sigv4::v4::credential_scope;
 use smithy_core::Moment;
 use std::alloc::Global;
 
-/// What the parameters of a presigned target tell.
+/// What the parameters of a presigned target say.
 #[derive(Clone, Copy)]
 pub(crate) struct Terms<'a> {
     /// The key's id.
@@ -23,7 +23,7 @@ pub(crate) struct Terms<'a> {
     pub(crate) seconds: u64,
 }
 
-/// What the parameters tell, where each is in its form.
+/// What the parameters say, if each is in its form.
 #[tactic(auto, using(crate::proofs::TermLemmas::bad))]
 pub(crate) fn read_terms<'a>(
     alloc: Global,

@@ -6,7 +6,7 @@ use std::{env, rt};
 /// Why a program doesn't get its words and variables.
 #[derive(Clone, Copy, Debug, PartialEq, Eq)]
 pub enum StartFault {
-    /// A word isn't UTF-8. They are had all together, so its place isn't told.
+    /// A word isn't UTF-8. They come all together, so its place isn't known.
     BadWord,
     /// Memory ran out.
     NoMemory,

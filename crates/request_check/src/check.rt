@@ -33,7 +33,7 @@ use std::fmt;
 /// the moment is recent.
 ///
 /// The signature that was computed again signs the request for whoever has it, also where another one is carried: it isn't
-/// printed, and it isn't to be told to whoever sent the request.
+/// printed, and don't show it to whoever sent the request.
 #[derive(Drop)]
 pub struct Checked {
     /// The signature that the request carries.
@@ -101,7 +101,7 @@ impl CheckRequestFault {
 /// name and the secret. Moment and names are those of the seal that the request carries.
 ///
 /// A request that was signed, with the usual exclusions, answers the signature of its case twice, where what signing added is
-/// told from what the request had (`specs/Recomputation.antt`): in header form token and payload's text are trimmed, and in query
+/// known from what the request had (`specs/Recomputation.antt`): in header form token and payload's text are trimmed, and in query
 /// form the request had no `authorization` header and its target no parameter of a signature.
 ///
 /// ```rust

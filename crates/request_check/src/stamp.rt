@@ -33,7 +33,7 @@ fn has_stamp(moment: Moment, text: &[u8]) -> bool
     }
 }
 
-// The date and the time of day that a text tells, if it is a stamp.
+// The date and the time of day that a text spells, if it is a stamp.
 fn civil_at(text: &[u8]) -> Civil
     requires { length text.now ≡ 16 }
     ensures short { IsShortDate result }

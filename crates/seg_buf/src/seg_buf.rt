@@ -138,7 +138,7 @@ impl SegBuf {
         }
     }
 
-    // Drops up to `n` bytes of the first piece, and tells how many.
+    // Drops up to `n` bytes of the first piece, and returns how many.
     #[tactic(auto, using(crate::proofs::SegmentLemmas::cuts))]
     fn advance_first(&mut self, n: usize) -> usize
         requires some { 0 < n }
@@ -319,7 +319,7 @@ impl fmt::Debug for SegBuf {
     }
 }
 
-// Writes a prefix of the bytes at the place, as many as there is room for, and tells how many.
+// Writes a prefix of the bytes at the place, as many as there is room for, and returns how many.
 fn put_at(into: &mut [u8], at: usize, bytes: &[u8]) -> usize
     requires { at ≤ length into.old }
     ensures count { result ≡ min (length bytes.now) (length into.old - at) }

@@ -108,7 +108,7 @@ fn frame_at(
     }
 }
 
-// The fault that tells why the message at a place isn't signed.
+// The fault for why the message at a place isn't signed.
 fn sign_fault(place: usize, error: SignMessageError) -> StreamFault
     requires { IsSignFault error }
     ensures { halt_of result ≡ sign_halt place error }
@@ -120,7 +120,7 @@ fn sign_fault(place: usize, error: SignMessageError) -> StreamFault
     }
 }
 
-// The fault that tells of the message at a place why it has no frame.
+// The fault for why the message at a place has no frame.
 fn fault_at(place: usize, reason: &ErrorKind) -> StreamFault
     requires { IsFrameFault reason.now }
     ensures { halt_of result ≡ refuses (fault_at place reason.now) }

@@ -10,8 +10,8 @@
 //! A program that has a request and its events in memory calls [`sign_and_stream`], which is promised the same of the
 //! sink and of the clock's moments, and answers the signed request (`specs/Streaming.antt`).
 //!
-//! An I/O object need not tell its content. Clauses on what the input spells speak where the input tells
-//! its bytes, and those on what was gained where the sink tells what it holds; the objects in memory do both.
+//! An I/O object need not show its content. Clauses on what the input spells speak if the input shows
+//! its bytes, and those on what was gained if the sink shows what it holds; the objects in memory do both.
 #![tactic(auto)]
 
 mod chain;

@@ -70,7 +70,7 @@ fn name_asked(name: &Option<String>) -> Result<Option<String>, OverrideError>
     }
 }
 
-/// The fault that tells an error of signing a request.
+/// The fault for an error of signing a request.
 pub fn fault_of(error: &SigV4SigningError) -> StreamFault
     requires { IsRequestError error.now }
     ensures { halt_of result ≡ error_halt error.now }
@@ -82,7 +82,7 @@ pub fn fault_of(error: &SigV4SigningError) -> StreamFault
     }
 }
 
-// The fault that tells why a request isn't signed.
+// The fault for why a request isn't signed.
 fn refusal_for(error: &SigningError) -> StreamFault
     requires { IsRequestError (SigV4SigningError.Signing error.now) }
     ensures { halt_of result ≡ refuses (run_fault_for error.now) }

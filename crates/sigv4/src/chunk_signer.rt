@@ -11,10 +11,10 @@ pub trait SignChunk: Drop {
     ghost use Rattle.sigv4.specs.Query.{Pair};
     ghost use Rattle.sigv4.specs.declared.error.SigningError.{SigningError};
 
-    // what is told of it
+    // what contracts know of it
     ghost told: { Self → ChunkTold };
 
-    // the signing of a chunk, where more is told of it than the clauses below say
+    // the signing of a chunk, if more is known of it than the clauses below say
     ghost signs: { Self → List ℕ → Result (String Global) SigningError → Self → Type 0 } = { λ _ _ _ _. Unit {0} };
 
     // the signing of trailers, likewise

@@ -26,7 +26,7 @@ pub fn trimmed_texts_stay()
     ensures { (text : List ℕ) → trim_all (trim_all text) ≡ trim_all text }
 {}
 
-/// The names of the headers that are signed ascend by the order of their bytes, which tells apart exactly the names that differ.
+/// The names of the headers that are signed ascend by the order of their bytes, which separates exactly the names that differ.
 #[tactic(auto, using(crate::proofs::NameLemmas::ordered))]
 pub fn signed_names_ascend()
     ensures ascend { (c : Case) → IsStrictlySortedBy (slice_cmp nat_cmp) (names c) }

@@ -7,7 +7,7 @@ use std::error::Error;
 use std::fmt;
 use std::marker::Model;
 
-/// The name of an application, as its user agent tells it: letters, digits and marks of
+/// The name of an application, as its user agent names it: letters, digits and marks of
 /// ``!#$%&'*+-.^_`|~``.
 ///
 /// Contracts see the text.

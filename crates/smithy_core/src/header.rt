@@ -10,7 +10,7 @@ use std::marker::Model;
 
 /// The value of a [`Header`]: one of the nine kinds of the event stream encoding.
 ///
-/// [`Debug`](std::fmt::Debug) prints the value, its bytes or its text too, as the SDK's type does: a header tells what a
+/// [`Debug`](std::fmt::Debug) prints the value, its bytes or its text too, as the SDK's type does: a header says what a
 /// message is. That of a [`Message`](crate::Message) prints none.
 #[derive(Debug, Drop)]
 pub enum HeaderValue {

@@ -5,13 +5,13 @@ use crate::message::Message;
 use bytes::Bytes;
 use std::fmt;
 
-/// What an error of an event stream tells of the bytes behind it. [`Debug`](std::fmt::Debug) prints how many there are,
+/// What an error of an event stream says of the bytes behind it. [`Debug`](std::fmt::Debug) prints how many there are,
 /// and none of them, since they may hold a secret (the SDK's type prints them).
 #[derive(Drop)]
 pub enum RawMessage {
     /// The message that was read.
     Decoded(Message),
-    /// No message was read: the bytes that were left over, where they are told.
+    /// No message was read: the bytes that were left over, if they are known.
     Invalid(Option<Bytes>),
 }
 

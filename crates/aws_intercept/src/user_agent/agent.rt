@@ -17,7 +17,7 @@ use smithy_core::{AppName, Env, Mem, copied_text};
 use std::alloc::Global;
 use std::marker::Model;
 
-/// What a client tells of itself in the headers `user-agent` and `x-amz-user-agent`.
+/// What a client says of itself in the headers `user-agent` and `x-amz-user-agent`.
 ///
 /// Contracts see its parts.
 #[derive(Debug, Drop)]

@@ -34,7 +34,7 @@ impl fmt::Display for OsFamily {
     }
 }
 
-/// What the user agent tells of how a program was built.
+/// What the user agent says of how a program was built.
 #[derive(Debug, Drop)]
 pub struct BuildMetadata {
     /// The version of the SDK's core.
@@ -43,7 +43,7 @@ pub struct BuildMetadata {
     pub rust_version: String,
     /// The family of the operating system.
     pub os_family: OsFamily,
-    /// More, where there is more to tell.
+    /// More, if there is more to say.
     pub extra: Option<AdditionalMetadata>,
 }
 

@@ -7,7 +7,7 @@ use crate::user_agent::framework::FrameworkMetadata;
 use smithy_core::Mem;
 use std::alloc::Global;
 
-/// The most frameworks that an agent tells.
+/// The most frameworks that an agent names.
 const MOST_FRAMEWORKS: usize = 10;
 
 /// Equal metadata, in the same order.

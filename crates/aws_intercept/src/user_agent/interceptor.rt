@@ -151,7 +151,7 @@ fn make_agent(
     Ok(agent)
 }
 
-// The text of the agent with what else the bag tells.
+// The text of the agent with what else the bag has.
 fn sent_text(bag: &ConfigBag, agent: &AwsUserAgent) -> Result<String, UserAgentFault>
     ensures { SendsText bag.now agent.now result }
 {

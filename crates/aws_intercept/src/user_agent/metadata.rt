@@ -30,7 +30,7 @@ pub(crate) fn is_metadata(text: &str) -> bool
     text.as_bytes().iter().all(|byte| is_token_char(*byte))
 }
 
-/// More that the user agent tells, printed as `md/VALUE`.
+/// More that the user agent says, printed as `md/VALUE`.
 ///
 /// Contracts see the value.
 #[derive(Debug, Drop)]

@@ -3,7 +3,7 @@ ghost use Rattle.aws_intercept.specs.Metric.{id_at, metric_id, place, sign};
 
 use smithy_core::Mem;
 
-/// What a client uses of the SDK, as the user agent tells it. The order is that of the SDK's list of features: it decides
+/// What a client uses of the SDK, as the user agent names it. The order is that of the SDK's list of features: it decides
 /// the ids, so a new one goes last.
 #[derive(Clone, Copy, Debug, PartialEq, Eq, Hash)]
 pub enum BusinessMetric {

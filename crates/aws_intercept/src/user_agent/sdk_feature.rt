@@ -102,7 +102,7 @@ impl AwsSdkFeature {
     }
 }
 
-/// A feature that tells where credentials come from.
+/// A feature that says where credentials come from.
 #[derive(Clone, Copy, Debug, PartialEq, Eq)]
 pub enum AwsCredentialFeature {
     CredentialsCode,

@@ -8,7 +8,7 @@ use crate::write::{LEAST_FRAME, MOST_BLOCK, MOST_FRAME};
 use mac_core::crc32;
 use seg_buf::PRELUDE;
 
-/// The bytes of a frame, and of its header block, as its prelude tells them.
+/// The bytes of a frame, and of its header block, as its prelude says.
 #[derive(Clone, Copy, Debug)]
 pub struct Lengths {
     /// The bytes of the whole frame.
@@ -17,7 +17,7 @@ pub struct Lengths {
     pub headers: usize,
 }
 
-/// The lengths that a prelude tells. They are tested before anything else is read, so that nobody waits for, or makes room
+/// The lengths in a prelude. They are tested before anything else is read, so that nobody waits for, or makes room
 /// for, a frame that no service sends.
 ///
 /// # Errors

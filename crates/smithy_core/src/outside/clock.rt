@@ -11,10 +11,10 @@ pub trait Clock {
     ghost use Rattle.smithy_core.specs.Clock.{GainsOne};
     ghost use Rattle.smithy_core.specs.Moment.{Instant};
 
-    // a call, where more is told of it than the first clause below says
+    // a call, if more is known of it than the first clause below says
     ghost answers: { Self → Instant → Self → Type 0 } = { λ _ _ _. Unit {0} };
 
-    // what it has given, where it is told
+    // what it has given, if it shows it
     ghost given: { Self → Option (List Instant) };
 
     /// The moment now.

@@ -45,10 +45,10 @@ pub trait Disk {
     ghost use Rattle.std.specs.Global.{Vec};
     ghost use Rattle.smithy_core.specs.declared.outside.disk.DiskError.{DiskError};
 
-    // a read of the path, where more is told of it than the clauses below say
+    // a read of the path, if more is known of it than the clauses below say
     ghost answers: { Self → List ℕ → Result (Vec ℕ) DiskError → Self → Type 0 } = { λ _ _ _ _. Unit {0} };
 
-    // the paths and their bytes, where they are told; of equal paths the last pair counts
+    // the paths and their bytes, if it shows them; of equal paths the last pair counts
     ghost files: { Self → Option (List (List ℕ × List ℕ)) };
 
     // how often it has failed

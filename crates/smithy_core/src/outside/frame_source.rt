@@ -16,7 +16,7 @@ pub const MOST_PIECE: usize = 4_294_967_295;
 
 /// Gives the frames of a body one by one.
 pub trait FrameSource {
-    // the frames that are left, where they are told
+    // the frames that are left, if it shows them
     ghost left: { Self → Option (List Part) };
 
     // how often it has answered that nothing has come yet

@@ -14,7 +14,7 @@ use std::num::TryFromIntError;
 use std::rt;
 use std::time::{SystemTime, UNIX_EPOCH};
 
-/// Standard input. Contracts aren't told what it has left. A read that a signal interrupted is made again, up to
+/// Standard input. Contracts don't know what it has left. A read that a signal interrupted is made again, up to
 /// 18,446,744,073,709,551,615 times.
 #[derive(Drop)]
 pub struct StdSource<R> {
@@ -60,7 +60,7 @@ fn read_uninterrupted<R: Read>(reader: &mut R, into: &mut [u8]) -> Result<usize,
     Err(Failed)
 }
 
-/// Standard output or error. Contracts aren't told what it holds. Each write is flushed. A write and a flush that a signal
+/// Standard output or error. Contracts don't know what it holds. Each write is flushed. A write and a flush that a signal
 /// interrupted are made again, up to 18,446,744,073,709,551,615 times each.
 #[derive(Drop)]
 pub struct StdSink<W> {
@@ -125,7 +125,7 @@ fn flush_uninterrupted<W: Write>(writer: &mut W) -> Result<(), Failed> {
 /// The most bytes of a file that a [`HostDisk`] reads.
 const FILE_LIMIT: usize = 16_777_216;
 
-/// The files of the operating system. Contracts aren't told what they hold. A file over 16,777,216 bytes counts as a fault.
+/// The files of the operating system. Contracts don't know what they hold. A file over 16,777,216 bytes counts as a fault.
 #[derive(Drop)]
 pub struct HostDisk<R> {
     alloc: Global,
@@ -175,7 +175,7 @@ fn read_file<R: Files>(alloc: Global, runtime: &R, path: &str) -> Result<Vec<u8>
     }
 }
 
-/// The clock of the operating system. Contracts aren't told what it gave. Where the runtime gives no time it answers second 0,
+/// The clock of the operating system. Contracts don't know what it gave. Where the runtime gives no time it answers second 0,
 /// and the runtime gives none while the system's clock is set before 1970, since it counts from there without a sign.
 #[derive(Drop)]
 pub struct SystemClock<R> {
@@ -202,7 +202,7 @@ impl<R: rt::Clock> Clock for SystemClock<R> {
     }
 }
 
-// The moment, its seconds rounded down; before 1970 too, where a runtime tells such a time.
+// The moment, its seconds rounded down; before 1970 too, if a runtime gives such a time.
 fn moment_of(time: SystemTime) -> Moment {
     match nanos_of(time) {
         Ok(nanos) => Moment::from_nanos(nanos).unwrap_or(Moment::new(0, 0)),

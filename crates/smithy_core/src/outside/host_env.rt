@@ -6,7 +6,7 @@ use std::env::{Env as Variables, FillError};
 use std::str;
 
 impl Env {
-    /// The environment variables of the process. Contracts aren't told what they hold.
+    /// The environment variables of the process. Contracts don't know what they hold.
     ///
     /// Left out are a variable whose name or value isn't UTF-8, one whose name is empty, an entry without `=`, and, of equal
     /// names, each but the first, which is the one that counts for the operating system. A variable that is set to an empty

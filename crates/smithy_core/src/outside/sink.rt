@@ -37,7 +37,7 @@ impl Error for SinkError {}
 
 /// A sink for bytes.
 pub trait ByteSink {
-    // what it holds, where it is told
+    // what it holds, if it shows it
     ghost held: { Self → Option (List ℕ) };
 
     // how often it has failed

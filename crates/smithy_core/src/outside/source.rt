@@ -26,7 +26,7 @@ impl Error for Failed {}
 
 /// A source of bytes.
 pub trait ByteSource {
-    // what is left, where it is told
+    // what is left, if it shows it
     ghost left: { Self → Option (List ℕ) };
 
     // how often it has failed

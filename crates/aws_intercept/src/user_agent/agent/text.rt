@@ -105,7 +105,7 @@ fn push_app_name(text: &mut String, app_name: &Option<AppName>) -> Mem<()>
     Ok(())
 }
 
-// Appends what is told of the build, where there is more.
+// Appends what is said of the build, if there is more.
 fn push_build(text: &mut String, build: &Option<AdditionalMetadata>) -> Mem<()>
     ensures { OnOk result (string_bytes text.new ≡ string_bytes text.old ++ with_value (codes " md/") build.now) }
 {

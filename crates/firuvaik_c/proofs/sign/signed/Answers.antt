@@ -2,7 +2,7 @@ use Rattle.std.proofs.Common.{ap, inl, inr, rules, ◌∙◌}
 use Rattle.std.proofs.lemmas.Int.{to_z-of_z}
 use mir.Syntax.{w64}
 use mir.Val.{SFits}
-use Rattle.firuvaik_c.specs.Asked.{asked_case, moment_at}
+use Rattle.firuvaik_c.specs.Asked.{lent_case, moment_at}
 use Rattle.firuvaik_c.proofs.SignLemmas.{case_asked, readable, refuses_moved, signs_moved}
 use Rattle.firuvaik_c.proofs.sign.signed.Goals as goal
 
@@ -13,7 +13,7 @@ returns-in-Ok c =
     let fits : SFits w64 c.args.seconds = search rules in
     let when = c.new-at.ensures ∙ ap moment_at (to_z-of_z w64 c.args.seconds fits) in
     let years = rw when at c.in_ok-test_years.ensures in
-    let asked = asked_case c.args.signer.now c.args.request.now c.args.settings.now c.args.seconds in
+    let asked = lent_case c.args.signer.now c.args.request.now c.args.settings.now c.args.seconds in
     let cases = case_asked c.args.signer.now c.args.request.now c.args.settings.now c.args.seconds c.in_ok-texts.texts _ _ _ _ _ _ _ _ c.new-params.ensures
     texts.method c.in_ok-headers.ensures.1 c.in_ok-body.ensures.1 c.in_ok-asked.ensures.1 identity.key_id identity.token identity.secret texts.region texts.service
     when in
@@ -28,7 +28,7 @@ returns c =
     let fits : SFits w64 c.args.seconds = search rules in
     let when = c.new-at.ensures ∙ ap moment_at (to_z-of_z w64 c.args.seconds fits) in
     let years = rw when at c.in_ok-test_years.ensures in
-    let asked = asked_case c.args.signer.now c.args.request.now c.args.settings.now c.args.seconds in
+    let asked = lent_case c.args.signer.now c.args.request.now c.args.settings.now c.args.seconds in
     let cases = case_asked c.args.signer.now c.args.request.now c.args.settings.now c.args.seconds c.in_ok-texts.texts _ _ _ _ _ _ _ _ c.new-params.ensures
     texts.method c.in_ok-headers.ensures.1 c.in_ok-body.ensures.1 c.in_ok-asked.ensures.1 identity.key_id identity.token identity.secret texts.region texts.service
     when in
