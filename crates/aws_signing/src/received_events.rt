@@ -72,7 +72,7 @@ impl ReceivedEvents {
     ///
     /// # Errors
     ///
-    /// [`AwsSigningError::Frame`] where the bytes at hand begin with no frame, for a reason that its first twelve bytes tell or
+    /// [`AwsSigningError::Frame`] where the bytes at hand begin with no frame, for a reason that its first twelve bytes show or
     /// else the whole frame: now and at each later call. Nothing is lost where memory runs out.
     pub fn next(&mut self) -> Result<Option<Message>, AwsSigningError>
         ensures { GivesNextMessage self.old self.new result }

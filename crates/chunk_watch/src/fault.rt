@@ -2,8 +2,8 @@
 use std::alloc::AllocError;
 use std::fmt;
 
-/// Why a body isn't handed out further. A chunk is told by its place among the chunks, counted from 1; the last place that can be
-/// told is that of all chunks behind it.
+/// Why a body isn't handed out further. A chunk is named by its place among the chunks, counted from 1; the last place that can be
+/// named is that of all chunks behind it.
 #[derive(Clone, Copy, Debug, PartialEq, Eq)]
 pub enum ChunkFault {
     /// The line before a chunk isn't up to eight hexadecimal digits, `;chunk-signature=`, 64 bytes and the end of the line.
