@@ -36,9 +36,9 @@ impl Crc {
         self.register = next_bytes(self.register, bytes);
     }
 
-    /// Takes the bytes that another checksum took, so many, without looking at them again: in some ten steps for each bit of
-    /// their number. The remainder of joined texts follows from those of its parts and the length of the second, since the
-    /// steps of a checksum are linear.
+    /// Takes the bytes that another checksum took, so many, without looking at them again: in eight look-ups for each bit of
+    /// their number that is 1. The remainder of joined texts follows from those of the parts and the length of the second,
+    /// since the steps of a checksum are linear.
     ///
     /// ```rust
     /// let mut joined = Crc::new();
