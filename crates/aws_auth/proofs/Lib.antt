@@ -2,3 +2,4 @@ mod ChunkSignerLemmas
 mod InputsLemmas
 pub mod MessageSignerLemmas
 mod SignerLemmas
+mod PlainLemmas

@@ -1,5 +1,5 @@
 -- What a request is signed with, as the endpoint, the inputs and the config say.
-use Rattle.std.specs.Prelude.{ℕ, Bool, not, List, [], Option, Some, None, option_copied, option_map, string_bytes, unwrap_or, if◌then◌else◌}
+use Rattle.std.specs.Prelude.{◌≡◌, ℕ, Bool, not, List, [], Option, Some, None, option_copied, option_map, string_bytes, unwrap_or, if◌then◌else◌}
 use Rattle.std.specs.Option.{option_or}
 use Rattle.sha2.specs.Sha256.{sha256}
 use Rattle.hex.specs.Hex.{encode_lower}
@@ -76,6 +76,19 @@ made_settings fields options = record {
   session_token_mode = (if options.omit_session_token then Exclude else Include);
   session_token_name_override = None;
 }
+
+-- the settings that options make where no endpoint is given
+abbrev pub settings_by : SigningOptions → Settings
+settings_by options = made_settings (fields_of None) options
+
+-- the inputs have this config and nothing else
+pub record HasOnlyConfig (given : SigV4OperationSigningConfig) (inputs : SigningInputs) : Type 0 where
+  pub config : option_copied inputs.config ≡ Some given
+  pub endpoint : option_copied inputs.endpoint ≡ None
+  pub name : option_copied inputs.name ≡ None
+  pub region : option_copied inputs.region ≡ None
+  pub payload : option_copied inputs.payload ≡ None
+  pub skew_millis : inputs.skew_millis ≡ None
 
 -- the same settings, with the name that an override gives the token
 abbrev pub with_token_name : Settings → Option (List ℕ) → Settings

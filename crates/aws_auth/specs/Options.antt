@@ -1,10 +1,11 @@
 -- The options of an operation's signatures.
-use Rattle.std.specs.Prelude.{◌≡◌, true, false, Option, Some, None}
+use Rattle.std.specs.Prelude.{◌≡◌, ℕ, true, false, Option, Some, None}
 use Rattle.aws_auth.specs.Payload.{IsSameOverride}
-use Rattle.aws_auth.specs.declared.options.HttpSignatureType.TheVariants.{HttpRequestHeaders}
+use Rattle.aws_auth.specs.declared.options.HttpSignatureType.TheVariants.{HttpRequestHeaders, HttpRequestQueryParams}
 use Rattle.aws_auth.specs.declared.options.SigV4OperationSigningConfig.{SigV4OperationSigningConfig}
 use Rattle.aws_auth.specs.declared.options.SigningOptions.{SigningOptions}
 use Rattle.aws_auth.specs.declared.payload.PayloadSigningOverride.{PayloadSigningOverride}
+use Rattle.aws_auth.specs.declared.payload.PayloadSigningOverride.TheVariants.{UnsignedPayload}
 
 -- the path is escaped twice and put into its normal form, the payload's text has no header, the token is signed, the body's bytes
 -- are, and the signature goes into headers
@@ -19,6 +20,18 @@ default_options = record {
   signing_optional = false;
   expires_in = None;
 }
+
+-- the options for Amazon S3: the path is escaped once and stays as it is, and the payload's text has a header
+abbrev pub s3_options : SigningOptions
+s3_options = record default_options { double_uri_encode = false; content_sha256_header = true; normalize_uri_path = false }
+
+-- the signature goes into the query of a URL that is good for so many seconds
+abbrev pub presigned_options : ℕ → SigningOptions
+presigned_options seconds = record default_options { signature_type = HttpRequestQueryParams; expires_in = Some seconds }
+
+-- likewise for Amazon S3, where the payload isn't signed
+abbrev pub s3_presigned_options : ℕ → SigningOptions
+s3_presigned_options seconds = record s3_options { payload_override = Some UnsignedPayload; signature_type = HttpRequestQueryParams; expires_in = Some seconds }
 
 -- no region, no name, and the default options
 abbrev pub default_config : SigV4OperationSigningConfig

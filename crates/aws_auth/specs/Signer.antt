@@ -127,3 +127,22 @@ module _ {F : Type 0} (calls : Shared F (Bor SigningSettings × (Bor SigV4Operat
   abbrev pub SignsByInputs : HttpRequest → Result Signed SigV4SigningError → Type 0
   SignsByInputs new (Ok signed) = SignsRequest new signed
   SignsByInputs new (Err error) = RefusesRequest error ⊎ (error ≡ NoMemory)
+
+module _ (identity : Identity) (inputs : SigningInputs) (now : Instant) (old : HttpRequest) where
+  -- a test fails with this error, and no test before it, where no override is asked: the target is read where those before it pass
+  pub record RefusesPlainly (error : SigV4SigningError) : Type 0 where
+    pub target : Option Target
+    pub read : refusal_before_override identity inputs ≡ None → refusal_before_target (chosen inputs now) (Ok None) ≡ None → SpellsAs (string_bytes old.target) target
+    pub refused : signing_refusal old identity inputs now (Ok None) target ≡ Some error
+
+  -- the request is that of the case, with the token's usual name and what the target spells, and no test fails
+  pub record SignsUsually (new : HttpRequest) (signed : Signed) : Type 0 where
+    pub target : Target
+    pub read : SpellsAs (string_bytes old.target) (Some target)
+    pub passed : signing_refusal old identity inputs now (Ok None) (Some target) ≡ None
+    pub made : IsSignedCase identity (chosen_case old identity (chosen inputs now) None target) old new signed
+
+  -- the request is signed where no test fails, and else refused by the first that does, or memory ran out: no override is asked
+  abbrev pub SignsPlainly : HttpRequest → Result Signed SigV4SigningError → Type 0
+  SignsPlainly new (Ok signed) = SignsUsually new signed
+  SignsPlainly new (Err error) = RefusesPlainly error ⊎ (error ≡ NoMemory)

@@ -1,7 +1,7 @@
-ghost use Rattle.std.specs.Prelude.{◌≡◌, option_copied, option_map};
+ghost use Rattle.std.specs.Prelude.{◌≡◌, None, option_copied, option_map};
 ghost use Rattle.smithy_core.specs.Document.{data_of};
-ghost use Rattle.aws_auth.specs.Endpoint.{field_name, field_of};
-ghost use Rattle.aws_auth.specs.Steps.{FindsFields, FindsText, FindsTruth};
+ghost use Rattle.aws_auth.specs.Endpoint.{field_name, field_of, fields_of};
+ghost use Rattle.aws_auth.specs.Steps.{FindsFields, FindsText, FindsTruth, found};
 
 use crate::error::SigV4SigningError;
 use smithy_core::Document;
@@ -52,6 +52,20 @@ pub(crate) struct EndpointFields<'a> {
     pub(crate) region: Option<&'a str>,
     pub(crate) disable_double_encoding: Option<bool>,
     pub(crate) disable_normalize_path: Option<bool>,
+}
+
+impl EndpointFields<'static> {
+    /// No field, as where there is no endpoint.
+    pub(crate) fn none() -> Self
+        ensures { found result ≡ fields_of None }
+    {
+        EndpointFields {
+            name: None,
+            region: None,
+            disable_double_encoding: None,
+            disable_normalize_path: None,
+        }
+    }
 }
 
 impl<'a> EndpointFields<'a> {

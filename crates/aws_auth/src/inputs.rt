@@ -30,6 +30,28 @@ pub struct SigningInputs<'a> {
     pub skew_millis: Option<i64>,
 }
 
+/// The inputs that have a config and nothing else.
+///
+/// ```rust
+/// let inputs = SigningInputs { region: Some(&region), ..SigningInputs::from(&config) };
+/// ```
+impl<'a> From<&'a SigV4OperationSigningConfig> for SigningInputs<'a> {
+    ghost use Rattle.aws_auth.specs.Inputs.{HasOnlyConfig};
+
+    ghost from_gives = { λ config inputs. HasOnlyConfig config.now inputs };
+
+    fn from(config: &'a SigV4OperationSigningConfig) -> SigningInputs<'a> {
+        SigningInputs {
+            config: Some(config),
+            endpoint: None,
+            name: None,
+            region: None,
+            payload: None,
+            skew_millis: None,
+        }
+    }
+}
+
 /// What a request is signed with, as the endpoint, the inputs and the config say.
 #[derive(Drop)]
 pub(crate) struct Choice<'a> {

@@ -1,9 +1,15 @@
 ghost use Rattle.std.specs.Prelude.{◌≡◌, IfOk, bytes_eq};
 ghost use Rattle.std.specs.Option.{option_eq};
-ghost use Rattle.aws_auth.specs.Options.{IsSameConfig, IsSameOptions};
+ghost use Rattle.sigv4.specs.Settings.{settings_of};
+ghost use Rattle.aws_auth.specs.Inputs.{settings_by};
+ghost use Rattle.aws_auth.specs.Options.{IsSameConfig, IsSameOptions, presigned_options, s3_options, s3_presigned_options};
 
+use crate::endpoint::EndpointFields;
 use crate::payload::PayloadSigningOverride;
+use crate::settings::made_settings;
+use sigv4::SigningSettings;
 use smithy_core::{Mem, Region, SigningName};
+use std::alloc::Global;
 
 /// Where the signature of a request goes.
 #[derive(Clone, Copy, Debug, PartialEq, Eq)]
@@ -57,6 +63,52 @@ impl Default for SigningOptions {
 }
 
 impl SigningOptions {
+    /// The options for Amazon S3, whose keys are taken as they are: the path is escaped once and not normalized, and the payload's
+    /// text goes into the header `x-amz-content-sha256`. All else is as [`SigningOptions::default`] has it.
+    pub fn for_s3() -> SigningOptions
+        ensures { result ≡ s3_options }
+    {
+        SigningOptions {
+            double_uri_encode: false,
+            content_sha256_header: true,
+            normalize_uri_path: false,
+            ..SigningOptions::default()
+        }
+    }
+
+    /// The options of a presigned URL that is good for so many seconds. Any number is taken; a service refuses 0, and AWS more
+    /// than 604,800.
+    pub fn presigned(seconds: u64) -> SigningOptions
+        ensures { result ≡ presigned_options seconds }
+    {
+        SigningOptions {
+            signature_type: HttpSignatureType::HttpRequestQueryParams,
+            expires_in: Some(seconds),
+            ..SigningOptions::default()
+        }
+    }
+
+    /// The options of a presigned URL of Amazon S3, whose payload isn't signed, since nobody knows it when the URL is made. All else
+    /// is as [`SigningOptions::presigned`] and [`SigningOptions::for_s3`] have it.
+    pub fn presigned_for_s3(seconds: u64) -> SigningOptions
+        ensures { result ≡ s3_presigned_options seconds }
+    {
+        SigningOptions {
+            payload_override: Some(PayloadSigningOverride::UnsignedPayload),
+            signature_type: HttpSignatureType::HttpRequestQueryParams,
+            expires_in: Some(seconds),
+            ..SigningOptions::for_s3()
+        }
+    }
+
+    /// The settings that these options make where no endpoint says otherwise, with the token's usual name: those of
+    /// [`sigv4::sign`] for the same request. The payload's override isn't among them.
+    pub fn settings(&self, alloc: Global) -> Mem<SigningSettings>
+        ensures { IfOk result (λ settings. settings_of settings ≡ settings_by self.now) }
+    {
+        made_settings(alloc, &EndpointFields::none(), self)
+    }
+
     /// Equal options.
     pub fn try_clone(&self) -> Mem<SigningOptions>
         ensures { IfOk result (IsSameOptions self.now) }

@@ -1,9 +1,11 @@
-ghost use Rattle.std.specs.Prelude.{◌≡◌, IfOk};
+ghost use Rattle.std.specs.Prelude.{◌≡◌, IfOk, codes};
+ghost use Rattle.sigv4.specs.Body.{payload_text};
 ghost use Rattle.aws_auth.specs.Payload.{IsSameOverride, signed_in_place};
 ghost use Rattle.aws_auth.specs.declared.payload.PayloadSigningOverride.TheVariants.{UnsignedPayload};
 
 use sigv4::SignableBody;
 use smithy_core::Mem;
+use std::alloc::Global;
 
 /// What is signed in place of the bytes of a request's body.
 #[derive(Debug, Drop, PartialEq, Eq)]
@@ -14,8 +16,8 @@ pub enum PayloadSigningOverride {
     Precomputed(String),
     /// A payload in unsigned chunks, with trailers.
     StreamingUnsignedPayloadTrailer,
-    /// A payload in signed chunks, with trailers. Signed chunks without trailers have no variant here: their text is
-    /// `STREAMING-AWS4-HMAC-SHA256-PAYLOAD`, which [`PayloadSigningOverride::Precomputed`] takes as it takes a digest.
+    /// A payload in signed chunks, with trailers. Signed chunks without trailers have no variant here, but
+    /// [`PayloadSigningOverride::streaming_signed_payload`].
     StreamingSignedPayloadTrailer,
 }
 
@@ -25,6 +27,14 @@ impl PayloadSigningOverride {
         ensures { result ≡ UnsignedPayload }
     {
         PayloadSigningOverride::UnsignedPayload
+    }
+
+    /// A payload in signed chunks, without trailers: its text, `STREAMING-AWS4-HMAC-SHA256-PAYLOAD`, stands in a digest's place.
+    pub fn streaming_signed_payload(alloc: Global) -> Mem<PayloadSigningOverride>
+        ensures { IfOk result (λ payload. payload_text (signed_in_place payload) ≡ codes "STREAMING-AWS4-HMAC-SHA256-PAYLOAD") }
+    {
+        let text = String::from_str(alloc, "STREAMING-AWS4-HMAC-SHA256-PAYLOAD")?;
+        Ok(PayloadSigningOverride::Precomputed(text))
     }
 
     /// The body that is signed.

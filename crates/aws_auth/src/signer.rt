@@ -4,7 +4,7 @@ ghost use Rattle.sigv4.specs.Params.{signer_of, v4_identity, v4_time};
 ghost use Rattle.sigv4.specs.Request.{identity_of};
 ghost use Rattle.sigv4.specs.SigningParams.{params_time};
 ghost use Rattle.aws_auth.specs.MessageSigner.{GoesOn};
-ghost use Rattle.aws_auth.specs.Signer.{IsSameSigned, SignsByInputs};
+ghost use Rattle.aws_auth.specs.Signer.{IsSameSigned, SignsByInputs, SignsPlainly};
 ghost use Rattle.aws_auth.specs.Steps.{IsSignedWith, SignsParts, SignsTarget, TestsParams, params_case};
 
 use crate::error::SigV4SigningError;
@@ -121,7 +121,37 @@ impl SigV4Signer {
         let params = tested_params(identity, choice.region, choice.name, choice.at, settings)?;
         Ok(sign_by(alloc, request, choice.payload, &params)?)
     }
+
+    /// As [`SigV4Signer::sign_http_request`] without an override of the session token's name: signs a request in place, and
+    /// answers the signature and two signers that go on from it.
+    ///
+    /// # Errors
+    ///
+    /// Those of [`SigV4Signer::sign_http_request`] in its order, but for [`SigV4SigningError::NameOverrideRefused`]; the request
+    /// stays as it is.
+    #[tactic(auto, using(crate::proofs::PlainLemmas::plainly))]
+    pub fn sign(
+        &self,
+        request: &mut HttpRequest,
+        identity: &Identity,
+        inputs: &SigningInputs<'_>,
+        now: Moment,
+    ) -> Result<Signed, SigV4SigningError>
+        ensures signs { SignsPlainly identity.now inputs.now now request.old request.new result }
+        ensures method { request.new.method ≡ request.old.method }
+        ensures body { request.new.body ≡ request.old.body }
+        ensures err { OnErr result (request.new ≡ request.old) }
+    {
+        let usual: Option<&SigV4SessionTokenNameOverride<NameOverride>> = None;
+        self.sign_http_request(request, identity, inputs, now, usual)
+    }
 }
+
+// An override that is a function.
+type NameOverride = fn(
+    &SigningSettings,
+    &SigV4OperationSigningConfig,
+) -> Result<Option<String>, OverrideError>;
 
 // The parameters of a signature, where there are a region and a name, and the moment lies in the years 0 to 9999.
 fn tested_params<'a>(

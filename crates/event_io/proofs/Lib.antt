@@ -3,3 +3,4 @@ pub mod ChainLemmas
 mod DrainLemmas
 mod LawLemmas
 mod ReceiverLemmas
+mod SignedEventLemmas

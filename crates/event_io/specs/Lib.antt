@@ -10,5 +10,6 @@ pub mod Received
 pub mod Receiver
 pub mod ResponseFault
 pub mod Sender
+pub mod SignedEvent
 pub mod Stop
 pub mod StreamError

@@ -8,6 +8,7 @@
 //! unmarshaller makes it an event, or why there is none, and that no other answer loses a byte (`specs/Receiver.antt`); and
 //! of [`receive_all`] that it takes the first messages of these bytes, and says why it takes no more (`specs/Drain.antt`). Over any
 //! list of these calls the answers are the messages of the bytes in order, their one fault, and then the end (`specs/Laws.antt`).
+//! A [`SignedUnmarshaller`] makes events of signed messages, and checks no signature (`specs/SignedEvent.antt`).
 #![tactic(auto)]
 
 mod adapter;
@@ -22,6 +23,7 @@ mod received;
 mod receiver;
 mod response_fault;
 mod sender;
+mod signed_event;
 mod stop;
 mod stream_error;
 
@@ -35,4 +37,5 @@ pub use crate::received::{InitialMessageType, Received, Tried};
 pub use crate::receiver::Receiver;
 pub use crate::response_fault::{ReceiverError, ResponseFault};
 pub use crate::sender::EventStreamSender;
+pub use crate::signed_event::{SignedEvent, SignedUnmarshaller};
 pub use crate::stream_error::MessageStreamError;

@@ -66,7 +66,7 @@ abbrev pub ReadsSent : HttpRequest → Result Uri SigningError → Type 0
 ReadsSent sent (Ok uri) = SpellsTarget (string_bytes sent.target) uri × (unfit_sent (target_of uri) sent.headers ≡ None)
 ReadsSent sent (Err error) = RefusesSent sent error ⊎ (error ≡ NoRoom)
 
--- the signature that the seal carries, and that of the request by its seal
+-- the seal, the signature that it carries, and that of the request by the seal
 pub record Rechecks (sent : HttpRequest) (settings : Settings) (payload : List ℕ) (signer : Signer) (checked : Checked) : Type 0 where
   pub seal : SealParts
   pub uri : Uri
@@ -74,6 +74,7 @@ pub record Rechecks (sent : HttpRequest) (settings : Settings) (payload : List �
   pub spelled : SpellsTarget (string_bytes sent.target) uri
   pub fit : unfit_sent (target_of uri) sent.headers ≡ None
   pub carried : string_bytes checked.carried ≡ seal.signature
+  pub seal_is : checked.seal ≡ seal
   pub recomputed_is : string_bytes checked.recomputed ≡ recomputed (string_bytes sent.method) (target_of uri) sent.headers settings payload signer seal
 
 -- both signatures, or that the request carries no seal, or why it can't be signed

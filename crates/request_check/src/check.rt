@@ -30,7 +30,7 @@ use std::fmt;
 /// else: a header that was added after signing and isn't listed leaves them equal, and so does the request's own body beside
 /// another payload that was handed in, such as `SignableBody::empty()`; in header form another key id does too. A service tests for
 /// itself that the names in the seal have `host` and each header that it relies on, that the payload is that of the body, and that
-/// the moment is recent.
+/// the moment is recent: [`Checked::seal`] has moment, names and key id, so that [`seal_of`] needn't be called beside it.
 ///
 /// The signature that was computed again signs the request for whoever has it, also where another one is carried: it isn't
 /// printed, and don't show it to whoever sent the request.
@@ -40,6 +40,8 @@ pub struct Checked {
     pub carried: String,
     /// The signature that was computed again.
     pub recomputed: String,
+    /// The seal that the request carries: who signed, when, and which headers.
+    pub seal: Seal,
 }
 
 impl Checked {
@@ -50,14 +52,16 @@ impl Checked {
         constant_time_eq(self.carried.as_bytes(), self.recomputed.as_bytes())
     }
 
-    /// The same signatures.
+    /// The same signatures and the same seal.
     pub fn try_clone(&self) -> Mem<Checked>
         ensures carried { IfOk result (λ copy. string_bytes copy.carried ≡ string_bytes self.now.carried) }
         ensures recomputed { IfOk result (λ copy. string_bytes copy.recomputed ≡ string_bytes self.now.recomputed) }
+        ensures seal { IfOk result (λ copy. copy.seal ≡ self.now.seal) }
     {
         Ok(Checked {
             carried: self.carried.clone()?,
             recomputed: self.recomputed.clone()?,
+            seal: self.seal.try_clone()?,
         })
     }
 }
@@ -150,9 +154,11 @@ pub fn check_request(
     let payload = payload_text(alloc, body)?;
     let text = sent_digest(alloc, sent, &uri, settings, payload.as_str(), &seal)?;
     let recomputed = digest_signature(alloc, text, secret, seal.at(), region, name)?;
+    let carried = String::from_str(alloc, seal.signature())?;
     Ok(Checked {
-        carried: seal.into_signature(),
+        carried,
         recomputed,
+        seal,
     })
 }
 

@@ -1,4 +1,4 @@
-use Rattle.std.proofs.Common.{ℕ, List, None, Ok, Err, ap, ◌∙◌}
+use Rattle.std.proofs.Common.{ℕ, List, None, Ok, Err, ap, refl, ◌∙◌}
 use Rattle.std.proofs.lemmas.Result.{err_from_is_err_and}
 use Rattle.std.specs.Prelude.{string_bytes}
 use Rattle.eventstream.specs.Key.{Signer}
@@ -26,14 +26,15 @@ returns c =
     let text_of = λ (text : List ℕ). sent_text (string_bytes sent.method) target sent.headers settings text seal in
     let text = ap text_of (c.as_str.ensures.value ∙ c.in_ok-payload.ensures) in
     let signed = c.in_ok-recomputed.ensures (text_of c.as_str.result.now) c.in_ok-text.ensures in
-    let answer : Checked = record { carried = c.into_signature.result; recomputed = c.in_ok-recomputed.recomputed } in
+    let answer : Checked = record { carried = c.in_ok-carried.carried; recomputed = c.in_ok-recomputed.recomputed; seal = seal } in
     let checks : ChecksRequest sent settings payload signer (Ok answer) = record {
       seal = seal;
       uri = c.in_ok-uri.uri;
       sealed = rw c.in-Some.is at c.in_ok-seal.ensures;
       spelled = c.in_ok-uri.ensures.0;
       fit = c.in_ok-uri.ensures.1;
-      carried = c.into_signature.ensures;
+      carried = c.in_ok-carried.ensures.ok ∙ c.signature.ensures;
+      seal_is = refl;
       recomputed_is = rw c.at.ensures at signed ∙ ap (signature signer seal.at) text;
     } in
     record { checks = checks; recomputes = recomputes sent settings payload signer (Ok answer) checks }
