@@ -3,7 +3,7 @@ use sigv4::SignatureLocation;
 use smithy_core::Moment;
 use std::fmt;
 
-/// What a service is told of a signed request that it lets in.
+/// What a service learns of a signed request that it lets in.
 #[derive(Drop)]
 pub struct Admitted {
     /// The id of the key that signed it.

@@ -27,7 +27,7 @@ use smithy_core::{Headers, HttpRequest, Mem, Moment};
 use smithy_http::read_target;
 use std::alloc::Global;
 
-/// A service's door: what is told of a signed request that passes each of its tests at a moment, and else exactly the first test
+/// A service's door: who signed a request that passes each of its tests at a moment, and else exactly the first test
 /// that is met (`specs/Doors.antt`).
 ///
 /// The signature stands in the `authorization` header or in the parameters of a presigned target. The region and the service's name
@@ -98,7 +98,7 @@ pub fn admit<K: Keys>(
     )
 }
 
-// What is told of a request whose target is accepted and has these pairs in its query.
+// The answer for a request whose target is accepted and has these pairs in its query.
 fn admit_pairs<'a, K: Keys>(
     alloc: Global,
     request: &'a HttpRequest,
@@ -131,7 +131,7 @@ fn admit_pairs<'a, K: Keys>(
     }
 }
 
-// What is told of a request that carries these texts.
+// The answer for a request that carries these texts.
 fn admit_texts<K: Keys>(
     alloc: Global,
     request: &HttpRequest,
@@ -164,7 +164,7 @@ fn admit_texts<K: Keys>(
     }
 }
 
-// What is told of a request whose texts tell these terms.
+// The answer for a request whose texts say these terms.
 fn admit_terms<K: Keys>(
     alloc: Global,
     request: &HttpRequest,
@@ -254,7 +254,7 @@ fn test_last(
     test_signature(alloc, request, settings, region, name, &payload, secret)
 }
 
-// What is told of an admitted request.
+// What is answered for an admitted request.
 fn told(
     alloc: Global,
     texts: &Carried<'_>,

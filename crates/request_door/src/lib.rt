@@ -1,6 +1,6 @@
 //! A service's door for signed requests: who signed a request, in header form or in query form, or why it isn't let in.
 //!
-//! The layer above is promised that [`admit`] tells of a request that passes each of its tests, and else answers exactly the first
+//! The layer above is promised that [`admit`] says who signed a request that passes each of its tests, and else answers exactly the first
 //! that is met (`specs/Doors.antt`).
 #![tactic(auto)]
 

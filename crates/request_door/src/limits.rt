@@ -12,7 +12,7 @@ pub struct Limits {
 }
 
 impl Limits {
-    /// The limits of AWS: a skew of 15 minutes, and an expiry of 7 days. Of names it tells none; here they are 100.
+    /// The limits of AWS: a skew of 15 minutes, and an expiry of 7 days. For names it has none; here they are 100.
     pub fn new() -> Limits
         ensures { result ≡ record { skew = 900; expiry = 604800; names = 100 } }
     {

@@ -13,7 +13,7 @@ use sigv4::v4::credential_scope;
 use smithy_core::{Mem, Moment};
 use std::alloc::Global;
 
-/// What the texts of a signature tell.
+/// What the texts of a signature say.
 #[derive(Clone, Copy)]
 pub(crate) struct Terms<'a> {
     /// The key's id.
@@ -24,7 +24,7 @@ pub(crate) struct Terms<'a> {
     pub(crate) seconds: u64,
 }
 
-/// What the texts tell, for a region and a service.
+/// What the texts say, for a region and a service.
 pub(crate) fn read_terms<'a>(
     alloc: Global,
     texts: &Carried<'a>,
