@@ -5,6 +5,7 @@
 
 mod attempts;
 mod chunked_upload;
+mod opened_stream;
 mod operation;
 mod presigned_door;
 mod profile_settings;
@@ -12,6 +13,7 @@ mod received_events;
 mod shown;
 mod signed_events;
 mod signed_requests;
+mod signed_upload;
 mod watched_events;
 
 use crate::operation::{BusyAtFirst, list_users};
@@ -56,6 +58,7 @@ fn uses(alloc: Global) -> anyhow::Result<String> {
     push_requests(alloc, &mut text, &example_identity(alloc)?)?;
     push_events(alloc, &mut text)?;
     push_lines(alloc, &mut text, chunked_upload::body(alloc)?.as_slice())?;
+    push_followed(alloc, &mut text, &example_identity(alloc)?)?;
     push_region(alloc, &mut text)?;
     push_outcome(alloc, &mut text)?;
     push_operation(alloc, &mut text)?;
@@ -132,6 +135,27 @@ fn push_watched(alloc: Global, text: &mut String, frames: &[u8]) -> anyhow::Resu
         Ok(()) => text.push_str("the end\n")?,
         Err(fault) => write!(text, "{fault}\n")?,
     }
+    Ok(())
+}
+
+// A stream and an upload, each with the request that it follows.
+fn push_followed(alloc: Global, text: &mut String, identity: &Identity) -> anyhow::Result<()> {
+    push_stream(alloc, text, identity)?;
+    let target = "https://bucket.s3.amazonaws.com/a//key";
+    let mut request = HttpRequest::new(alloc, "PUT", target)?;
+    let body = signed_upload::body_after(alloc, &mut request, identity, example_moment())?;
+    push_request(text, &request)?;
+    push_lines(alloc, text, body.as_slice())?;
+    Ok(())
+}
+
+fn push_stream(alloc: Global, text: &mut String, identity: &Identity) -> anyhow::Result<()> {
+    let target = "https://transcribestreaming.us-east-1.amazonaws.com/stream-transcription";
+    let mut request = HttpRequest::new(alloc, "POST", target)?;
+    let frames = opened_stream::frames_after(alloc, &mut request, identity, example_moment())?;
+    push_request(text, &request)?;
+    let count = opened_stream::count_until_closed(alloc, frames.as_slice())?;
+    write!(text, "{} bytes, {count} events\n\n", frames.len())?;
     Ok(())
 }
 
