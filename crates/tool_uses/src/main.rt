@@ -1,5 +1,5 @@
 //! Uses of each crate, every one a function to copy: requests that are signed, presigned and checked, a stream of events
-//! that is signed, received and watched, settings of profile files, a body in chunks, and an operation with its attempts.
+//! that is signed, received and watched, settings of profile files, a body in chunks, a service that takes uploads, and an operation with its attempts.
 //! `docs/CALLING.md` shows them. The program runs each once and prints what came of it.
 #![tactic(auto)]
 
@@ -10,6 +10,8 @@ mod operation;
 mod presigned_door;
 mod profile_settings;
 mod received_events;
+mod served;
+mod service_door;
 mod shown;
 mod signed_events;
 mod signed_requests;
@@ -59,6 +61,8 @@ fn uses(alloc: Global) -> anyhow::Result<String> {
     push_events(alloc, &mut text)?;
     push_lines(alloc, &mut text, chunked_upload::body(alloc)?.as_slice())?;
     push_followed(alloc, &mut text, &example_identity(alloc)?)?;
+    served::push_answers(alloc, &mut text)?;
+    text.push('\n')?;
     push_region(alloc, &mut text)?;
     push_outcome(alloc, &mut text)?;
     push_operation(alloc, &mut text)?;
