@@ -2,6 +2,7 @@ use crate::texts::given_text;
 use env_config::{PropertiesKey, PropertiesKeyBuilder, PropertiesKeyFault};
 use smithy_core::Mem;
 use std::alloc::{AllocError, Global};
+use thiserror::Error;
 use tool_case_lines::unknown;
 
 // What the key `SECTION NAME PROPERTY SUB-PROPERTY` prints, or the fault and what that prints, and the same of a copy.
@@ -23,8 +24,8 @@ fn answer_of(alloc: Global, call: &str, key: &str) -> Mem<String> {
 fn told(alloc: Global, key: Result<PropertiesKey, KeyFault>) -> Mem<String> {
     match key {
         Ok(key) => format!(in alloc; "{key}"),
-        Err(KeyFault::Missing(fault)) => format!(in alloc; "{fault:?}: {fault}"),
-        Err(KeyFault::NoMemory) => Err(AllocError),
+        Err(KeyFault::NoMemory(error)) => Err(error),
+        Err(fault) => fault.to_string(alloc),
     }
 }
 
@@ -36,22 +37,12 @@ fn copied(alloc: Global, word: &str) -> Result<PropertiesKey, KeyFault> {
 }
 
 // Why a word gives no key.
-#[derive(Drop)]
+#[derive(Debug, Drop, Error)]
 pub enum KeyFault {
-    Missing(PropertiesKeyFault),
-    NoMemory,
-}
-
-impl From<PropertiesKeyFault> for KeyFault {
-    fn from(fault: PropertiesKeyFault) -> KeyFault {
-        KeyFault::Missing(fault)
-    }
-}
-
-impl From<AllocError> for KeyFault {
-    fn from(_e: AllocError) -> KeyFault {
-        KeyFault::NoMemory
-    }
+    #[error("{0:?}: {0}")]
+    Missing(#[from] PropertiesKeyFault),
+    #[error(transparent)]
+    NoMemory(#[from] AllocError),
 }
 
 // The key `SECTION NAME PROPERTY SUB-PROPERTY`.
