@@ -23,6 +23,7 @@ rate requests 20000 sign 20000
 rate requests 20000 kept-sign 20000
 rate requests 20000 operation 20000
 rate operations 20000 operate 20000
+rate requests 20000 admit 20000
 rate MB 20.48 chain 20000 1024
 rate MB 65.536 chain 1000 65536
 rate MB 20.48 kept-chain 20000 1024

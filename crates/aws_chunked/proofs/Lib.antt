@@ -1,3 +1,4 @@
+mod AnnouncementLemmas
 mod BodyLemmas
 mod CutLemmas
 mod DigitLemmas

@@ -1,3 +1,4 @@
+pub mod Announcement
 pub mod Body
 pub mod Decoded
 pub mod Due

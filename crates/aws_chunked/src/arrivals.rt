@@ -101,7 +101,7 @@ impl Arrivals {
 }
 
 // How long the lines of trailers are, with that of their signature, where chunks are signed and there are some.
-fn signed_length(is_signed: bool, trailers: &Headers) -> u64
+pub(crate) fn signed_length(is_signed: bool, trailers: &Headers) -> u64
     ensures { result ≡ counted (actual_length is_signed trailers.now) }
 {
     let lines = lines_length(trailers);

@@ -6,9 +6,11 @@
 //! it (`specs/Due.antt`). Those of [`AwsChunkedBody::poll_data`] are the pieces of the form for HTTP 0.x, one by one
 //! (`specs/Passing.antt`). A body has an engine for each of the two texts, and one record of what has come of its source, which both
 //! read. [`AwsChunkedBodyOptions::encoded_length`] is how long the text is (`specs/Options.antt`).
+//! [`AwsChunkedBodyOptions::announce`] announces the body in the headers of its request (`specs/Announcement.antt`).
 //! [`decode_chunked`] reads a whole text back, or names the least place where the bytes stop being one (`specs/Decoded.antt`).
 #![tactic(auto)]
 
+mod announcement;
 mod arrivals;
 mod body;
 mod chunk_engine;
@@ -26,6 +28,7 @@ mod stop;
 mod text;
 mod trailers;
 
+pub use crate::announcement::AnnounceFault;
 pub use crate::body::{AwsChunkedBody, ChunkNext};
 pub use crate::decode::{DecodeFault, Decoded, decode_chunked};
 pub use crate::error::AwsChunkedBodyError;

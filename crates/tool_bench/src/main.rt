@@ -5,6 +5,7 @@
 //! bench kept-sign COUNT       signs such a request each time under one key
 //! bench operation COUNT       signs the small request by the inputs of its operation
 //! bench operate COUNT         runs an operation over a transport in memory
+//! bench admit COUNT           lets a signed small request in at a service's door
 //! bench chain COUNT SIZE      signs a chain of so many events with so many bytes each
 //! bench kept-chain COUNT SIZE signs such a chain by a signer that keeps its key
 //! bench checksum COUNT SIZE   the CRC-32 of so many bytes
@@ -20,6 +21,7 @@
 //! ```
 #![tactic(auto)]
 
+mod admitting;
 mod chunked;
 mod digest;
 mod frames;

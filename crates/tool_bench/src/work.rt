@@ -1,5 +1,5 @@
 use crate::digest::Digest;
-use crate::{chunked, frames, kept, operating, profiles, receiving, signing, sums};
+use crate::{admitting, chunked, frames, kept, operating, profiles, receiving, signing, sums};
 use std::alloc::{AllocError, Global};
 use std::fmt;
 
@@ -10,6 +10,7 @@ pub enum Work {
     KeptSign { count: u32 },
     Operation { count: u32 },
     Operate { count: u32 },
+    Admit { count: u32 },
     Chain { count: u32, size: usize },
     KeptChain { count: u32, size: usize },
     Checksum { count: u32, size: usize },
@@ -45,6 +46,7 @@ impl Work {
             Work::KeptSign { count },
             Work::Operation { count },
             Work::Operate { count },
+            Work::Admit { count },
             Work::Chain { count, size: 100 },
             Work::KeptChain { count, size: 100 },
             Work::Checksum { count, size: 100 },
@@ -78,6 +80,7 @@ impl Work {
             "kept-sign" => Some(Work::KeptSign { count }),
             "operation" => Some(Work::Operation { count }),
             "operate" => Some(Work::Operate { count }),
+            "admit" => Some(Work::Admit { count }),
             "decode" => Some(Work::Decode { count }),
             "receive" => Some(Work::Receive { count }),
             "profiles" => Some(Work::Profiles { count }),
@@ -106,6 +109,7 @@ impl Work {
             Work::KeptSign { count } => kept::signatures(alloc, count),
             Work::Operation { count } => signing::operations(alloc, count),
             Work::Operate { count } => operating::operations(alloc, count),
+            Work::Admit { count } => admitting::admissions(alloc, count),
             Work::Chain { count, size } => signing::chain(alloc, count, size),
             Work::KeptChain { count, size } => kept::chain(alloc, count, size),
             Work::Checksum { count, size } => Ok(sums::checksums(alloc, count, size)?),
@@ -128,6 +132,7 @@ impl fmt::Display for Work {
             Work::KeptSign { count } => write!(f, "kept-sign {count}"),
             Work::Operation { count } => write!(f, "operation {count}"),
             Work::Operate { count } => write!(f, "operate {count}"),
+            Work::Admit { count } => write!(f, "admit {count}"),
             Work::Chain { count, size } => write!(f, "chain {count} {size}"),
             Work::KeptChain { count, size } => write!(f, "kept-chain {count} {size}"),
             Work::Checksum { count, size } => write!(f, "checksum {count} {size}"),

@@ -11,9 +11,9 @@ type Body = AwsChunkedBody<CalmFrames, ChunkDeferredSigner>;
 
 /// The text of a body that isn't signed, with the checksum of its data as a trailer.
 pub fn body(alloc: Global) -> anyhow::Result<Vec<u8>> {
-    let options = AwsChunkedBodyOptions::new(5, vec![in alloc; 29]?);
     let mut trailers = Headers::new(alloc);
     trailers.append("x-amz-checksum-crc32", "NhCmhg==")?;
+    let options = AwsChunkedBodyOptions::for_body(alloc, 5, &trailers, false)?;
     let frames = vec![in alloc;
         FramePart::Data(Bytes::from_static(b"hello")),
         FramePart::Trailers(trailers),
@@ -22,7 +22,8 @@ pub fn body(alloc: Global) -> anyhow::Result<Vec<u8>> {
     text_of(alloc, &mut body)
 }
 
-fn text_of<G: SignChunk>(
+/// All that a body gives, one after another.
+pub fn text_of<G: SignChunk>(
     alloc: Global,
     body: &mut AwsChunkedBody<CalmFrames, G>,
 ) -> anyhow::Result<Vec<u8>> {

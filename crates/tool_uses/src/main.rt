@@ -1,17 +1,21 @@
 //! Uses of each crate, every one a function to copy: requests that are signed, presigned and checked, a stream of events
-//! that is signed, received and watched, settings of profile files, a body in chunks, and an operation with its attempts.
+//! that is signed, received and watched, settings of profile files, a body in chunks, a service that takes uploads, and an operation with its attempts.
 //! `docs/CALLING.md` shows them. The program runs each once and prints what came of it.
 #![tactic(auto)]
 
 mod attempts;
 mod chunked_upload;
+mod opened_stream;
 mod operation;
 mod presigned_door;
 mod profile_settings;
 mod received_events;
+mod served;
+mod service_door;
 mod shown;
 mod signed_events;
 mod signed_requests;
+mod signed_upload;
 mod watched_events;
 
 use crate::operation::{BusyAtFirst, list_users};
@@ -56,6 +60,9 @@ fn uses(alloc: Global) -> anyhow::Result<String> {
     push_requests(alloc, &mut text, &example_identity(alloc)?)?;
     push_events(alloc, &mut text)?;
     push_lines(alloc, &mut text, chunked_upload::body(alloc)?.as_slice())?;
+    push_followed(alloc, &mut text, &example_identity(alloc)?)?;
+    served::push_answers(alloc, &mut text)?;
+    text.push('\n')?;
     push_region(alloc, &mut text)?;
     push_outcome(alloc, &mut text)?;
     push_operation(alloc, &mut text)?;
@@ -132,6 +139,27 @@ fn push_watched(alloc: Global, text: &mut String, frames: &[u8]) -> anyhow::Resu
         Ok(()) => text.push_str("the end\n")?,
         Err(fault) => write!(text, "{fault}\n")?,
     }
+    Ok(())
+}
+
+// A stream and an upload, each with the request that it follows.
+fn push_followed(alloc: Global, text: &mut String, identity: &Identity) -> anyhow::Result<()> {
+    push_stream(alloc, text, identity)?;
+    let target = "https://bucket.s3.amazonaws.com/a//key";
+    let mut request = HttpRequest::new(alloc, "PUT", target)?;
+    let body = signed_upload::body_after(alloc, &mut request, identity, example_moment())?;
+    push_request(text, &request)?;
+    push_lines(alloc, text, body.as_slice())?;
+    Ok(())
+}
+
+fn push_stream(alloc: Global, text: &mut String, identity: &Identity) -> anyhow::Result<()> {
+    let target = "https://transcribestreaming.us-east-1.amazonaws.com/stream-transcription";
+    let mut request = HttpRequest::new(alloc, "POST", target)?;
+    let frames = opened_stream::frames_after(alloc, &mut request, identity, example_moment())?;
+    push_request(text, &request)?;
+    let count = opened_stream::count_until_closed(alloc, frames.as_slice())?;
+    write!(text, "{} bytes, {count} events\n\n", frames.len())?;
     Ok(())
 }
 
