@@ -141,7 +141,7 @@ def claim_faults():
 def name_faults():
     """Where a page has a word that is a name by its form, with an underscore or a capital behind a small letter, and that no
     source and no file's name has."""
-    folders = [ROOT / folder for folder in ("checks", "campaigns", "bench")]
+    folders = [ROOT / folder for folder in (".ci", "checks", "campaigns", "bench")]
     folders += [path for path in (ROOT / "crates").glob("*/*") if path.name != "out"]
     known = set(OF_THE_KIT) | {folder.parent.name for folder in folders}
     for path in [*folders, *(path for folder in folders for path in folder.rglob("*"))]:
