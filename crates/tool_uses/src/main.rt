@@ -1,4 +1,4 @@
-//! Uses of each crate, every one a function to copy: first steps by one crate, requests that are signed, presigned and checked, a
+//! Uses of each crate, every one a function to copy: requests that are signed, presigned and checked, a
 //! stream of events that is signed, received and watched, settings of profile files, a body in chunks, a service that takes uploads,
 //! and an operation with its attempts.
 //! `docs/CALLING.md` shows them. The program runs each once and prints what came of it.
@@ -6,7 +6,6 @@
 
 mod attempts;
 mod chunked_upload;
-mod first_steps;
 mod opened_stream;
 mod operation;
 mod presigned_door;
@@ -59,7 +58,6 @@ fn main(rt: HostRuntime) -> io::Result<ExitCode> {
 // What comes of each use.
 fn uses(alloc: Global) -> anyhow::Result<String> {
     let mut text = String::new(alloc);
-    push_first(alloc, &mut text)?;
     push_requests(alloc, &mut text, &example_identity(alloc)?)?;
     push_events(alloc, &mut text)?;
     push_lines(alloc, &mut text, chunked_upload::body(alloc)?.as_slice())?;
@@ -70,13 +68,6 @@ fn uses(alloc: Global) -> anyhow::Result<String> {
     push_outcome(alloc, &mut text)?;
     push_operation(alloc, &mut text)?;
     Ok(text)
-}
-
-fn push_first(alloc: Global, text: &mut String) -> anyhow::Result<()> {
-    let key_id = String::from_str(alloc, KEY_ID)?;
-    let secret = String::from_str(alloc, SECRET)?;
-    let credentials = Credentials::new(key_id, secret, None, None);
-    first_steps::push_steps(alloc, text, &credentials, example_moment())
 }
 
 fn push_requests(alloc: Global, text: &mut String, identity: &Identity) -> anyhow::Result<()> {
