@@ -84,12 +84,12 @@ impl AwsChunkedBodyOptions {
     }
 
     /// Announces the body of these options, with these trailers behind it, in the headers of its request, which is signed then:
-    /// `content-encoding` gains `aws-chunked`, `x-amz-decoded-content-length` is the length of the data, `content-length` that of
+    /// `content-encoding` gets `aws-chunked`, `x-amz-decoded-content-length` is the length of the data, `content-length` that of
     /// the text, and `x-amz-trailer` has the names of the trailers, where there are some. The answer is what the request is signed
     /// over in place of its body: hand it to `PayloadSigningOverride::Precomputed` or `SignableBody::Precomputed`, which take it as
     /// they take a digest.
     ///
-    /// Headers of these names that are there are replaced, but for `content-encoding`, which gains a line.
+    /// Headers of these names that are there are replaced, but for `content-encoding`, which gets a line.
     ///
     /// # Errors
     ///

@@ -51,7 +51,7 @@ first_empty credentials region name =
     option_or (unless_filled (access_key_id credentials) EmptyKeyId) (option_or (unless_filled (secret_access_key credentials) EmptySecret)
     (option_or (unless_filled region EmptyRegion) (unless_filled name EmptyName)))
 
--- no text is empty, or it is told which is the first
+-- no text is empty, or the first that is
 abbrev pub TestsTexts : Keys → List ℕ → List ℕ → Result (Unit {0}) AwsSigningError → Type 0
 TestsTexts credentials region name (Ok _) = first_empty credentials region name ≡ None
 TestsTexts credentials region name (Err fault) = first_empty credentials region name ≡ Some fault

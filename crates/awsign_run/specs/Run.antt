@@ -36,7 +36,7 @@ or_usual (place ∷ places) = place ∷ places
 abbrev pub asked_places : OptionValues → List Place
 asked_places options = or_usual (named_place Config (last_value options (codes "--config")) ++ named_place Credentials (last_value options (codes "--credentials")))
 
--- the texts of the files and the name of the profile, or the first file that couldn't be read; `gave` tells what the disk gave for the texts, and
+-- the texts of the files and the name of the profile, or the first file that couldn't be read; `gave` says what the disk gave for the texts, and
 -- `unread` for a path that couldn't be read
 abbrev pub LoadsAsked : (List FileText → Type 0) → (List ℕ → Type 0) → List ℕ → Result Source EnvConfigFileLoadError → Type 0
 LoadsAsked gave unread name (Ok source) = gave (map file_of source.files.items) × (string_bytes source.profile ≡ name)

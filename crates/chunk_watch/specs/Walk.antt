@@ -20,7 +20,7 @@ pub data ChunkPoint : Type 0 where
   -- at the first fault
   failed : ChunkFault → ChunkPoint
 
--- the place of the next chunk; the last one that can be told stays
+-- the place of the next chunk; the last one that can be named stays
 abbrev pub next_place : ℕ → ℕ
 next_place place = min (place + 1) 18446744073709551615
 

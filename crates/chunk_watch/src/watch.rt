@@ -71,7 +71,7 @@ impl Model for ChunkWatch {
 
 impl ChunkWatch {
     /// A watch of the body whose first chunk is signed over the seed: over the signature of the request, as `Admitted::signature` of
-    /// `request_door` tells it, at its moment.
+    /// `request_door` has it, at its moment.
     ///
     /// # Errors
     ///
@@ -109,7 +109,7 @@ impl ChunkWatch {
     ///
     /// [`ChunkFault::NoMemory`] where memory runs out. Where the piece had no room, it isn't taken, and nothing has changed; and else
     /// some of the data is appended, that of the first chunks. The next call goes on, also with an empty piece, and nothing comes
-    /// twice. Where the piece was taken can't be told from the answer alone: so a body whose watch ran out of memory is given up.
+    /// twice. Whether the piece was taken can't be seen from the answer alone: so a body whose watch ran out of memory is given up.
     #[tactic(auto, using(crate::proofs::WatchLemmas::feeds))]
     pub fn feed(&mut self, piece: &[u8], out: &mut Vec<u8>) -> Result<(), ChunkFault>
         ensures feeds { FeedsChunks self.old piece.now out.old.items self.new out.new.items result }
@@ -213,7 +213,7 @@ fn is_empty_line(bytes: &[u8]) -> bool
     bytes == b"\r\n".as_slice()
 }
 
-// The place behind a chunk's, which stays where it is the last that can be told.
+// The place behind a chunk's, which stays if it is the last that can be named.
 fn next_place(place: u64) -> u64
     ensures { result ≡ next_place place }
 {

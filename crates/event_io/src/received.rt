@@ -70,7 +70,7 @@ pub enum InitialMessageType {
 }
 
 impl InitialMessageType {
-    // The type of event that the message tells.
+    // The type of event that the message names.
     pub(crate) fn text(self) -> &'static str
         ensures { result.now ≡ initial_text self }
     {

@@ -13,7 +13,7 @@ fits text room = nat_le (length text) (length room)
 abbrev pub room_filled : List ℕ → List ℕ → List ℕ
 room_filled text room = if fits text room then text ++ drop (length text) room else room
 
--- the answer to a text: done, or more room is wanted; either way it tells the length of the text
+-- the answer to a text: done, or more room is wanted; either way it has the length of the text
 abbrev pub told : List ℕ → List ℕ → Answer
 told text room = record { status = (if fits text room then 0 else 1); place = 0; length = length text }
 
@@ -21,12 +21,12 @@ told text room = record { status = (if fits text room then 0 else 1); place = 0;
 abbrev pub refused : Fault → Answer
 refused fault = record { status = fault.status; place = fault.place; length = 0 }
 
--- a text is lent, or a fault told and nothing written
+-- a text is lent, or a fault is answered and nothing written
 abbrev pub Lends : Result (List ℕ) Fault → List ℕ → List ℕ → Answer → Type 0
 Lends (Ok text) old new answer = (new ≡ room_filled text old) × (answer ≡ told text old)
 Lends (Err fault) old new answer = (new ≡ old) × (answer ≡ refused fault)
 
--- bytes are lent, or a fault told and nothing written
+-- bytes are lent, or a fault is answered and nothing written
 abbrev pub LendsMade : Result (Vec ℕ Global) Fault → List ℕ → List ℕ → Answer → Type 0
 LendsMade (Ok made) old new answer = Lends (Ok made.items) old new answer
 LendsMade (Err fault) old new answer = Lends (Err fault) old new answer
@@ -35,7 +35,7 @@ LendsMade (Err fault) old new answer = Lends (Err fault) old new answer
 abbrev pub signature_after : Made → List ℕ → List ℕ → List ℕ
 signature_after made old room = if fits made.text.items room then made.signature else old
 
--- a text is lent with its signature, or a fault told and nothing written
+-- a text is lent with its signature, or a fault is answered and nothing written
 abbrev pub LendsSigned : Result Made Fault → List ℕ → List ℕ → List ℕ → List ℕ → Answer → Type 0
 LendsSigned (Ok made) code code_after old new answer = Lends (Ok made.text.items) old new answer × (code_after ≡ signature_after made code old)
 LendsSigned (Err fault) code code_after old new answer = Lends (Err fault) old new answer × (code_after ≡ code)

@@ -27,7 +27,7 @@ is_text_scope signer = is_utf8 signer.secret.now && (is_utf8 signer.region.now &
 abbrev pub keyless_at : Bool → ℤ → Option Fault
 keyless_at are_texts seconds = option_or (unless_utf8 are_texts) (if is_in_years (moment_at seconds) then None else Some beyond_years)
 
--- the signing key is written, or the reason why there is none is told and nothing is
+-- the signing key is written, or the reason why there is none is answered and nothing is
 abbrev pub GivesKeyUnless : Option Fault → List ℕ → List ℕ → List ℕ → Answer → Type 0
 GivesKeyUnless None key old new answer = (new ≡ key) × (answer ≡ record { status = 0; place = 0; length = 32 })
 GivesKeyUnless (Some fault) key old new answer = (new ≡ old) × (answer ≡ refused fault)

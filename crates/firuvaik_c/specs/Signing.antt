@@ -63,7 +63,7 @@ abbrev pub SignsOrRefuses : List ℕ → (Target → Case) → Result Made Signi
 SignsOrRefuses text case (Ok made) = SignsSpelled text case made
 SignsOrRefuses text case (Err error) = RefusesSpelled text case error
 
--- a request is signed as it is asked for, or the first reason against it is told
+-- a request is signed as it is asked for, or the first reason against it is answered
 abbrev pub SignsLent : Signer → Request → Settings → ℤ → Result Made Fault → Type 0
 SignsLent signer request settings seconds (Ok made) =
     (unreadable signer request settings seconds ≡ None) × SignsSpelled request.target.now (lent_case signer request settings seconds) made

@@ -1,7 +1,7 @@
 //! A C library over the crates of this repository: what C, and all that calls C, is offered.
 //!
 //! Each export calls one function and states its promise again; it takes any bytes and any numbers. What is read is lent, what is
-//! written goes into room that the caller lends, and the answer tells how it went and how many bytes there are or are wanted
+//! written goes into room that the caller lends, and the answer says how it went and how many bytes there are or are wanted
 //! (`specs/Answers.antt`). No memory is handed over, and no state lives here: what goes on, as the signature before, is the caller's.
 //!
 //! `c/firuvaik.h` declares the exports for C.

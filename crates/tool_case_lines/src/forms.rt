@@ -7,7 +7,7 @@
 use crate::kinds::is_of_kind;
 use std::alloc::{AllocError, Global};
 
-/// The forms that were told so far.
+/// The forms that were read so far.
 #[derive(Drop)]
 pub struct Forms {
     lines: Vec<String>,
