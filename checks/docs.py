@@ -21,8 +21,9 @@ import sys
 from definitions import ROOT, cited_names, conditional_names, exported_names, meanings
 
 PAGES = [*ROOT.glob("*.md"), *ROOT.glob("docs/*"), *ROOT.glob("bench/*.md")]
-# So many can be read in two hours; a man page is read by who uses its program.
+# So many can be read in two hours; a man page is read by who uses its program, and the list of calls, which a script makes, is looked up.
 MOST_WORDS = 25_000
+LOOKED_UP = ROOT / "docs/CALLS.md"
 # What a copy shares with what it was made of: the same sentence holds for each.
 COPIES = re.compile(r"IsSame\w+|Is\w+Copy|IsCopied")
 # The pages whose names are this repository's; the others tell of the SDK for Rust, or of keys and variables that nothing reads.
@@ -201,7 +202,7 @@ def path_faults():
 
 def length_faults():
     """Where the pages are too long to be read."""
-    words = sum(len(page.read_text().split()) for page in PAGES if page.suffix == ".md")
+    words = sum(len(page.read_text().split()) for page in PAGES if page.suffix == ".md" and page != LOOKED_UP)
     if words >= MOST_WORDS:
         yield f"the pages have {words} words, and may have fewer than {MOST_WORDS}"
 
