@@ -1,7 +1,7 @@
 pub mod AcceptanceLemmas
-pub mod DecimalLemmas
 pub mod OneAnswerLemmas
 pub mod OrderLemmas
 pub mod ParameterLemmas
+pub mod PresignedCaseLemmas
 pub mod SignatureLemmas
 pub mod TermLemmas

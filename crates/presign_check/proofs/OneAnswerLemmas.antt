@@ -118,6 +118,7 @@ module _ (asked : PresignInput) where
         at = (term i).at;
         names = (text i).names;
         signature = (text i).signature;
+        expires = Some (term i).seconds;
       })
 
   carried_same : (a b : Reading) → HasTerms asked.request asked.signer a → HasTerms asked.request asked.signer b → a.texts.signature ≡ b.texts.signature

@@ -1,6 +1,6 @@
 -- The signature of a request that was read, computed again.
 use Rattle.std.proofs.Common.{◌≡◌, ℕ, List, [], Some, None, Ok, Err, inl, inr, refl, sym, ap, ◌∙◌, subst}
-use Rattle.std.specs.Prelude.{Result, codes, string_bytes}
+use Rattle.std.specs.Prelude.{Result, codes, option_and_then, string_bytes}
 use Rattle.http_uri.specs.Uri.{Spells}
 use Rattle.http_uri.specs.declared.uri.Uri.{Uri}
 use Rattle.smithy_core.specs.declared.request.HttpRequest.{HttpRequest}
@@ -11,7 +11,7 @@ use Rattle.sigv4.specs.Query.{decoded}
 use Rattle.sigv4.specs.Settings.{Settings}
 use Rattle.sigv4.specs.declared.error.SigningError.{SigningError}
 use Rattle.request_check.specs.Recomputed.{ChecksRequest, Rechecks, RefusesSent, recomputed, unfit_sent}
-use Rattle.request_check.specs.Sealed.{FindsSeal, IsSealed, SealParts}
+use Rattle.request_check.specs.Sealed.{FindsSeal, IsSealed, SealParts, spelled_seconds}
 use Rattle.request_check.specs.declared.check.CheckRequestFault.TheVariants.{Signing as Unsigned}
 use Rattle.request_check.specs.declared.check.Checked.{Checked}
 use Rattle.request_check.proofs.SealLemmas.{one_seal, unsealed_bare}
@@ -51,6 +51,7 @@ sealed request signer reading has =
           credential = first_of_one pairs (codes "X-Amz-Credential") texts.credential once.credential ∙ ap (λ (t : List ℕ). Some t) told.credential;
           names = first_of_one pairs (codes "X-Amz-SignedHeaders") texts.names once.names;
           signature = first_of_one pairs (codes "X-Amz-Signature") texts.signature once.signature;
+          expires = ap (option_and_then spelled_seconds) (first_of_one pairs (codes "X-Amz-Expires") texts.expires once.expires) ∙ told.expires;
         },
       ),
     )

@@ -7,11 +7,12 @@ use Rattle.eventstream.specs.Key.{scope}
 use Rattle.sigv4.specs.Signature.{is_signature}
 use Rattle.sigv4.proofs.InsertedLemmas.{same_name}
 use Rattle.request_check.specs.Carried.{CutsScope}
+use Rattle.request_check.specs.Sealed.{spelled_seconds}
 use Rattle.request_check.specs.Stamped.{ReadsStamp}
 use Rattle.request_check.proofs.SealLemmas.{absent}
 use Rattle.request_check.proofs.StampLemmas.{stamped_once}
 use Rattle.presign_check.specs.Parameters.{PresignTexts}
-use Rattle.presign_check.specs.Terms.{IsBad, IsFirstBad, IsOutOfForm, PresignTerms, ReadsTerms, TellTerms, algorithm_name, formed_parts, spelled_seconds}
+use Rattle.presign_check.specs.Terms.{IsBad, IsFirstBad, IsOutOfForm, PresignTerms, ReadsTerms, TellTerms, algorithm_name, formed_parts}
 use Rattle.presign_check.specs.declared.fault.PresignFault.{PresignFault}
 use Rattle.presign_check.specs.declared.fault.PresignFault.TheVariants.{BadPart}
 use Rattle.presign_check.specs.declared.part.PresignPart.{PresignPart}

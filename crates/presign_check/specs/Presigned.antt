@@ -76,6 +76,7 @@ seal_in reading = record {
   at = reading.terms.at;
   names = reading.texts.names;
   signature = reading.texts.signature;
+  expires = Some reading.terms.seconds;
 }
 
 -- the signature of the request, computed again

@@ -1,12 +1,12 @@
 -- What the parameters of a presigned target tell, and when they are outside their forms.
-use Rattle.std.specs.Prelude.{◌≡◌, ◌≢◌, ◌⊎◌, ℕ, false, true, List, [], ◌∷◌, ◌++◌, codes, Option, Some, None, Result, Ok, Err, ℤ, pos, ◌+ℤ◌, ◌≤ℤ◌, ◌<ℤ◌}
+use Rattle.std.specs.Prelude.{◌≡◌, ◌≢◌, ◌⊎◌, ℕ, false, true, List, [], ◌∷◌, ◌++◌, codes, Some, None, Result, Ok, Err, ℤ, pos, ◌+ℤ◌, ◌≤ℤ◌, ◌<ℤ◌}
 use Rattle.smithy_core.specs.Civil.{stamp}
 use Rattle.smithy_core.specs.Moment.{Instant}
 use Rattle.eventstream.specs.Key.{scope}
 use Rattle.sigv4.specs.Signature.{is_signature}
 use Rattle.request_check.specs.Carried.{CutsScope}
+use Rattle.request_check.specs.Sealed.{spelled_seconds}
 use Rattle.request_check.specs.Stamped.{IsWholeSecond, ReadsStamp}
-use Rattle.job_text.specs.Numbers.{natural_below}
 use Rattle.presign_check.specs.Parameters.{PresignTexts}
 use Rattle.presign_check.specs.declared.fault.PresignFault.{PresignFault}
 use Rattle.presign_check.specs.declared.fault.PresignFault.TheVariants.{BadPart, Expired, NoMemory, TooEarly, UnknownKey}
@@ -17,10 +17,6 @@ use Rattle.presign_check.specs.declared.terms.Terms.{Terms}
 -- the name of the algorithm
 abbrev pub algorithm_name : List ℕ
 algorithm_name = codes "AWS4-HMAC-SHA256"
-
--- the number of seconds that a text spells, where 64 bits hold it
-abbrev pub spelled_seconds : List ℕ → Option ℕ
-spelled_seconds text = natural_below 18446744073709551616 text
 
 -- what the parameters tell: the key's id, the moment of signing, and for how many seconds the target is good
 pub record PresignTerms : Type 0 where

@@ -10,7 +10,7 @@ use Rattle.sigv4.specs.Parameters.{SpellsParts, takes_no_more, target_text_with,
 use Rattle.sigv4.specs.Query.{Pair, decoded}
 use Rattle.sigv4.specs.Refusal.{unfit_signed_target}
 use Rattle.sigv4.specs.Request.{Case}
-use Rattle.sigv4.specs.Settings.{Settings, is_query, is_query_form}
+use Rattle.sigv4.specs.Settings.{Settings, is_query_form}
 use Rattle.sigv4.specs.Signed.{parameters, signature_of, signed_target}
 use Rattle.sigv4.specs.declared.error.SigningError.{SigningError}
 use Rattle.sigv4.specs.declared.error.SigningError.TheVariants.{InvalidUri}
@@ -146,27 +146,8 @@ resealed : (c : Case) (sent : HttpRequest) → IsSignedAsSent c → IsSentOf c s
 resealed c sent is of = by c.settings.signature_location refl is.apart
   where
     by : (place : SignatureLocation) → c.settings.signature_location ≡ place → HasFormApart place c → IsResealed c sent
-    by Headers here apart =
-        resealed_header c sent is (record {
-          form = ap is_query here;
-          usual = is.usual;
-          lower = is.lower;
-          in_years = is.in_years;
-          fit = is.fit;
-          token = apart.0;
-          payload = apart.1;
-        }) of
-    by QueryParams here apart =
-        resealed_query c sent is (record {
-          strings = is.strings;
-          form = ap is_query here;
-          usual = is.usual;
-          lower = is.lower;
-          in_years = is.in_years;
-          fit = is.fit;
-          unauthorized = apart.0;
-          none = apart.1;
-        }) of
+    by Headers here apart = resealed_header c sent is (header.signs_headers c is here apart) of
+    by QueryParams here apart = resealed_query c sent is (query.signs_query c is here apart) of
 
 pub recomputes : (sent : HttpRequest) (settings : Settings) (payload : List ℕ) (signer : Signer) (result : Result Checked CheckRequestFault)
     → ChecksRequest sent settings payload signer result → Recomputes sent settings payload signer result

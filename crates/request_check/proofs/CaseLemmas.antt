@@ -1,15 +1,17 @@
 -- The names that a case signs, as one text.
-use Rattle.std.proofs.Common.{rules, ◌≡◌, ℕ, true, false, ◌&&◌, List, [], ◌∷◌, map, IsUtf8, refl, sym, ◌∙◌}
-use Rattle.std.specs.Prelude.{filter}
-use Rattle.std.specs.List.{AllByRecursion, join_with_byte}
+use Rattle.std.proofs.Common.{rules, ◌≡◌, ℕ, Bool, true, false, ◌&&◌, not, List, [], ◌∷◌, ◌++◌, map, IsUtf8, Option, Some, refl, sym, ap, ◌∙◌, true≢false, unwrap_or}
+use Rattle.std.specs.Prelude.{bytes_eq, codes, filter}
+use Rattle.std.specs.List.{AllByRecursion, join_with_byte, list_any}
 use Rattle.std.proofs.lemmas.Bool.{and_parts}
 use Rattle.std.proofs.lemmas.Str.{IsUtf8-append, IsUtf8-from_ascii, IsUtf8-nil}
 use Rattle.http_header.proofs.TokenLemmas.{IsFieldName-from_test, IsUtf8-from_token}
 use Rattle.smithy_core.specs.TextPairs.{named_values}
-use Rattle.sigv4.specs.Canonical.{canonical_headers, is_signed, joined_names, names}
+use Rattle.sigv4.specs.Canonical.{canonical_headers, excluded_token, is_signed, joined_names, names, unsigned_in_query_form, unsigned_token}
 use Rattle.sigv4.specs.Query.{Pair}
 use Rattle.sigv4.specs.Refusal.{is_name}
 use Rattle.sigv4.specs.Request.{Case}
+use Rattle.sigv4.specs.Settings.{Settings, default_exclusions}
+use Rattle.sigv4.proofs.InsertedLemmas.{same_name}
 use Rattle.sigv4.proofs.JoinLemmas.{Lacks}
 use Rattle.sigv4.proofs.SetLemmas.{among-set, any-filtered, any-named, is_among, is_here}
 use Rattle.request_check.specs.Recomputed.{carried_names}
@@ -50,8 +52,23 @@ among_from c name signed here =
     among-set name (filter (is_signed c.settings) (all_names c)) ∙ (any-filtered (is_signed c.settings) name (all_names c)
     ∙ (λ i. signed i && (any-named name (canonical_headers c) ∙ here) i))
 
+-- the signature's own header isn't signed
+authorization_unsigned : (settings : Settings) → settings.excluded_headers ≡ Some default_exclusions → is_signed settings (codes "authorization") ≡ false
+unfolding is_signed
+authorization_unsigned settings usual =
+    ap (λ (excluded : Option (List (List ℕ))). not (list_any (bytes_eq (codes "authorization"))
+    (unwrap_or excluded [] ++ excluded_token settings.session_token_mode (unsigned_token settings) ++ unsigned_in_query_form settings))) usual
+
+pub not_authorization : (settings : Settings) (name : List ℕ) → settings.excluded_headers ≡ Some default_exclusions → is_signed settings name ≡ true
+    → bytes_eq (codes "authorization") name ≡ false
+not_authorization settings name usual signed = by (bytes_eq (codes "authorization") name) refl
+  where
+    by : (b : Bool) → bytes_eq (codes "authorization") name ≡ b → b ≡ false
+    by true e = absurd (true≢false (sym signed ∙ ap (is_signed settings) (sym (same_name _ name e)) ∙ authorization_unsigned settings usual))
+    by false e = refl
+
 module _ (c : Case) (named : AreNamed (canonical_headers c)) where
-  is_named : (name : List ℕ) → is_among name (names c) ≡ true → is_name name ≡ true
+  pub is_named : (name : List ℕ) → is_among name (names c) ≡ true → is_name name ≡ true
   is_named name here = named_here (canonical_headers c) name named (among_parts c name here).1
 
   pub names_whole : has_space (joined_names (names c)) ≡ false

@@ -1,5 +1,5 @@
 -- The signed request of a case in header form has the case's signature by its own seal.
-use Rattle.std.proofs.Common.{◌≡◌, ℕ, Bool, true, false, ◌||◌, cond, not, List, [], ◌∷◌, ◌++◌, Option, Some, None, is_some, refl, sym, ap, ◌∙◌, subst, true≢false, unwrap_or}
+use Rattle.std.proofs.Common.{◌≡◌, ℕ, Bool, true, false, ◌||◌, cond, not, List, [], ◌∷◌, ◌++◌, Option, Some, None, inl, is_some, refl, sym, ap, ◌∙◌, subst, true≢false, unwrap_or}
 use Rattle.std.specs.Prelude.{bytes_eq, codes}
 use Rattle.std.specs.List.{flat_map, join_with_byte, list_any}
 use Rattle.std.specs.Option.{option_or}
@@ -9,13 +9,13 @@ use Rattle.smithy_core.specs.Moment.{floor_secs}
 use Rattle.smithy_core.specs.TextPairs.{AreLower, first_value, inserted, lower, named_values}
 use Rattle.smithy_core.specs.Text.{line}
 use Rattle.eventstream.specs.Key.{scope, signing_key}
-use Rattle.sigv4.specs.Canonical.{added_host, canonical, canonical_headers, canonical_lines, credential, excluded_token, given_headers, header_line, hosted_headers, is_signed, joined_names, names, pairs, path_of, header_payload, token_header, unsigned_in_query_form, unsigned_token, with_optional}
+use Rattle.sigv4.specs.Canonical.{added_host, canonical, canonical_headers, canonical_lines, credential, excluded_token, given_headers, has_host, header_line, hosted_headers, is_signed, joined_names, names, pairs, path_of, header_payload, token_header, unsigned_in_query_form, unsigned_token, with_optional}
 use Rattle.sigv4.specs.Host.{host_text}
 use Rattle.sigv4.specs.Instructions.{with_instructions}
 use Rattle.sigv4.specs.Query.{Pair, decoded, query}
 use Rattle.sigv4.specs.Refusal.{is_lower_name, is_name, is_reserved, is_token_name, unfit, unfit_headers, unfit_host, unfit_override, unfit_target, unfit_texts, unfit_token_name}
 use Rattle.sigv4.specs.Request.{Case}
-use Rattle.sigv4.specs.Settings.{Settings, default_exclusions, is_query_form}
+use Rattle.sigv4.specs.Settings.{Settings, default_exclusions, is_query, is_query_form}
 use Rattle.sigv4.specs.Signature.{signature, string_to_sign}
 use Rattle.sigv4.specs.Signed.{authorization, authorization_text, instructions, instructions_for, signature_of, signed_headers}
 use Rattle.sigv4.specs.Trim.{trim_all}
@@ -27,13 +27,15 @@ use Rattle.sigv4.proofs.AgainLemmas.{same_signature}
 use Rattle.sigv4.proofs.FitLemmas.{both_none, fit-from_none, passed}
 use Rattle.sigv4.proofs.InsertedLemmas.{same_name}
 use Rattle.sigv4.proofs.SetLemmas.{flat_map-among, is_among, is_here}
-use Rattle.request_check.specs.Recomputation.{IsTrimmed}
+use Rattle.request_check.specs.Authorization.{IsAuthorization}
+use Rattle.request_check.specs.Recomputation.{HasFormApart, IsSignedAsSent, IsTrimmed}
 use Rattle.request_check.specs.Recomputed.{recomputed, sent_pairs, sent_text, unfit_sent}
 use Rattle.request_check.specs.Sealed.{SealParts, SealsHeaders, sealed_credential}
-use Rattle.request_check.proofs.CaseLemmas.{among_from, among_parts, names_carried, names_whole}
+use Rattle.request_check.proofs.CaseLemmas.{among_from, among_parts, names_carried, names_whole, not_authorization}
 use Rattle.request_check.proofs.HeaderLineLemmas.{flipped}
+use Rattle.request_check.proofs.HostLemmas.{first_here, host_by}
 use Rattle.request_check.proofs.NamesLemmas.{signature_digits, stamp_trimmed}
-use Rattle.request_check.proofs.SentLemmas.{AreNamed, first_inserted_other, first_inserted_same, first_optional_other, given_inserted, given_optional, layer, layered, lower_inserted, lower_optional, named_given, named_optional, swapped, two_names}
+use Rattle.request_check.proofs.SentLemmas.{AreNamed, first_inserted_other, first_inserted_same, first_optional_other, given_inserted, given_lower, given_optional, kept_values, layer, layered, lower_inserted, lower_optional, named_given, named_optional, swapped, two_names}
 
 -- ---- the token's name
 
@@ -85,6 +87,17 @@ pub record SignsHeaders (c : Case) : Type 0 where
   pub fit : unfit c ≡ None
   pub token : IsTrimmed c.token
   pub payload : IsTrimmed (header_payload c.settings.payload_checksum_kind c.payload)
+
+pub signs_headers : (c : Case) → IsSignedAsSent c → c.settings.signature_location ≡ Headers → HasFormApart Headers c → SignsHeaders c
+signs_headers c is here apart = record {
+  form = ap is_query here;
+  usual = is.usual;
+  lower = is.lower;
+  in_years = is.in_years;
+  fit = is.fit;
+  token = apart.0;
+  payload = apart.1;
+}
 
 -- the signature's own headers, inserted
 inserted_all : (settings : Settings) (date text : List ℕ) (payload token : Option (List ℕ)) (headers : List Pair)
@@ -166,7 +179,7 @@ module _ (c : Case) (is : SignsHeaders c) where
 
   -- ---- values of names
 
-  values_same : (name : List ℕ) → bytes_eq (codes "authorization") name ≡ false
+  pub values_same : (name : List ℕ) → bytes_eq (codes "authorization") name ≡ false
       → named_values (hosted_headers c.target (signed_headers c)) name ≡ named_values (canonical_headers c) name
   values_same name other =
       let h = bytes_eq (codes "host") name in
@@ -197,24 +210,11 @@ module _ (c : Case) (is : SignsHeaders c) where
 
   -- ---- the names
 
-  unsigned : is_signed c.settings (codes "authorization") ≡ false
-  unfolding is_signed
-  unsigned =
-      ap (λ (excluded : Option (List (List ℕ))). not (list_any (bytes_eq (codes "authorization"))
-      (unwrap_or excluded [] ++ excluded_token c.settings.session_token_mode (unsigned_token c.settings) ++ unsigned_in_query_form c.settings))) is.usual
-
-  not_authorization : (name : List ℕ) → is_signed c.settings name ≡ true → bytes_eq (codes "authorization") name ≡ false
-  not_authorization name signed = by (bytes_eq (codes "authorization") name) refl
-    where
-      by : (b : Bool) → bytes_eq (codes "authorization") name ≡ b → b ≡ false
-      by true e = absurd (true≢false (sym signed ∙ ap (is_signed c.settings) (sym (same_name _ name e)) ∙ unsigned))
-      by false e = refl
-
   lines_same : flat_map (header_line (hosted_headers c.target (signed_headers c))) (names c) ≡ flat_map (header_line (canonical_headers c)) (names c)
   lines_same = flat_map-among (header_line (hosted_headers c.target (signed_headers c))) (header_line (canonical_headers c)) (names c)
-      (λ name here. ap (λ values. line (name ++ codes ":" ++ join_with_byte 44 values)) (values_same name (not_authorization name (among_parts c name here).0)))
+      (λ name here. ap (λ values. line (name ++ codes ":" ++ join_with_byte 44 values)) (values_same name (not_authorization c.settings name is.usual (among_parts c name here).0)))
 
-  all_named : AreNamed (canonical_headers c)
+  pub all_named : AreNamed (canonical_headers c)
   all_named = subst AreNamed (sym canonical_are)
       (named_optional (codes "x-amz-content-sha256") told (with_optional token_name c.token (inserted (hosted_headers c.target c.headers) (codes "x-amz-date") (stamp c.at))) refl
       (named_optional token_name c.token (inserted (hosted_headers c.target c.headers) (codes "x-amz-date") (stamp c.at)) own.is_fit
@@ -242,26 +242,86 @@ module _ (c : Case) (is : SignsHeaders c) where
       among_from c (codes "x-amz-date") date_signed
       (ap is_here (ap (λ (headers : List Pair). named_values headers (codes "x-amz-date")) canonical_are
       ∙ layered (codes "x-amz-content-sha256") told (with_optional token_name c.token (inserted (hosted_headers c.target c.headers) (codes "x-amz-date") (stamp c.at))) (codes "x-amz-date")
-      ∙ kept told
+      ∙ kept_values told
       ∙ layered token_name c.token (inserted (hosted_headers c.target c.headers) (codes "x-amz-date") (stamp c.at)) (codes "x-amz-date")
       ∙ ap (λ b. layer b c.token (named_values (inserted (hosted_headers c.target c.headers) (codes "x-amz-date") (stamp c.at)) (codes "x-amz-date"))) own.not_date
-      ∙ kept c.token
+      ∙ kept_values c.token
       ∙ layered (codes "x-amz-date") (Some (stamp c.at)) (hosted_headers c.target c.headers) (codes "x-amz-date")))
+
+  -- and so is the host
+  host_signed : is_signed c.settings (codes "host") ≡ true
+  unfolding is_signed
+  host_signed =
+      ap (λ (excluded : Option (List (List ℕ))). not (list_any (bytes_eq (codes "host"))
+      (unwrap_or excluded [] ++ excluded_token c.settings.session_token_mode (unsigned_token c.settings) ++ unsigned_in_query_form c.settings))) is.usual
+      ∙ ap (λ (b : Bool). not (list_any (bytes_eq (codes "host"))
+      (default_exclusions ++ excluded_token c.settings.session_token_mode (cond b (lower (unwrap_or c.settings.session_token_name_override (codes "X-Amz-Security-Token"))) token_name)
+      ++ cond b (codes "x-amz-user-agent" ∷ codes "x-amz-checksum-mode" ∷ []) []))) is.form
+      ∙ by_mode c.settings.session_token_mode
     where
-      kept : (value : Option (List ℕ)) {values : List (List ℕ)} → layer false value values ≡ values
-      kept None = refl
-      kept (Some value) = refl
+      by_mode : (mode : SessionTokenMode) → not (list_any (bytes_eq (codes "host")) (default_exclusions ++ excluded_token mode token_name ++ [])) ≡ true
+      by_mode Include = refl
+      by_mode Exclude = ap (λ (b : Bool). not (b || false)) (flipped (codes "host") token_name ∙ own.not_host)
+
+  pub host_among : is_among (codes "host") (names c) ≡ true
+  host_among =
+      among_from c (codes "host") host_signed
+      (ap is_here (ap (λ (headers : List Pair). named_values headers (codes "host")) canonical_are
+      ∙ layered (codes "x-amz-content-sha256") told (with_optional token_name c.token (inserted (hosted_headers c.target c.headers) (codes "x-amz-date") (stamp c.at))) (codes "host")
+      ∙ kept_values told
+      ∙ layered token_name c.token (inserted (hosted_headers c.target c.headers) (codes "x-amz-date") (stamp c.at)) (codes "host")
+      ∙ ap (λ b. layer b c.token (named_values (inserted (hosted_headers c.target c.headers) (codes "x-amz-date") (stamp c.at)) (codes "host"))) own.not_host
+      ∙ kept_values c.token
+      ∙ layered (codes "x-amz-date") (Some (stamp c.at)) (hosted_headers c.target c.headers) (codes "host")
+      ∙ layered (codes "host") (added_host c.target c.headers) (given_headers c.headers) (codes "host"))
+      ∙ host_by (has_host c.headers) (host_text c.target) (named_values (given_headers c.headers) (codes "host")) (first_here (given_headers c.headers) (codes "host"))
+      (both_none (unfit_host c.target c.headers) _ after_headers.1).0)
+
+  -- the headers have their names in lower case, before and after signing
+  pub canonical_lower : AreLower (canonical_headers c)
+  canonical_lower = subst AreLower (sym canonical_are)
+      (lower_optional (codes "x-amz-content-sha256") told (with_optional token_name c.token (inserted (hosted_headers c.target c.headers) (codes "x-amz-date") (stamp c.at))) refl
+      (lower_optional token_name c.token (inserted (hosted_headers c.target c.headers) (codes "x-amz-date") (stamp c.at)) own.is_lower
+      (lower_inserted (codes "x-amz-date") (stamp c.at) (hosted_headers c.target c.headers) refl
+      (lower_optional (codes "host") (added_host c.target c.headers) (given_headers c.headers) refl (given_lower c.headers is.lower)))))
+
+  pub sent_lower : AreLower (signed_headers c)
+  sent_lower = subst AreLower (sym sent_are)
+      (lower_optional token_name c.token (with_optional (codes "x-amz-content-sha256") told dated) own.is_lower
+      (lower_optional (codes "x-amz-content-sha256") told dated refl dated_lower))
+
+  -- the two headers of the signature are there once
+  pub authorization_once : named_values (signed_headers c) (codes "authorization") ≡ authorization c ∷ []
+  authorization_once =
+      ap (λ (headers : List Pair). named_values headers (codes "authorization")) sent_are
+      ∙ layered token_name c.token (with_optional (codes "x-amz-content-sha256") told dated) (codes "authorization")
+      ∙ ap (λ b. layer b c.token (named_values (with_optional (codes "x-amz-content-sha256") told dated) (codes "authorization"))) own.not_authorization
+      ∙ kept_values c.token
+      ∙ layered (codes "x-amz-content-sha256") told dated (codes "authorization")
+      ∙ kept_values told
+      ∙ layered (codes "authorization") (Some (authorization c)) (inserted c.headers (codes "x-amz-date") (stamp c.at)) (codes "authorization")
+
+  pub date_once : named_values (signed_headers c) (codes "x-amz-date") ≡ stamp c.at ∷ []
+  date_once =
+      ap (λ (headers : List Pair). named_values headers (codes "x-amz-date")) sent_are
+      ∙ layered token_name c.token (with_optional (codes "x-amz-content-sha256") told dated) (codes "x-amz-date")
+      ∙ ap (λ b. layer b c.token (named_values (with_optional (codes "x-amz-content-sha256") told dated) (codes "x-amz-date"))) own.not_date
+      ∙ kept_values c.token
+      ∙ layered (codes "x-amz-content-sha256") told dated (codes "x-amz-date")
+      ∙ kept_values told
+      ∙ layered (codes "authorization") (Some (authorization c)) (inserted c.headers (codes "x-amz-date") (stamp c.at)) (codes "x-amz-date")
+      ∙ layered (codes "x-amz-date") (Some (stamp c.at)) c.headers (codes "x-amz-date")
 
   -- ---- the seal
 
   abbrev pub own_seal : SealParts
-  own_seal = record { place = Headers; key_id = c.key_id; at = floor_secs c.at; names = joined_names (names c); signature = signature_of c }
+  own_seal = record { place = Headers; key_id = c.key_id; at = floor_secs c.at; names = joined_names (names c); signature = signature_of c; expires = None }
 
-  credential_same : credential c ≡ sealed_credential c.signer.region c.signer.name own_seal
+  pub credential_same : credential c ≡ sealed_credential c.signer.region c.signer.name own_seal
   unfolding credential scope date civil_of
   credential_same = refl
 
-  authorization_is : first_value (signed_headers c) (codes "authorization") ≡ Some (authorization c)
+  pub authorization_is : first_value (signed_headers c) (codes "authorization") ≡ Some (authorization c)
   authorization_is =
       ap (λ (headers : List Pair). first_value headers (codes "authorization")) sent_are
       ∙ first_optional_other token_name c.token (codes "authorization") own.not_authorization (with_optional (codes "x-amz-content-sha256") told dated)
@@ -276,14 +336,23 @@ module _ (c : Case) (is : SignsHeaders c) where
       ∙ first_inserted_other (codes "authorization") (authorization c) (codes "x-amz-date") refl (inserted c.headers (codes "x-amz-date") (stamp c.at))
       ∙ first_inserted_same (codes "x-amz-date") (stamp c.at) c.headers
 
-  pub sealed_by : SealsHeaders (signed_headers c) c.signer.region c.signer.name own_seal
-  unfolding stamp civil_of authorization
-  sealed_by = record {
-    moment = record { in_years = is.in_years; whole = refl };
+  pub authorization_read : IsAuthorization (authorization c) (sealed_credential c.signer.region c.signer.name own_seal) (joined_names (names c)) (signature_of c)
+  unfolding authorization
+  authorization_read = inl (record {
     digits = signature_digits c;
     one_reading = names_whole c all_named;
+    parts = ap (λ (text : List ℕ). authorization_text text (joined_names (names c)) (signature_of c)) credential_same;
+  })
+
+  pub sealed_by : SealsHeaders (signed_headers c) c.signer.region c.signer.name own_seal
+  unfolding stamp civil_of
+  sealed_by = record {
+    moment = record { in_years = is.in_years; whole = refl };
     date = date_is;
-    authorization = authorization_is ∙ ap (λ (text : List ℕ). Some (authorization_text text (joined_names (names c)) (signature_of c))) credential_same;
+    authorization = authorization c;
+    first = authorization_is;
+    read = authorization_read;
+    no_expiry = refl;
   }
 
   pairs_are : pairs c ≡ decoded c.target

@@ -1,10 +1,14 @@
 pub mod AlikeLemmas
 pub mod CaseLemmas
 pub mod CutLemmas
+pub mod DecimalLemmas
 pub mod EscapedLemmas
 pub mod HeaderFormLemmas
 pub mod HeaderLineLemmas
+pub mod HostLemmas
+pub mod LabelLemmas
 pub mod NamesLemmas
+pub mod OtherReadingLemmas
 pub mod QueryFormLemmas
 pub mod ReadingLemmas
 pub mod SealLemmas

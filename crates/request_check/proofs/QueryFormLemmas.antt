@@ -1,6 +1,6 @@
 -- The signed request of a case in query form has the case's signature by its own seal.
-use Rattle.std.proofs.Common.{◌≡◌, ℕ, ◌^◌, ◌<◌, Bool, true, false, ◌||◌, cond, not, IsUtf8, IfSome, List, [], ◌∷◌, ◌++◌, map, Option, Some, None, is_some, unwrap_or, refl, sym, ap, ◌∙◌, subst, true≢false, append_assoc}
-use Rattle.std.specs.Prelude.{bytes_eq, codes, filter, option_map}
+use Rattle.std.proofs.Common.{◌≡◌, ℕ, ◌^◌, ◌<◌, Bool, true, false, ◌||◌, cond, not, IsUtf8, IfSome, List, [], ◌∷◌, ◌++◌, map, Option, Some, None, unwrap_or, refl, sym, ap, ◌∙◌, subst, true≢false, append_assoc}
+use Rattle.std.specs.Prelude.{bytes_eq, codes, filter, option_and_then, option_map}
 use Rattle.std.specs.List.{AllByRecursion, flat_map, join_with_byte, list_any}
 use Rattle.std.specs.Fmt.{decimal}
 use Rattle.std.specs.Option.{option_or}
@@ -26,7 +26,7 @@ use Rattle.sigv4.specs.Path.{canonical_path}
 use Rattle.sigv4.specs.Query.{Pair, decoded, query}
 use Rattle.sigv4.specs.Refusal.{is_reserved, is_token_name, unfit, unfit_headers, unfit_host, unfit_host_text, unfit_override, unfit_target, unfit_texts, unfit_token_name}
 use Rattle.sigv4.specs.Request.{Case}
-use Rattle.sigv4.specs.Settings.{Settings, default_exclusions, is_query_form}
+use Rattle.sigv4.specs.Settings.{Settings, default_exclusions, is_query, is_query_form}
 use Rattle.sigv4.specs.Signature.{signature, string_to_sign}
 use Rattle.sigv4.specs.Signed.{instructions, parameters, signature_of, signed_headers}
 use Rattle.sigv4.specs.declared.error.SigningError.{SigningError}
@@ -38,15 +38,17 @@ use Rattle.sigv4.proofs.FitLemmas.{both_none, fit-from_none, passed}
 use Rattle.sigv4.proofs.InsertedLemmas.{itself, same_name}
 use Rattle.sigv4.proofs.ScopeLemmas.{scope_utf8}
 use Rattle.sigv4.proofs.SetLemmas.{is_among, is_here}
-use Rattle.request_check.specs.Recomputation.{HaveNone, IsOfStrings, parameter_keys}
+use Rattle.request_check.specs.Recomputation.{HasFormApart, HaveNone, IsOfStrings, IsSignedAsSent, parameter_keys}
 use Rattle.request_check.specs.Recomputed.{recomputed, sent_pairs, sent_text, unfit_sent}
-use Rattle.request_check.specs.Sealed.{IsUnsealed, SealParts, SealsParameters, sealed_credential}
+use Rattle.request_check.specs.Sealed.{IsUnsealed, SealParts, SealsParameters, sealed_credential, spelled_seconds}
 use Rattle.request_check.proofs.CaseLemmas.{among_from, names_carried, names_utf8}
+use Rattle.request_check.proofs.DecimalLemmas.{expiry_back}
 use Rattle.request_check.proofs.EscapedLemmas.{AreTexts, decoded_with}
 use Rattle.request_check.proofs.HeaderLineLemmas.{flipped}
+use Rattle.request_check.proofs.HostLemmas.{first_here, host_by}
 use Rattle.request_check.proofs.NamesLemmas.{signature_digits, signature_utf8}
-use Rattle.request_check.proofs.SealLemmas.{absent, unsealed_bare}
-use Rattle.request_check.proofs.SentLemmas.{AreNamed, layer, layered, named_given, named_optional}
+use Rattle.request_check.proofs.SealLemmas.{unsealed_bare}
+use Rattle.request_check.proofs.SentLemmas.{AreNamed, layered, named_given, named_optional}
 
 chosen : {A : Type 0} (b : Bool) (x y : A) → b ≡ true → cond b x y ≡ x
 chosen true x y e = refl
@@ -249,23 +251,6 @@ slash_utf8 : IsUtf8 (codes "/")
 unfolding encode
 slash_utf8 = (codes "/", (refl, refl))
 
--- ---- the host
-
-first_here : (headers : List Pair) (name : List ℕ) → is_some (first_value headers name) ≡ is_here (named_values headers name)
-first_here [] name = refl
-first_here (pair ∷ headers) name = by (bytes_eq pair.0 name) (first_here headers name)
-  where
-    by : (b : Bool) → is_some (first_value headers name) ≡ is_here (named_values headers name)
-        → is_some (option_or (cond b (Some pair.1) None) (first_value headers name)) ≡ is_here (cond b (pair.1 ∷ named_values headers name) (named_values headers name))
-    by true rest = refl
-    by false rest = rest
-
-host_by : (has : Bool) (host : Option (List ℕ)) (values : List (List ℕ)) → has ≡ is_here values → cond {A = Option SigningError} has None (unfit_host_text host) ≡ None
-    → is_here (layer true (cond {A = Option (List ℕ)} has None host) values) ≡ true
-host_by true host values e fit = sym e
-host_by false None values e fit = absurd (absent (sym fit))
-host_by false (Some host) values e fit = refl
-
 -- ---- the case
 
 -- a case in query form that is signed
@@ -278,6 +263,18 @@ pub record SignsQuery (c : Case) : Type 0 where
   pub fit : unfit c ≡ None
   pub unauthorized : first_value c.headers (codes "authorization") ≡ None
   pub none : HaveNone (parameter_keys c.settings) (decoded c.target)
+
+pub signs_query : (c : Case) → IsSignedAsSent c → c.settings.signature_location ≡ QueryParams → HasFormApart QueryParams c → SignsQuery c
+signs_query c is here apart = record {
+  strings = is.strings;
+  form = ap is_query here;
+  usual = is.usual;
+  lower = is.lower;
+  in_years = is.in_years;
+  fit = is.fit;
+  unauthorized = apart.0;
+  none = apart.1;
+}
 
 module _ (c : Case) (is : SignsQuery c) where
   abbrev pub token_name : List ℕ
@@ -298,7 +295,7 @@ module _ (c : Case) (is : SignsQuery c) where
   unfolding signed_headers instructions
   headers_are = ap (with_instructions c.headers) (chosen (is_query_form c.settings) [] _ is.form)
 
-  canonical_are : canonical_headers c ≡ hosted_headers c.target c.headers
+  pub canonical_are : canonical_headers c ≡ hosted_headers c.target c.headers
   unfolding canonical_headers
   canonical_are = chosen (is_query_form c.settings) _ _ is.form
 
@@ -327,7 +324,7 @@ module _ (c : Case) (is : SignsQuery c) where
 
   -- ---- the names
 
-  all_named : AreNamed (canonical_headers c)
+  pub all_named : AreNamed (canonical_headers c)
   all_named = subst AreNamed (sym canonical_are)
       (named_optional (codes "host") (added_host c.target c.headers) (given_headers c.headers) refl
       (named_given c.headers is.lower (fit-from_none 1 c.headers after_headers.0)))
@@ -347,7 +344,7 @@ module _ (c : Case) (is : SignsQuery c) where
       by_mode Include = refl
       by_mode Exclude = ap (λ (b : Bool). not (b || false)) (flipped (codes "host") (lower token_name) ∙ free.not_host)
 
-  host_among : is_among (codes "host") (names c) ≡ true
+  pub host_among : is_among (codes "host") (names c) ≡ true
   host_among =
       among_from c (codes "host") host_signed
       (ap is_here (ap (λ (headers : List Pair). named_values headers (codes "host")) canonical_are
@@ -392,7 +389,7 @@ module _ (c : Case) (is : SignsQuery c) where
   -- ---- the seal
 
   abbrev pub own_seal : SealParts
-  own_seal = record { place = QueryParams; key_id = c.key_id; at = floor_secs c.at; names = joined_names (names c); signature = signature_of c }
+  own_seal = record { place = QueryParams; key_id = c.key_id; at = floor_secs c.at; names = joined_names (names c); signature = signature_of c; expires = c.settings.expires_in }
 
   pub credential_same : credential c ≡ sealed_credential c.signer.region c.signer.name own_seal
   unfolding credential scope date civil_of
@@ -413,6 +410,7 @@ module _ (c : Case) (is : SignsQuery c) where
     credential = first_added_is (codes "X-Amz-Credential") (λ other key. key.credential) ∙ ap (λ (text : List ℕ). Some text) credential_same;
     names = first_added_is (codes "X-Amz-SignedHeaders") (λ other key. key.names);
     signature = first_added_is (codes "X-Amz-Signature") (λ other key. key.signature);
+    expires = ap (option_and_then spelled_seconds) (first_added_is (codes "X-Amz-Expires") (λ other key. key.expires)) ∙ expiry_back c.settings.expires_in is.strings.expiry;
   }
 
   pub unsealed : IsUnsealed (signed_headers c) c.signer.region c.signer.name
@@ -424,7 +422,7 @@ module _ (c : Case) (is : SignsQuery c) where
   unfolding host_text
   host_same = ap (λ (t : Target). option_map (host_of t.scheme) t.authority) sent_target_is
 
-  hosted_same : hosted_headers sent_target (signed_headers c) ≡ canonical_headers c
+  pub hosted_same : hosted_headers sent_target (signed_headers c) ≡ canonical_headers c
   hosted_same =
       ap (hosted_headers sent_target) headers_are
       ∙ (ap (λ (host : Option (List ℕ)). with_optional (codes "host") (cond {A = Option (List ℕ)} (has_host c.headers) None host) (given_headers c.headers)) host_same

@@ -12,17 +12,16 @@ use Rattle.smithy_core.specs.TextPairs.{first_value}
 use Rattle.smithy_core.specs.declared.request.HttpRequest.{HttpRequest}
 use Rattle.smithy_http.specs.Target.{target_of}
 use Rattle.sigv4.specs.Query.{Pair, decoded, decoded_pairs}
-use Rattle.sigv4.specs.Signed.{authorization_text}
 use Rattle.sigv4.specs.declared.settings.SignatureLocation.{SignatureLocation}
 use Rattle.sigv4.specs.declared.settings.SignatureLocation.TheVariants.{Headers, QueryParams}
 use Rattle.sigv4.specs.Signature.{is_signature}
-use Rattle.request_check.specs.Carried.{CutsScope, IsAuthorization, IsCarried, CarriesFirst, MakesSeal, ReadsAuthorization, ReadsParameters, FindsHeaderSeal, FindsTargetSeal}
+use Rattle.request_check.specs.Authorization.{IsAuthorization}
+use Rattle.request_check.specs.Carried.{CutsScope, IsCarried, CarriesFirst, MakesSeal, ReadsAuthorization, ReadsParameters, FindsHeaderSeal, FindsTargetSeal}
 use Rattle.request_check.specs.Cuts.{CutsEnd}
-use Rattle.request_check.specs.SealTexts.{has_space}
 use Rattle.request_check.specs.Sealed.{HasOneSeal, IsSealedAt, IsUnsealed, SealParts, SealsHeaders, SealsParameters, FindsSeal, sealed_credential}
 use Rattle.request_check.specs.Stamped.{ReadsStamp}
 use Rattle.request_check.specs.declared.seal.Carried.{Carried}
-use Rattle.request_check.proofs.ReadingLemmas.{read_once}
+use Rattle.request_check.proofs.OtherReadingLemmas.{read_once}
 use Rattle.request_check.proofs.StampLemmas.{stamped_once}
 
 some_same : {A : Type 0} {x y : A} → Some x ≡ Some y → x ≡ y
@@ -76,11 +75,12 @@ pub unsealed_dateless : (headers : List Pair) (region name : List ℕ) → first
 unsealed_dateless headers region name none = λ seal is. absent (sym none ∙ is.date)
 
 pub unsealed_bare : (headers : List Pair) (region name : List ℕ) → first_value headers (codes "authorization") ≡ None → IsUnsealed headers region name
-unsealed_bare headers region name none = λ seal is. absent (sym none ∙ is.authorization)
+unsealed_bare headers region name none = λ seal is. absent (sym none ∙ is.first)
 
 authorized : (headers : List Pair) (region name text : List ℕ) (seal : SealParts) → first_value headers (codes "authorization") ≡ Some text
     → SealsHeaders headers region name seal → IsAuthorization text (sealed_credential region name seal) seal.names seal.signature
-authorized headers region name text seal here is = record { digits = is.digits; one_reading = is.one_reading; parts = both here is.authorization }
+authorized headers region name text seal here is =
+    subst (λ (t : List ℕ). IsAuthorization t (sealed_credential region name seal) seal.names seal.signature) (both is.first here) is.read
 
 pub unsealed_other : (headers : List Pair) (region name text : List ℕ) → first_value headers (codes "authorization") ≡ Some text → ReadsAuthorization text None
     → IsUnsealed headers region name
@@ -90,27 +90,29 @@ unsealed_other headers region name text here none = λ seal is.
 -- the seal of headers is that of the texts that were read
 carried_so : (headers : List Pair) (region name text : List ℕ) (carried : Carried) (seal : SealParts) → first_value headers (codes "x-amz-date") ≡ Some carried.date.now
     → first_value headers (codes "authorization") ≡ Some text → IsAuthorization text carried.credential.now carried.names.now carried.signature.now
-    → SealsHeaders headers region name seal → IsCarried region name carried seal
-carried_so headers region name text carried seal dated here read is =
+    → carried.expires ≡ None → SealsHeaders headers region name seal → IsCarried region name carried seal
+carried_so headers region name text carried seal dated here read unlimited is =
     let same = read_once text carried.credential.now carried.names.now carried.signature.now (sealed_credential region name seal) seal.names seal.signature read
     (authorized headers region name text seal here is) in
-    record { moment = is.moment; date = both dated is.date; credential = same.0; names = same.1; signature = same.2 }
+    record { moment = is.moment; date = both dated is.date; credential = same.0; names = same.1; signature = same.2; expires = unlimited ∙ sym is.no_expiry }
 
 pub header_seal : (headers : List Pair) (region name text : List ℕ) (carried : Carried) (made : Option SealParts) → first_value headers (codes "x-amz-date") ≡ Some carried.date.now
     → first_value headers (codes "authorization") ≡ Some text → IsAuthorization text carried.credential.now carried.names.now carried.signature.now
-    → MakesSeal Headers region name carried made → FindsHeaderSeal headers region name made
-header_seal headers region name text carried None dated here read none = λ seal is. none seal (carried_so headers region name text carried seal dated here read is)
-header_seal headers region name text carried (Some seal) dated here read made =
+    → carried.expires ≡ None → MakesSeal Headers region name carried made → FindsHeaderSeal headers region name made
+header_seal headers region name text carried None dated here read unlimited none = λ seal is.
+    none seal (carried_so headers region name text carried seal dated here read unlimited is)
+header_seal headers region name text carried (Some seal) dated here read unlimited made =
     let is = made.0 in (
       record {
         moment = is.moment;
-        digits = ap is_signature (sym is.signature) ∙ read.digits;
-        one_reading = ap has_space (sym is.names) ∙ read.one_reading;
         date = dated ∙ ap (λ (t : List ℕ). Some t) is.date;
-        authorization = here ∙ ap (λ (t : List ℕ). Some t) (read.parts
-            ∙ (ap (λ (t : List ℕ). authorization_text t carried.names.now carried.signature.now) is.credential
-            ∙ (ap (λ (t : List ℕ). authorization_text (sealed_credential region name seal) t carried.signature.now) is.names
-            ∙ ap (λ (t : List ℕ). authorization_text (sealed_credential region name seal) seal.names t) is.signature)));
+        authorization = text;
+        first = here;
+        read =
+            subst (λ (t : List ℕ). IsAuthorization text (sealed_credential region name seal) seal.names t) is.signature
+            (subst (λ (t : List ℕ). IsAuthorization text (sealed_credential region name seal) t carried.signature.now) is.names
+            (subst (λ (t : List ℕ). IsAuthorization text t carried.names.now carried.signature.now) is.credential read));
+        no_expiry = sym is.expires ∙ unlimited;
       },
       made.1,
     )
@@ -154,6 +156,7 @@ carried_first pairs region name carried seal first is = record {
   credential = both first.credential is.credential;
   names = both first.names is.names;
   signature = both first.signature is.signature;
+  expires = sym first.expires ∙ is.expires;
 }
 
 pub target_seal : (target region name : List ℕ) (uri : Uri) (carried : Carried) (made : Option SealParts) → Spells target uri → CarriesFirst (decoded (target_of uri)) carried
@@ -172,6 +175,7 @@ target_seal target region name uri carried (Some seal) spells first made =
           credential = first.credential ∙ ap (λ (t : List ℕ). Some t) is.credential;
           names = first.names ∙ ap (λ (t : List ℕ). Some t) is.names;
           signature = first.signature ∙ ap (λ (t : List ℕ). Some t) is.signature;
+          expires = first.expires ∙ is.expires;
         },
       ),
       made.1,
@@ -197,8 +201,15 @@ sealed_second request region name (Some seal) unsealed tells =
 
 -- ---- one seal
 
-seal_is : (a b : SealParts) → a.place ≡ b.place → a.key_id ≡ b.key_id → a.at ≡ b.at → a.names ≡ b.names → a.signature ≡ b.signature → a ≡ b
-seal_is a b place key_id at names signature = λ i. record { place = place i; key_id = key_id i; at = at i; names = names i; signature = signature i }
+seal_is : (a b : SealParts) → a.place ≡ b.place → a.key_id ≡ b.key_id → a.at ≡ b.at → a.names ≡ b.names → a.signature ≡ b.signature → a.expires ≡ b.expires → a ≡ b
+seal_is a b place key_id at names signature expires = λ i. record {
+  place = place i;
+  key_id = key_id i;
+  at = at i;
+  names = names i;
+  signature = signature i;
+  expires = expires i;
+}
 
 -- credentials of one scope have one key id
 same_key : (region name : List ℕ) (a b : SealParts) → a.at ≡ b.at → sealed_credential region name a ≡ sealed_credential region name b → a.key_id ≡ b.key_id
@@ -209,16 +220,14 @@ same_key region name a b at e =
 one_of_headers : (headers : List Pair) (region name : List ℕ) (a b : SealParts) → a.place ≡ b.place → SealsHeaders headers region name a → SealsHeaders headers region name b → a ≡ b
 one_of_headers headers region name a b place p q =
     let at : a.at ≡ b.at = stamped_once a.at b.at p.moment q.moment (both p.date q.date) in
-    let text = authorization_text (sealed_credential region name a) a.names a.signature in
-    let parts = read_once text (sealed_credential region name a) a.names a.signature (sealed_credential region name b) b.names b.signature
-    (record { digits = p.digits; one_reading = p.one_reading; parts = refl })
-    (record { digits = q.digits; one_reading = q.one_reading; parts = both p.authorization q.authorization }) in
-    seal_is a b place (same_key region name a b at parts.0) at parts.1 parts.2
+    let parts = read_once q.authorization (sealed_credential region name a) a.names a.signature (sealed_credential region name b) b.names b.signature
+    (authorized headers region name q.authorization a q.first p) q.read in
+    seal_is a b place (same_key region name a b at parts.0) at parts.1 parts.2 (p.no_expiry ∙ sym q.no_expiry)
 
 one_of_parameters : (pairs : List Pair) (region name : List ℕ) (a b : SealParts) → a.place ≡ b.place → SealsParameters pairs region name a → SealsParameters pairs region name b → a ≡ b
 one_of_parameters pairs region name a b place p q =
     let at : a.at ≡ b.at = stamped_once a.at b.at p.moment q.moment (both p.date q.date) in
-    seal_is a b place (same_key region name a b at (both p.credential q.credential)) at (both p.names q.names) (both p.signature q.signature)
+    seal_is a b place (same_key region name a b at (both p.credential q.credential)) at (both p.names q.names) (both p.signature q.signature) (sym p.expires ∙ q.expires)
 
 pub one_seal : (request : HttpRequest) (region name : List ℕ) → HasOneSeal request region name
 one_seal request region name a b = by_place a.place b.place refl refl

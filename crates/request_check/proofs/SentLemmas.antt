@@ -1,5 +1,5 @@
 -- The headers of a signed request, as they are read again.
-use Rattle.std.proofs.Common.{◌≡◌, ℕ, Bool, true, false, cond, not, List, [], ◌∷◌, Option, Some, None, refl, sym, ap, ◌∙◌, true≢false}
+use Rattle.std.proofs.Common.{◌≡◌, ℕ, Bool, true, false, cond, not, List, [], ◌∷◌, Option, Some, None, refl, sym, ap, ◌∙◌, subst, true≢false}
 use Rattle.std.proofs.lemmas.Bool.{false≢true}
 use Rattle.std.specs.Prelude.{bytes_eq}
 use Rattle.std.specs.List.{AllByRecursion}
@@ -104,6 +104,11 @@ layered header (Some value) headers name = by (bytes_eq header name) refl
     by true e = ap (named_values (inserted headers header value)) (sym (same_name header name e)) ∙ named-inserted_same headers header value
     by false e = named-inserted_other header value name e headers
 
+-- a layer of another name leaves the values
+pub kept_values : (value : Option (List ℕ)) {values : List (List ℕ)} → layer false value values ≡ values
+kept_values None = refl
+kept_values (Some value) = refl
+
 -- layers of names that differ can change places
 pub swapped : (a b : Bool) (x y : Option (List ℕ)) (values : List (List ℕ)) → (a ≡ true → b ≡ true → ⊥) → layer a x (layer b y values) ≡ layer b y (layer a x values)
 swapped a b None y values apart = refl
@@ -123,6 +128,10 @@ two_names a b name differ p q =
 pub lower_optional : (name : List ℕ) (value : Option (List ℕ)) (headers : List Pair) → lower name ≡ name → AreLower headers → AreLower (with_optional name value headers)
 lower_optional name None headers plain low = low
 lower_optional name (Some value) headers plain low = lower_inserted name value headers plain low
+
+pub given_lower : (headers : List Pair) → AreLower headers → AreLower (given_headers headers)
+given_lower [] low = tt
+given_lower (header ∷ headers) low = (ap lower low.0, given_lower headers low.1)
 
 pub given_optional : (name : List ℕ) (value : Option (List ℕ)) (headers : List Pair) → lower name ≡ name → AreLower headers → IsTrimmed value
     → given_headers (with_optional name value headers) ≡ with_optional name value (given_headers headers)
@@ -172,4 +181,14 @@ named_here (header ∷ headers) name all here = by (bytes_eq header.0 name) refl
     by : (b : Bool) → bytes_eq header.0 name ≡ b → is_here (cond b (header.1 ∷ named_values headers name) (named_values headers name)) ≡ true
         → (is_here (named_values headers name) ≡ true → is_name name ≡ true) → is_name name ≡ true
     by true e here more = ap is_name (sym (same_name header.0 name e)) ∙ all.0
+    by false e here more = more here
+
+-- and it is in lower case where they all are
+pub lower_here : (headers : List Pair) (name : List ℕ) → AreLower headers → is_here (named_values headers name) ≡ true → lower name ≡ name
+lower_here [] name all here = absurd (false≢true here)
+lower_here (header ∷ headers) name all here = by (bytes_eq header.0 name) refl here (lower_here headers name all.1)
+  where
+    by : (b : Bool) → bytes_eq header.0 name ≡ b → is_here (cond b (header.1 ∷ named_values headers name) (named_values headers name)) ≡ true
+        → (is_here (named_values headers name) ≡ true → lower name ≡ name) → lower name ≡ name
+    by true e here more = subst (λ (n : List ℕ). lower n ≡ n) (same_name header.0 name e) all.0
     by false e here more = more here

@@ -1,31 +1,39 @@
 -- The texts that carry a seal, read.
-use Rattle.std.specs.Prelude.{◌≡◌, ℕ, true, false, List, ◌++◌, codes, Option, Some, None}
+use Rattle.std.specs.Prelude.{◌≡◌, ℕ, true, List, ◌++◌, codes, Option, Some, None}
 use Rattle.std.specs.Borrow.{Bor}
 use Rattle.http_uri.specs.Uri.{Spells, SpellsNone}
 use Rattle.http_uri.specs.declared.uri.Uri.{Uri}
 use Rattle.smithy_core.specs.Civil.{stamp}
 use Rattle.smithy_core.specs.TextPairs.{first_value}
 use Rattle.sigv4.specs.Query.{Pair}
-use Rattle.sigv4.specs.Signed.{authorization_text}
 use Rattle.sigv4.specs.declared.settings.SignatureLocation.{SignatureLocation}
 use Rattle.sigv4.specs.declared.settings.SignatureLocation.TheVariants.{Headers, QueryParams}
 use Rattle.sigv4.specs.Signature.{is_signature}
-use Rattle.request_check.specs.SealTexts.{has_space}
-use Rattle.request_check.specs.Sealed.{IsUnsealed, SealParts, SealsHeaders, SealsParameters, SealsTarget, sealed_credential}
+use Rattle.request_check.specs.Authorization.{IsAuthorization, IsLabelled, IsNotOwn, IsOtherAuthorization, IsOwnAuthorization}
+use Rattle.request_check.specs.Sealed.{IsUnsealed, SealParts, SealsHeaders, SealsParameters, SealsTarget, sealed_credential, told_expiry}
 use Rattle.request_check.specs.Stamped.{IsWholeSecond}
 use Rattle.request_check.specs.declared.authorization.Authorization.{Authorization}
 use Rattle.request_check.specs.declared.seal.Carried.{Carried}
-
--- the text is an authorization of these parts
-pub record IsAuthorization (text credential names signature : List ℕ) : Type 0 where
-  pub digits : is_signature signature ≡ true
-  pub one_reading : has_space names ≡ false
-  pub parts : text ≡ authorization_text credential names signature
 
 -- the parts of an authorization, or that the text is none
 abbrev pub ReadsAuthorization : List ℕ → Option Authorization → Type 0
 ReadsAuthorization text None = (credential names signature : List ℕ) → IsAuthorization text credential names signature → ⊥
 ReadsAuthorization text (Some read) = IsAuthorization text read.credential.now read.names.now read.signature.now
+
+-- the parts of an authorization as it is made here, or that the text is none
+abbrev pub ReadsOwn : List ℕ → Option Authorization → Type 0
+ReadsOwn text None = IsNotOwn text
+ReadsOwn text (Some read) = IsOwnAuthorization text read.credential.now read.names.now read.signature.now
+
+-- the parts of an authorization as others make it, or that the text is none
+abbrev pub ReadsOther : List ℕ → Option Authorization → Type 0
+ReadsOther text None = (credential names signature : List ℕ) → IsOtherAuthorization text credential names signature → ⊥
+ReadsOther text (Some read) = IsOtherAuthorization text read.credential.now read.names.now read.signature.now
+
+-- what stands behind blanks and a label, or that the text isn't so
+abbrev pub CutsLabel : List ℕ → List ℕ → Option (Bor (List ℕ)) → Type 0
+CutsLabel label text None = (labelled : List ℕ) → IsLabelled label labelled text → ⊥
+CutsLabel label text (Some labelled) = IsLabelled label labelled.now text
 
 -- what stands before a slash and a scope, or that these aren't the end
 abbrev pub CutsScope : List ℕ → List ℕ → Option (Bor (List ℕ)) → Type 0
@@ -39,6 +47,7 @@ pub record IsCarried (region name : List ℕ) (carried : Carried) (seal : SealPa
   pub credential : carried.credential.now ≡ sealed_credential region name seal
   pub names : carried.names.now ≡ seal.names
   pub signature : carried.signature.now ≡ seal.signature
+  pub expires : carried.expires ≡ seal.expires
 
 -- the seal of the texts at a place, or that they have none
 abbrev pub MakesSeal : SignatureLocation → List ℕ → List ℕ → Carried → Option SealParts → Type 0
@@ -67,6 +76,7 @@ pub record CarriesFirst (pairs : List Pair) (carried : Carried) : Type 0 where
   pub credential : first_value pairs (codes "X-Amz-Credential") ≡ Some carried.credential.now
   pub names : first_value pairs (codes "X-Amz-SignedHeaders") ≡ Some carried.names.now
   pub signature : first_value pairs (codes "X-Amz-Signature") ≡ Some carried.signature.now
+  pub expires : told_expiry pairs ≡ carried.expires
 
 -- the texts that carry a seal in pairs, or that these carry none
 abbrev pub ReadsParameters : List Pair → Option Carried → Type 0

@@ -1,3 +1,4 @@
+pub mod Authorization
 pub mod Carried
 pub mod Cuts
 pub mod Faults

@@ -1,43 +1,53 @@
 -- The seal that a signed request carries: who signed it, when, which headers, and the signature (AWS Signature Version 4, its
 -- `Authorization` header and its query parameters).
-use Rattle.std.specs.Prelude.{◌≡◌, ℕ, true, false, List, ◌++◌, codes, Option, Some, None, string_bytes}
+use Rattle.std.specs.Prelude.{◌≡◌, ℕ, true, List, ◌++◌, codes, Option, Some, None, option_and_then, string_bytes}
 use Rattle.http_uri.specs.Uri.{Spells}
 use Rattle.http_uri.specs.declared.uri.Uri.{Uri}
 use Rattle.smithy_core.specs.Civil.{stamp}
 use Rattle.smithy_core.specs.Moment.{Instant}
 use Rattle.smithy_core.specs.TextPairs.{first_value}
 use Rattle.smithy_core.specs.declared.request.HttpRequest.{HttpRequest}
+use Rattle.job_text.specs.Numbers.{natural_below}
 use Rattle.smithy_http.specs.Target.{target_of}
 use Rattle.eventstream.specs.Key.{scope}
 use Rattle.sigv4.specs.Query.{Pair, decoded}
-use Rattle.sigv4.specs.Signed.{authorization_text}
 use Rattle.sigv4.specs.Signature.{is_signature}
-use Rattle.request_check.specs.SealTexts.{has_space}
+use Rattle.request_check.specs.Authorization.{IsAuthorization}
 use Rattle.request_check.specs.Stamped.{IsWholeSecond}
 use Rattle.sigv4.specs.declared.settings.SignatureLocation.{SignatureLocation}
 use Rattle.sigv4.specs.declared.settings.SignatureLocation.TheVariants.{Headers, QueryParams}
 
--- what a seal tells: the key id, the moment, the names of the signed headers with `;` between, the signature, and where they stand
+-- what a seal tells: the key id, the moment, the names of the signed headers with `;` between, the signature, where they stand, and in parameters the expiry
 pub record SealParts : Type 0 where
   pub place : SignatureLocation
   pub key_id : List ℕ
   pub at : Instant
   pub names : List ℕ
   pub signature : List ℕ
+  pub expires : Option ℕ
 
 -- the key id, a slash, and the scope of the seal's moment, of the region and of the name
 abbrev pub sealed_credential : List ℕ → List ℕ → SealParts → List ℕ
 sealed_credential region name seal = seal.key_id ++ codes "/" ++ scope seal.at region name
 
--- the first `authorization` and the first `x-amz-date` of the headers are those of the seal, whose names hold no space
+-- the first `authorization` and the first `x-amz-date` of the headers are those of the seal
 pub record SealsHeaders (headers : List Pair) (region name : List ℕ) (seal : SealParts) : Type 0 where
   pub moment : IsWholeSecond seal.at
-  pub digits : is_signature seal.signature ≡ true
-  pub one_reading : has_space seal.names ≡ false
   pub date : first_value headers (codes "x-amz-date") ≡ Some (stamp seal.at)
-  pub authorization : first_value headers (codes "authorization") ≡ Some (authorization_text (sealed_credential region name seal) seal.names seal.signature)
+  pub authorization : List ℕ
+  pub first : first_value headers (codes "authorization") ≡ Some authorization
+  pub read : IsAuthorization authorization (sealed_credential region name seal) seal.names seal.signature
+  pub no_expiry : seal.expires ≡ None
 
--- of each of a signature's parameters the first is that of the seal
+-- the number of seconds that a text spells, where 64 bits hold it
+abbrev pub spelled_seconds : List ℕ → Option ℕ
+spelled_seconds text = natural_below 18446744073709551616 text
+
+-- for how many seconds a target is good, by the first expiry among its parameters
+abbrev pub told_expiry : List Pair → Option ℕ
+told_expiry pairs = option_and_then spelled_seconds (first_value pairs (codes "X-Amz-Expires"))
+
+-- of each of a signature's parameters the first is that of the seal; the expiry may be absent
 pub record SealsParameters (pairs : List Pair) (region name : List ℕ) (seal : SealParts) : Type 0 where
   pub moment : IsWholeSecond seal.at
   pub digits : is_signature seal.signature ≡ true
@@ -45,6 +55,7 @@ pub record SealsParameters (pairs : List Pair) (region name : List ℕ) (seal : 
   pub credential : first_value pairs (codes "X-Amz-Credential") ≡ Some (sealed_credential region name seal)
   pub names : first_value pairs (codes "X-Amz-SignedHeaders") ≡ Some seal.names
   pub signature : first_value pairs (codes "X-Amz-Signature") ≡ Some seal.signature
+  pub expires : told_expiry pairs ≡ seal.expires
 
 -- the target that the text spells has the seal in its parameters
 abbrev pub SealsTarget : List ℕ → List ℕ → List ℕ → SealParts → Type 0

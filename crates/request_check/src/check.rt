@@ -30,7 +30,7 @@ use std::fmt;
 /// else: a header that was added after signing and isn't listed leaves them equal, and so does the request's own body beside
 /// another payload that was handed in, such as `SignableBody::empty()`; in header form another key id does too. A service tests for
 /// itself that the names in the seal have `host` and each header that it relies on, that the payload is that of the body, and that
-/// the moment is recent: [`Checked::seal`] has moment, names and key id, so that [`seal_of`] needn't be called beside it.
+/// the moment is recent: [`Checked::seal`] has moment, names, key id and expiry, so that [`seal_of`] needn't be called beside it.
 ///
 /// The signature that was computed again signs the request for whoever has it, also where another one is carried: it isn't
 /// printed, and don't show it to whoever sent the request.

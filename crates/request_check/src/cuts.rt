@@ -1,4 +1,4 @@
-ghost use Rattle.request_check.specs.Cuts.{CutsEnd, CutsLast};
+ghost use Rattle.request_check.specs.Cuts.{CutsEnd, CutsFirst, CutsLast};
 
 /// The text before and after the last place of a mark.
 #[tactic(auto, using(crate::proofs::CutLemmas::cuts_last))]
@@ -8,9 +8,17 @@ pub(crate) fn cut_last<'a>(text: &'a str, mark: &str) -> Option<(&'a str, &'a st
     text.rsplit_once(mark)
 }
 
+/// The text before and after the first place of a mark.
+#[tactic(auto, using(crate::proofs::CutLemmas::cuts_first))]
+pub(crate) fn cut_first<'a>(text: &'a str, mark: &str) -> Option<(&'a str, &'a str)>
+    ensures { CutsFirst mark.now text.now result }
+{
+    text.split_once(mark)
+}
+
 /// What stands before the end of a text, where it has this end.
 #[tactic(auto, using(crate::proofs::CutLemmas::cuts_end))]
-pub(crate) fn cut_end<'a>(text: &'a str, end: &str) -> Option<&'a str>
+pub fn cut_end<'a>(text: &'a str, end: &str) -> Option<&'a str>
     ensures { CutsEnd end.now text.now result }
 {
     text.strip_suffix(end)

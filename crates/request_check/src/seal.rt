@@ -2,11 +2,12 @@ ghost use Rattle.std.specs.Prelude.{◌≡◌, true, string_bytes, IfOk};
 ghost use Rattle.smithy_core.specs.TextPairs.{text_pairs};
 ghost use Rattle.sigv4.specs.Signature.{is_signature};
 ghost use Rattle.request_check.specs.Carried.{MakesSeal, ReadsParameters, FindsHeaderSeal, FindsTargetSeal};
-ghost use Rattle.request_check.specs.Sealed.{FindsSeal};
+ghost use Rattle.request_check.specs.Sealed.{FindsSeal, told_expiry};
 
 use crate::authorization::{key_id_before, read_authorization};
 use crate::parameters::{first_value, query_pairs, spelled_uri};
 use crate::stamp::stamped_moment;
+use job_text::parse_u64;
 use sigv4::SignatureLocation;
 use sigv4::parts::is_signature;
 use sigv4::v4::credential_scope;
@@ -15,8 +16,8 @@ use std::alloc::Global;
 use std::fmt;
 use std::marker::Model;
 
-/// What a signed request carries of its signature: the key id, the moment, the names of the signed headers and the signature.
-/// For how long a presigned target is good isn't in it: that is read and tested by `presign_check`.
+/// What a signed request carries of its signature: the key id, the moment, the names of the signed headers, the signature, and of a
+/// presigned target the expiry. Whether it is good at a moment is tested by `presign_check` and `request_door`.
 ///
 /// Contracts see it as `SealParts`.
 #[derive(Drop)]
@@ -26,6 +27,7 @@ pub struct Seal {
     at: Moment,
     names: String,
     signature: String,
+    expires: Option<u64>,
 }
 
 impl Model for Seal {
@@ -40,6 +42,7 @@ impl Model for Seal {
       at = seal.at;
       names = string_bytes seal.names;
       signature = string_bytes seal.signature;
+      expires = seal.expires;
     } };
 }
 
@@ -79,6 +82,14 @@ impl Seal {
         self.signature.as_str()
     }
 
+    /// For how many seconds a presigned target is good, by its first `X-Amz-Expires`: none where it has no such parameter, or where
+    /// that isn't a number of 64 bits, and none in header form.
+    pub fn expires(&self) -> Option<u64>
+        ensures { result ≡ self.now.expires }
+    {
+        self.expires
+    }
+
     /// An equal seal.
     pub fn try_clone(&self) -> Mem<Seal>
         ensures { IfOk result (λ copy. copy ≡ self.now) }
@@ -89,6 +100,7 @@ impl Seal {
             at: self.at,
             names: self.names.clone()?,
             signature: self.signature.clone()?,
+            expires: self.expires,
         })
     }
 
@@ -145,6 +157,8 @@ pub(crate) struct Carried<'a> {
     pub(crate) names: &'a str,
     /// The signature.
     pub(crate) signature: &'a str,
+    /// For how many seconds a target is good, where it says so.
+    pub(crate) expires: Option<u64>,
 }
 
 // The seal of headers.
@@ -166,6 +180,7 @@ fn header_seal(alloc: Global, headers: &Headers, region: &str, name: &str) -> Me
         date,
         names: read.names,
         signature: read.signature,
+        expires: None,
     };
     made_seal(alloc, SignatureLocation::Headers, &carried, region, name)
 }
@@ -201,12 +216,20 @@ fn carried_by(pairs: &[(String, String)]) -> Option<Carried<'_>>
         date: first_value(pairs, "X-Amz-Date")?,
         names: first_value(pairs, "X-Amz-SignedHeaders")?,
         signature: first_value(pairs, "X-Amz-Signature")?,
+        expires: told_expiry(pairs),
     };
     if is_signature(carried.signature) {
         Some(carried)
     } else {
         None
     }
+}
+
+// For how many seconds a target with these parameters is good.
+fn told_expiry(pairs: &[(String, String)]) -> Option<u64>
+    ensures { result ≡ told_expiry (text_pairs pairs.now) }
+{
+    parse_u64(first_value(pairs, "X-Amz-Expires")?)
 }
 
 // The seal of the texts that carry it, whose signature is one.
@@ -234,5 +257,6 @@ fn made_seal(
         at,
         names: String::from_str(alloc, carried.names)?,
         signature: String::from_str(alloc, carried.signature)?,
+        expires: carried.expires,
     }))
 }

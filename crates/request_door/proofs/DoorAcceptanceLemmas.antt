@@ -8,7 +8,7 @@ use Rattle.smithy_http.specs.Target.{Target, target_of}
 use Rattle.sigv4.specs.Parameters.{with_params}
 use Rattle.sigv4.specs.Query.{Pair, decoded}
 use Rattle.sigv4.specs.Request.{Case}
-use Rattle.sigv4.specs.Settings.{is_query, is_query_form}
+use Rattle.sigv4.specs.Settings.{is_query_form}
 use Rattle.sigv4.specs.Signed.{parameters}
 use Rattle.sigv4.specs.declared.settings.SignatureLocation.{SignatureLocation}
 use Rattle.sigv4.specs.declared.settings.SignatureLocation.TheVariants.{Headers, QueryParams}
@@ -66,27 +66,8 @@ own_seal : (c : Case) (sent : HttpRequest) (uri : Uri) → IsSignedAsSent c → 
 own_seal c sent uri is of spelled = by c.settings.signature_location refl is.apart
   where
     by : (place : SignatureLocation) → c.settings.signature_location ≡ place → HasFormApart place c → OwnSeal c sent uri
-    by Headers here apart =
-        own_in_headers c sent uri (record {
-          form = ap is_query here;
-          usual = is.usual;
-          lower = is.lower;
-          in_years = is.in_years;
-          fit = is.fit;
-          token = apart.0;
-          payload = apart.1;
-        }) of spelled
-    by QueryParams here apart =
-        own_in_parameters c sent uri (record {
-          strings = is.strings;
-          form = ap is_query here;
-          usual = is.usual;
-          lower = is.lower;
-          in_years = is.in_years;
-          fit = is.fit;
-          unauthorized = apart.0;
-          none = apart.1;
-        }) of spelled
+    by Headers here apart = own_in_headers c sent uri (header.signs_headers c is here apart) of spelled
+    by QueryParams here apart = own_in_parameters c sent uri (query.signs_query c is here apart) of spelled
 
 some_same : (a b : List ℕ) → ◌≡◌ {A = Option (List ℕ)} (Some a) (Some b) → a ≡ b
 some_same a b e = cc
@@ -98,7 +79,7 @@ own_signature asked = λ c is reading has differs.
     let target = carried.form.target in
     let own = own_seal c asked.request reading.uri is.signed is.sent target.spelled in
     let mine : IsSealed asked.request asked.region asked.name (door_seal reading.texts reading.terms) =
-    sealed_at asked.request asked.region asked.name reading.uri reading.texts reading.terms reading.texts.place target.spelled carried.form.in_form carried.carried told.told in
+    sealed_at asked.request asked.region asked.name reading.uri reading.texts reading.terms reading.texts.place refl target.spelled carried.form.in_form carried.carried told.told in
     let theirs : IsSealed asked.request asked.region asked.name own.seal =
     subst (λ (region : List ℕ). IsSealed asked.request region asked.name own.seal) is.region
     (subst (λ (name : List ℕ). IsSealed asked.request c.signer.region name own.seal) is.name own.sealed) in

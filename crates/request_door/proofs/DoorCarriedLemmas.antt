@@ -5,7 +5,8 @@ use Rattle.sigv4.specs.Query.{Pair}
 use Rattle.sigv4.specs.Signature.{is_signature}
 use Rattle.sigv4.specs.declared.settings.SignatureLocation.{SignatureLocation}
 use Rattle.sigv4.specs.declared.settings.SignatureLocation.TheVariants.{Headers, QueryParams}
-use Rattle.request_check.specs.Carried.{IsAuthorization, ReadsAuthorization}
+use Rattle.request_check.specs.Authorization.{IsAuthorization}
+use Rattle.request_check.specs.Carried.{ReadsAuthorization}
 use Rattle.presign_check.specs.Terms.{algorithm_name}
 use Rattle.presign_check.specs.declared.part.PresignPart.{PresignPart}
 use Rattle.presign_check.specs.declared.part.PresignPart.TheVariants.{Algorithm, Credential, Date, Expires, SignedHeaders, Signature}

@@ -1,6 +1,6 @@
 -- What the steps of a service's door leave.
 use Rattle.std.proofs.Common.{◌≡◌, ℕ, Bool, true, false, List, Option, Some, None, Ok, Err, inl, inr, refl, sym, ap, ◌∙◌, subst, true≢false}
-use Rattle.std.specs.Prelude.{Result, codes, is_some, string_bytes}
+use Rattle.std.specs.Prelude.{Result, codes, is_some, option_and_then, string_bytes}
 use Rattle.http_uri.specs.declared.uri.Uri.{Uri}
 use Rattle.smithy_core.specs.TextPairs.{first_value}
 use Rattle.smithy_core.specs.declared.request.HttpRequest.{HttpRequest}
@@ -11,19 +11,19 @@ use Rattle.smithy_http.specs.Target.{Target, target_of}
 use Rattle.eventstream.specs.Key.{Signer}
 use Rattle.sigv4.specs.Query.{decoded}
 use Rattle.sigv4.specs.Settings.{Settings}
-use Rattle.sigv4.specs.Signed.{authorization_text}
 use Rattle.sigv4.specs.declared.error.SigningError.{SigningError}
 use Rattle.sigv4.specs.declared.settings.SignatureLocation.{SignatureLocation}
 use Rattle.sigv4.specs.declared.settings.SignatureLocation.TheVariants.{Headers, QueryParams}
+use Rattle.request_check.specs.Authorization.{IsAuthorization}
 use Rattle.request_check.specs.Recomputed.{Rechecks, RefusesSent, recomputed, unfit_sent}
-use Rattle.request_check.specs.Sealed.{FindsSeal, IsSealed, IsSealedAt, SealParts}
+use Rattle.request_check.specs.Sealed.{FindsSeal, IsSealed, IsSealedAt, SealParts, spelled_seconds}
 use Rattle.request_check.specs.declared.check.Checked.{Checked}
 use Rattle.request_check.proofs.SealLemmas.{absent, one_seal, unsealed_bare}
 use Rattle.presign_check.proofs.ParameterLemmas.{first_of_one}
 use Rattle.presign_check.proofs.SignatureLemmas.{one_target, spelled_once}
 use Rattle.request_door.specs.DoorCarried.{CarriesAt, DoorTexts, IsInForm}
 use Rattle.request_door.specs.DoorSignature.{ComparesSeals, IsSealedSo, TestsSeal, seal_signature}
-use Rattle.request_door.specs.DoorTerms.{DoorTerms, TellsTerms, door_seal}
+use Rattle.request_door.specs.DoorTerms.{DoorTerms, TellsTerms, door_seal, seal_expiry, told_seconds}
 use Rattle.request_door.specs.DoorFaults.{door_target_fault}
 use Rattle.request_door.specs.DoorPayloads.{IsOtherPayload, MakesPayload, shown_payload, signed_payload}
 use Rattle.request_door.specs.Doors.{AcceptsTarget, TestsLast}
@@ -48,18 +48,18 @@ some_text : {a b : List ℕ} → a ≡ b → ◌≡◌ {A = Option (List ℕ)} (
 some_text e = ap (λ (t : List ℕ). Some t) e
 
 module _ (request : HttpRequest) (region name : List ℕ) (uri : Uri) (texts : DoorTexts) (terms : DoorTerms) where
-  pub sealed_at : (place : SignatureLocation) → SpellsTarget (string_bytes request.target) uri → IsInForm request.headers (decoded (target_of uri)) place
+  pub sealed_at : (place : SignatureLocation) → texts.place ≡ place → SpellsTarget (string_bytes request.target) uri → IsInForm request.headers (decoded (target_of uri)) place
       → CarriesAt place request.headers (decoded (target_of uri)) texts → TellsTerms region name texts terms
       → IsSealedAt place request.headers (string_bytes request.target) region name (door_seal texts terms)
-  sealed_at Headers spelled in_form carried told = record {
+  sealed_at Headers here spelled in_form carried told = record {
     moment = told.moment;
-    digits = carried.read.digits;
-    one_reading = carried.read.one_reading;
     date = first_of_one request.headers (codes "x-amz-date") texts.date carried.date ∙ some_text (sym told.date);
-    authorization = first_of_one request.headers (codes "authorization") carried.authorization carried.once
-        ∙ some_text (carried.read.parts ∙ ap (λ (t : List ℕ). authorization_text t texts.names texts.signature) told.credential);
+    authorization = carried.authorization;
+    first = first_of_one request.headers (codes "authorization") carried.authorization carried.once;
+    read = subst (λ (t : List ℕ). IsAuthorization carried.authorization t texts.names texts.signature) told.credential carried.read;
+    no_expiry = ap (λ (p : SignatureLocation). seal_expiry p terms) here;
   }
-  sealed_at QueryParams spelled in_form carried told =
+  sealed_at QueryParams here spelled in_form carried told =
       let pairs = decoded (target_of uri) in (
         unsealed_bare request.headers region name (none_there (first_value request.headers (codes "authorization")) in_form.0),
         (
@@ -72,6 +72,9 @@ module _ (request : HttpRequest) (region name : List ℕ) (uri : Uri) (texts : D
             credential = first_of_one pairs (codes "X-Amz-Credential") texts.credential carried.credential ∙ some_text told.credential;
             names = first_of_one pairs (codes "X-Amz-SignedHeaders") texts.names carried.names;
             signature = first_of_one pairs (codes "X-Amz-Signature") texts.signature carried.signature;
+            expires =
+                ap (option_and_then spelled_seconds) (first_of_one pairs (codes "X-Amz-Expires") texts.expires carried.expires)
+                ∙ (sym (ap (λ (p : SignatureLocation). told_seconds p texts.expires) here) ∙ (told.expires ∙ sym (ap (λ (p : SignatureLocation). seal_expiry p terms) here)));
           },
         ),
       )

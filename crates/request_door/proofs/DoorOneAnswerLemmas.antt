@@ -11,10 +11,10 @@ use Rattle.sigv4.specs.Query.{Pair, decoded}
 use Rattle.sigv4.specs.declared.settings.SignatureLocation.{SignatureLocation}
 use Rattle.sigv4.specs.declared.settings.SignatureLocation.TheVariants.{Headers, QueryParams}
 use Rattle.request_check.specs.Recomputed.{carried_names, recomputed, unfit_sent}
-use Rattle.request_check.proofs.ReadingLemmas.{read_once}
+use Rattle.request_check.proofs.OtherReadingLemmas.{read_once}
 use Rattle.request_check.proofs.SealLemmas.{absent}
 use Rattle.request_check.proofs.StampLemmas.{stamped_once}
-use Rattle.request_check.specs.Carried.{IsAuthorization}
+use Rattle.request_check.specs.Authorization.{IsAuthorization}
 use Rattle.presign_check.proofs.SignatureLemmas.{one_target, spelled_once}
 use Rattle.request_door.specs.DoorCarried.{CarriesAt, DoorTexts, IsInForm, MeetsCarried, MeetsDoorForm, form_tests, tests_of}
 use Rattle.request_door.specs.DoorNames.{MeetsName, name_tests}
@@ -22,7 +22,7 @@ use Rattle.request_door.specs.DoorOneAnswer.{HasOneDoorAnswer, IsToldSame}
 use Rattle.request_door.specs.DoorOrder.{IsFirstMet, NoneMet}
 use Rattle.request_door.specs.DoorPayloads.{IsOtherPayload, MeetsPayload, payload_tests, shown_form, shown_payload, signed_payload}
 use Rattle.request_door.specs.DoorTerms.{DoorTerms, MeetsTerm, MeetsTime, TellsTerms, door_seal, good_until, term_tests, time_tests}
-use Rattle.request_door.specs.Doors.{DoorInput, DoorReading, HasForm, HasKey, HasNames, HasPayload, HasTarget, HasCarriedTexts, HasTold, IsAdmitted, IsTimely, MeetsLast, RefusesCarried, RefusesFirst, RefusesForm, RefusesHeader, RefusesKey, RefusesLast, RefusesNames, RefusesPayload, RefusesDoorTarget, RefusesTerms, RefusesTime, door_signature, last_tests}
+use Rattle.request_door.specs.Doors.{DoorInput, DoorReading, HasForm, HasKey, HasNames, HasPayload, HasTarget, HasCarriedTexts, HasTold, IsAdmitted, IsTimely, MeetsLast, RefusesCarried, RefusesFirst, RefusesForm, RefusesHeader, RefusesKey, RefusesLast, RefusesNames, RefusesPayload, RefusesDoorTarget, RefusesTerms, RefusesTime, TellsRequest, door_signature, last_tests}
 use Rattle.request_door.specs.declared.admitted.Admitted.{Admitted}
 use Rattle.request_door.specs.declared.fault.DoorFault.{DoorFault}
 use Rattle.request_door.specs.declared.payload.DoorPayload.{DoorPayload}
@@ -112,7 +112,7 @@ module _ (asked : DoorInput) where
       one_told asked.region asked.name b.texts a.terms b.terms
       (subst (λ (t : DoorTexts). TellsTerms asked.region asked.name t a.terms) (texts a b p.texts q.texts) p.told) q.told
 
-  forms : (a b : DoorReading) → HasPayload asked a → HasPayload asked b → a.form ≡ b.form
+  pub forms : (a b : DoorReading) → HasPayload asked a → HasPayload asked b → a.form ≡ b.form
   forms a b p q =
       let same = texts a b p.timely.names.told.texts q.timely.names.told.texts in
       some_same (sym p.form ∙ (ap (λ (t : DoorTexts). shown_form t.place asked.settings.payload_checksum_kind (shown_payload asked.request.headers)) same ∙ q.form))
@@ -245,10 +245,10 @@ module _ (asked : DoorInput) where
   abbrev FromCarried : DoorFault → Type 0
   FromCarried f = RefusesCarried asked f ⊎ FromTerms f
 
-  abbrev FromForm : DoorFault → Type 0
+  abbrev pub FromForm : DoorFault → Type 0
   FromForm f = RefusesForm asked f ⊎ FromCarried f
 
-  abbrev FromHeader : DoorFault → Type 0
+  abbrev pub FromHeader : DoorFault → Type 0
   FromHeader f = RefusesHeader asked f ⊎ FromForm f
 
   had_payload : (f : DoorFault) → FromKey f → (r : DoorReading) × HasPayload asked r
@@ -279,7 +279,7 @@ module _ (asked : DoorInput) where
   had_target f (inl (r, p, first)) = (r, p)
   had_target f (inr m) = let had = had_form f m in (had.0, had.1.target)
 
-  had_uri : (f : DoorFault) → FromHeader f → (uri : Uri) × SpellsTarget (string_bytes asked.request.target) uri
+  pub had_uri : (f : DoorFault) → FromHeader f → (uri : Uri) × SpellsTarget (string_bytes asked.request.target) uri
   had_uri f (inl (uri, spelled, some, is)) = (uri, spelled)
   had_uri f (inr m) = let had = had_target f m in (had.0.uri, had.1.spelled)
 
@@ -346,46 +346,58 @@ module _ (asked : DoorInput) where
   one_fault f g (inr m) (inl n) = let had = had_uri f m in absurd (no_target g had.0 n had.1)
   one_fault f g (inr m) (inr n) = from_header f g m n
 
-  -- ---- an admitted request meets none
+  -- ---- a request of which something is read to its end meets none
 
-  unmet_first : (f : DoorFault) (admitted : Admitted) → IsAdmitted asked admitted → RefusesFirst asked f → ⊥
-  unmet_first f admitted is first = by first
+  pub unmet_first : (f : DoorFault) (r : DoorReading) → HasKey asked r → NoneMet (MeetsLast asked r) last_tests → RefusesFirst asked f → ⊥
+  unmet_first f r key none first = by first
     where
-      r : DoorReading
-      r = is.reading
-
       by : RefusesFirst asked f → ⊥
-      by (inl m) = no_target f r.uri m is.key.payload.timely.names.told.texts.form.target.spelled
-      by (inr (inl m)) = no_header f r m is.key.payload.timely.names.told.texts.form.target
-      by (inr (inr (inl m))) = no_form f r m is.key.payload.timely.names.told.texts.form
-      by (inr (inr (inr (inl m)))) = no_carried f r m is.key.payload.timely.names.told.texts
-      by (inr (inr (inr (inr (inl m))))) = no_terms f r m is.key.payload.timely.names.told
-      by (inr (inr (inr (inr (inr (inl m)))))) = no_names f r m is.key.payload.timely.names
-      by (inr (inr (inr (inr (inr (inr (inl m))))))) = no_time f r m is.key.payload.timely
-      by (inr (inr (inr (inr (inr (inr (inr (inl m)))))))) = no_payload f r m is.key.payload
-      by (inr (inr (inr (inr (inr (inr (inr (inr (inl m))))))))) = no_key f r m is.key
+      by (inl m) = no_target f r.uri m key.payload.timely.names.told.texts.form.target.spelled
+      by (inr (inl m)) = no_header f r m key.payload.timely.names.told.texts.form.target
+      by (inr (inr (inl m))) = no_form f r m key.payload.timely.names.told.texts.form
+      by (inr (inr (inr (inl m)))) = no_carried f r m key.payload.timely.names.told.texts
+      by (inr (inr (inr (inr (inl m))))) = no_terms f r m key.payload.timely.names.told
+      by (inr (inr (inr (inr (inr (inl m)))))) = no_names f r m key.payload.timely.names
+      by (inr (inr (inr (inr (inr (inr (inl m))))))) = no_time f r m key.payload.timely
+      by (inr (inr (inr (inr (inr (inr (inr (inl m)))))))) = no_payload f r m key.payload
+      by (inr (inr (inr (inr (inr (inr (inr (inr (inl m))))))))) = no_key f r m key
       by (inr (inr (inr (inr (inr (inr (inr (inr (inr (a, p, last)))))))))) =
-          none_first (MeetsLast asked r) last_tests f is.last (move_last a r f p is.key last)
+          none_first (MeetsLast asked r) last_tests f none (move_last a r f p key last)
+
+  -- what is told of an admitted request is what is read of it
+  pub told_so : (admitted : Admitted) (r : DoorReading) → IsAdmitted asked admitted → HasKey asked r
+      → TellsRequest r.texts r.terms (good_until r.texts.place asked.limits r.terms) r.form admitted
+  told_so admitted r is key =
+      let text = texts is.reading r is.key.payload.timely.names.told.texts key.payload.timely.names.told.texts in
+      let term = terms is.reading r is.key.payload.timely.names.told key.payload.timely.names.told in
+      record {
+        key_id = is.told.key_id ∙ ap (λ (t : DoorTerms). t.key_id) term;
+        place = is.told.place ∙ ap (λ (t : DoorTexts). t.place) text;
+        at = is.told.at ∙ ap (λ (t : DoorTerms). t.at) term;
+        until = is.told.until ∙ (λ i. good_until (text i).place asked.limits (term i));
+        names = is.told.names ∙ ap (λ (t : DoorTexts). t.names) text;
+        payload = is.told.payload ∙ forms is.reading r is.key.payload key.payload;
+        signature = is.told.signature ∙ ap (λ (t : DoorTexts). t.signature) text;
+      }
 
   told_same : (admitted other : Admitted) → IsAdmitted asked admitted → IsAdmitted asked other → IsToldSame admitted other
   told_same admitted other p q =
-      let text = texts q.reading p.reading q.key.payload.timely.names.told.texts p.key.payload.timely.names.told.texts in
-      let term = terms q.reading p.reading q.key.payload.timely.names.told p.key.payload.timely.names.told in
+      let told = told_so other p.reading q p.key in
       record {
-        key_id = q.told.key_id ∙ (ap (λ (t : DoorTerms). t.key_id) term ∙ sym p.told.key_id);
-        place = q.told.place ∙ (ap (λ (t : DoorTexts). t.place) text ∙ sym p.told.place);
-        at = q.told.at ∙ (ap (λ (t : DoorTerms). t.at) term ∙ sym p.told.at);
-        until = q.told.until ∙ ((λ i. good_until (text i).place asked.limits (term i)) ∙ sym p.told.until);
-        names = q.told.names ∙ (ap (λ (t : DoorTexts). t.names) text ∙ sym p.told.names);
-        payload = q.told.payload ∙ (forms q.reading p.reading q.key.payload p.key.payload ∙ sym p.told.payload);
-        signature = q.told.signature ∙ (ap (λ (t : DoorTexts). t.signature) text ∙ sym p.told.signature);
+        key_id = told.key_id ∙ sym p.told.key_id;
+        place = told.place ∙ sym p.told.place;
+        at = told.at ∙ sym p.told.at;
+        until = told.until ∙ sym p.told.until;
+        names = told.names ∙ sym p.told.names;
+        payload = told.payload ∙ sym p.told.payload;
+        signature = told.signature ∙ sym p.told.signature;
       }
 
   pub one_answer : HasOneDoorAnswer asked
   one_answer (Ok admitted) (Ok other) p q = told_same admitted other p q
-  one_answer (Ok admitted) (Err f) p (inl first) = absurd (unmet_first f admitted p first)
+  one_answer (Ok admitted) (Err f) p (inl first) = absurd (unmet_first f p.reading p.key p.last first)
   one_answer (Ok admitted) (Err f) p (inr room) = room
-  one_answer (Err f) (Ok other) (inl first) q = absurd (unmet_first f other q first)
+  one_answer (Err f) (Ok other) (inl first) q = absurd (unmet_first f q.reading q.key q.last first)
   one_answer (Err f) (Ok other) (inr room) q = room
   one_answer (Err f) (Err g) (inl p) (inl q) = inl (one_fault f g p q)
   one_answer (Err f) (Err g) (inl p) (inr room) = inr (inr room)

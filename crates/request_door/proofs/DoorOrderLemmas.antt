@@ -1,5 +1,5 @@
 -- The first test of a service's door that is met, of those of each step.
-use Rattle.std.proofs.Common.{ℕ, List, [], Option, Ok, Err, ℤ, pos, inl, inr, ◌∙◌}
+use Rattle.std.proofs.Common.{ℕ, List, [], Option, Ok, Err, ℤ, pos, inl, inr, refl, ◌∙◌}
 use Rattle.std.specs.Prelude.{Result, String, string_bytes}
 use Rattle.std.specs.declared.alloc.Global.{Global}
 use Rattle.http_uri.specs.declared.uri.Uri.{Uri}
@@ -92,7 +92,7 @@ module _ (asked : DoorInput) (uri : Uri) (accepted : AcceptsTarget asked.request
       -- the request carries a seal, and is fit for signing
       pub sealed_so : IsSealedSo asked.request asked.region asked.name (door_seal (texts_carried read) (told_terms told)) uri
       sealed_so = record {
-        sealed = sealed_at asked.request asked.region asked.name uri (texts_carried read) (told_terms told) read.place accepted.0 reads.1 reads.3 tells.1;
+        sealed = sealed_at asked.request asked.region asked.name uri (texts_carried read) (told_terms told) read.place refl accepted.0 reads.1 reads.3 tells.1;
         spelled = accepted.0;
         fit = accepted.1;
       }

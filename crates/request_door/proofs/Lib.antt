@@ -1,7 +1,7 @@
-pub mod DoorLemmas
+pub mod DoorAcceptanceLemmas
 pub mod DoorCarriedLemmas
+pub mod DoorLawLemmas
+pub mod DoorLemmas
+pub mod DoorOneAnswerLemmas
 pub mod DoorOrderLemmas
 pub mod DoorTermLemmas
-pub mod DoorLawLemmas
-pub mod DoorOneAnswerLemmas
-pub mod DoorAcceptanceLemmas

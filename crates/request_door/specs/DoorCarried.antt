@@ -8,13 +8,13 @@ use Rattle.sigv4.specs.Query.{Pair}
 use Rattle.sigv4.specs.Signature.{is_signature}
 use Rattle.sigv4.specs.declared.settings.SignatureLocation.{SignatureLocation}
 use Rattle.sigv4.specs.declared.settings.SignatureLocation.TheVariants.{Headers, QueryParams}
-use Rattle.request_check.specs.Carried.{IsAuthorization, ReadsAuthorization}
+use Rattle.request_check.specs.Authorization.{IsAuthorization}
+use Rattle.request_check.specs.Carried.{ReadsAuthorization}
 use Rattle.presign_check.specs.Parameters.{all_parts, parameter_name, parameter_values}
 use Rattle.presign_check.specs.Terms.{algorithm_name}
 use Rattle.presign_check.specs.declared.part.PresignPart.{PresignPart}
 use Rattle.presign_check.specs.declared.part.PresignPart.TheVariants.{Algorithm, Credential, Date, Expires, SignedHeaders, Signature}
 use Rattle.request_door.specs.DoorOrder.{IsFirstMet, NoneMet}
-use Rattle.request_door.specs.declared.authorization.AuthorizationParts.{AuthorizationParts}
 use Rattle.request_door.specs.declared.carried.Carried.{Carried}
 use Rattle.request_door.specs.declared.fault.DoorFault.{DoorFault}
 use Rattle.request_door.specs.declared.fault.DoorFault.TheVariants.{BothForms, NoForm, Missing, Repeated, OtherAlgorithm, Malformed}
@@ -146,11 +146,6 @@ texts_carried read = record {
   names = read.names.now;
   signature = read.signature.now;
 }
-
--- the parts of an authorization, or that the text is none
-abbrev pub ReadsParts : List ℕ → Option AuthorizationParts → Type 0
-ReadsParts text None = ReadsAuthorization text None
-ReadsParts text (Some read) = IsAuthorization text read.credential.now read.names.now read.signature.now
 
 -- the tests of one form, in their order
 abbrev pub tests_of : SignatureLocation → List DoorFault

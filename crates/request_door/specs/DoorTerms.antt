@@ -6,9 +6,8 @@ use Rattle.eventstream.specs.Key.{scope}
 use Rattle.sigv4.specs.declared.settings.SignatureLocation.{SignatureLocation}
 use Rattle.sigv4.specs.declared.settings.SignatureLocation.TheVariants.{Headers, QueryParams}
 use Rattle.request_check.specs.Carried.{CutsScope}
-use Rattle.request_check.specs.Sealed.{SealParts}
+use Rattle.request_check.specs.Sealed.{SealParts, spelled_seconds}
 use Rattle.request_check.specs.Stamped.{IsWholeSecond, ReadsStamp}
-use Rattle.presign_check.specs.Terms.{spelled_seconds}
 use Rattle.request_door.specs.DoorCarried.{DoorTexts}
 use Rattle.request_door.specs.DoorOrder.{IsFirstMet, NoneMet}
 use Rattle.request_door.specs.declared.fault.DoorFault.{DoorFault}
@@ -92,6 +91,11 @@ abbrev pub ReadsDoorTerms : List ℕ → List ℕ → Limits → DoorTexts → R
 ReadsDoorTerms region name limits texts (Ok read) = NoneMet (MeetsTerm region name limits texts) term_tests × TellsTerms region name texts (told_terms read)
 ReadsDoorTerms region name limits texts (Err fault) = IsFirstMet (MeetsTerm region name limits texts) term_tests fault ⊎ (fault ≡ NoMemory)
 
+-- the expiry of a seal with these terms: in header form there is none
+abbrev pub seal_expiry : SignatureLocation → DoorTerms → Option ℕ
+seal_expiry Headers terms = None
+seal_expiry QueryParams terms = Some terms.seconds
+
 -- the seal that the texts are, with these terms
 abbrev pub door_seal : DoorTexts → DoorTerms → SealParts
 door_seal texts terms = record {
@@ -100,6 +104,7 @@ door_seal texts terms = record {
   at = terms.at;
   names = texts.names;
   signature = texts.signature;
+  expires = seal_expiry texts.place terms;
 }
 
 -- ---- the time

@@ -5,7 +5,6 @@
 #![tactic(auto)]
 
 mod admitted;
-mod authorization;
 mod carried;
 mod code;
 mod door;

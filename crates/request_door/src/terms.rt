@@ -2,12 +2,11 @@ ghost use Rattle.std.specs.Prelude.{◌≡◌, ◌++◌, codes, IfOk, MatchBool,
 ghost use Rattle.request_door.specs.DoorCarried.{texts_carried};
 ghost use Rattle.request_door.specs.DoorTerms.{LacksEnd, PassesScope, ReadsDoorTerms, TestsTime, good_from, good_until, region_end, service_end, told_seconds, told_terms};
 
-use crate::authorization::cut_end;
 use crate::carried::Carried;
 use crate::fault::DoorFault;
 use crate::limits::Limits;
 use job_text::parse_u64;
-use request_check::parts::{key_id_before, stamped_moment};
+use request_check::parts::{cut_end, key_id_before, stamped_moment};
 use sigv4::SignatureLocation;
 use sigv4::v4::credential_scope;
 use smithy_core::{Mem, Moment};

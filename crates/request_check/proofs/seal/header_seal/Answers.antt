@@ -1,4 +1,4 @@
-use Rattle.std.proofs.Common.{sym}
+use Rattle.std.proofs.Common.{refl, sym}
 use Rattle.request_check.proofs.SealLemmas.{header_seal, if_ok, unsealed_other}
 use Rattle.request_check.proofs.seal.header_seal.Goals as goal
 
@@ -9,4 +9,4 @@ returns-in_default-read_authorization c =
 pub returns : goal.returns
 returns c = if_ok c.made_seal.result
     (λ made is. header_seal c.args.headers.now c.args.region.now c.args.name.now c.in-Some-get.text.now _ made (sym c.in-Some.ensures) (sym c.in-Some-get.ensures)
-    c.in-Some-read_authorization.ensures is) c.made_seal.ensures
+    c.in-Some-read_authorization.ensures refl is) c.made_seal.ensures

@@ -1,12 +1,13 @@
 -- A number of seconds that was written in decimal digits is read back.
-use Rattle.std.proofs.Common.{◌≡◌, ℕ, zero, suc, ◌^◌, ◌<◌, true, List, [], ◌∷◌, get_or, Some, ap, arith, rules}
+use Rattle.std.proofs.Common.{◌≡◌, ℕ, zero, suc, ◌^◌, ◌<◌, true, List, [], ◌∷◌, get_or, Option, Some, None, IfSome, refl, ap, arith, rules}
 use Rattle.std.specs.Fmt.{decimal}
 use Rattle.std.specs.List.{list_all}
 use Rattle.std.proofs.lemmas.Bool.Decides.{nat_tests}
 use Rattle.std.proofs.lemmas.Fmt.{decimal_digit, digits_decimal, digits_value-decimal, first_decimal}
 use Rattle.std.proofs.lemmas.Str.Parse.{IsNumeralModel, numerals_by_fold}
 use Rattle.job_text.specs.Numbers.{is_digit, is_natural, natural_below, number_on}
-use Rattle.presign_check.specs.Terms.{spelled_seconds}
+use Rattle.sigv4.specs.Canonical.{expires_text}
+use Rattle.request_check.specs.Sealed.{spelled_seconds}
 
 own : IsNumeralModel (λ digits. list_all is_digit digits ≡ true) (number_on 0)
 own = numerals_by_fold _ (search rules) number_on (search rules)
@@ -26,3 +27,9 @@ seconds_back n fits =
     let natural = natural_decimal n fits in
     let value = digits_value-decimal own n fits in
     rw (natural, value) (grind (arith, nat_tests))
+
+-- the expiry of a case is read back
+pub expiry_back : (expires_in : Option ℕ) → IfSome expires_in (λ seconds. seconds < 2 ^ 64) → spelled_seconds (expires_text expires_in) ≡ expires_in
+unfolding natural_below
+expiry_back None fits = refl
+expiry_back (Some seconds) fits = seconds_back seconds fits

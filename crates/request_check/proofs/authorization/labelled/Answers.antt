@@ -1,0 +1,7 @@
+use Rattle.std.proofs.Common.{sym, ◌∙◌}
+use Rattle.request_check.proofs.LabelLemmas.{label_behind}
+use Rattle.request_check.proofs.authorization.labelled.Goals as goal
+
+pub returns-else-are_blank : goal.returns-else-are_blank
+returns-else-are_blank c =
+    label_behind c.args.label.now c.args.text.now (c.in_ok-front.front, c.in_ok-front.labelled) c.requires c.in_ok-front.ensures (sym c.are_blank.ensures ∙ c.if-are_blank.false)
