@@ -13,6 +13,7 @@ pub mod QueryFormLemmas
 pub mod ReadingLemmas
 pub mod SealLemmas
 pub mod SentLemmas
+pub mod ShownNamesLemmas
 pub mod SpelledLemmas
 pub mod StampLemmas
 pub mod UnfitLemmas

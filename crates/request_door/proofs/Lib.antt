@@ -1,7 +1,9 @@
 pub mod DoorAcceptanceLemmas
+pub mod DoorAdmissionLemmas
 pub mod DoorCarriedLemmas
 pub mod DoorLawLemmas
 pub mod DoorLemmas
+pub mod DoorNameLemmas
 pub mod DoorOneAnswerLemmas
 pub mod DoorOrderLemmas
 pub mod DoorTermLemmas

@@ -1,4 +1,5 @@
 pub mod DoorAcceptance
+pub mod DoorAdmission
 pub mod DoorCarried
 pub mod DoorCodes
 pub mod DoorFaults

@@ -1,8 +1,11 @@
+ghost use Rattle.std.specs.Prelude.{Result};
 ghost use Rattle.request_door.specs.DoorAcceptance.{IsOwnSignature};
+ghost use Rattle.request_door.specs.DoorAdmission.{LetsSignedIn};
 ghost use Rattle.request_door.specs.DoorLaws.{Covers};
 ghost use Rattle.request_door.specs.DoorOneAnswer.{HasOneDoorAnswer};
-ghost use Rattle.request_door.specs.Doors.{DoorInput, IsAdmitted};
+ghost use Rattle.request_door.specs.Doors.{AnswersDoor, DoorInput, IsAdmitted};
 ghost use Rattle.request_door.specs.declared.admitted.Admitted.{Admitted as Told};
+ghost use Rattle.request_door.specs.declared.fault.DoorFault.{DoorFault as Fault};
 
 /// A request that is admitted carries the signature of its canonical text, which has the method, the path, each pair of the query,
 /// the host, each of AWS's headers that the request has, and the digest of the body where the payload is signed so.
@@ -23,4 +26,11 @@ pub fn requests_have_one_answer()
 #[tactic(auto, using(crate::proofs::DoorAcceptanceLemmas::own_signature))]
 pub fn signed_requests_are_no_mismatch()
     ensures { (asked : DoorInput) → IsOwnSignature asked }
+{}
+
+/// Whatever is signed, in header form or in query form, with settings that a request can show, is let in within its time: `admit`
+/// answers the signed request of a case with its key's id, form, moment and names, unless memory runs out.
+#[tactic(auto, using(crate::proofs::DoorAdmissionLemmas::lets_in))]
+pub fn signed_requests_are_let_in()
+    ensures { (asked : DoorInput) (result : Result Told Fault) → AnswersDoor asked result → LetsSignedIn asked result }
 {}

@@ -23,7 +23,8 @@ pub use crate::door::admit;
 pub use crate::fault::DoorFault;
 pub use crate::keys::{KeyList, Keys};
 pub use crate::laws::{
-    admitted_requests_are_covered, requests_have_one_answer, signed_requests_are_no_mismatch,
+    admitted_requests_are_covered, requests_have_one_answer, signed_requests_are_let_in,
+    signed_requests_are_no_mismatch,
 };
 pub use crate::limits::Limits;
 pub use crate::payload::DoorPayload;
