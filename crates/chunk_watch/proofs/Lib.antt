@@ -1,7 +1,15 @@
+pub mod CountLemmas
 pub mod DigitLemmas
 pub mod EndLemmas
+pub mod EndReadLemmas
 pub mod FrontLemmas
+pub mod FrontWrittenLemmas
+pub mod HandedLemmas
+pub mod KeepLemmas
 pub mod LeftLemmas
+pub mod LengthLemmas
+pub mod NameLemmas
+pub mod SealedLemmas
 pub mod StepLemmas
 pub mod WalkLemmas
 pub mod WatchLemmas

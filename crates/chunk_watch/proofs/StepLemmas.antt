@@ -7,7 +7,7 @@ use Rattle.sigv4.specs.Chunk.{chunk_signature}
 use Rattle.chunk_watch.specs.Front.{Begun, front_begun, short, bad, chunk, empty}
 use Rattle.chunk_watch.specs.Signing.{Signing}
 use Rattle.chunk_watch.specs.Walk.{ChunkPoint, Rules, at_end, chunk_compared, failed, in_chunks, next_place, step, step_over}
-use Rattle.chunk_watch.specs.Watch.{ChunkWatching, rules_of}
+use Rattle.chunk_watch.specs.Watch.{ChunkWatching, rules_of, count_after}
 use Rattle.chunk_watch.specs.WatchParts.{StepsChunk, chunk_point_of, chunk_rank}
 use Rattle.chunk_watch.specs.declared.fault.ChunkFault.{ChunkFault}
 use Rattle.chunk_watch.specs.declared.fault.ChunkFault.TheVariants.{LongEnd, Mismatch}
@@ -34,9 +34,12 @@ empty_within most place left slice signature len same e =
 
 -- ---- one step
 
-module _ (signing : Signing) (limits : ChunkLimits) (given : List ℕ) where
+module _ (signing : Signing) (limits : ChunkLimits) (declared : Option ℕ) (taken : ℕ) (given : List ℕ) where
+  abbrev counting : ℕ → ChunkPoint → ChunkWatching
+  counting count point = record { signing = signing; limits = limits; declared = declared; point = point; taken = count }
+
   abbrev watching : ChunkPoint → ChunkWatching
-  watching point = record { signing = signing; limits = limits; point = point }
+  watching point = counting taken point
 
   abbrev rules : Rules
   rules = rules_of (watching (failed LongEnd))
@@ -104,10 +107,10 @@ module _ (signing : Signing) (limits : ChunkLimits) (given : List ℕ) where
       pub step_bad : (fault : ChunkFault) → bad fault ≡ front_begun most place slice → StepsChunk {E = Unit {0}} here given (watching (failed fault)) given (Ok true)
       step_bad fault e = fails fault given refl (stepped (bad fault) e)
 
-      pub step_chunk : (signature bytes own rest all : List ℕ) (len next : ℕ) → chunk signature bytes len ≡ front_begun most place slice → own ≡ own_of text bytes
+      pub step_chunk : (signature bytes own rest all : List ℕ) (len next count : ℕ) → chunk signature bytes len ≡ front_begun most place slice → own ≡ own_of text bytes
           → bytes_eq (own_of text bytes) signature ≡ true → next ≡ next_place place → rest ≡ drop len left → all ≡ given ++ bytes
-          → StepsChunk {E = Unit {0}} here given (watching (in_chunks own next rest)) all (Ok true)
-      step_chunk signature bytes own rest all len next e own_is genuine next_is rest_is all_is =
+          → count ≡ count_after taken bytes → StepsChunk {E = Unit {0}} here given (counting count (in_chunks own next rest)) all (Ok true)
+      step_chunk signature bytes own rest all len next count e own_is genuine next_is rest_is all_is count_is =
           let inside = within limits.chunk place left signature bytes len (begun_is (chunk signature bytes len) e) in
           let less : length rest + 2 < chunk_rank (chunk_point_of phase place before left) =
           omega (arith, ranked place before left, ap length rest_is, length-drop len left, inside.0, inside.1) in (
@@ -118,7 +121,7 @@ module _ (signing : Signing) (limits : ChunkLimits) (given : List ℕ) where
                 ∙ ap (λ (p : ChunkPoint). let s : Option (List ℕ × ChunkPoint) = Some (bytes, p) in s)
                 (sym (λ i. in_chunks ((own_is ∙ own_same bytes) i) (next_is i) (rest_is i)))),
             all_is,
-            refl,
+            ap (λ (n : ℕ). counting n (in_chunks own next rest)) count_is,
             less,
           )
 

@@ -4,18 +4,19 @@ use Rattle.std.specs.Prelude.{Result}
 use Rattle.aws_chunked.specs.Made.{joined}
 use Rattle.chunk_watch.specs.Signing.{Signing}
 use Rattle.chunk_watch.specs.Walk.{ChunkPoint, Rules, Walks, at_end, failed, in_chunks, step, with_more}
-use Rattle.chunk_watch.specs.Watch.{AnswersChunks, ChunkWatching, FeedsChunks, HandsChunks, rules_of, chunk_state}
+use Rattle.chunk_watch.specs.Watch.{AnswersChunks, ChunkWatching, FeedsChunks, HandsChunks, IsKeptWithin, KeepsWithin, chunk_state, rules_of, count_after}
 use Rattle.chunk_watch.specs.WatchParts.{StepsChunk, chunk_point_of}
 use Rattle.chunk_watch.specs.declared.fault.ChunkFault.{ChunkFault}
 use Rattle.chunk_watch.specs.declared.fault.ChunkFault.TheVariants.{NoMemory}
 use Rattle.chunk_watch.specs.declared.limits.ChunkLimits.{ChunkLimits}
 use Rattle.chunk_watch.specs.declared.watch.Phase.{Phase}
 use Rattle.chunk_watch.specs.declared.watch.Phase.TheVariants as phases
+use Rattle.chunk_watch.proofs.CountLemmas.{counted_both}
 use Rattle.chunk_watch.proofs.WalkLemmas.{joined_both, walks_join}
 
-module _ (signing : Signing) (limits : ChunkLimits) (given : List ℕ) (place : ℕ) (before left piece : List ℕ) where
+module _ (signing : Signing) (limits : ChunkLimits) (declared : Option ℕ) (taken : ℕ) (given : List ℕ) (place : ℕ) (before left piece : List ℕ) where
   abbrev watching : ChunkPoint → ChunkWatching
-  watching point = record { signing = signing; limits = limits; point = point }
+  watching point = record { signing = signing; limits = limits; declared = declared; point = point; taken = taken }
 
   pushed : (phase : Phase) → chunk_point_of phase place before (left ++ piece) ≡ with_more (chunk_point_of phase place before left) piece
   pushed phases.Chunks = refl
@@ -49,6 +50,9 @@ module _ (old mid new : ChunkWatching) (from : ChunkPoint) (given told gained : 
   same_rules : HandsChunks old from given mid told → rules_of mid ≡ rules_of old
   same_rules hands = ap rules_of hands.same
 
+  counted_on : (bytes before : List ℕ) {all : List ℕ} → all ≡ before ++ bytes → count_after (count_after old.taken before) bytes ≡ count_after old.taken all
+  counted_on bytes before e = counted_both old.taken before bytes ∙ ap (count_after old.taken) (sym e)
+
   -- a step more
   pub hands_more : HandsChunks old from given mid told → StepsChunk {E = Unit {0}} mid told new gained (Ok true) → HandsChunks old from given new gained
   hands_more hands (bytes, one, gained_is, same, less) = record {
@@ -58,7 +62,10 @@ module _ (old mid new : ChunkWatching) (from : ChunkPoint) (given told gained : 
         ∙ ap (λ (rest : List ℕ). given ++ rest) (sym (joined_both hands.handed (bytes ∷ []) ∙ ap (λ (rest : List ℕ). joined hands.handed ++ rest) (append-nil bytes)))));
     walks = walks_join (rules_of old) from hands.handed mid.point (bytes ∷ []) new.point hands.walks
         (new.point, ap (λ (rules : Rules). step rules mid.point) (sym (same_rules hands)) ∙ one, refl);
-    same = same ∙ ap (λ (watch : ChunkWatching). record watch { point = new.point }) hands.same;
+    same =
+        same ∙ (ap (λ (watch : ChunkWatching). record watch { point = new.point; taken = count_after watch.taken bytes }) hands.same
+        ∙ ap (λ (count : ℕ). record old { point = new.point; taken = count }) (counted_on bytes (joined hands.handed)
+        (joined_both hands.handed (bytes ∷ []) ∙ ap (λ (rest : List ℕ). joined hands.handed ++ rest) (append-nil bytes))));
   }
 
 module _ (old mid new : ChunkWatching) (piece given told gained : List ℕ) (hands : HandsChunks old (with_more old.point piece) given mid told) where

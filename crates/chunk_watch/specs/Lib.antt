@@ -1,7 +1,10 @@
 pub mod ChunkFault
+pub mod EndRead
 pub mod Front
 pub mod FrontTold
+pub mod Handed
 pub mod Signing
+pub mod Trailers
 pub mod Walk
 pub mod Watch
 pub mod WatchParts

@@ -18,8 +18,16 @@ pub enum ChunkFault {
     LongEnd,
     /// The body ends before the empty chunk's line does.
     NoEmptyChunk,
-    /// What stands behind the empty chunk isn't an empty line alone: there may be trailers, which aren't taken.
+    /// The data in all has another length than was declared.
+    OtherLength,
+    /// What stands behind the empty chunk isn't an empty line alone: there may be trailers, which weren't asked for.
     OtherEnd,
+    /// What stands behind the empty chunk isn't the lines of trailers, the line of their signature, and an empty line.
+    BadTrailers,
+    /// The trailers haven't the announced names in their order.
+    OtherTrailers,
+    /// The trailers carry another signature than their own.
+    TrailerMismatch,
     /// The moment lies outside the years 0 to 9999, in which nothing is signed.
     MomentOutOfRange,
     /// Memory ran out.
@@ -43,7 +51,13 @@ impl fmt::Display for ChunkFault {
             ),
             ChunkFault::LongEnd => f.write_str("the end is too long"),
             ChunkFault::NoEmptyChunk => f.write_str("the empty chunk is missing"),
+            ChunkFault::OtherLength => f.write_str("the data has another length than declared"),
             ChunkFault::OtherEnd => f.write_str("the end isn't an empty line"),
+            ChunkFault::BadTrailers => f.write_str("the end isn't trailers and their signature"),
+            ChunkFault::OtherTrailers => f.write_str("the trailers aren't the announced ones"),
+            ChunkFault::TrailerMismatch => {
+                f.write_str("the trailers have another signature than their own")
+            }
             ChunkFault::MomentOutOfRange => f.write_str("the moment is out of range"),
             ChunkFault::NoMemory => f.write_str("no memory"),
         }

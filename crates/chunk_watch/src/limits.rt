@@ -5,7 +5,7 @@ ghost use Rattle.std.specs.Prelude.{◌≡◌};
 pub struct ChunkLimits {
     /// How many bytes of data a chunk has at most.
     pub chunk: u32,
-    /// How many bytes are kept behind the line of the empty chunk, where an empty line stands.
+    /// How many bytes are kept behind the line of the empty chunk, where trailers, their signature and an empty line stand.
     pub end: u32,
 }
 

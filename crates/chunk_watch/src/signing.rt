@@ -1,11 +1,11 @@
 ghost use Rattle.std.specs.Prelude.{◌≡◌, IfOk, string_bytes};
-ghost use Rattle.sigv4.specs.Chunk.{chunk_signature};
+ghost use Rattle.sigv4.specs.Chunk.{chunk_signature, trailer_signature};
 ghost use Rattle.chunk_watch.specs.Signing.{MakesChunkSigner};
 
 use crate::fault::ChunkFault;
 use bytes::Bytes;
-use sigv4::v4::{SigningParams, sign_chunk};
-use smithy_core::{Credentials, Identity, Mem, Moment, is_in_years};
+use sigv4::v4::{SigningParams, sign_chunk, sign_trailer};
+use smithy_core::{Credentials, Headers, Identity, Mem, Moment, is_in_years};
 use std::alloc::{AllocError, Global};
 use std::marker::Model;
 
@@ -66,6 +66,24 @@ impl ChunkSigner {
         let params = SigningParams::new(&self.identity, region, name, self.at, ());
         // Credentials sign in these years, so that an error is `NoMemory`.
         match sign_chunk(alloc, &chunk, before, &params) {
+            Ok(output) => Ok(output.into_parts().1),
+            Err(_) => Err(AllocError),
+        }
+    }
+
+    // The signature of trailers over the signature before it.
+    pub(crate) fn trailer_signature(
+        &self,
+        alloc: Global,
+        trailers: &Headers,
+        before: &str,
+    ) -> Mem<String>
+        ensures { IfOk result (λ own. string_bytes own ≡ trailer_signature trailers.now self.now.signer self.now.at before.now) }
+    {
+        let (region, name) = (self.region.as_str(), self.name.as_str());
+        let params = SigningParams::new(&self.identity, region, name, self.at, ());
+        // As for a chunk: an error is `NoMemory`.
+        match sign_trailer(alloc, trailers, before, &params) {
             Ok(output) => Ok(output.into_parts().1),
             Err(_) => Err(AllocError),
         }

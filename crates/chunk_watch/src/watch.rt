@@ -1,17 +1,18 @@
-ghost use Rattle.std.specs.Prelude.{◌≡◌, ◌++◌, IfOk, OnErr, OnOk, bytes_eq};
+ghost use Rattle.std.specs.Prelude.{◌≡◌, ◌++◌, ◌+◌, IfOk, OnErr, OnOk, Some, bytes_eq, option_copied};
 ghost use Rattle.aws_chunked.specs.Text.{crlf};
 ghost use Rattle.chunk_watch.specs.Walk.{next_place};
 ghost use Rattle.sigv4.specs.Chunk.{chunk_signature};
-ghost use Rattle.chunk_watch.specs.Watch.{EndsBody, FeedsChunks, MakesWatch, new_chunk_watch, chunk_state};
-ghost use Rattle.chunk_watch.specs.WatchParts.{HandsChunk, JudgesChunk, StepsChunk};
+ghost use Rattle.chunk_watch.specs.Watch.{EndsBody, EndsWithTrailers, FeedsChunks, KeepsWithin, MakesWatch, chunk_state, is_other_length, new_chunk_watch, count_after};
+ghost use Rattle.chunk_watch.specs.WatchParts.{HandsChunk, JudgesChunk, StepsChunk, end_reached};
 
 use crate::fault::ChunkFault;
 use crate::front::{Front, front_of};
 use crate::left::Left;
 use crate::limits::ChunkLimits;
 use crate::signing::ChunkSigner;
+use crate::trailers::judged_trailers;
 use mac_core::constant_time_eq;
-use smithy_core::{Mem, Moment};
+use smithy_core::{Headers, Mem, Moment};
 use std::alloc::Global;
 use std::fmt;
 use std::marker::Model;
@@ -28,8 +29,9 @@ pub(crate) enum Phase {
 /// its own signature: no data before its own signature, and all before it, were computed again and compared.
 ///
 /// It keeps less than a chunk with its line between calls, and behind the empty chunk the end, as far as the limits allow, and
-/// while it works a copy of one chunk. The comparison looks at each byte of both signatures. Lengths are hexadecimal digits in either
-/// case; the chunks needn't have one size. [`Debug`](std::fmt::Debug) shows nothing of who signs, of a signature or of data.
+/// while it works a copy of one chunk; trailers take up to 30 times the length of their end. The comparison looks at each byte of
+/// both signatures. Lengths are hexadecimal digits in either case; the chunks needn't have one size.
+/// [`Debug`](std::fmt::Debug) shows nothing of who signs, of a signature or of data.
 ///
 /// ```rust
 /// let mut watch = ChunkWatch::new(alloc, seed, secret, "us-east-1", "s3", at, ChunkLimits::new())?;
@@ -49,8 +51,10 @@ pub struct ChunkWatch {
     alloc: Global,
     signer: ChunkSigner,
     limits: ChunkLimits,
+    declared: Option<u64>,
     phase: Phase,
     place: u64,
+    taken: u64,
     signature: String,
     left: Left,
 }
@@ -65,7 +69,9 @@ impl Model for ChunkWatch {
     ghost view = { λ watch. record {
       signing = watch.signer;
       limits = watch.limits;
+      declared = watch.declared;
       point = chunk_point_of watch.phase watch.place (string_bytes watch.signature) watch.left;
+      taken = watch.taken;
     } };
 }
 
@@ -91,11 +97,28 @@ impl ChunkWatch {
             alloc,
             signer: ChunkSigner::new(alloc, secret, region, name, at)?,
             limits,
+            declared: None,
             phase: Phase::Chunks,
             place: 1,
+            taken: 0,
             signature: String::from_str(alloc, seed)?,
             left: Left::new(alloc),
         })
+    }
+
+    /// The same watch, at whose end the data in all is compared with this length: that which `x-amz-decoded-content-length` names.
+    pub fn with_decoded_length(mut self, length: u64) -> ChunkWatch
+        ensures { result ≡ record self { declared = Some length } }
+    {
+        self.declared = Some(length);
+        self
+    }
+
+    /// How many bytes of data were handed out, counted up to the greatest number.
+    pub fn taken(&self) -> u64
+        ensures { result ≡ self.now.taken }
+    {
+        self.taken
     }
 
     /// Takes a piece of the body, of any length, and appends the data of the chunks that are there whole then and carry their own
@@ -110,9 +133,10 @@ impl ChunkWatch {
     /// [`ChunkFault::NoMemory`] where memory runs out. Where the piece had no room, it isn't taken, and nothing has changed; and else
     /// some of the data is appended, that of the first chunks. The next call goes on, also with an empty piece, and nothing comes
     /// twice. Whether the piece was taken can't be seen from the answer alone: so a body whose watch ran out of memory is given up.
-    #[tactic(auto, using(crate::proofs::WatchLemmas::feeds))]
+    #[tactic(auto, using(crate::proofs::WatchLemmas::feeds, crate::proofs::KeepLemmas::keeps))]
     pub fn feed(&mut self, piece: &[u8], out: &mut Vec<u8>) -> Result<(), ChunkFault>
         ensures feeds { FeedsChunks self.old piece.now out.old.items self.new out.new.items result }
+        ensures keeps { KeepsWithin self.new result }
     {
         if let Phase::Failed(fault) = self.phase {
             return Err(fault);
@@ -122,25 +146,62 @@ impl ChunkWatch {
         self.state()
     }
 
-    /// Ends the body behind the bytes that were taken: behind the line of the empty chunk stands an empty line and nothing else. A body
-    /// with trailers isn't taken.
+    /// Ends the body behind the bytes that were taken: behind the line of the empty chunk stands an empty line and nothing else, as of
+    /// a request over `STREAMING-AWS4-HMAC-SHA256-PAYLOAD`. A body with trailers isn't taken.
     ///
     /// # Errors
     ///
-    /// The fault that was met; [`ChunkFault::NoEmptyChunk`] where the empty chunk's line wasn't there whole; and
-    /// [`ChunkFault::OtherEnd`] where trailers or anything else but the empty line stand behind it.
+    /// The fault that was met; [`ChunkFault::NoEmptyChunk`] where the empty chunk's line wasn't there whole;
+    /// [`ChunkFault::OtherLength`] where the data has another length than was declared; and [`ChunkFault::OtherEnd`] where trailers or
+    /// anything else but the empty line stand behind the empty chunk. The first of these is answered.
     #[tactic(auto, using(crate::proofs::EndLemmas::ends))]
     pub fn finish(self) -> Result<(), ChunkFault>
         ensures { EndsBody self result }
+    {
+        self.check_reached()?;
+        if is_empty_line(self.left.as_slice()) {
+            Ok(())
+        } else {
+            Err(ChunkFault::OtherEnd)
+        }
+    }
+
+    /// Ends the body of a request over `STREAMING-AWS4-HMAC-SHA256-PAYLOAD-TRAILER`, and returns its trailers, once their signature was
+    /// computed again over that of the empty chunk and compared. Behind the empty chunk's line stand a line for each trailer, whose name
+    /// is in lower case, the line of their signature, and an empty line, and nothing else. There is one trailer at least, so that
+    /// trailers that were cut off are missed.
+    ///
+    /// If the request's `x-amz-trailer` is handed over, the trailers have the names that it announces, in its order, each as often as
+    /// it does, and `,` alone stands between them. It is compared as it is: hand it over as it was signed.
+    ///
+    /// # Errors
+    ///
+    /// The fault that was met; [`ChunkFault::NoEmptyChunk`] where the empty chunk's line wasn't there whole;
+    /// [`ChunkFault::OtherLength`] where the data has another length than was declared; [`ChunkFault::BadTrailers`] where something else
+    /// stands behind the empty chunk; [`ChunkFault::OtherTrailers`] where other names were announced; and
+    /// [`ChunkFault::TrailerMismatch`] where the trailers carry another signature than their own. The first of these is answered, or
+    /// [`ChunkFault::NoMemory`] where memory runs out.
+    #[tactic(auto, using(crate::proofs::EndLemmas::ends_signed))]
+    pub fn finish_with_trailers(self, announced: Option<&str>) -> Result<Headers, ChunkFault>
+        ensures { EndsWithTrailers self (option_copied announced.entry) result }
+    {
+        self.check_reached()?;
+        let (before, bytes) = (self.signature.as_str(), self.left.as_slice());
+        judged_trailers(self.alloc, &self.signer, before, bytes, announced)
+    }
+
+    // Says why the end isn't looked at: the empty chunk wasn't passed, or the data isn't of the declared length.
+    fn check_reached(&self) -> Result<(), ChunkFault>
+        ensures { result ≡ end_reached self.now }
     {
         match self.phase {
             Phase::Failed(fault) => Err(fault),
             Phase::Chunks => Err(ChunkFault::NoEmptyChunk),
             Phase::End => {
-                if is_empty_line(self.left.as_slice()) {
-                    Ok(())
+                if is_other_length(self.declared, self.taken) {
+                    Err(ChunkFault::OtherLength)
                 } else {
-                    Err(ChunkFault::OtherEnd)
+                    Ok(())
                 }
             }
         }
@@ -186,6 +247,7 @@ impl ChunkWatch {
                     self.phase = Phase::Failed(ChunkFault::Mismatch(place));
                     return Ok(true);
                 };
+                self.taken = count_after(self.taken, bytes);
                 self.signature = own;
                 self.place = next_place(place);
                 self.phase = Phase::Chunks;
@@ -211,6 +273,24 @@ fn is_empty_line(bytes: &[u8]) -> bool
     ensures { result ≡ bytes_eq bytes.now crlf }
 {
     bytes == b"\r\n".as_slice()
+}
+
+// Whether data was declared, and of another length.
+fn is_other_length(declared: Option<u64>, taken: u64) -> bool
+    ensures { result ≡ is_other_length declared taken }
+{
+    match declared {
+        Some(length) => length != taken,
+        None => false,
+    }
+}
+
+// How much data was handed out after these bytes, counted up to the greatest number.
+#[tactic(auto, using(crate::proofs::CountLemmas::counted_after))]
+fn count_after(taken: u64, bytes: &[u8]) -> u64
+    ensures { result ≡ count_after taken bytes.now }
+{
+    taken.saturating_add(bytes.len() as u64)
 }
 
 // The place behind a chunk's, which stays if it is the last that can be named.

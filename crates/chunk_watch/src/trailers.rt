@@ -1,0 +1,111 @@
+//! The end of a body with trailers.
+ghost use Rattle.std.specs.Prelude.{◌≡◌, ◌++◌, IfOk, OnOk, option_copied, string_bytes};
+ghost use Rattle.aws_chunked.specs.Announcement.{next_trailer_name, trailer_names};
+ghost use Rattle.chunk_watch.specs.EndRead.{ReadsEnd, TakesEnd, empty_line};
+ghost use Rattle.chunk_watch.specs.Trailers.{JudgesTrailers, are_announced};
+
+use crate::fault::ChunkFault;
+use crate::signing::ChunkSigner;
+use aws_chunked::{DecodeFault, Decoded, decode_chunked};
+use mac_core::constant_time_eq;
+use smithy_core::{Headers, Mem};
+use std::alloc::Global;
+
+// The line of an empty chunk. Its signature isn't looked at: that of the body's own was compared before.
+const EMPTY_LINE: &[u8; 84] =
+    b"0;chunk-signature=0000000000000000000000000000000000000000000000000000000000000000\r\n";
+
+// The trailers that stand behind the empty chunk, once they turned out to be the announced ones and to carry their own signature,
+// which is made over that of the empty chunk.
+pub(crate) fn judged_trailers(
+    alloc: Global,
+    signer: &ChunkSigner,
+    before: &str,
+    bytes: &[u8],
+    announced: Option<&str>,
+) -> Result<Headers, ChunkFault>
+    ensures { JudgesTrailers signer.now before.now (option_copied announced.entry) bytes.now result }
+{
+    let (trailers, signature) = read_end(alloc, bytes)?;
+    if !are_announced(alloc, announced, &trailers)? {
+        return Err(ChunkFault::OtherTrailers);
+    }
+    let own = signer.trailer_signature(alloc, &trailers, before)?;
+    if constant_time_eq(own.as_bytes(), signature.as_bytes()) {
+        Ok(trailers)
+    } else {
+        Err(ChunkFault::TrailerMismatch)
+    }
+}
+
+// Reads the end of a body with trailers: the trailers, and their signature.
+#[tactic(auto, using(crate::proofs::EndReadLemmas::reads_text))]
+fn read_end(alloc: Global, bytes: &[u8]) -> Result<(Headers, String), ChunkFault>
+    ensures { ReadsEnd bytes.now result }
+{
+    let text = behind_empty_line(alloc, bytes)?;
+    match decode_chunked(alloc, text.as_slice()) {
+        Ok(decoded) => trailers_of(decoded),
+        Err(DecodeFault::BadChunk(_)) => Err(ChunkFault::BadTrailers),
+        Err(DecodeFault::NoMemory) => Err(ChunkFault::NoMemory),
+    }
+}
+
+// The bytes behind the line of an empty chunk.
+fn behind_empty_line(alloc: Global, bytes: &[u8]) -> Mem<Vec<u8>>
+    ensures { IfOk result (λ text. text.items ≡ empty_line ++ bytes.now) }
+{
+    let mut text = Vec::with_capacity(alloc, EMPTY_LINE.len() + bytes.len())?;
+    text.extend_from_slice(EMPTY_LINE)?;
+    text.extend_from_slice(bytes)?;
+    Ok(text)
+}
+
+// The trailers of a text without data, and their signature, which stands behind that of the empty chunk.
+fn trailers_of(decoded: Decoded) -> Result<(Headers, String), ChunkFault>
+    ensures { TakesEnd decoded result }
+{
+    let Decoded {
+        body,
+        mut signatures,
+        trailers,
+    } = decoded;
+    match signatures.pop() {
+        Some(signature) if body.is_empty() && signatures.len() == 1 => Ok((trailers, signature)),
+        _ => Err(ChunkFault::BadTrailers),
+    }
+}
+
+// Whether the trailers have the announced names in their order.
+fn are_announced(alloc: Global, announced: Option<&str>, trailers: &Headers) -> Mem<bool>
+    ensures { IfOk result (λ are. are ≡ are_announced (option_copied announced.entry) trailers.now) }
+{
+    match announced {
+        None => Ok(true),
+        Some(names) => Ok(names == joined_names(alloc, trailers)?.as_str()),
+    }
+}
+
+// The names of trailers in order, with `,` between.
+#[tactic(auto, using(crate::proofs::NameLemmas::names_joined, crate::proofs::NameLemmas::name_more))]
+fn joined_names(alloc: Global, trailers: &Headers) -> Mem<String>
+    ensures { IfOk result (λ names. string_bytes names ≡ trailer_names trailers.now) }
+{
+    let mut names = String::new(alloc);
+    let mut is_first = true;
+    for (name, _) in trailers.iter() {
+        push_name(&mut names, is_first, name)?;
+        is_first = false;
+    }
+    Ok(names)
+}
+
+// Appends a name, behind `,` where it isn't the first.
+fn push_name(names: &mut String, is_first: bool, name: &str) -> Mem<()>
+    ensures { OnOk result (string_bytes names.new ≡ string_bytes names.old ++ next_trailer_name is_first name.now) }
+{
+    if !is_first {
+        names.push_str(",")?;
+    }
+    names.push_str(name)
+}
