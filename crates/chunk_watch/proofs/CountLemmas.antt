@@ -1,5 +1,5 @@
 -- How much data was handed out.
-use Rattle.std.proofs.Common.{◌≡◌, ℕ, ◌+◌, ◌≤◌, List, [], ◌∷◌, ◌++◌, length, min, refl, sym, ap, ◌∙◌, arith, append-nil, length-append}
+use Rattle.std.proofs.Common.{◌≡◌, ℕ, ◌+◌, ◌≤◌, List, [], ◌∷◌, ◌++◌, length, min, refl, sym, ap, arith, append-nil, length-append}
 use Rattle.chunk_watch.specs.Watch.{count_after}
 
 -- a count that stands still at the greatest number

@@ -1,6 +1,6 @@
 -- How a body ends.
 use Rattle.std.proofs.Common.{◌≡◌, ℕ, Bool, true, false, List, Option, Ok, Err, refl, sym, ap, ◌∙◌, subst, true≢false}
-use Rattle.std.specs.Prelude.{◌≢◌, Result, bytes_eq}
+use Rattle.std.specs.Prelude.{Result, bytes_eq}
 use Rattle.sigv4.proofs.InsertedLemmas.{itself, same_name}
 use Rattle.aws_chunked.specs.Body.{Trailer}
 use Rattle.aws_chunked.specs.Text.{crlf}

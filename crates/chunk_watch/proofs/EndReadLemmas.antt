@@ -1,24 +1,22 @@
 -- The end of a body with trailers is read as a text without data.
-use Rattle.std.proofs.Common.{◌≡◌, ℕ, ◌+◌, ◌<◌, ◌≤◌, ◌==◌, ◌⊎◌, Bool, true, false, List, [], ◌∷◌, ◌++◌, Option, Some, None, take, drop, length, map, inl, inr, refl, sym, ap, ◌∙◌, subst, arith, append_assoc, length-append}
-use Rattle.std.specs.Prelude.{Result, Ok, Err, String, string_bytes, codes}
+use Rattle.std.proofs.Common.{◌≡◌, ℕ, ◌+◌, Bool, true, false, List, [], ◌∷◌, ◌++◌, Some, None, drop, length, map, inl, inr, refl, sym, ap, ◌∙◌, subst, arith, append_assoc, length-append}
+use Rattle.std.specs.Prelude.{Result, Ok, Err, String, string_bytes}
 use Rattle.std.specs.Fmt.{digits}
-use Rattle.std.specs.List.{AllByRecursion, flat_map, list_all}
+use Rattle.std.specs.List.{AllByRecursion, flat_map}
 use Rattle.std.specs.declared.alloc.Global.{Global}
 use Rattle.std.proofs.Math.Seq.{drop-append_seam}
 use Rattle.std.proofs.lemmas.List.{take-append-drop}
-use Rattle.sigv4.specs.Signature.{is_lower_digit, is_signature}
+use Rattle.sigv4.specs.Signature.{is_signature}
 use Rattle.aws_chunked.specs.Body.{Trailer}
-use Rattle.aws_chunked.specs.Decoded.{CanGoOn, Decodes, DecodesOnly, IsBadAt, IsPiecesText, IsSignature, IsText, IsTextOf, IsTrailer, StopsAtByte, TakesSignature}
-use Rattle.aws_chunked.specs.Signing.{has_signature}
+use Rattle.aws_chunked.specs.Decoded.{Decodes, DecodesOnly, IsPiecesText, IsSignature, IsText, IsTextOf, IsTrailer, StopsAtByte}
 use Rattle.aws_chunked.specs.Text.{crlf, cut_within, head_text, last_line, pieces_of_size, tail_text, trailer_line}
-use Rattle.aws_chunked.specs.declared.decode.DecodeFault.{DecodeFault}
 use Rattle.aws_chunked.specs.declared.decode.DecodeFault.TheVariants as stops
 use Rattle.aws_chunked.specs.declared.decode.Decoded.{Decoded}
 use Rattle.chunk_watch.specs.EndRead.{ReadsEnd, TakesEnd, empty_line, zeros}
 use Rattle.chunk_watch.proofs.SealedLemmas.{signature_long}
-use Rattle.chunk_watch.specs.Trailers.{IsNoEnd, IsTrailersEnd, ReadsAs, trailers_text}
+use Rattle.chunk_watch.specs.Trailers.{IsTrailersEnd, trailers_text}
 use Rattle.chunk_watch.specs.declared.fault.ChunkFault.{ChunkFault}
-use Rattle.chunk_watch.specs.declared.fault.ChunkFault.TheVariants.{BadTrailers, NoMemory}
+use Rattle.chunk_watch.specs.declared.fault.ChunkFault.TheVariants.{BadTrailers}
 
 no_pieces : (size : ℕ) → pieces_of_size size [] ≡ []
 unfolding pieces_of_size cut_within

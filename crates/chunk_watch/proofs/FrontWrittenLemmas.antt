@@ -1,14 +1,11 @@
 -- What a text that is written begins with.
-use Rattle.std.proofs.Common.{◌≡◌, ℕ, ◌+◌, ◌<◌, ◌≤◌, ◌==◌, ◌&&◌, Bool, true, false, cond, List, [], ◌∷◌, ◌++◌, Option, Some, None, take, drop, length, refl, sym, ap, ◌∙◌, subst, arith, append_assoc, length-append}
+use Rattle.std.proofs.Common.{◌≡◌, ℕ, ◌+◌, ◌<◌, ◌≤◌, ◌==◌, ◌&&◌, false, cond, List, ◌++◌, Option, Some, None, take, drop, length, refl, sym, ap, ◌∙◌, arith, append_assoc, length-append}
 use Rattle.std.specs.Prelude.{bytes_eq, codes, nat_lt}
-use Rattle.std.specs.Fmt.{digits}
-use Rattle.std.specs.List.{prefix_len}
 use Rattle.std.specs.Str.Parse.{AllDigits, digits_value}
 use Rattle.std.proofs.Math.Seq.{drop-append_seam, take-append_seam}
 use Rattle.std.proofs.lemmas.Bool.Decides.{nat_tests}
 use Rattle.aws_chunked.specs.Text.{chunk_text, crlf, head_text, length_text}
-use Rattle.chunk_watch.specs.Front.{Begun, bad, begun_behind, begun_line, begun_with, chunk, empty, front_begun, is_hex_digit, line_signature, short}
-use Rattle.chunk_watch.specs.declared.fault.ChunkFault.{ChunkFault}
+use Rattle.chunk_watch.specs.Front.{bad, begun_behind, begun_line, begun_with, chunk, empty, front_begun, line_signature, short}
 use Rattle.chunk_watch.specs.declared.fault.ChunkFault.TheVariants.{BadEnd, BadLine, LongChunk}
 use Rattle.chunk_watch.proofs.LengthLemmas.{counted_digits, digits_written, few_written, some_written, value_written}
 

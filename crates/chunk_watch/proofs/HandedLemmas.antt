@@ -1,6 +1,6 @@
 -- A text that is written is handed out whole.
-use Rattle.std.proofs.Common.{◌≡◌, ℕ, zero, suc, ◌+◌, ◌<◌, ◌≤◌, ◌⊎◌, Bool, true, false, cond, List, [], ◌∷◌, ◌++◌, Option, Some, None, take, drop, length, map, inl, inr, refl, sym, ap, ◌∙◌, subst, arith, append_assoc, append-nil, length-drop}
-use Rattle.std.specs.Prelude.{Result, Ok, Err, bytes_eq, nat_lt}
+use Rattle.std.proofs.Common.{◌≡◌, ℕ, zero, suc, ◌<◌, ◌≤◌, ◌⊎◌, Bool, true, false, cond, List, [], ◌∷◌, ◌++◌, Option, Some, None, take, drop, length, map, inl, inr, refl, sym, ap, ◌∙◌, subst, arith, append_assoc, append-nil, length-drop}
+use Rattle.std.specs.Prelude.{Result, Ok, Err, nat_lt}
 use Rattle.std.specs.List.{AllByRecursion, flat_map}
 use Rattle.std.proofs.Math.Seq.{drop-append_seam}
 use Rattle.std.proofs.lemmas.Bool.Decides.{nat_tests}
@@ -13,17 +13,15 @@ use Rattle.aws_chunked.specs.Body.{Trailer}
 use Rattle.aws_chunked.specs.Decoded.{IsTrailer}
 use Rattle.aws_chunked.specs.Due.{signed_chunked_text, signed_chunks, trailers_signature}
 use Rattle.aws_chunked.specs.Made.{joined}
-use Rattle.aws_chunked.specs.Options.{IsChunkSize}
 use Rattle.aws_chunked.specs.Text.{chunk_text, crlf, cut_within, head_text, last_line, pieces_of_size, tail_text, trailer_line}
 use Rattle.aws_chunked.specs.Text as parts
-use Rattle.chunk_watch.specs.Front.{Begun, chunk, empty, front_begun}
 use Rattle.chunk_watch.specs.Handed.{EndsGiving, HandsWritten, end_text, last_signature}
 use Rattle.chunk_watch.specs.Signing.{Signing}
-use Rattle.chunk_watch.specs.Trailers.{IsTrailersEnd, JudgesTrailers, ReadsAs, RefusesTrailers, are_announced}
+use Rattle.chunk_watch.specs.Trailers.{IsTrailersEnd, JudgesTrailers, RefusesTrailers, are_announced}
 use Rattle.chunk_watch.specs.Walk.{ChunkPoint, FedAll, Rules, Walks, at_end, chunk_compared, failed, in_chunks, next_place, step, step_over}
-use Rattle.chunk_watch.specs.Watch.{ChunkWatching, EndsAt, EndsSignedAt, new_chunk_watch, rules_of}
+use Rattle.chunk_watch.specs.Watch.{ChunkWatching, EndsAt, new_chunk_watch, rules_of}
 use Rattle.chunk_watch.specs.declared.fault.ChunkFault.{ChunkFault}
-use Rattle.chunk_watch.specs.declared.fault.ChunkFault.TheVariants.{LongEnd, Mismatch, NoMemory}
+use Rattle.chunk_watch.specs.declared.fault.ChunkFault.TheVariants.{LongEnd, NoMemory}
 use Rattle.chunk_watch.specs.declared.limits.ChunkLimits.{ChunkLimits}
 use Rattle.chunk_watch.proofs.FrontWrittenLemmas.{chunk_written, empty_written}
 use Rattle.chunk_watch.proofs.SealedLemmas.{chunk_sealed, signature_long, trailers_sealed}

@@ -1,8 +1,7 @@
 -- One step of a watch.
-use Rattle.std.proofs.Common.{◌≡◌, ℕ, ◌+◌, ◌<◌, ◌≤◌, Bool, true, false, cond, List, [], ◌∷◌, ◌++◌, Option, Some, None, drop, length, refl, sym, ap, ◌∙◌, subst, arith, append-nil, length-drop}
+use Rattle.std.proofs.Common.{◌≡◌, ℕ, ◌+◌, ◌<◌, ◌≤◌, Bool, true, false, cond, List, [], ◌++◌, Option, Some, None, drop, length, refl, sym, ap, ◌∙◌, subst, arith, append-nil, length-drop}
 use Rattle.std.specs.Prelude.{bytes_eq, nat_lt, Ok}
 use Rattle.std.proofs.lemmas.Bool.Decides.{nat_tests}
-use Rattle.smithy_core.specs.Moment.{Instant}
 use Rattle.sigv4.specs.Chunk.{chunk_signature}
 use Rattle.chunk_watch.specs.Front.{Begun, front_begun, short, bad, chunk, empty}
 use Rattle.chunk_watch.specs.Signing.{Signing}

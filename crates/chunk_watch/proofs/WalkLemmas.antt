@@ -1,13 +1,11 @@
 -- Walks over the chunks of a body: they go on as their bytes do, and each point is reached by one.
-use Rattle.std.proofs.Common.{◌≡◌, ℕ, ◌+◌, ◌<◌, ◌≤◌, Bool, true, false, cond, List, [], ◌∷◌, ◌++◌, Option, Some, None, drop, length, refl, sym, ap, ◌∙◌, subst, arith, append_assoc, append-nil, length-append}
+use Rattle.std.proofs.Common.{◌≡◌, ℕ, Bool, true, false, cond, List, [], ◌∷◌, ◌++◌, Option, Some, None, drop, length, refl, sym, ap, ◌∙◌, subst, arith, append_assoc, append-nil, length-append}
 use Rattle.std.specs.Prelude.{bytes_eq, nat_lt}
-use Rattle.std.specs.List.{flat_map}
 use Rattle.std.proofs.lemmas.Bool.Decides.{nat_tests}
 use Rattle.std.proofs.lemmas.List.{drop-append-le}
 use Rattle.aws_chunked.specs.Made.{joined}
 use Rattle.chunk_watch.specs.Front.{Begun, front_begun, short, bad, chunk, empty}
 use Rattle.chunk_watch.specs.Walk.{ChunkPoint, Rules, Walks, at_end, chunk_compared, failed, in_chunks, next_place, step, step_over, with_more, FedAll, IsAnyCut}
-use Rattle.chunk_watch.specs.declared.fault.ChunkFault.{ChunkFault}
 use Rattle.chunk_watch.specs.declared.fault.ChunkFault.TheVariants.{LongEnd}
 use Rattle.chunk_watch.proofs.FrontLemmas.{IsStable, begun_stable}
 

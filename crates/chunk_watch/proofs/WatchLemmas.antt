@@ -1,10 +1,10 @@
 -- What a watch does in a call.
-use Rattle.std.proofs.Common.{◌≡◌, ℕ, true, List, [], ◌∷◌, ◌++◌, None, Some, Option, Ok, Err, inl, inr, refl, sym, ap, ◌∙◌, subst, append-nil, append_assoc}
+use Rattle.std.proofs.Common.{◌≡◌, ℕ, true, List, [], ◌∷◌, ◌++◌, None, Option, Ok, Err, inl, inr, refl, sym, ap, ◌∙◌, subst, append-nil, append_assoc}
 use Rattle.std.specs.Prelude.{Result}
 use Rattle.aws_chunked.specs.Made.{joined}
 use Rattle.chunk_watch.specs.Signing.{Signing}
-use Rattle.chunk_watch.specs.Walk.{ChunkPoint, Rules, Walks, at_end, failed, in_chunks, step, with_more}
-use Rattle.chunk_watch.specs.Watch.{AnswersChunks, ChunkWatching, FeedsChunks, HandsChunks, IsKeptWithin, KeepsWithin, chunk_state, rules_of, count_after}
+use Rattle.chunk_watch.specs.Walk.{ChunkPoint, Rules, step, with_more}
+use Rattle.chunk_watch.specs.Watch.{ChunkWatching, FeedsChunks, HandsChunks, chunk_state, rules_of, count_after}
 use Rattle.chunk_watch.specs.WatchParts.{StepsChunk, chunk_point_of}
 use Rattle.chunk_watch.specs.declared.fault.ChunkFault.{ChunkFault}
 use Rattle.chunk_watch.specs.declared.fault.ChunkFault.TheVariants.{NoMemory}

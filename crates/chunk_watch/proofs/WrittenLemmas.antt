@@ -1,5 +1,5 @@
 -- What is handed out is the data of a chunk as it is written.
-use Rattle.std.proofs.Common.{◌≡◌, ℕ, ◌+◌, ◌-◌, ◌<◌, ◌≤◌, ◌==◌, ◌&&◌, ◌⊎◌, Bool, true, false, cond, List, [], ◌∷◌, ◌++◌, Option, Some, None, take, drop, length, inl, inr, refl, sym, ap, ◌∙◌, subst, arith, append_assoc, length-drop}
+use Rattle.std.proofs.Common.{◌≡◌, ℕ, ◌+◌, ◌<◌, ◌≤◌, ◌==◌, ◌&&◌, ◌⊎◌, Bool, true, false, cond, List, [], ◌++◌, Option, Some, None, take, drop, length, inl, inr, refl, sym, ap, ◌∙◌, subst, arith, append_assoc}
 use Rattle.std.specs.Prelude.{bytes_eq, codes, nat_lt}
 use Rattle.std.specs.List.{prefix_len}
 use Rattle.std.specs.Str.Parse.{AllDigits, digits_value}
@@ -10,10 +10,9 @@ use Rattle.std.proofs.lemmas.List.Sums.{prefix_len-le-length}
 use Rattle.sigv4.proofs.InsertedLemmas.{same_name}
 use Rattle.aws_chunked.specs.Text.{crlf}
 use Rattle.chunk_watch.specs.Front.{Begun, bad, begun_behind, begun_line, begun_with, chunk, empty, front_begun, is_hex_digit, line_signature, short}
-use Rattle.chunk_watch.specs.Walk.{ChunkPoint, Rules, at_end, chunk_compared, failed, in_chunks, next_place, step, step_over}
+use Rattle.chunk_watch.specs.Walk.{ChunkPoint, Rules, at_end, chunk_compared, in_chunks, next_place, step_over}
 use Rattle.chunk_watch.specs.Written.{BeginsChunk, HandsSigned}
-use Rattle.chunk_watch.specs.declared.fault.ChunkFault.{ChunkFault}
-use Rattle.chunk_watch.specs.declared.fault.ChunkFault.TheVariants.{BadEnd, BadLine, LongChunk, Mismatch}
+use Rattle.chunk_watch.specs.declared.fault.ChunkFault.TheVariants.{BadEnd, BadLine, LongChunk}
 use Rattle.chunk_watch.proofs.DigitLemmas.{first_digits}
 
 abbrev mark : List ℕ

@@ -1,6 +1,6 @@
 -- What bytes of a body in signed chunks begin with (Amazon S3, "Signature calculations for the Authorization header: transferring payload in multiple
 -- chunks"): a line of the chunk's length, `;chunk-signature=` and its signature, and behind it the data and the end of their line.
-use Rattle.std.specs.Prelude.{ℕ, ◌+◌, ◌==◌, ◌&&◌, Bool, nat_lt, List, [], ◌∷◌, bytes_eq, codes, drop, length, take, Option, Some, None, if◌then◌else◌}
+use Rattle.std.specs.Prelude.{ℕ, ◌+◌, ◌==◌, ◌&&◌, Bool, nat_lt, List, bytes_eq, codes, drop, length, take, Option, Some, None, if◌then◌else◌}
 use Rattle.std.specs.Char.{is_digit}
 use Rattle.std.specs.List.{prefix_len}
 use Rattle.std.specs.Str.Parse.{digits_value}

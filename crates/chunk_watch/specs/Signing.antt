@@ -1,6 +1,6 @@
 -- Who signs the chunks of a body, and when.
 use Rattle.std.specs.Prelude.{◌≡◌, ◌⊎◌, false, Result, Ok, Err}
-use Rattle.smithy_core.specs.Civil.{IsInYears, is_in_years}
+use Rattle.smithy_core.specs.Civil.{is_in_years}
 use Rattle.smithy_core.specs.Moment.{Instant}
 use Rattle.eventstream.specs.Key.{Signer}
 use Rattle.chunk_watch.specs.declared.fault.ChunkFault.{ChunkFault}

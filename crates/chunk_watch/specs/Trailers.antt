@@ -1,8 +1,7 @@
 -- The end of a body with trailers (Amazon S3, "Signature calculations for the Authorization header: including trailing headers"): their lines, the line of
 -- their signature, and an empty line.
-use Rattle.std.specs.Prelude.{◌≡◌, ◌≢◌, ◌⊎◌, ℕ, ◌<◌, Bool, true, false, List, [], ◌∷◌, ◌++◌, bytes_eq, length, map, Option, Some, None, Result, Ok, Err, String, string_bytes}
+use Rattle.std.specs.Prelude.{◌≡◌, ◌≢◌, ◌⊎◌, ℕ, ◌<◌, Bool, true, false, List, ◌++◌, bytes_eq, length, Option, Some, None, Result, Ok, Err}
 use Rattle.std.specs.List.{AllByRecursion, flat_map}
-use Rattle.std.specs.declared.alloc.Global.{Global}
 use Rattle.sigv4.specs.Chunk.{trailer_signature}
 use Rattle.aws_chunked.specs.Announcement.{trailer_names}
 use Rattle.aws_chunked.specs.Body.{Trailer}

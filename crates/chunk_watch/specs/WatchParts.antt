@@ -1,5 +1,5 @@
 -- Between the functions of a watch: a reader of `ChunkWatch` needs none of it.
-use Rattle.std.specs.Prelude.{◌≡◌, ◌+◌, ◌<◌, ℕ, suc, Bool, true, false, List, ◌++◌, bytes_eq, length, Option, Some, None, Result, Ok, Err, String, string_bytes}
+use Rattle.std.specs.Prelude.{◌≡◌, ◌+◌, ◌<◌, ℕ, Bool, true, false, List, ◌++◌, bytes_eq, length, Option, Some, None, Result, Ok, Err, String, string_bytes}
 use Rattle.std.specs.declared.alloc.Global.{Global}
 use Rattle.chunk_watch.specs.Walk.{ChunkPoint, at_end, failed, in_chunks, step}
 use Rattle.chunk_watch.specs.Watch.{ChunkWatching, is_other_length, rules_of, count_after}

@@ -1,5 +1,5 @@
 -- A chunk as it is written, and that nothing else is handed out.
-use Rattle.std.specs.Prelude.{◌≡◌, ◌⊎◌, ℕ, ◌<◌, ◌≤◌, List, [], ◌++◌, codes, drop, length, Some}
+use Rattle.std.specs.Prelude.{◌≡◌, ◌⊎◌, ℕ, ◌<◌, ◌≤◌, List, [], ◌++◌, codes, length, Some}
 use Rattle.std.specs.Str.Parse.{AllDigits, digits_value}
 use Rattle.aws_chunked.specs.Text.{crlf}
 use Rattle.chunk_watch.specs.Walk.{ChunkPoint, Rules, in_chunks, next_place, step}
