@@ -5,11 +5,11 @@ ghost use Rattle.std.specs.Prelude.{◌<◌};
 
 use chunk_watch::{ChunkFault, ChunkLimits, ChunkWatch};
 use mac_core::sha256_hex;
-use smithy_core::{Mem, Moment};
+use smithy_core::{Headers, Mem, Moment};
 use std::alloc::Global;
 use std::io;
 use std::process::ExitCode;
-use tool_case_lines::{Answers, number, part, run_cases, with_repeats};
+use tool_case_lines::{Answers, has_part, number, part, run_cases, with_repeats};
 
 fn main(rt: HostRuntime) -> io::Result<ExitCode> {
     run_cases(rt, &Bodies)
@@ -39,22 +39,35 @@ fn text_of(alloc: Global, words: &[&str]) -> Mem<Vec<u8>> {
     Ok(text)
 }
 
-// Feeds the text, cut every so many bytes, and ends it.
+// Feeds the text, cut every so many bytes, and ends it: its trailers.
 fn answer_of(
     alloc: Global,
     words: &[&str],
     text: &[u8],
     out: &mut Vec<u8>,
-) -> Result<(), ChunkFault> {
+) -> Result<Headers, ChunkFault> {
+    let mut watch = watch_of(alloc, words)?;
+    for piece in text.chunks(size_of_pieces(words)) {
+        watch.feed(piece, out)?;
+    }
+    if has_part(words, "trailers") {
+        return watch.finish_with_trailers(part(words, "announced"));
+    }
+    watch.finish()?;
+    Ok(Headers::new(alloc))
+}
+
+// The watch that the words ask for.
+fn watch_of(alloc: Global, words: &[&str]) -> Result<ChunkWatch, ChunkFault> {
     let seed = part(words, "seed").unwrap_or("");
     let secret = part(words, "secret").unwrap_or("wJalrXUtnFEMI/K7MDENG/bPxRfiCYEXAMPLEKEY");
     let at = Moment::new(number(part(words, "at").unwrap_or("1369353600")), 0);
     let limits = ChunkLimits::new();
-    let mut watch = ChunkWatch::new(alloc, seed, secret, "us-east-1", "s3", at, limits)?;
-    for piece in text.chunks(size_of_pieces(words)) {
-        watch.feed(piece, out)?;
+    let watch = ChunkWatch::new(alloc, seed, secret, "us-east-1", "s3", at, limits)?;
+    match part(words, "length") {
+        Some(length) => Ok(watch.with_decoded_length(number(length).unsigned_abs())),
+        None => Ok(watch),
     }
-    watch.finish()
 }
 
 // How many bytes a piece has.
@@ -68,10 +81,19 @@ fn size_of_pieces(words: &[&str]) -> usize
 }
 
 // How many bytes were handed out, their digest, and how the body ended.
-fn told(alloc: Global, out: &[u8], answer: Result<(), ChunkFault>) -> Mem<String> {
+fn told(alloc: Global, out: &[u8], answer: Result<Headers, ChunkFault>) -> Mem<String> {
     let (count, digest) = (out.len(), sha256_hex(alloc, out)?);
     match answer {
-        Ok(()) => format!(in alloc; "{count} bytes {digest} | whole"),
+        Ok(trailers) => {
+            let mut text = format!(in alloc; "{count} bytes {digest} | whole")?;
+            for (name, value) in trailers.iter() {
+                text.push_str(" | ")?;
+                text.push_str(name)?;
+                text.push_str(": ")?;
+                text.push_str(value)?;
+            }
+            Ok(text)
+        }
         Err(fault) => format!(in alloc; "{count} bytes {digest} | {fault:?} {fault}"),
     }
 }
