@@ -36,9 +36,8 @@ use Rattle.operation_run.proofs.AgainLemmas.{leading_within}
 use Rattle.operation_run.proofs.BagLemmas.{skew_on}
 use Rattle.signed_stream.specs.Plan.{TargetRead, TargetSpells, accepted, unaccepted, unread}
 use Rattle.signed_stream.specs.Chain.{outside_years}
-use Rattle.signed_stream.specs.Sign.{IsRequestError, Unsigned, error_halt, target_fault, unsigned}
-use Rattle.signed_stream.specs.Halt.{Halt, fails, refuses, wants}
-use Rattle.signed_stream.specs.Status.{RunFault, refused}
+use Rattle.signed_stream.specs.Sign.{IsRequestError, Unsigned, error_ending, target_fault, unsigned}
+use Rattle.signed_stream.specs.Status.{Ending, RunFault, no_memory, refused}
 use Rattle.signed_stream.proofs.SignLemmas.{TellsFault, outside_told, passed_fault, target_told}
 use Rattle.signed_stream.proofs.TargetLemmas.{reads_one, reads_one_way}
 use Rattle.operation_program.specs.Attempting.{Scripted, attempts_made, first_attempt_end, heads_text, operation_outcome, scripted_case, scripted_fault, scripted_moment, scripted_request, scripted_rounds, unless_stopped}
@@ -284,10 +283,10 @@ module _ (s : Scripted) (parts : OperationParts) (is : IsPartsOf s parts) (bag :
         ap (λ f. unless_stopped f (is_used_up rounds) (heads_text (map sent_of (attempts_made s)) (tries rounds))) made
 
     refused_as : count < attempts bag (scripted_rounds s) → (error : SigV4SigningError) → RefusesSigning parts (attempt_bag bag (take count (scripted_rounds s))) s.at error
-        → IsRequestError error × HaltsAttempts s (error_halt error)
+        → IsRequestError error × HaltsAttempts s (error_ending error)
     refused_as below error refusal =
         let told = refused_for last error (subst (λ before. RefusesSigning parts (attempt_bag bag before) s.at error) first_rounds refusal) in
-        (told.0, by_halt (error_halt error) told.1)
+        (told.0, by_halt (error_ending error) told.1)
       where
         any_rest : (outside other : Option RunFault) (told : RunFault) → option_or outside None ≡ Some told → option_or outside other ≡ Some told
         any_rest None other told is = cc
@@ -307,7 +306,7 @@ module _ (s : Scripted) (parts : OperationParts) (is : IsPartsOf s parts) (bag :
         later_on t found (accepted other) spells told is = ap (λ o. scripted_fault s (accepted o) last) (reads_one s.request.target t other found spells) ∙ is
 
         by_given : (replies : List ReplyTexts) → given ≡ replies → (target : TargetRead) → TargetSpells s.request.target target → (told : RunFault) → scripted_fault s target last ≡ Some told
-            → HaltsAttempts s (refuses told)
+            → HaltsAttempts s (refused told)
         by_given [] none target spells told is =
             (target, spells, at_first last (ap (map (round_at s.at)) none) target spells told is (by_accepted target spells is))
           where
@@ -321,10 +320,10 @@ module _ (s : Scripted) (parts : OperationParts) (is : IsPartsOf s parts) (bag :
             let found = sent_target given sent were_sent long in
             (accepted found.0, found.1, known_refused below found.0 found.1 told (later_on found.0 found.1 target spells told is))
 
-        by_halt : (halt : Halt) → Unsigned s.request.target (scripted_moment s last) (scripted_case s last) halt → HaltsAttempts s halt
-        by_halt (refuses told) (target, spells, is) = by_given given refl target spells told is
-        by_halt fails wrong = absurd wrong
-        by_halt wants free = tt
+        by_halt : (halt : Ending) → Unsigned s.request.target (scripted_moment s last) (scripted_case s last) halt → HaltsAttempts s halt
+        by_halt (refused told) (target, spells, is) = by_given given refl target spells told is
+        by_halt no_memory free = tt
+        by_halt other wrong = absurd wrong
 
 -- ## What is answered
 

@@ -47,17 +47,10 @@ goes_read_fault (Ok text) held = record { ends = inr (inl refl); gains = refl }
 
 -- what stays as it was is kept by every answer
 pub keeps_same : (answer : OperationEnding) (before now : Option (List ℕ)) → now ≡ before → KeepsOut answer before now
-keeps_same transport_fault before now same = same
 keeps_same (usual done) before now same = tt
 keeps_same (usual output_fault) before now same = tt
 keeps_same (usual no_memory) before now same = tt
-keeps_same (usual (bad_words place)) before now same = same
-keeps_same (usual job_too_large) before now same = same
-keeps_same (usual (bad_job place)) before now same = same
-keeps_same (usual read_fault) before now same = same
-keeps_same (usual (could_not_read_file path)) before now same = same
-keeps_same (usual (refused fault)) before now same = same
-keeps_same (usual (check_failed fault)) before now same = same
+keeps_same other before now same = same
 
 -- a run that goes as is to be keeps the output, but where it is done or was cut short
 pub keeps_out : (outcome : Result (List ℕ) OperationEnding) (answer : OperationEnding) (before now : Option (List ℕ)) → GoesSo outcome answer before now → KeepsOut answer before now
@@ -95,10 +88,6 @@ module _ (gave : List Place → FilesRead → Type 0) (env : List (List ℕ × L
       found = record { files = found; target = spells };
       goes = subst (λ o. GoesSo o answer before now) (sym (ap (outcome_selected (λ s. operation_outcome (scripted env wanted input s) target)) is ∙ so)) goes;
     }
-
-    -- memory ran out before the target was known
-    pub runs_out : (held : Option (List ℕ)) → GoesRead gave env wanted (Ok input) (usual no_memory) held held
-    runs_out held = record { given = record { files = files; target = unread }; found = record { files = found; target = tt }; goes = goes_no_memory _ held }
 
 -- ## The input
 
@@ -399,14 +388,7 @@ pub stops_selected : (end : OperationEnding) → IsStop end → IsAfterSelected 
 stops_selected transport_fault stop = tt
 stops_selected (usual (refused fault)) stop = tt
 stops_selected (usual no_memory) stop = tt
-stops_selected (usual done) stop = absurd stop
-stops_selected (usual output_fault) stop = absurd stop
-stops_selected (usual (bad_words place)) stop = absurd stop
-stops_selected (usual job_too_large) stop = absurd stop
-stops_selected (usual (bad_job place)) stop = absurd stop
-stops_selected (usual read_fault) stop = absurd stop
-stops_selected (usual (could_not_read_file path)) stop = absurd stop
-stops_selected (usual (check_failed fault)) stop = absurd stop
+stops_selected other stop = absurd stop
 
 -- no count rose
 counts_stay : (fault : Ending) (answer : OperationEnding) (count : ℕ) → (answer ≡ usual fault → ⊥) → CountsFor fault answer count count
@@ -417,17 +399,11 @@ stop_counts end count stop = counts_stay output_fault end count (λ is. subst Is
 
 pub unselected_counts : (fault : SelectFault) (count : ℕ) → CountsFor output_fault (usual (selection_ending fault)) count count
 unselected_counts (selections.CouldNotReadFile path) count = counts_stay output_fault _ count (λ is. cc)
-unselected_counts (selections.ParseError error) count = counts_stay output_fault _ count (λ is. cc)
-unselected_counts selections.MissingCredentials count = counts_stay output_fault _ count (λ is. cc)
-unselected_counts selections.MissingSigningRegion count = counts_stay output_fault _ count (λ is. cc)
-unselected_counts selections.NoMemory count = counts_stay output_fault _ count (λ is. cc)
+unselected_counts other count = counts_stay output_fault _ count (λ is. cc)
 
 pub unselected_job : (fault : SelectFault) → IsAfterJob (usual (selection_ending fault))
 unselected_job (selections.CouldNotReadFile path) = tt
-unselected_job (selections.ParseError error) = tt
-unselected_job selections.MissingCredentials = tt
-unselected_job selections.MissingSigningRegion = tt
-unselected_job selections.NoMemory = tt
+unselected_job other = tt
 
 -- an operation under what is selected
 pub goes_selected : (gave : List Place → FilesRead → Type 0) (env : List (List ℕ × List ℕ)) (wanted : OperationWanted) (input : OperationInput) (files : FilesRead)
@@ -442,51 +418,25 @@ selected_job (usual done) after = tt
 selected_job (usual (refused fault)) after = tt
 selected_job (usual output_fault) after = tt
 selected_job (usual no_memory) after = tt
-selected_job (usual (bad_words place)) after = absurd after
-selected_job (usual job_too_large) after = absurd after
-selected_job (usual (bad_job place)) after = absurd after
-selected_job (usual read_fault) after = absurd after
-selected_job (usual (could_not_read_file path)) after = absurd after
-selected_job (usual (check_failed fault)) after = absurd after
+selected_job other after = absurd after
 
 pub job_bytes : (end : OperationEnding) → IsAfterJob end → IsAfterBytes end
-job_bytes transport_fault after = tt
-job_bytes (usual done) after = tt
-job_bytes (usual (refused fault)) after = tt
-job_bytes (usual output_fault) after = tt
-job_bytes (usual no_memory) after = tt
-job_bytes (usual (could_not_read_file path)) after = tt
-job_bytes (usual (bad_job place)) after = tt
 job_bytes (usual (bad_words place)) after = absurd after
 job_bytes (usual job_too_large) after = absurd after
 job_bytes (usual read_fault) after = absurd after
 job_bytes (usual (check_failed fault)) after = absurd after
+job_bytes other after = tt
 
 pub job_files : {D : Type 0} (end : OperationEnding) (before now : D) → IsAfterJob end → KeepsFiles end before now
-job_files transport_fault before now after = tt
-job_files (usual done) before now after = tt
-job_files (usual (refused fault)) before now after = tt
-job_files (usual output_fault) before now after = tt
-job_files (usual no_memory) before now after = tt
-job_files (usual (could_not_read_file path)) before now after = tt
-job_files (usual (check_failed fault)) before now after = tt
 job_files (usual (bad_job place)) before now after = absurd after
 job_files (usual (bad_words place)) before now after = absurd after
 job_files (usual job_too_large) before now after = absurd after
 job_files (usual read_fault) before now after = absurd after
+job_files other before now after = tt
 
 pub bytes_words : (wanted : OperationWanted) (end : OperationEnding) → IsAfterBytes end → EndsByWords (Ok wanted) end
-bytes_words wanted transport_fault after = tt
-bytes_words wanted (usual done) after = tt
-bytes_words wanted (usual (refused fault)) after = tt
-bytes_words wanted (usual output_fault) after = tt
-bytes_words wanted (usual no_memory) after = tt
-bytes_words wanted (usual (could_not_read_file path)) after = tt
-bytes_words wanted (usual (check_failed fault)) after = tt
-bytes_words wanted (usual (bad_job place)) after = tt
-bytes_words wanted (usual job_too_large) after = tt
-bytes_words wanted (usual read_fault) after = tt
 bytes_words wanted (usual (bad_words place)) after = absurd after
+bytes_words wanted other after = tt
 
 -- the input that was read to its end had no fault
 pub bytes_counts : (end : OperationEnding) (before now : ℕ) → IsAfterBytes end → now ≡ before → before ≤ now → CountsFor read_fault end before now

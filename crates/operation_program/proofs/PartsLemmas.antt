@@ -17,10 +17,10 @@ use Rattle.operation_run.specs.Rounds.{round_at}
 use Rattle.operation_run.specs.declared.fault.OperationFault.{OperationFault}
 use Rattle.operation_run.specs.declared.fault.OperationFault.TheVariants.{Id, Agent, Sign, TransportFault, NoMemory}
 use Rattle.operation_run.specs.declared.reply.Outcome.{Outcome}
-use Rattle.signed_stream.specs.Halt.{Halt, fails, halted, refuses, wants}
+use Rattle.signed_stream.specs.Status.{Ending, no_memory, refused}
 use Rattle.signed_stream.specs.Plan.{accepted}
 use Rattle.signed_stream.specs.Settings.{selected_in}
-use Rattle.signed_stream.specs.Sign.{error_halt}
+use Rattle.signed_stream.specs.Sign.{error_ending}
 use Rattle.signed_stream.specs.declared.settings.Settings.{Settings}
 use Rattle.operation_program.specs.Attempting.{Scripted, heads_text}
 use Rattle.operation_program.specs.Outcome.{GivesOutcome, GivesText, HaltsAttempts, IsProgramFault, attempt_fault_ending, scripted_over}
@@ -79,12 +79,12 @@ program_fault s sent (Id fault) gives = absurd gives
 -- a fault tells how the program ends
 pub text_refused : (s : Scripted) (sent : List RequestTexts) (fault : OperationFault) (status : OperationStatus) → GivesOutcome s sent (Err fault) → operation_ending status ≡ attempt_fault_ending fault
     → GivesText s (Err status)
-text_refused s sent (Sign error) status (request, halts) is = by_halt (error_halt error) halts is
+text_refused s sent (Sign error) status (request, halts) is = by_halt (error_ending error) halts is
   where
-    by_halt : (halt : Halt) → HaltsAttempts s halt → operation_ending status ≡ usual (halted halt) → GivesText s (Err status)
-    by_halt (refuses told) (target, spells, so) is = inl (target, spells, so ∙ ap Err (sym is))
-    by_halt fails halts is = absurd halts
-    by_halt wants halts is = inr is
+    by_halt : (halt : Ending) → HaltsAttempts s halt → operation_ending status ≡ usual halt → GivesText s (Err status)
+    by_halt (refused told) (target, spells, so) is = inl (target, spells, so ∙ ap Err (sym is))
+    by_halt no_memory halts is = inr is
+    by_halt other halts is = absurd halts
 text_refused s sent TransportFault status (target, spells, so) is = inl (accepted target, spells, so ∙ ap Err (sym is))
 text_refused s sent NoMemory status gives is = inr is
 text_refused s sent (Agent fault) status gives is = absurd gives

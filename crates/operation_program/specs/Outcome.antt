@@ -9,11 +9,10 @@ use Rattle.operation_run.specs.Reply.{ReplyTexts, RequestTexts}
 use Rattle.operation_run.specs.declared.fault.OperationFault.{OperationFault}
 use Rattle.operation_run.specs.declared.fault.OperationFault.TheVariants.{Id, Agent, Sign, TransportFault, NoMemory}
 use Rattle.operation_run.specs.declared.reply.Outcome.{Outcome}
-use Rattle.signed_stream.specs.Halt.{Halt, fails, halted, refuses, wants}
 use Rattle.signed_stream.specs.Plan.{TargetSpells, TargetRead, accepted}
 use Rattle.signed_stream.specs.Settings.{Selected}
-use Rattle.signed_stream.specs.Sign.{IsRequestError, error_halt}
-use Rattle.signed_stream.specs.Status.{no_memory, refused}
+use Rattle.signed_stream.specs.Sign.{IsRequestError, error_ending}
+use Rattle.signed_stream.specs.Status.{Ending, no_memory, refused}
 use Rattle.operation_program.specs.Attempting.{Scripted, heads_text, operation_outcome}
 use Rattle.operation_program.specs.Status.{OperationEnding, operation_ending, transport_fault, usual}
 use Rattle.operation_program.specs.declared.status.OperationStatus.{OperationStatus}
@@ -30,17 +29,17 @@ scripted_over env request texts selected name at replies = record {
 }
 
 -- how the error of signing an attempt halts the operation
-abbrev pub HaltsAttempts : Scripted → Halt → Type 0
-HaltsAttempts s (refuses fault) = (target : TargetRead) × TargetSpells s.request.target target × (operation_outcome s target ≡ Err (usual (refused fault)))
-HaltsAttempts s fails = ⊥
-HaltsAttempts s wants = Unit {0}
+abbrev pub HaltsAttempts : Scripted → Ending → Type 0
+HaltsAttempts s (refused fault) = (target : TargetRead) × TargetSpells s.request.target target × (operation_outcome s target ≡ Err (usual (refused fault)))
+HaltsAttempts s no_memory = Unit {0}
+HaltsAttempts s end = ⊥
 
 -- what was sent is what is to be written, or the fault tells how the operation ends
 abbrev pub GivesOutcome : Scripted → List RequestTexts → Result Outcome OperationFault → Type 0
 GivesOutcome s sent (Ok outcome) =
     (target : Target) × TargetSpells s.request.target (accepted target) × (operation_outcome s (accepted target) ≡ Ok (heads_text sent outcome.attempts))
 GivesOutcome s sent (Err TransportFault) = (target : Target) × TargetSpells s.request.target (accepted target) × (operation_outcome s (accepted target) ≡ Err transport_fault)
-GivesOutcome s sent (Err (Sign error)) = IsRequestError error × HaltsAttempts s (error_halt error)
+GivesOutcome s sent (Err (Sign error)) = IsRequestError error × HaltsAttempts s (error_ending error)
 GivesOutcome s sent (Err (Agent fault)) = ⊥
 GivesOutcome s sent (Err (Id fault)) = ⊥
 GivesOutcome s sent (Err NoMemory) = Unit {0}
@@ -54,7 +53,7 @@ IsProgramFault fault = ⊥
 
 -- how the program ends with such a fault
 abbrev pub attempt_fault_ending : OperationFault → OperationEnding
-attempt_fault_ending (Sign error) = usual (halted (error_halt error))
+attempt_fault_ending (Sign error) = usual (error_ending error)
 attempt_fault_ending TransportFault = transport_fault
 attempt_fault_ending fault = usual no_memory
 

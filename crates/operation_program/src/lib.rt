@@ -13,6 +13,6 @@ mod status;
 mod text;
 mod words;
 
-pub use crate::running::run_operation;
+pub use crate::running::{run_operation, write_text};
 pub use crate::saying::say_operation;
 pub use crate::status::OperationStatus;

@@ -1,6 +1,5 @@
 //! The replies that lines spell.
 ghost use Rattle.std.specs.Prelude.{◌≡◌, IfOk, map, option_map};
-ghost use Rattle.std.specs.Option.{option_to_list};
 ghost use Rattle.std.specs.String.{string_bytes};
 ghost use Rattle.job_text.specs.OperationJob.{reply_parts};
 ghost use Rattle.operation_run.specs.Reply.{metadata_texts, reply_texts};

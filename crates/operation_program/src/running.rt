@@ -6,7 +6,7 @@ ghost use Rattle.signed_stream.specs.Plan.{unreadable};
 ghost use Rattle.job_text.specs.ProfileTexts.{ProfileTexts};
 ghost use Rattle.signed_stream.specs.Settings.{selected_in};
 ghost use Rattle.signed_stream.specs.Sources.{DiskGives};
-ghost use Rattle.signed_stream.specs.Status.{could_not_read_file, done, no_memory, output_fault, read_fault};
+ghost use Rattle.signed_stream.specs.Status.{could_not_read_file, done, output_fault, read_fault};
 ghost use Rattle.operation_program.specs.Carriers.{GoesFor, GoesRead, GoesScripted, IsAfterBytes, IsAfterJob, IsAfterSelected, scripted_with};
 ghost use Rattle.operation_program.specs.Running.{CountsFor, EndsByWords, GoesSo, KeepsFiles, KeepsOut, NamesFile, RanOperation, UnlessWanted, operation_words};
 ghost use Rattle.operation_program.specs.Status.{operation_ending, usual};
@@ -66,13 +66,13 @@ fn answer_selected<K: ByteSink>(
     ensures writes { CountsFor output_fault (operation_ending result) (K.faults out.old) (K.faults out.new) }
 {
     match operation_text(alloc, request, settings, words.name, env, words.at, replies) {
-        Ok(text) => write_operation(text.as_slice(), out),
+        Ok(text) => write_text(text.as_slice(), out),
         Err(status) => status,
     }
 }
 
-// Writes the text of an operation.
-fn write_operation<K: ByteSink>(text: &[u8], out: &mut K) -> OperationStatus
+/// Writes a text, and answers how the run ended.
+pub fn write_text<K: ByteSink>(text: &[u8], out: &mut K) -> OperationStatus
     ensures goes { GoesSo (Ok text.now) (operation_ending result) (K.held out.old) (K.held out.new) }
     ensures end { IsAfterSelected (operation_ending result) }
     ensures writes { CountsFor output_fault (operation_ending result) (K.faults out.old) (K.faults out.new) }

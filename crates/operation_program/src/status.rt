@@ -1,5 +1,4 @@
 ghost use Rattle.std.specs.Prelude.{◌≡◌, IfOk};
-ghost use Rattle.std.specs.String.{string_bytes};
 
 use signed_stream::{SelectFault, SharedStatus, StreamFault};
 use smithy_core::Mem;
@@ -111,10 +110,10 @@ impl From<SelectFault> for OperationStatus {
 
 impl From<StreamFault> for OperationStatus {
     ghost use Rattle.std.specs.Prelude.{◌≡◌};
-    ghost use Rattle.signed_stream.specs.Halt.{halt_of, halted};
+    ghost use Rattle.signed_stream.specs.Status.{stream_ending};
     ghost use Rattle.operation_program.specs.Status.{operation_ending, usual};
 
-    ghost from_gives = { λ fault status. operation_ending status ≡ usual (halted (halt_of fault)) };
+    ghost from_gives = { λ fault status. operation_ending status ≡ usual (stream_ending fault) };
 
     fn from(fault: StreamFault) -> OperationStatus {
         match fault {

@@ -1,5 +1,5 @@
 //! The words of the program.
-ghost use Rattle.std.specs.Prelude.{◌+◌, length, map};
+ghost use Rattle.std.specs.Prelude.{◌+◌, map};
 ghost use Rattle.std.specs.String.{string_bytes};
 ghost use Rattle.operation_program.specs.Running.{operation_words};
 ghost use Rattle.operation_program.specs.Words.{ReadsOperationWords};

@@ -1,6 +1,6 @@
 -- How a check of a presigned URL goes.
-use Rattle.std.proofs.Common.{◌≡◌, ℕ, ◌≤◌, ◌<◌, ◌⊎◌, inl, inr, Bool, true, false, List, [], ◌∷◌, length, nat_lt, Option, Some, None, refl, sym, ap, subst, ◌∙◌, arith}
-use Rattle.std.specs.Prelude.{if◌then◌else◌, Result, Ok, Err, ℤ, codes, string_bytes}
+use Rattle.std.proofs.Common.{◌≡◌, ℕ, ◌≤◌, ◌<◌, ◌⊎◌, inl, inr, Bool, true, false, List, [], length, nat_lt, Option, Some, None, refl, sym, subst, ◌∙◌, arith}
+use Rattle.std.specs.Prelude.{Result, Ok, Err, ℤ, codes, string_bytes}
 use Rattle.sha2.specs.Sha256.{sha256}
 use Rattle.hex.specs.Hex.{encode_lower}
 use Rattle.std.proofs.lemmas.Bool.Decides.{nat_tests}
@@ -17,13 +17,12 @@ use Rattle.env_config.specs.Loading.{selected_profile}
 use Rattle.env_config.specs.Sections.{FileText}
 use Rattle.job_text.specs.RequestLines.{RequestParts, request_job}
 use Rattle.presign_check.specs.OneAnswer.{IsSameAnswer}
-use Rattle.presign_check.specs.Presigned.{ChecksPresigned, MeetsNone, PresignInput, seal_in}
+use Rattle.presign_check.specs.Presigned.{MeetsNone, seal_in}
 use Rattle.presign_check.specs.declared.fault.PresignFault.{PresignFault}
 use Rattle.presign_check.specs.declared.fault.PresignFault.TheVariants as faults
 use Rattle.presign_check.proofs.OneAnswerLemmas.{one_answer}
-use Rattle.signed_stream.specs.Plan.{FilesRead, GoesAsPlanned, loaded, most_input, unloaded, unreadable, writes}
+use Rattle.signed_stream.specs.Plan.{FilesRead, loaded, most_input, unloaded, unreadable, writes}
 use Rattle.signed_stream.specs.RequestWords.{RequestWanted}
-use Rattle.signed_stream.specs.Running.{Completes}
 use Rattle.signed_stream.specs.Selecting.{selection_ending}
 use Rattle.signed_stream.specs.Settings.{Selected, settings}
 use Rattle.signed_stream.specs.Sources.{or_refused, selection, source_places}
@@ -45,43 +44,25 @@ IsSaidOf end answer = (answer ≡ end) ⊎ (answer ≡ ends no_memory)
 pub needs_none : (answer : PresignEnding) → NeedsCheck answer None
 needs_none (fails fault) = tt
 needs_none (ends done) = tt
-needs_none (ends (bad_words place)) = refl
-needs_none (ends job_too_large) = refl
-needs_none (ends (bad_job place)) = refl
-needs_none (ends read_fault) = refl
-needs_none (ends (could_not_read_file path)) = refl
-needs_none (ends (refused fault)) = refl
-needs_none (ends (check_failed fault)) = refl
 needs_none (ends output_fault) = tt
 needs_none (ends no_memory) = tt
+needs_none other = refl
 
 -- an end after a selection may come after a check
 pub selection_needs : (answer : PresignEnding) (check : Option Check) → IsAfterSelection answer → NeedsCheck answer check
 selection_needs (fails fault) check after = tt
 selection_needs (ends done) check after = tt
-selection_needs (ends (bad_words place)) check after = absurd after
-selection_needs (ends job_too_large) check after = absurd after
-selection_needs (ends (bad_job place)) check after = absurd after
-selection_needs (ends read_fault) check after = absurd after
-selection_needs (ends (could_not_read_file path)) check after = absurd after
-selection_needs (ends (refused fault)) check after = absurd after
-selection_needs (ends (check_failed fault)) check after = absurd after
 selection_needs (ends output_fault) check after = tt
 selection_needs (ends no_memory) check after = tt
+selection_needs other check after = absurd after
 
 -- and comes after the job
 pub selection_after : (answer : PresignEnding) → IsAfterSelection answer → IsAfterRequest answer
-selection_after (fails fault) after = tt
-selection_after (ends done) after = tt
 selection_after (ends (bad_words place)) after = after
 selection_after (ends job_too_large) after = after
 selection_after (ends (bad_job place)) after = after
 selection_after (ends read_fault) after = after
-selection_after (ends (could_not_read_file path)) after = tt
-selection_after (ends (refused fault)) after = tt
-selection_after (ends (check_failed fault)) after = tt
-selection_after (ends output_fault) after = tt
-selection_after (ends no_memory) after = tt
+selection_after other after = tt
 
 -- and names no file
 pub selection_unnamed : (answer : PresignEnding) (path : List ℕ) → IsAfterSelection answer → answer ≡ ends (could_not_read_file path) → ⊥
@@ -89,75 +70,39 @@ selection_unnamed answer path after is = subst IsAfterSelection is after
 
 -- an end after the job comes after the input
 pub request_after : (answer : PresignEnding) → IsAfterRequest answer → IsAfterRead answer
-request_after (fails fault) after = tt
-request_after (ends done) after = tt
 request_after (ends (bad_words place)) after = after
 request_after (ends job_too_large) after = after
-request_after (ends (bad_job place)) after = tt
 request_after (ends read_fault) after = after
-request_after (ends (could_not_read_file path)) after = tt
-request_after (ends (refused fault)) after = tt
-request_after (ends (check_failed fault)) after = tt
-request_after (ends output_fault) after = tt
-request_after (ends no_memory) after = tt
+request_after other after = tt
 
 -- the disk may have been asked before an end after the job
 pub request_disk : {D : Type 0} (answer : PresignEnding) (before now : D) → IsAfterRequest answer → KeepsDiskAt answer before now
-request_disk (fails fault) before now after = tt
-request_disk (ends done) before now after = tt
 request_disk (ends (bad_words place)) before now after = absurd after
 request_disk (ends job_too_large) before now after = absurd after
 request_disk (ends (bad_job place)) before now after = absurd after
 request_disk (ends read_fault) before now after = absurd after
-request_disk (ends (could_not_read_file path)) before now after = tt
-request_disk (ends (refused fault)) before now after = tt
-request_disk (ends (check_failed fault)) before now after = tt
-request_disk (ends output_fault) before now after = tt
-request_disk (ends no_memory) before now after = tt
+request_disk other before now after = tt
 
 -- an end after the input is one of words that aren't bad
 pub read_of_words : (answer : PresignEnding) → IsAfterRead answer → IsOfWords answer
-read_of_words (fails fault) after = tt
-read_of_words (ends done) after = tt
 read_of_words (ends (bad_words place)) after = after
-read_of_words (ends job_too_large) after = tt
-read_of_words (ends (bad_job place)) after = tt
-read_of_words (ends read_fault) after = tt
-read_of_words (ends (could_not_read_file path)) after = tt
-read_of_words (ends (refused fault)) after = tt
-read_of_words (ends (check_failed fault)) after = tt
-read_of_words (ends output_fault) after = tt
-read_of_words (ends no_memory) after = tt
+read_of_words other after = tt
 
 -- and the count of the input's faults stayed
 pub read_counts : (answer : PresignEnding) (before now : ℕ) → IsAfterRead answer → now ≡ before → CountsInput answer before now
-read_counts (fails fault) before now after same = same
-read_counts (ends done) before now after same = same
-read_counts (ends (bad_words place)) before now after same = same
-read_counts (ends job_too_large) before now after same = same
-read_counts (ends (bad_job place)) before now after same = same
 read_counts (ends read_fault) before now after same = absurd after
-read_counts (ends (could_not_read_file path)) before now after same = same
-read_counts (ends (refused fault)) before now after same = same
-read_counts (ends (check_failed fault)) before now after same = same
-read_counts (ends output_fault) before now after same = same
 read_counts (ends no_memory) before now after same = rw same (omega arith)
+read_counts other before now after same = same
 
 -- ## Nothing selected
 
 pub unselected_after : (fault : SelectFault) → IsAfterRequest (ends (selection_ending fault))
 unselected_after (selections.CouldNotReadFile path) = tt
-unselected_after (selections.ParseError error) = tt
-unselected_after selections.MissingCredentials = tt
-unselected_after selections.MissingSigningRegion = tt
-unselected_after selections.NoMemory = tt
+unselected_after other = tt
 
 pub unselected_counts : (fault : SelectFault) (faults : ℕ) → CountsOutput (ends (selection_ending fault)) faults faults
-unselected_counts (selections.CouldNotReadFile path) faults = refl
-unselected_counts (selections.ParseError error) faults = refl
-unselected_counts selections.MissingCredentials faults = refl
-unselected_counts selections.MissingSigningRegion faults = refl
 unselected_counts selections.NoMemory faults = omega arith
+unselected_counts other faults = refl
 
 -- ## As planned
 
@@ -287,41 +232,17 @@ unselected_undone env service_id (loaded texts) end is other = by_settings (sett
 -- a test that is met isn't the end of a check that is done
 fault_undone : (fault : PresignFault) → fault_ending fault ≡ ends done → ⊥
 fault_undone faults.HeaderForm is = cc
-fault_undone (faults.Missing part) is = cc
-fault_undone (faults.Repeated part) is = cc
-fault_undone (faults.BadPart part) is = cc
-fault_undone faults.UnknownKey is = cc
-fault_undone (faults.TooEarly date) is = cc
-fault_undone (faults.Expired until) is = cc
-fault_undone (faults.Mismatch carried recomputed) is = cc
-fault_undone (faults.Signing error) is = cc
-fault_undone faults.NoMemory is = cc
+fault_undone other is = cc
 
 -- it comes after a selection
 pub fault_after : (fault : PresignFault) → IsAfterSelection (fault_ending fault)
 fault_after faults.HeaderForm = tt
-fault_after (faults.Missing part) = tt
-fault_after (faults.Repeated part) = tt
-fault_after (faults.BadPart part) = tt
-fault_after faults.UnknownKey = tt
-fault_after (faults.TooEarly date) = tt
-fault_after (faults.Expired until) = tt
-fault_after (faults.Mismatch carried recomputed) = tt
-fault_after (faults.Signing error) = tt
-fault_after faults.NoMemory = tt
+fault_after other = tt
 
 -- and the output's count stayed
 pub fault_counts : (fault : PresignFault) (held : ℕ) → CountsOutput (fault_ending fault) held held
-fault_counts faults.HeaderForm held = refl
-fault_counts (faults.Missing part) held = refl
-fault_counts (faults.Repeated part) held = refl
-fault_counts (faults.BadPart part) held = refl
-fault_counts faults.UnknownKey held = refl
-fault_counts (faults.TooEarly date) held = refl
-fault_counts (faults.Expired until) held = refl
-fault_counts (faults.Mismatch carried recomputed) held = refl
-fault_counts (faults.Signing error) held = refl
 fault_counts faults.NoMemory held = omega arith
+fault_counts other held = refl
 
 -- ## The headline
 

@@ -15,12 +15,12 @@ use Rattle.env_config.specs.Sections.{FileText}
 use Rattle.job_text.specs.RequestLines.{RequestParts, request_job}
 use Rattle.presign_check.specs.Presigned.{ChecksPresigned, MeetsNone, PresignInput}
 use Rattle.presign_check.specs.declared.fault.PresignFault.{PresignFault}
-use Rattle.signed_stream.specs.Plan.{FilesRead, GoesAsPlanned, loaded, most_input, unloaded, unreadable, writes}
+use Rattle.signed_stream.specs.Plan.{FilesRead, GoesAsPlanned, loaded, most_input, unreadable, writes}
 use Rattle.signed_stream.specs.RequestWords.{RequestWanted}
 use Rattle.signed_stream.specs.Running.{Completes, CountsReads, CountsWrites, KeepsDisk, SinkChange}
 use Rattle.signed_stream.specs.Settings.{Selected, settings}
 use Rattle.signed_stream.specs.Sources.{selection, source_places}
-use Rattle.signed_stream.specs.Status.{Ending, bad_job, bad_words, could_not_read_file, done, job_too_large, no_memory, output_fault, read_fault, refused}
+use Rattle.signed_stream.specs.Status.{Ending, bad_job, bad_words, could_not_read_file, done, job_too_large, no_memory, output_fault, read_fault}
 use Rattle.presigned_program.specs.PresignSaying.{SaysPresigned}
 use Rattle.presigned_program.specs.PresignStatus.{PresignEnding, ends, fails, fault_ending}
 

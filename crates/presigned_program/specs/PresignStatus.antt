@@ -1,5 +1,6 @@
 -- How a check of a presigned URL ends, as contracts see it: texts are lists of bytes.
-use Rattle.std.specs.Prelude.{ℕ, List, codes, string_bytes}
+use Rattle.std.specs.Prelude.{◌≡◌, ℕ, List, codes, string_bytes}
+use Rattle.presign_check.specs.Faults.{IsSamePresignFault}
 use Rattle.presign_check.specs.declared.fault.PresignFault.{PresignFault}
 use Rattle.presign_check.specs.declared.fault.PresignFault.TheVariants as faults
 use Rattle.signed_stream.specs.Status.{Ending, bad_job, bad_words, could_not_read_file, done, exit_code, job_too_large, no_memory, output_fault, read_fault, refused, run_fault}
@@ -25,6 +26,11 @@ presign_ending (Refused fault) = ends (refused (run_fault fault))
 presign_ending (CheckFailed fault) = fails fault
 presign_ending OutputFault = ends output_fault
 presign_ending NoMemory = ends no_memory
+
+-- the copy is the same status
+abbrev pub IsSamePresignStatus : PresignStatus → PresignStatus → Type 0
+IsSamePresignStatus (CheckFailed fault) (CheckFailed copy) = IsSamePresignFault fault copy
+IsSamePresignStatus status copy = presign_ending copy ≡ presign_ending status
 
 -- how a check ends whose request meets a test
 abbrev pub fault_ending : PresignFault → PresignEnding

@@ -1,8 +1,8 @@
-ghost use Rattle.std.specs.Prelude.{◌≡◌};
-ghost use Rattle.std.specs.String.{string_bytes};
+ghost use Rattle.std.specs.Prelude.{◌≡◌, IfOk};
 
 use presign_check::PresignFault;
 use signed_stream::{SelectFault, SharedStatus, StreamFault};
+use smithy_core::Mem;
 
 /// How a check of a presigned URL ended. [`Debug`](std::fmt::Debug) prints no signature.
 #[derive(Debug, Drop)]
@@ -30,7 +30,7 @@ pub enum PresignStatus {
 }
 
 impl PresignStatus {
-    ghost use Rattle.presigned_program.specs.PresignStatus.{presign_code, presign_ending};
+    ghost use Rattle.presigned_program.specs.PresignStatus.{IsSamePresignStatus, presign_code, presign_ending};
 
     /// The number that the process ends with.
     pub fn code(&self) -> u8
@@ -50,6 +50,24 @@ impl PresignStatus {
             PresignStatus::OutputFault => SharedStatus::OutputFault.code(),
             PresignStatus::NoMemory => SharedStatus::NoMemory.code(),
         }
+    }
+
+    /// An equal status.
+    pub fn try_clone(&self) -> Mem<PresignStatus>
+        ensures { IfOk result (IsSamePresignStatus self.now) }
+    {
+        Ok(match self {
+            PresignStatus::Done => PresignStatus::Done,
+            PresignStatus::BadWords(place) => PresignStatus::BadWords(*place),
+            PresignStatus::JobTooLarge => PresignStatus::JobTooLarge,
+            PresignStatus::BadJob(place) => PresignStatus::BadJob(*place),
+            PresignStatus::ReadFault => PresignStatus::ReadFault,
+            PresignStatus::CouldNotReadFile(path) => PresignStatus::CouldNotReadFile(path.clone()?),
+            PresignStatus::Refused(fault) => PresignStatus::Refused(fault.try_clone()?),
+            PresignStatus::CheckFailed(fault) => PresignStatus::CheckFailed(fault.try_clone()?),
+            PresignStatus::OutputFault => PresignStatus::OutputFault,
+            PresignStatus::NoMemory => PresignStatus::NoMemory,
+        })
     }
 }
 

@@ -22,9 +22,9 @@ use Rattle.event_io.specs.Chain.{next_bytes, next_unsigned}
 use Rattle.signed_stream.specs.declared.form.Form.{Form}
 use Rattle.chain_watch.specs.Chain.{IsWholeChain}
 use Rattle.signed_stream.specs.Chain.{Refusal, chain_text, fault_at, first_refusal, frames_text, link_text, outside_years, refusal_at, refusal_fault, streamed_text, text_before, unframed_at, unlinked}
-use Rattle.signed_stream.specs.Halt.{Halt, Halts, fails, refuses, unless_refused, wants}
-use Rattle.signed_stream.specs.Sending.{TakesInTurn, IsSignFault, next_refused, sign_halt}
-use Rattle.signed_stream.specs.Status.{RunFault, moment_out_of_range}
+use Rattle.signed_stream.specs.Halt.{Halts, unless_refused}
+use Rattle.signed_stream.specs.Sending.{TakesInTurn, IsSignFault, next_refused, sign_ending}
+use Rattle.signed_stream.specs.Status.{Ending, RunFault, moment_out_of_range, no_memory, output_fault, refused}
 use Rattle.signed_stream.proofs.YearLemmas.{in_years, years_in}
 
 -- ## One message
@@ -61,8 +61,8 @@ next_passes who place signature (event ∷ events) t signed framed =
     let parts = no_encoding (unframed event) (unsigned_at t) signed in rw (parts.0, signed_inside t parts.1, framed) refl
 
 -- how a refused signature halts, and that the frame is refused so
-abbrev IsRefusedBy : Signer → ℕ → List ℕ → List Parts → Instant → Halt → Type 0
-IsRefusedBy who place signature events t halt = (told : RunFault) × (halt ≡ refuses told) × (next_refused who place signature events t ≡ Some told)
+abbrev IsRefusedBy : Signer → ℕ → List ℕ → List Parts → Instant → Ending → Type 0
+IsRefusedBy who place signature events t halt = (told : RunFault) × (halt ≡ refused told) × (next_refused who place signature events t ≡ Some told)
 
 -- a moment outside the years
 outside_refused : (place : ℕ) (t : Instant) (error : SignMessageError) → unsigned_at t ≡ Some error → (error ≡ signing.MomentOutOfRange t) × (is_in_years t ≡ false)
@@ -73,30 +73,30 @@ outside_refused place t error = by_years (is_in_years t)
     by_years false is = let same : error ≡ signing.MomentOutOfRange t = cc in (same, refl)
 
 pub sign_refused : (who : Signer) (place : ℕ) (signature : List ℕ) (events : List Parts) (t : Instant) (error : SignMessageError) → next_unsigned events t ≡ Some error
-    → IsSignFault error × IsRefusedBy who place signature events t (sign_halt place error)
+    → IsSignFault error × IsRefusedBy who place signature events t (sign_ending place error)
 unfolding unlinked
 sign_refused who place signature [] t error is =
     let found = outside_refused place t error is in
-    let refused : outside_years t ≡ Some (moment_out_of_range t) = rw found.1 refl in
-    rw found.0 (tt, (moment_out_of_range t, refl, refused))
+    let stopped : outside_years t ≡ Some (moment_out_of_range t) = rw found.1 refl in
+    rw found.0 (tt, (moment_out_of_range t, refl, stopped))
 sign_refused who place signature (event ∷ events) t error is = by_reason (unframed event) refl is
   where
     by_reason : (reason : Option ErrorKind) → unframed event ≡ reason → option_or (option_map encoding_refusal reason) (unsigned_at t) ≡ Some error
-        → IsSignFault error × IsRefusedBy who place signature (event ∷ events) t (sign_halt place error)
+        → IsSignFault error × IsRefusedBy who place signature (event ∷ events) t (sign_ending place error)
     by_reason None framed is =
         let found = outside_refused place t error is in
-        let refused : unlinked who place signature event t ≡ Some (moment_out_of_range t) = rw (framed, found.1) refl in
-        rw found.0 (tt, (moment_out_of_range t, refl, refused))
+        let stopped : unlinked who place signature event t ≡ Some (moment_out_of_range t) = rw (framed, found.1) refl in
+        rw found.0 (tt, (moment_out_of_range t, refl, stopped))
     by_reason (Some kind) unframed_is is =
         let same : error ≡ encoding_refusal kind = cc in
         let of : IsFrameFault kind = unframed_fault event kind unframed_is in
-        let refused : unlinked who place signature event t ≡ Some (fault_at place kind) = rw unframed_is refl in
-        rw same (of, (fault_at place kind, refl, refused))
+        let stopped : unlinked who place signature event t ≡ Some (fault_at place kind) = rw unframed_is refl in
+        rw same (of, (fault_at place kind, refl, stopped))
 
 -- a signed message without a frame is that of an event
 pub write_refused : (who : Signer) (place : ℕ) (signature : List ℕ) (events : List Parts) (t : Instant) (kind : ErrorKind) → next_unsigned events t ≡ None
     → unframed (link_message who signature (next_bytes events) t) ≡ Some kind
-    → IsFrameFault kind × IsRefusedBy who place signature events t (refuses (fault_at place kind))
+    → IsFrameFault kind × IsRefusedBy who place signature events t (refused (fault_at place kind))
 unfolding unlinked
 write_refused who place signature [] t kind signed unframed_is =
     let framed = closing_framed who signature t (in_years t (signed_inside t signed)) in
@@ -105,8 +105,8 @@ write_refused who place signature (event ∷ events) t kind signed unframed_is =
     let parts = no_encoding (unframed event) (unsigned_at t) signed in
     let message = link_message who signature (frame event) t in
     let of : IsFrameFault kind = unframed_fault message kind unframed_is in
-    let refused : unlinked who place signature event t ≡ Some (fault_at place kind) = rw (parts.0, signed_inside t parts.1, unframed_is) refl in
-    (of, (fault_at place kind, refl, refused))
+    let stopped : unlinked who place signature event t ≡ Some (fault_at place kind) = rw (parts.0, signed_inside t parts.1, unframed_is) refl in
+    (of, (fault_at place kind, refl, stopped))
 
 -- ## The chain
 
@@ -126,7 +126,7 @@ module _ (form : Form) where
   -- the lines of these events, whose places count from this one on, up to the refused one
   abbrev pub text_from : Signer → ℕ → List Parts → List Instant → List ℕ → Option Refusal → List ℕ
   text_from signer place events moments signature None = chain_text form signer events moments signature
-  text_from signer place events moments signature (Some refused) = frames_text form (begun signer events (take (refused.place - place) moments) signature)
+  text_from signer place events moments signature (Some stopped) = frames_text form (begun signer events (take (stopped.place - place) moments) signature)
 
   abbrev pub streamed_from : Signer → ℕ → List Parts → List Instant → List ℕ → List ℕ
   streamed_from signer place events moments signature = text_from signer place events moments signature (first_refusal signer place events moments signature)
@@ -137,28 +137,28 @@ module _ (form : Form) where
   unfolding text_before
   streamed_first signer events moments signature = by_refusal (first_refusal signer 1 events moments signature)
     where
-      by_refusal : (refused : Option Refusal) → text_from signer 1 events moments signature refused ≡ streamed_text form signer events moments signature refused
+      by_refusal : (stopped : Option Refusal) → text_from signer 1 events moments signature stopped ≡ streamed_text form signer events moments signature stopped
       by_refusal None = refl
-      by_refusal (Some refused) = refl
+      by_refusal (Some stopped) = refl
 
   -- what is refused has one of the places
-  later : (signer : Signer) (place : ℕ) (events : List Parts) (moments : List Instant) (signature : List ℕ) (refused : Refusal)
-      → first_refusal signer place events moments signature ≡ Some refused → place ≤ refused.place
-  later signer place [] [] signature refused is = cc
-  later signer place (event ∷ events) [] signature refused is = cc
-  later signer place [] (at ∷ moments) signature refused is = by_fault (outside_years at) is
+  later : (signer : Signer) (place : ℕ) (events : List Parts) (moments : List Instant) (signature : List ℕ) (stopped : Refusal)
+      → first_refusal signer place events moments signature ≡ Some stopped → place ≤ stopped.place
+  later signer place [] [] signature stopped is = cc
+  later signer place (event ∷ events) [] signature stopped is = cc
+  later signer place [] (at ∷ moments) signature stopped is = by_fault (outside_years at) is
     where
-      by_fault : (fault : Option RunFault) → option_map (refusal_at place) fault ≡ Some refused → place ≤ refused.place
+      by_fault : (fault : Option RunFault) → option_map (refusal_at place) fault ≡ Some stopped → place ≤ stopped.place
       by_fault None is = cc
-      by_fault (Some fault) is = let same : place ≡ refused.place = cc in omega arith
-  later signer place (event ∷ events) (at ∷ moments) signature refused is =
-      by_fault (unlinked signer place signature event at) (later signer (place + 1) events moments (link_signature signer signature (frame event) at) refused) is
+      by_fault (Some fault) is = let same : place ≡ stopped.place = cc in omega arith
+  later signer place (event ∷ events) (at ∷ moments) signature stopped is =
+      by_fault (unlinked signer place signature event at) (later signer (place + 1) events moments (link_signature signer signature (frame event) at) stopped) is
     where
-      by_fault : (fault : Option RunFault) → (first_refusal signer (place + 1) events moments (link_signature signer signature (frame event) at) ≡ Some refused → place + 1 ≤ refused.place)
-          → option_or (option_map (refusal_at place) fault) (first_refusal signer (place + 1) events moments (link_signature signer signature (frame event) at)) ≡ Some refused
-          → place ≤ refused.place
+      by_fault : (fault : Option RunFault) → (first_refusal signer (place + 1) events moments (link_signature signer signature (frame event) at) ≡ Some stopped → place + 1 ≤ stopped.place)
+          → option_or (option_map (refusal_at place) fault) (first_refusal signer (place + 1) events moments (link_signature signer signature (frame event) at)) ≡ Some stopped
+          → place ≤ stopped.place
       by_fault None others is = omega (arith, others is)
-      by_fault (Some fault) others is = let same : place ≡ refused.place = cc in omega arith
+      by_fault (Some fault) others is = let same : place ≡ stopped.place = cc in omega arith
 
   -- the first event is linked: the others decide
   linked_refusal : (signer : Signer) (place : ℕ) (event : Parts) (events : List Parts) (at : Instant) (moments : List Instant) (signature : List ℕ) → unlinked signer place signature event at ≡ None
@@ -176,12 +176,12 @@ module _ (form : Form) where
       next : List ℕ
       next = link_signature signer signature (frame event) at
 
-      by_refusal : (others : Option Refusal) → ((refused : Refusal) → others ≡ Some refused → place + 1 ≤ refused.place)
+      by_refusal : (others : Option Refusal) → ((stopped : Refusal) → others ≡ Some stopped → place + 1 ≤ stopped.place)
           → text_from signer place (event ∷ events) (at ∷ moments) signature others
           ≡ link_text form signer signature (frame event) at ++ text_from signer (place + 1) events moments (link_signature signer signature (frame event) at) others
       by_refusal None after = chain_cons signer event events at moments signature
-      by_refusal (Some refused) after =
-          let one_more : refused.place - place ≡ suc (refused.place - (place + 1)) = omega (arith, after refused refl) in rw one_more refl
+      by_refusal (Some stopped) after =
+          let one_more : stopped.place - place ≡ suc (stopped.place - (place + 1)) = omega (arith, after stopped refl) in rw one_more refl
 
   -- the first event isn't linked: it is refused, and nothing is written
   unlinked_refusal : (signer : Signer) (place : ℕ) (event : Parts) (events : List Parts) (at : Instant) (moments : List Instant) (signature : List ℕ) (fault : RunFault)
@@ -214,7 +214,7 @@ module _ (form : Form) where
       )
 
   -- an event wasn't sent: it is refused, or a front of its line was written
-  pub event_halted : (a b c : Option (List ℕ)) (signer : Signer) (place : ℕ) (event : Parts) (events : List Parts) (at : Instant) (moments : List Instant) (signature text : List ℕ) (whole : Option Refusal) (halt : Halt)
+  pub event_halted : (a b c : Option (List ℕ)) (signer : Signer) (place : ℕ) (event : Parts) (events : List Parts) (at : Instant) (moments : List Instant) (signature text : List ℕ) (whole : Option Refusal) (halt : Ending)
       → first_refusal signer place (event ∷ events) (at ∷ moments) signature ≡ whole
       → GainsRest a b (streamed_from signer place (event ∷ events) (at ∷ moments) signature) text
       → Halts (unlinked signer place signature event at) (unless_refused (unlinked signer place signature event at) (link_text form signer signature (frame event) at)) b c halt
@@ -231,16 +231,17 @@ module _ (form : Form) where
           (rw (linked_text signer place event events at moments signature is) (prefix_within b c (link_text form signer signature (frame event) at) _ part))
       cut (Some fault) is part = prefix_join a b c [] text (none_left fault is) part
 
-      by_fault : (fault : Option RunFault) (halt : Halt) → unlinked signer place signature event at ≡ fault
+      by_fault : (fault : Option RunFault) (halt : Ending) → unlinked signer place signature event at ≡ fault
           → Halts fault (unless_refused fault (link_text form signer signature (frame event) at)) b c halt → Halts (refusal_fault whole) text a c halt
-      by_fault fault fails is sends = cut fault is sends
-      by_fault fault wants is sends = cut fault is sends
-      by_fault None (refuses told) is sends = let wrong : None ≡ Some told = sends.0 in cc
-      by_fault (Some fault) (refuses told) is sends =
+      by_fault fault output_fault is sends = cut fault is sends
+      by_fault fault no_memory is sends = cut fault is sends
+      by_fault None (refused told) is sends = let wrong : None ≡ Some told = sends.0 in cc
+      by_fault (Some fault) (refused told) is sends =
           let same : Some fault ≡ Some told = sends.0 in (
             rw (← decided, unlinked_refusal signer place event events at moments signature fault is) same,
             gains_last a b c [] text (none_left fault is) sends.1,
           )
+      by_fault fault other is sends = absurd sends
 
   -- all events were sent, and then the closing line
   closing_sent : (a b c : Option (List ℕ)) (signer : Signer) (place : ℕ) (at : Instant) (signature text : List ℕ) → outside_years at ≡ None
@@ -250,7 +251,7 @@ module _ (form : Form) where
       gains_last a b c (link_text form signer signature [] at) text (rw (ap (text_from signer place [] (at ∷ []) signature) none ∙ chain_nil signer at signature) at first) wrote
 
   -- the closing line wasn't sent
-  closing_halted : (a b c : Option (List ℕ)) (signer : Signer) (place : ℕ) (at : Instant) (signature text : List ℕ) (whole : Option Refusal) (halt : Halt)
+  closing_halted : (a b c : Option (List ℕ)) (signer : Signer) (place : ℕ) (at : Instant) (signature text : List ℕ) (whole : Option Refusal) (halt : Ending)
       → first_refusal signer place [] (at ∷ []) signature ≡ whole
       → GainsRest a b (streamed_from signer place [] (at ∷ []) signature) text
       → Halts (outside_years at) (unless_refused (outside_years at) (link_text form signer signature [] at)) b c halt
@@ -266,14 +267,15 @@ module _ (form : Form) where
       none_left : (fault : RunFault) → outside_years at ≡ Some fault → GainsRest a b [] text
       none_left fault is = rw (refused_text signer place [] (at ∷ []) signature fault (rw is refl)) at first
 
-      by_fault : (fault : Option RunFault) → outside_years at ≡ fault → (halt : Halt) → Halts fault (unless_refused fault (link_text form signer signature [] at)) b c halt → Halts (refusal_fault whole) text a c halt
-      by_fault None is (refuses told) sends = let wrong : None ≡ Some told = sends.0 in cc
-      by_fault None is fails sends = prefix_join a b c (link_text form signer signature [] at) text (whole_left is) sends
-      by_fault None is wants sends = prefix_join a b c (link_text form signer signature [] at) text (whole_left is) sends
-      by_fault (Some fault) is (refuses told) sends =
+      by_fault : (fault : Option RunFault) → outside_years at ≡ fault → (halt : Ending) → Halts fault (unless_refused fault (link_text form signer signature [] at)) b c halt → Halts (refusal_fault whole) text a c halt
+      by_fault None is (refused told) sends = let wrong : None ≡ Some told = sends.0 in cc
+      by_fault None is output_fault sends = prefix_join a b c (link_text form signer signature [] at) text (whole_left is) sends
+      by_fault None is no_memory sends = prefix_join a b c (link_text form signer signature [] at) text (whole_left is) sends
+      by_fault (Some fault) is (refused told) sends =
           let same : Some fault ≡ Some told = sends.0 in (rw (← decided, is) same, gains_last a b c [] text (none_left fault is) sends.1)
-      by_fault (Some fault) is fails sends = prefix_join a b c [] text (none_left fault is) sends
-      by_fault (Some fault) is wants sends = prefix_join a b c [] text (none_left fault is) sends
+      by_fault (Some fault) is output_fault sends = prefix_join a b c [] text (none_left fault is) sends
+      by_fault (Some fault) is no_memory sends = prefix_join a b c [] text (none_left fault is) sends
+      by_fault fault is other sends = absurd sends
 
   -- ## So far
 
@@ -344,7 +346,7 @@ module _ (form : Form) where
           length_snoc (u ∷ ts) = let others = length_snoc ts in omega (arith, others)
 
       -- the next frame wasn't written: it is refused, or a front of it was written
-      pub is_halted : (left : List Parts) (halt : Halt) → SoFar b sent place left signature
+      pub is_halted : (left : List Parts) (halt : Ending) → SoFar b sent place left signature
           → Halts (next_refused who place signature left t) (unless_refused (next_refused who place signature left t) (link_text form who signature (next_bytes left) t)) b c halt
           → (let refusal = first_refusal who 1 events (sent ++ t ∷ []) seed in Halts (refusal_fault refusal) (streamed_text form who events (sent ++ t ∷ []) seed refusal) a c halt)
       is_halted [] halt so sends =
@@ -466,12 +468,3 @@ frames_unrefused signer place [] (at ∷ more ∷ moments) signature chained = a
 frames_unrefused signer place (event ∷ events) (at ∷ moments) signature chained =
     let others = frames_unrefused signer (place + 1) events moments (link_signature signer signature (frame event) at) chained.3 in
     rw (chained.0, years_in at chained.1, chained.2, others) refl
-
--- it has one moment more than events
-pub chained_moments : (signer : Signer) (events : List Parts) (moments : List Instant) (signature : List ℕ) → IsWholeChain signer events moments signature → length moments ≡ length events + 1
-chained_moments signer [] [] signature chained = absurd chained
-chained_moments signer (event ∷ events) [] signature chained = absurd chained
-chained_moments signer [] (at ∷ []) signature chained = omega arith
-chained_moments signer [] (at ∷ more ∷ moments) signature chained = absurd chained
-chained_moments signer (event ∷ events) (at ∷ moments) signature chained =
-    let others = chained_moments signer events moments (link_signature signer signature (frame event) at) chained.3 in omega arith

@@ -20,10 +20,10 @@ use Rattle.request_check.specs.Sealed.{IsSealed, SealParts}
 use Rattle.request_check.proofs.SealLemmas.{one_seal}
 use Rattle.signed_stream.specs.CheckRecord.{CarriesSeal, ChecksRecord, GoesForSeal, checked_plan, shown_events}
 use Rattle.signed_stream.specs.EventLines.{AreFramed, count_line, event_lines}
-use Rattle.signed_stream.specs.Halt.{Halt, Halts, Sends, ended}
+use Rattle.signed_stream.specs.Halt.{Halts, Sends, ended}
 use Rattle.signed_stream.specs.Plan.{GoesAsPlanned, sealed_over, stops, unsought}
 use Rattle.signed_stream.specs.Settings.{Selected}
-use Rattle.signed_stream.specs.Status.{chain_ending, ending_of, no_memory}
+use Rattle.signed_stream.specs.Status.{Ending, chain_ending, ending_of, no_memory}
 use Rattle.signed_stream.specs.declared.status.Status.{Status}
 use Rattle.signed_stream.specs.declared.status.StreamFault.{StreamFault}
 use Rattle.signed_stream.proofs.EventLineLemmas.{front_halted}
@@ -86,7 +86,7 @@ pub count_sent : (before now : Option (List ℕ)) (events : List Parts) → Gain
 unfolding shown_events
 count_sent before now events sends = gains_front before now (count_line (length events)) (event_lines events) sends
 
-pub count_halted : (before now : Option (List ℕ)) (events : List Parts) (halt : Halt) → Halts None (count_line (length events)) before now halt → Halts None (shown_events events) before now halt
+pub count_halted : (before now : Option (List ℕ)) (events : List Parts) (halt : Ending) → Halts None (count_line (length events)) before now halt → Halts None (shown_events events) before now halt
 unfolding shown_events
 count_halted before now events halt halts =
     let front = count_line (length events) in

@@ -1,9 +1,8 @@
 -- A body in memory gives its text, and has no fault.
-use Rattle.std.proofs.Common.{◌≡◌, ℕ, ◌+◌, ◌<◌, ◌≤◌, inl, inr, false, List, [], ◌∷◌, ◌++◌, length, map, Option, None, Some, refl, ap, sym, subst, ◌∙◌, append-nil, arith}
-use Rattle.std.specs.Prelude.{Err, Ok, IfSome, codes, option_map}
+use Rattle.std.proofs.Common.{◌≡◌, ℕ, ◌<◌, ◌≤◌, inl, inr, false, List, [], ◌∷◌, ◌++◌, length, map, Option, None, Some, refl, ap, sym, subst, ◌∙◌, append-nil, arith}
+use Rattle.std.specs.Prelude.{Err, Ok, IfSome, option_map}
 use Rattle.std.specs.List.{AllByRecursion}
 use Rattle.std.proofs.lemmas.List.{length-append}
-use Rattle.std.proofs.lemmas.List.Sums.{sum-map, sum_by-cons, sum_by_push}
 use Rattle.smithy_core.proofs.GainLemmas.{gains_front, gains_join, prefix_join, prefix_within}
 use Rattle.smithy_core.specs.Outside.{Gains, GainsRest}
 use Rattle.smithy_core.specs.declared.outside.frame_part.FramePart.{FramePart}
@@ -13,12 +12,13 @@ use Rattle.sigv4.specs.declared.chunk_signer.SignChunk as SignChunk
 use Rattle.aws_chunked.specs.Body.{AnswersFrame, AreTurns, HasCause, IsBodyClosed, IsNewBody, IsNothing, TextLeft, TakesDue, TakesText, TakesIdleFrames, Trailer, data_before, lines_length, listed, parts_due, ready_bytes, text_to_come_with, body_source, total_of, trailers_from, with_ready}
 use Rattle.aws_chunked.specs.Due.{due}
 use Rattle.aws_chunked.specs.Options.{Options, counted, declared_length}
-use Rattle.aws_chunked.specs.Text.{Part, chunk, chunked_text, crlf, pieces_of_size, parts_of, tail, trailer_line}
+use Rattle.aws_chunked.specs.Text.{Part, chunk, chunked_text, pieces_of_size, parts_of, tail}
 use Rattle.aws_chunked.specs.declared.body.AwsChunkedBody.{AwsChunkedBody}
 use Rattle.aws_chunked.specs.declared.body.ChunkNext.TheVariants as next
 use Rattle.aws_chunked.proofs.DueLemmas.{closed_due, parts_same}
 use Rattle.signed_stream.specs.ChunkJob.{IsBodyOf, IsPartWith, IsSoundBody, text_left, text_or_none}
-use Rattle.signed_stream.specs.Halt.{Halt, Halts, Sends, fails, halt_of, refuses, wants}
+use Rattle.signed_stream.specs.Halt.{Halts, Sends}
+use Rattle.signed_stream.specs.Status.{Ending, no_memory, output_fault, refused, stream_ending}
 use Rattle.signed_stream.specs.declared.status.StreamFault.{StreamFault}
 use Rattle.signed_stream.specs.Plan.{most_input}
 
@@ -182,31 +182,6 @@ module _ {F G : Type 0} (source : FrameSource.Ghosts F) (signer : SignChunk.Ghos
 
 -- ---- declared lengths
 
-line_long : (name value : List ℕ) → length (trailer_line (name, value)) ≡ length name + 1 + length value + 2
-line_long name value =
-    omega (
-      arith,
-      length-append (name ++ codes ":" ++ value) crlf,
-      length-append (name ++ codes ":") value,
-      length-append name (codes ":"),
-    )
-
-pub declared_more : (lengths : List ℕ) (name value : List ℕ) (rest : List Trailer) (n all : ℕ) → n ≡ length name + 1 + length value
-    → declared_length lengths + lines_length ((name, value) ∷ rest) ≡ all → declared_length (lengths ++ n ∷ []) + lines_length rest ≡ all
-declared_more lengths name value rest n all is so_far =
-    omega (
-      arith,
-      so_far,
-      is,
-      line_long name value,
-      sum-map (λ (m : ℕ). m + 2) (lengths ++ n ∷ []),
-      sum_by_push (λ (m : ℕ). m + 2) lengths n,
-      sum-map (λ (m : ℕ). m + 2) lengths,
-      sum-map (λ (t : Trailer). length (trailer_line t)) ((name, value) ∷ rest),
-      sum_by-cons (λ (t : Trailer). length (trailer_line t)) (name, value) rest,
-      sum-map (λ (t : Trailer). length (trailer_line t)) rest,
-    )
-
 -- ---- writing
 
 module _ (before mid now : Option (List ℕ)) (bytes rest text : List ℕ) where
@@ -215,14 +190,15 @@ module _ (before mid now : Option (List ℕ)) (bytes rest text : List ℕ) where
   bytes_gained left is so_far gained =
       gains_join before mid now rest (bytes ++ rest) text (subst (λ (l : List ℕ). GainsRest before mid l text) is so_far) (gains_front mid now bytes rest gained)
 
-  halts_within : (left : List ℕ) (halt : Halt) → left ≡ bytes ++ rest → GainsRest before mid left text → Halts None bytes mid now halt → Halts None text before now halt
-  halts_within left (refuses told) is so_far halts = absurd (let no : None ≡ Some told = halts.0 in cc)
-  halts_within left fails is so_far halts =
+  halts_within : (left : List ℕ) (halt : Ending) → left ≡ bytes ++ rest → GainsRest before mid left text → Halts None bytes mid now halt → Halts None text before now halt
+  halts_within left (refused told) is so_far halts = absurd (let no : None ≡ Some told = halts.0 in cc)
+  halts_within left output_fault is so_far halts =
       prefix_join before mid now (bytes ++ rest) text (subst (λ (l : List ℕ). GainsRest before mid l text) is so_far) (prefix_within mid now bytes rest halts)
-  halts_within left wants is so_far halts =
+  halts_within left no_memory is so_far halts =
       prefix_join before mid now (bytes ++ rest) text (subst (λ (l : List ℕ). GainsRest before mid l text) is so_far) (prefix_within mid now bytes rest halts)
+  halts_within left other is so_far halts = absurd halts
 
   -- they aren't
   pub bytes_halted : (T U : Type 0) (left : List ℕ) (told : StreamFault) → left ≡ bytes ++ rest → GainsRest before mid left text
       → Sends {T = T} None bytes mid now (Err told) → Sends {T = U} None text before now (Err told)
-  bytes_halted T U left told is so_far sends = halts_within left (halt_of told) is so_far sends
+  bytes_halted T U left told is so_far sends = halts_within left (stream_ending told) is so_far sends

@@ -1,6 +1,6 @@
 -- How a job and profile texts go as planned.
 use Rattle.std.proofs.Common.{◌≡◌, ℕ, List, [], ◌∷◌, length, replicate, Option, Some, None, refl, sym, ap, ◌∙◌, subst}
-use Rattle.std.specs.Prelude.{Result, Ok, Err}
+use Rattle.std.specs.Prelude.{Result, Ok, Err, IsErrOf}
 use Rattle.smithy_core.specs.Clock.{ClockState, GivesNext}
 use Rattle.smithy_core.specs.Given.{Gives}
 use Rattle.smithy_core.specs.Moment.{Instant}
@@ -12,7 +12,8 @@ use Rattle.env_config.specs.Sections.{FileText}
 use Rattle.signed_stream.specs.Carriers.{GoesForJob, GoesForRecord, GoesForTexts, IsAfterTexts}
 use Rattle.signed_stream.specs.CheckRecord.{CarriesSeal, check_signer, sealed_plan}
 use Rattle.signed_stream.specs.Command.{CheckWanted, Wanted}
-use Rattle.signed_stream.specs.Halt.{Halt, Sends, ended, fails, halt_of, halted, refuses, wants}
+use Rattle.signed_stream.specs.Counts.{CountsFault}
+use Rattle.signed_stream.specs.Halt.{Sends, ended}
 use Rattle.job_text.specs.Job.{JobParts}
 use Rattle.signed_stream.specs.Options.{IsOptionsOf, wanted_of}
 use Rattle.signed_stream.specs.Plan.{FilesRead, GoesAsPlanned, Plan, SealRead, Supplied, TargetRead, loaded, plan_end, unread, unsought}
@@ -36,30 +37,32 @@ use Rattle.signed_stream.proofs.SendLemmas.{text_goes}
 -- ## How a stream ends
 
 pub ended_after_texts : {T : Type 0} (answer : Result T StreamFault) → IsAfterTexts (ended answer)
-ended_after_texts (Ok x) = tt
-ended_after_texts (Err fault) = by_halt (halt_of fault)
-  where
-    by_halt : (halt : Halt) → IsAfterTexts (halted halt)
-    by_halt (refuses told) = tt
-    by_halt fails = tt
-    by_halt wants = tt
+ended_after_texts (Err faults.SinkFault) = tt
+ended_after_texts other = tt
 
 -- the output's fault is told for the sink's alone
-pub ended_failed : {T : Type 0} (answer : Result T StreamFault) → ended answer ≡ output_fault → answer ≡ Err faults.SinkFault
-ended_failed (Ok x) is = cc
+ended_failed : {T : Type 0} (answer : Result T StreamFault) → ended answer ≡ output_fault → answer ≡ Err faults.SinkFault
 ended_failed (Err faults.SinkFault) is = refl
-ended_failed (Err faults.NoMemory) is = cc
-ended_failed (Err fault) is = cc
+ended_failed other is = cc
+
+-- so a run counts the faults of a stream
+pub ended_counts : {T : Type 0} (answer : Result T StreamFault) (end : Ending) (before now : ℕ) → end ≡ ended answer → CountsFault (IsErrOf answer faults.SinkFault) before now → CountsFault (end ≡ output_fault) before now
+ended_counts answer end before now is counts =
+    record { rose = λ failed. counts.rose (ended_failed answer (sym is ∙ failed)); stayed = λ other. counts.stayed (λ failed. other (is ∙ ap ended failed)); grew = counts.grew }
+
+-- and a fault that is handed on counts as it did
+pub counts_on : {T U : Type 0} (a : Result T StreamFault) (b : Result U StreamFault) (fault : StreamFault) (before now : ℕ) → a ≡ Err fault → b ≡ Err fault
+    → CountsFault (IsErrOf a faults.SinkFault) before now → CountsFault (IsErrOf b faults.SinkFault) before now
+counts_on a b fault before now first second counts =
+    record { rose = λ is. counts.rose (same a b first second is); stayed = λ other. counts.stayed (λ is. other (same b a second first is)); grew = counts.grew }
+  where
+    same : {T U : Type 0} (a : Result T StreamFault) (b : Result U StreamFault) → a ≡ Err fault → b ≡ Err fault → b ≡ Err faults.SinkFault → a ≡ Err faults.SinkFault
+    same a b first second is = first ∙ ap Err (let e = sym second ∙ is in cc)
 
 -- no file is told of
 pub ended_unnamed : {T : Type 0} (answer : Result T StreamFault) (path : List ℕ) → ended answer ≡ could_not_read_file path → ⊥
-ended_unnamed (Ok x) path is = cc
-ended_unnamed (Err fault) path is = by_halt (halt_of fault) is
-  where
-    by_halt : (halt : Halt) → halted halt ≡ could_not_read_file path → ⊥
-    by_halt (refuses told) is = cc
-    by_halt fails is = cc
-    by_halt wants is = cc
+ended_unnamed (Err faults.SinkFault) path is = cc
+ended_unnamed other path is = cc
 
 -- ## The moments
 

@@ -37,10 +37,9 @@ use Rattle.signed_stream.specs.Streaming.{stream_wanted}
 use Rattle.signed_stream.specs.declared.streaming.StreamOptions.{StreamOptions}
 use Rattle.signed_stream.specs.Command.{Wanted}
 use Rattle.signed_stream.specs.Generate.{AreGeneratedOptions, IsGeneratedIdentity, generated_case, generated_moment, generated_signer, generated_target}
-use Rattle.signed_stream.specs.Halt.{Halt, fails, halt_of, refuses, wants}
 use Rattle.signed_stream.specs.Plan.{TargetRead, TargetSpells, accepted, unaccepted, unread}
 use Rattle.signed_stream.specs.Sign.{SealsFor, Unsigned, case_fault, identity_case, request_fault}
-use Rattle.signed_stream.specs.Status.{RunFault}
+use Rattle.signed_stream.specs.Status.{Ending, RunFault, no_memory, refused, stream_ending}
 use Rattle.signed_stream.specs.declared.status.StreamFault.{StreamFault}
 use Rattle.signed_stream.specs.declared.status.StreamFault.TheVariants as faults
 use Rattle.signed_stream.specs.declared.form.Form.TheVariants.{Raw}
@@ -212,24 +211,24 @@ case_is request identity wanted method headers body signs name signing token_nam
     rw (method, headers, body, signs.key_id, signs.token, signs.secret, name, signing, token_name, skew) refl
 
 -- a fault that only wants memory tells so
-wants_memory : (fault : StreamFault) → halt_of fault ≡ wants → fault ≡ faults.NoMemory
+wants_memory : (fault : StreamFault) → stream_ending fault ≡ no_memory → fault ≡ faults.NoMemory
 wants_memory faults.NoMemory is = refl
 wants_memory faults.SinkFault is = cc
 wants_memory fault is = cc
 
 -- the request isn't refused
 pub signing_wants : (case : Target → Case) (fault : StreamFault) → case generated_target ≡ generated_case
-    → Unsigned (codes "https://gen.amazonaws.com/") generated_moment case (halt_of fault) → fault ≡ faults.NoMemory
-signing_wants case fault is fails_so = wants_memory fault (by_halt (halt_of fault) fails_so)
+    → Unsigned (codes "https://gen.amazonaws.com/") generated_moment case (stream_ending fault) → fault ≡ faults.NoMemory
+signing_wants case fault is fails_so = wants_memory fault (by_halt (stream_ending fault) fails_so)
   where
     by_target : (target : TargetRead) → (target ≡ unread) ⊎ (target ≡ accepted generated_target) → (told : RunFault) → request_fault generated_moment case target ≡ Some told → ⊥
-    by_target target (inl same) told refused = let none : None ≡ Some told = rw same at refused in cc
-    by_target target (inr same) told refused = let none : None ≡ Some told = rw (same, is, case_fits) at refused in cc
+    by_target target (inl same) told stopped = let none : None ≡ Some told = rw same at stopped in cc
+    by_target target (inr same) told stopped = let none : None ≡ Some told = rw (same, is, case_fits) at stopped in cc
 
-    by_halt : (halt : Halt) → Unsigned (codes "https://gen.amazonaws.com/") generated_moment case halt → halt ≡ wants
-    by_halt (refuses told) unsigned = absurd (by_target unsigned.0 (target_is unsigned.0 unsigned.1) told unsigned.2)
-    by_halt fails unsigned = absurd unsigned
-    by_halt wants unsigned = refl
+    by_halt : (halt : Ending) → Unsigned (codes "https://gen.amazonaws.com/") generated_moment case halt → halt ≡ no_memory
+    by_halt (refused told) unsigned = absurd (by_target unsigned.0 (target_is unsigned.0 unsigned.1) told unsigned.2)
+    by_halt no_memory unsigned = refl
+    by_halt other unsigned = absurd unsigned
 
 -- the signer goes on from the signature of the generated request
 pub signing_seals : (case : Target → Case) (target : Target) (signer : SignerState (Unit {0})) → case generated_target ≡ generated_case
@@ -259,12 +258,12 @@ module _ (request : HttpRequest) (identity : Identity) (options : StreamOptions)
   moment_asked : request_moment (stream_wanted options Raw) generated_moment ≡ generated_moment
   moment_asked = rw (asked.asks.signing, asked.asks.skew_millis) refl
 
-  pub asked_wants : (fault : StreamFault) → Unsigned (string_bytes request.target) (request_moment (stream_wanted options Raw) first) (case_at first) (halt_of fault) → fault ≡ faults.NoMemory
+  pub asked_wants : (fault : StreamFault) → Unsigned (string_bytes request.target) (request_moment (stream_wanted options Raw) first) (case_at first) (stream_ending fault) → fault ≡ faults.NoMemory
   asked_wants fault unsigned =
       signing_wants (case_at generated_moment) fault case_asked
-      (subst (λ (m : Instant). Unsigned (codes "https://gen.amazonaws.com/") m (case_at generated_moment) (halt_of fault)) moment_asked
-      (subst (λ (text : List ℕ). Unsigned text (request_moment (stream_wanted options Raw) generated_moment) (case_at generated_moment) (halt_of fault)) asked.target
-      (subst (λ (m : Instant). Unsigned (string_bytes request.target) (request_moment (stream_wanted options Raw) m) (case_at m) (halt_of fault)) asked.at unsigned)))
+      (subst (λ (m : Instant). Unsigned (codes "https://gen.amazonaws.com/") m (case_at generated_moment) (stream_ending fault)) moment_asked
+      (subst (λ (text : List ℕ). Unsigned text (request_moment (stream_wanted options Raw) generated_moment) (case_at generated_moment) (stream_ending fault)) asked.target
+      (subst (λ (m : Instant). Unsigned (string_bytes request.target) (request_moment (stream_wanted options Raw) m) (case_at m) (stream_ending fault)) asked.at unsigned)))
 
   pub asked_seals : (target : Target) (signer : SignerState (Unit {0})) → TargetSpells (string_bytes request.target) (accepted target) → SealsFor (case_at first target) signer → SealsFor generated_case signer
   asked_seals target signer spelled seals =

@@ -20,6 +20,7 @@ use Rattle.env_config.specs.Loading.{selected_profile}
 use Rattle.env_config.specs.Sections.{FileText}
 use Rattle.signed_stream.specs.declared.form.Form.{Form}
 use Rattle.signed_stream.specs.declared.status.StreamFault.{StreamFault}
+use Rattle.signed_stream.specs.declared.status.StreamFault.TheVariants as faults
 use Rattle.signed_stream.specs.Case.{job_case, request_moment}
 use Rattle.chain_watch.specs.Chain.{IsChainOf, IsWholeChain}
 use Rattle.chain_watch.proofs.AcceptedLemmas.{accepted_chain}
@@ -32,7 +33,7 @@ use Rattle.signed_stream.specs.Generate.{generate_plan, shown_stream}
 use Rattle.signed_stream.specs.Generator.{drawn_events}
 use Rattle.signed_stream.specs.ProfileOptions.{ProfileWanted}
 use Rattle.job_text.specs.Job.{JobParts, job}
-use Rattle.signed_stream.specs.Plan.{EndsAsPlanned, FilesRead, GoesAsPlanned, Plan, SealRead, sealed_over, unsealed, unsought, TargetSpells, Supplied, TargetRead, accepted, loaded, most_input, stops, unaccepted, unloaded, unread, unreadable, writes}
+use Rattle.signed_stream.specs.Plan.{EndsAsPlanned, FilesRead, GoesAsPlanned, Plan, SealRead, sealed_over, unsealed, unsought, TargetSpells, Supplied, TargetRead, accepted, loaded, most_input, stops, unaccepted, unloaded, unless_large, unread, unreadable, writes}
 use Rattle.job_text.specs.ProfileTexts.{ProfileTexts, profile_texts}
 use Rattle.request_check.specs.Sealed.{SealParts}
 use Rattle.chain_watch.specs.Walk.{chain_events}
@@ -44,10 +45,10 @@ use Rattle.signed_stream.specs.Running.{CanBeDone, Completes, HasDone, RunsAsPla
 use Rattle.signed_stream.specs.Settings.{Selected, settings}
 use Rattle.signed_stream.specs.ShowSettings.{GaveTexts, IsShowable, settings_plan, shown_plan}
 use Rattle.signed_stream.specs.Shown.{shown_settings}
-use Rattle.signed_stream.specs.Halt.{Halt, ended, fails, halt_of, halted, refuses, wants}
+use Rattle.signed_stream.specs.Halt.{ended}
 use Rattle.signed_stream.specs.Sign.{IsSignedFor, case_fault, run_fault_for, unsigned}
 use Rattle.signed_stream.specs.Sources.{or_refused, selection, when_selected}
-use Rattle.signed_stream.specs.Status.{Ending, RunFault, done, job_too_large, no_memory, output_fault, read_fault, refused, moment_out_of_range}
+use Rattle.signed_stream.specs.Status.{Ending, RunFault, done, job_too_large, moment_out_of_range, no_memory, output_fault, read_fault, refused}
 use Rattle.signed_stream.specs.Stream.{GaveJob, GaveReading, IsStreamable, IsValid, case_plan, job_plan, selected_plan, streamed, target_plan, written_valid}
 use Rattle.signed_stream.specs.Streaming.{CompletesStream, HasSentStream, IsSentSigned, job_with, stream_plan}
 use Rattle.signed_stream.specs.Written.{case_refusal, written_stream, written_end, written_until}
@@ -272,35 +273,31 @@ done_record gave env wanted bytes (Ok parts) given before now short spelled foun
     } in
     (input, accepted_chain _ passed.signature parts.chain passed.events (spelled_bytes bytes parts spelled) passed.chained, passed.gains)
 
+-- a run that is done has an input that isn't too large
+short_done : (bytes : List ℕ) (plan : Plan) (before now : Option (List ℕ)) → GoesAsPlanned (unless_large bytes plan) done before now → (length bytes ≤ most_input) × GoesAsPlanned plan done before now
+short_done bytes plan before now goes = by_length (nat_lt most_input (length bytes)) refl goes
+  where
+    by_length : (large : Bool) → nat_lt most_input (length bytes) ≡ large → GoesAsPlanned (if large then stops job_too_large else plan) done before now → (length bytes ≤ most_input) × GoesAsPlanned plan done before now
+    by_length true is goes = absurd (stops_undone _ before now (λ e. cc) goes)
+    by_length false is goes = (grind (arith, nat_tests), goes)
+
 -- a run that is done has done what it was asked
 has_done : (gave : List Place → FilesRead → Type 0) (env : List (List ℕ × List ℕ)) (command : Command) (bytes : List ℕ) (given : Supplied) (before now : Option (List ℕ)) → RunsAsPlanned gave env command bytes given done before now
     → HasDone gave env command bytes given before now
 unfolding command_plan
 has_done gave env (bad_word place) bytes given before now runs = stops_undone _ before now (λ e. cc) runs.goes
-has_done gave env (stream wanted) bytes given before now runs = by_length (nat_lt most_input (length bytes)) refl runs.goes
-  where
-    by_length : (large : Bool) → nat_lt most_input (length bytes) ≡ large
-        → GoesAsPlanned (if large then stops job_too_large else job_plan env wanted given (job bytes)) done before now → HasStreamed gave env wanted bytes given before now
-    by_length true is goes = absurd (stops_undone _ before now (λ e. cc) goes)
-    by_length false is goes = done_reading gave env wanted bytes (job bytes) given before now (grind (arith, nat_tests)) refl runs.supplied goes
-has_done gave env (show_settings wanted) bytes given before now runs = by_length (nat_lt most_input (length bytes)) refl runs.goes
-  where
-    by_length : (large : Bool) → nat_lt most_input (length bytes) ≡ large
-        → GoesAsPlanned (if large then stops job_too_large else settings_plan env wanted given (profile_texts bytes)) done before now → HasShown gave env wanted bytes given before now
-    by_length true is goes = absurd (stops_undone _ before now (λ e. cc) goes)
-    by_length false is goes = done_texts gave env wanted bytes (profile_texts bytes) given before now (grind (arith, nat_tests)) refl runs.supplied goes
-has_done gave env (check_record wanted) bytes given before now runs = by_length (nat_lt most_input (length bytes)) refl runs.goes
-  where
-    by_length : (large : Bool) → nat_lt most_input (length bytes) ≡ large
-        → GoesAsPlanned (if large then stops job_too_large else check_plan env wanted given (spelled_record bytes)) done before now → HasChecked gave env wanted bytes given before now
-    by_length true is goes = absurd (stops_undone _ before now (λ e. cc) goes)
-    by_length false is goes = done_record gave env wanted bytes (spelled_record bytes) given before now (grind (arith, nat_tests)) refl runs.supplied goes
-has_done gave env (write_chunks wanted) bytes given before now runs = by_length (nat_lt most_input (length bytes)) refl runs.goes
-  where
-    by_length : (large : Bool) → nat_lt most_input (length bytes) ≡ large
-        → GoesAsPlanned (if large then stops job_too_large else chunk_plan wanted bytes) done before now → (length bytes ≤ most_input) × Gains before now (shown_chunks wanted bytes)
-    by_length true is goes = absurd (stops_undone _ before now (λ e. cc) goes)
-    by_length false is goes = (grind (arith, nat_tests), goes.gains)
+has_done gave env (stream wanted) bytes given before now runs =
+    let short = short_done bytes (job_plan env wanted given (job bytes)) before now runs.goes in
+    done_reading gave env wanted bytes (job bytes) given before now short.0 refl runs.supplied short.1
+has_done gave env (show_settings wanted) bytes given before now runs =
+    let short = short_done bytes (settings_plan env wanted given (profile_texts bytes)) before now runs.goes in
+    done_texts gave env wanted bytes (profile_texts bytes) given before now short.0 refl runs.supplied short.1
+has_done gave env (check_record wanted) bytes given before now runs =
+    let short = short_done bytes (check_plan env wanted given (spelled_record bytes)) before now runs.goes in
+    done_record gave env wanted bytes (spelled_record bytes) given before now short.0 refl runs.supplied short.1
+has_done gave env (write_chunks wanted) bytes given before now runs =
+    let short = short_done bytes (chunk_plan wanted bytes) before now runs.goes in
+    (short.0, short.1.gains)
 has_done gave env (generate seed count) bytes given before now runs = runs.goes.gains
 
 pub has_done_where : (gave : List Place → FilesRead → Type 0) (env : List (List ℕ × List ℕ)) (command : Command) (bytes : List ℕ) (given : Supplied) (answer : Ending) (before now : Option (List ℕ)) → answer ≡ done
@@ -454,11 +451,6 @@ completes_sent answer (inl is) = inl is
 completes_sent answer (inr (inr is)) = inr is
 completes_sent answer (inr (inl is)) = absurd (by_answer answer is)
   where
-    by_halt : (halt : Halt) → halted halt ≡ read_fault → ⊥
-    by_halt (refuses told) is = cc
-    by_halt fails is = cc
-    by_halt wants is = cc
-
     by_answer : {T : Type 0} (answer : Result T StreamFault) → ended answer ≡ read_fault → ⊥
-    by_answer (Ok x) is = cc
-    by_answer (Err fault) is = by_halt (halt_of fault) is
+    by_answer (Err faults.SinkFault) is = cc
+    by_answer other is = cc

@@ -24,20 +24,20 @@ use Rattle.event_io.specs.declared.adapter.Next.TheVariants.{Frame, NotYet, End}
 use Rattle.event_io.specs.declared.adapter_fault.AdapterFault.TheVariants.{Marshall, Sign, Write}
 use Rattle.event_io.specs.declared.event_source.EventSource as EventSource
 use Rattle.signed_stream.specs.Chain.{first_refusal, frame_text, link_text}
-use Rattle.signed_stream.specs.Halt.{Halt, Halts, halt_of, refuses, unless_refused, wants}
+use Rattle.signed_stream.specs.Halt.{Halts, unless_refused}
 use Rattle.signed_stream.specs.Sending.{IsChainAnswer, SendsChain, GivesEventFrame, next_refused}
-use Rattle.signed_stream.specs.Status.{RunFault}
+use Rattle.signed_stream.specs.Status.{Ending, RunFault, no_memory, refused, stream_ending}
 use Rattle.signed_stream.specs.declared.form.Form.{Form}
 use Rattle.signed_stream.specs.declared.status.StreamFault.{StreamFault}
 use Rattle.signed_stream.proofs.ChainLemmas.{IsOver, SoFar, begins_so, front_unrefused, goes_on, is_halted, is_over, is_wanting, next_needed, next_passes, sent_needed, sign_refused, write_refused}
 
 -- a frame that is refused is halted before it is written
-refused_before : (refused : Option RunFault) (told : RunFault) (line : List ℕ) (held : Option (List ℕ)) → refused ≡ Some told → Halts refused (unless_refused refused line) held held (refuses told)
-refused_before refused told line held is = rw is (refl, gains_nothing held)
+refused_before : (stopped : Option RunFault) (told : RunFault) (line : List ℕ) (held : Option (List ℕ)) → stopped ≡ Some told → Halts stopped (unless_refused stopped line) held held (refused told)
+refused_before stopped told line held is = rw is (refl, gains_nothing held)
 
 -- running out of memory halts it too
-wanting_before : (refused : Option RunFault) (line : List ℕ) (held : Option (List ℕ)) → Halts refused (unless_refused refused line) held held wants
-wanting_before refused line held = prefix_at_start held _
+wanting_before : (stopped : Option RunFault) (line : List ℕ) (held : Option (List ℕ)) → Halts stopped (unless_refused stopped line) held held no_memory
+wanting_before stopped line held = prefix_at_start held _
 
 -- an answer at no source's fault: what never waits hasn't waited
 pub never_waits : RoseOrStands 0 0 → ⊥
@@ -49,18 +49,6 @@ module _ {C : Type 0} (clock : Clock.Ghosts C) (form : Form) (who : Signer) (eve
   abbrev pub HasSentChain : Option (List ℕ) → List Instant → C → Result (Unit {0}) StreamFault → Type 0
   HasSentChain b moments now answer =
       (taken : List Instant) × (moments ≡ old_moments ++ taken) × GivesEach clock start taken now × SendsChain form who events seed a b taken answer
-
-  pub sent_nothing : (told : StreamFault) → halt_of told ≡ wants → HasSentChain a old_moments start (Err told)
-  sent_nothing told is = (
-    [],
-    sym (append-nil old_moments),
-    refl,
-    record {
-      sends = rw is (prefix_at_start a _);
-      whole = tt;
-      next = sent_needed who events seed [] refl (omega arith);
-    },
-  )
 
 module _ {S M EM G C : Type 0} (source : EventSource.Ghosts S Parts Parts) (signer : SignMessage.Ghosts G) (clock : Clock.Ghosts C)
     (form : Form) (who : Signer) (events : List Parts) (seed : List ℕ) (a : Option (List ℕ)) (old_moments : List Instant) (start : C) where
@@ -139,14 +127,14 @@ module _ {S M EM G C : Type 0} (source : EventSource.Ghosts S Parts Parts) (sign
     -- with one moment more the frame wasn't written
     halted_at : (c : Option (List ℕ)) (t : Instant) → TakesMoment clock before now moments new_moments t → (told : StreamFault)
         → Halts (next_refused who place is_polled.signature is_polled.left t)
-        (unless_refused (next_refused who place is_polled.signature is_polled.left t) (link_text form who is_polled.signature (next_bytes is_polled.left) t)) b c (halt_of told)
+        (unless_refused (next_refused who place is_polled.signature is_polled.left t) (link_text form who is_polled.signature (next_bytes is_polled.left) t)) b c (stream_ending told)
         → HasSentChain clock form who events seed a old_moments start c new_moments now (Err told)
     halted_at c t takes told halts = (
       at.sent ++ t ∷ [],
       takes.0 ∙ ap (λ (ms : List Instant). ms ++ t ∷ []) at.gained ∙ append_assoc old_moments at.sent (t ∷ []),
       given_more clock start before now at.sent t at.given takes.1,
       record {
-        sends = is_halted form who events seed a b c at.sent place is_polled.signature t is_polled.left (halt_of told) is_polled.so halts;
+        sends = is_halted form who events seed a b c at.sent place is_polled.signature t is_polled.left (stream_ending told) is_polled.so halts;
         whole = tt;
         next = next_needed who events seed at.sent unrefused t (let count = is_polled.so.counted in omega (arith, count));
       },
@@ -162,26 +150,26 @@ module _ {S M EM G C : Type 0} (source : EventSource.Ghosts S Parts Parts) (sign
         line : Instant → List ℕ
         line t = link_text form who is_polled.signature (next_bytes is_polled.left) t
 
-        refused : Instant → Option RunFault
-        refused t = next_refused who place is_polled.signature is_polled.left t
+        stopped : Instant → Option RunFault
+        stopped t = next_refused who place is_polled.signature is_polled.left t
 
-        halts : (t : Instant) {halt : Halt} → halt_of told ≡ halt → Halts (refused t) (unless_refused (refused t) (line t)) b b halt → Halts (refused t) (unless_refused (refused t) (line t)) b b (halt_of told)
-        halts t is halted = subst (λ (h : Halt). Halts (refused t) (unless_refused (refused t) (line t)) b b h) (sym is) halted
+        halts : (t : Instant) {halt : Ending} → stream_ending told ≡ halt → Halts (stopped t) (unless_refused (stopped t) (line t)) b b halt → Halts (stopped t) (unless_refused (stopped t) (line t)) b b (stream_ending told)
+        halts t is halted = subst (λ (h : Ending). Halts (stopped t) (unless_refused (stopped t) (line t)) b b h) (sym is) halted
 
         by_answer : (answer : Result Next SendError) → GivesEventFrame place answer (Err told)
             → PollsChain source signer clock before now moments new_moments who is_polled.left is_polled.signature old new answer → HasSentChain clock form who events seed a old_moments start b new_moments now (Err told)
         by_answer (Ok next) tells polled = absurd tells
         by_answer (Err (sdk.ConstructionFailure (Sign error))) tells (t, takes, unsigned, on) =
             let found = (sign_refused who place is_polled.signature is_polled.left t error unsigned).1 in
-            halted_at b t takes told (halts t (tells ∙ found.1) (refused_before (refused t) found.0 (line t) b found.2))
+            halted_at b t takes told (halts t (tells ∙ found.1) (refused_before (stopped t) found.0 (line t) b found.2))
         by_answer (Err (sdk.ConstructionFailure (Write error))) tells (t, takes, signed, unframed, on) =
             let found = (write_refused who place is_polled.signature is_polled.left t (error_kind error) signed unframed).1 in
-            halted_at b t takes told (halts t (tells ∙ found.1) (refused_before (refused t) found.0 (line t) b found.2))
+            halted_at b t takes told (halts t (tells ∙ found.1) (refused_before (stopped t) found.0 (line t) b found.2))
         by_answer (Err (sdk.ConstructionFailure (Marshall error))) tells polled = absurd polled
         by_answer (Err sdk.DispatchFailure) tells polled = absurd polled
         by_answer (Err (sdk.ResponseError fault raw)) tells polled = absurd polled
         by_answer (Err (sdk.ServiceError fault raw)) tells polled = absurd polled
-        by_answer (Err sdk.NoMemory) tells (inr (t, takes)) = halted_at b t takes told (halts t tells (wanting_before (refused t) (line t) b))
+        by_answer (Err sdk.NoMemory) tells (inr (t, takes)) = halted_at b t takes told (halts t tells (wanting_before (stopped t) (line t) b))
         by_answer (Err sdk.NoMemory) tells (inl none) = (
           at.sent,
           none.1 ∙ at.gained,
@@ -220,7 +208,7 @@ module _ {S M EM G C : Type 0} (source : EventSource.Ghosts S Parts Parts) (sign
       text_is f = ap (frame_text form) f.bytes_are
 
       -- and wasn't written whole
-      pub cut_at : (c : Option (List ℕ)) (told : StreamFault) → Halts None (frame_text form bytes) b c (halt_of told) → HasSentChain clock form who events seed a old_moments start c new_moments now (Err told)
+      pub cut_at : (c : Option (List ℕ)) (told : StreamFault) → Halts None (frame_text form bytes) b c (stream_ending told) → HasSentChain clock form who events seed a old_moments start c new_moments now (Err told)
       cut_at c told halts =
           let f = is_framed in halted_at c f.t f.takes told (rw f.passes (rw (text_is f) at halts))
 

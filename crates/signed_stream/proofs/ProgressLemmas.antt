@@ -1,5 +1,5 @@
 -- A watch that goes on, piece by piece: what was read is what was walked, and what waits.
-use Rattle.std.proofs.Common.{◌≡◌, ℕ, zero, suc, ◌+◌, ◌-◌, ◌<◌, ◌≤◌, inl, inr, ◌⊎◌, List, [], ◌∷◌, ◌++◌, length, take, Option, Some, None, Result, Ok, Err, refl, sym, ap, subst, ◌∙◌, append-nil, append_assoc, length-append, arith}
+use Rattle.std.proofs.Common.{◌≡◌, ℕ, zero, suc, ◌+◌, ◌-◌, ◌≤◌, inl, inr, List, [], ◌∷◌, ◌++◌, length, take, Option, Some, None, Result, Ok, Err, refl, sym, ap, subst, ◌∙◌, append-nil, append_assoc, length-append, arith}
 use Rattle.std.proofs.Math.Seq.{take-append-add}
 use Rattle.std.proofs.lemmas.Grind.{flat_map-append}
 use Rattle.smithy_core.specs.Message.{Parts}
@@ -7,18 +7,15 @@ use Rattle.smithy_core.specs.Outside.{Gains, GainsPrefix, IsAtEnd, IsCutOf}
 use Rattle.smithy_core.proofs.CutLemmas.{cut_at_start}
 use Rattle.smithy_core.proofs.GainLemmas.{gains_front, gains_last, gains_nothing, prefix_join, prefix_at_start, prefix_from_whole}
 use Rattle.eventstream.specs.Key.{Signer}
-use Rattle.chain_watch.specs.Walk.{Point, Walk, closed, failed, seed_point, stays, unclosed, walk, walk_frames, walk_onto, walk_within}
-use Rattle.chain_watch.specs.Watch.{AnswersState, DoesNothing, Feeds, FeedsAt, FeedsPiece, Watching, left_over, new_watch, state, unwalked}
+use Rattle.chain_watch.specs.Walk.{Point, Walk, seed_point, stays, walk, walk_frames, walk_onto, walk_within}
+use Rattle.chain_watch.specs.Watch.{Watching, left_over, new_watch}
 use Rattle.chain_watch.specs.declared.chain_fault.ChainFault.{ChainFault}
-use Rattle.chain_watch.specs.declared.chain_fault.ChainFault.TheVariants as chains
-use Rattle.chain_watch.specs.declared.watch.Watched.{Watched}
-use Rattle.chain_watch.proofs.FrameLemmas.{fault_in}
 use Rattle.chain_watch.proofs.WalkLemmas.{walk_joined}
 use Rattle.signed_stream.specs.EventLines.{AreFramed, count_line, event_line, event_lines}
-use Rattle.signed_stream.specs.Halt.{Halt, Halts, fails, halt_of, halted, refuses, wants}
+use Rattle.signed_stream.specs.Halt.{Halts}
 use Rattle.signed_stream.specs.Plan.{most_input}
-use Rattle.signed_stream.specs.Status.{Ending, ending_of, check_failed, done, job_too_large, no_memory, output_fault, read_fault, bad_words, bad_job, refused, could_not_read_file}
-use Rattle.signed_stream.specs.WatchChain.{Advances, AreAll, EndsInput, EndsWalk, IsCurrent, IsFit, IsIdle, IsUnfed, IsSound, ReadsAll, ReadsInput, ReadsSome, ShowsAll, ShowsWaiting, StandsAt, StopsShowing, StopsTaking, TakesNext, WalksWaiting, Watches, room_of, shown_chain, walk_taken, walk_with}
+use Rattle.signed_stream.specs.Status.{Ending, bad_job, bad_words, check_failed, could_not_read_file, done, ending_of, job_too_large, no_memory, output_fault, read_fault, refused, stream_ending}
+use Rattle.signed_stream.specs.WatchChain.{Advances, AreAll, EndsInput, EndsWalk, IsCurrent, IsFit, IsIdle, IsUnfed, ReadsAll, ReadsInput, ReadsSome, ShowsWaiting, StopsShowing, StopsTaking, TakesNext, WalksWaiting, Watches, room_of, shown_chain, walk_taken, walk_with}
 use Rattle.signed_stream.specs.declared.status.CheckFault.TheVariants as checks
 use Rattle.signed_stream.specs.declared.status.Status.{Status}
 use Rattle.signed_stream.specs.declared.status.StreamFault.{StreamFault}
@@ -113,13 +110,6 @@ advances_waiting old mid piece held watch shown waiting = record {
   gains = gains_nothing held;
 }
 
-pub fit_waiting : (old mid : Progress) (piece : List ℕ) → mid.watch ≡ old.watch → mid.shown ≡ old.shown → mid.waiting.items ≡ old.waiting.items ++ piece → length piece ≤ room_of old → IsFit old → IsFit mid
-fit_waiting old mid piece watch shown waiting short fit = record {
-  short = omega (arith, ap (λ (w : Watching). w.fed) watch, ap length waiting, length-append old.waiting.items piece, short, fit.short);
-  few = subst (λ (w : Watching). mid.shown + length (left_over w.at) ≤ w.fed) (sym watch) (omega (arith, shown, fit.few));
-  current = subst IsCurrent (sym watch) fit.current;
-}
-
 -- what stops behind a piece that waited stops behind the piece
 pub stops_waiting : (old mid : Progress) (piece : List ℕ) (answer : Ending) (before now : Option (List ℕ)) → mid.watch ≡ old.watch → mid.waiting.items ≡ old.waiting.items ++ piece
     → StopsShowing (walk_with mid []) answer before now → StopsShowing (walk_with old piece) answer before now
@@ -141,14 +131,7 @@ ends_showing : (events : List Parts) (walked : Walk) (taken : List ℕ) (left : 
 ends_showing events walked taken left (check_failed (checks.Chain told)) a b c before stops = (inl stops.0, gains_lines a b c events walked.events before stops.1)
 ends_showing events walked taken left output_fault a b c before stops = inl (prefix_lines a b c events walked.events before stops)
 ends_showing events walked taken left no_memory a b c before stops = inl (prefix_lines a b c events walked.events before stops)
-ends_showing events walked taken left (check_failed checks.NoSignature) a b c before stops = absurd stops
-ends_showing events walked taken left done a b c before stops = absurd stops
-ends_showing events walked taken left (bad_words place) a b c before stops = absurd stops
-ends_showing events walked taken left job_too_large a b c before stops = absurd stops
-ends_showing events walked taken left (bad_job place) a b c before stops = absurd stops
-ends_showing events walked taken left read_fault a b c before stops = absurd stops
-ends_showing events walked taken left (could_not_read_file path) a b c before stops = absurd stops
-ends_showing events walked taken left (refused fault) a b c before stops = absurd stops
+ends_showing events walked taken left other a b c before stops = absurd stops
 
 -- how many bytes were read of an input
 read_count : (start mid : Progress) (taken : List ℕ) (a b : Option (List ℕ)) → IsUnfed start → Advances start taken mid a b → mid.watch.fed + length mid.waiting.items ≡ length taken
@@ -241,16 +224,10 @@ ends_input start new all left answer a b c begins fit read ends =
     by_end : (end : Ending) → EndsInput new end b c → EndsWalk walked read.taken left end a c
     by_end done ends = (ends.0, whole, last ends.1)
     by_end (check_failed (checks.Chain told)) ends = (inr (ends.0, whole), same ends.1)
-    by_end (check_failed checks.NoSignature) ends = absurd ends
     by_end output_fault ends = inr (ends.0, whole, front ends.1)
     by_end no_memory (inl is) = inl (prefix_from_whole a c (event_lines events) (same is))
     by_end no_memory (inr ends) = inr (ends.0, whole, front ends.1)
-    by_end (bad_words place) ends = absurd ends
-    by_end job_too_large ends = absurd ends
-    by_end (bad_job place) ends = absurd ends
-    by_end read_fault ends = absurd ends
-    by_end (could_not_read_file path) ends = absurd ends
-    by_end (refused fault) ends = absurd ends
+    by_end other ends = absurd ends
 
 -- ## The watch of an input
 
@@ -281,101 +258,10 @@ watched_none signer seed left held = record { taken = []; cut = cut_at_start lef
 
 -- ## What waits is shown
 
--- a piece that a watch was fed, which had walked over all that it took
-fed_piece : (old new : Watching) (piece : List ℕ) (gained : List Parts) (result : Result Watched ChainFault) → IsCurrent old → Feeds old piece [] new gained result
-    → FeedsPiece old piece [] new gained result ⊎ ((result ≡ Err chains.NoMemory) × DoesNothing old [] new gained)
-fed_piece old new piece gained result current feeds = by_point old.at refl feeds
-  where
-    by_point : (at : Point) → old.at ≡ at → FeedsAt at old piece [] new gained result → FeedsPiece old piece [] new gained result ⊎ ((result ≡ Err chains.NoMemory) × DoesNothing old [] new gained)
-    by_point (unclosed signature passed left) here feeds = feeds
-    by_point (closed passed) here feeds = feeds
-    by_point (failed told) here feeds = absurd (subst IsSound here current.sound)
-
--- all of a piece was walked, and the answer is where the walk is
-record IsWalked (old new : Watching) (piece : List ℕ) (gained : List Parts) (result : Result Watched ChainFault) : Type 0 where
-  fed : new.fed ≡ old.fed + length piece
-  signer : new.signer ≡ old.signer
-  walked : walk old.signer old.at piece ≡ record { events = gained; at = new.at }
-  rests : unwalked new ≡ stays new.at
-  answer : result ≡ state new.at
-
-walked_piece : (old new : Watching) (piece : List ℕ) (gained : List Parts) (result : Result Watched ChainFault) → IsCurrent old → Feeds old piece [] new gained result → (result ≡ Err chains.NoMemory → ⊥)
-    → IsWalked old new piece gained result
-walked_piece old new piece gained result current feeds other = by_piece (fed_piece old new piece gained result current feeds)
-  where
-    by_answer : FeedsPiece old piece [] new gained result → AnswersState new result → IsWalked old new piece gained result
-    by_answer fed (inr want) = absurd (other want)
-    by_answer fed (inl all) = record {
-      fed = fed.fed;
-      signer = fed.signer;
-      walked =
-          fed.handed.split ∙ ap (walk_onto fed.handed.given) all.0
-          ∙ ap (λ (events : List Parts). record { events = events; at = new.at }) (append-nil fed.handed.given ∙ sym fed.handed.gained);
-      rests = all.0;
-      answer = all.1;
-    }
-
-    by_piece : FeedsPiece old piece [] new gained result ⊎ ((result ≡ Err chains.NoMemory) × DoesNothing old [] new gained) → IsWalked old new piece gained result
-    by_piece (inl fed) = by_answer fed fed.answer
-    by_piece (inr none) = absurd (other none.0)
-
--- where the state is no fault
-sound_at : (at : Point) (watched : Watched) → Ok watched ≡ state at → IsSound at
-sound_at (unclosed signature passed left) watched is = tt
-sound_at (closed passed) watched is = tt
-sound_at (failed told) watched is = cc
-
--- where it is one
-failed_at : (at : Point) (told : ChainFault) → Err told ≡ state at → at ≡ failed told
-failed_at (unclosed signature passed left) told is = cc
-failed_at (closed passed) told is = cc
-failed_at (failed found) told is = ap (λ (r : Result Watched ChainFault). failed (fault_in told r)) (sym is)
-
--- what waited is walked
-waiting_walk : (old : Progress) → walk_with old [] ≡ walk old.watch.signer old.watch.at old.waiting.items
-waiting_walk old = ap (walk old.watch.signer old.watch.at) (append-nil old.waiting.items)
-
--- what waited was fed
-module _ (old new : Progress) (gained : List Parts) (fit : IsFit old) (none : new.waiting.items ≡ []) (shown : new.shown ≡ old.shown) where
-  feeds_waiting : (result : Result Watched ChainFault) (fault : Option ChainFault) → Feeds old.watch old.waiting.items [] new.watch gained result → (result ≡ Err chains.NoMemory → ⊥)
-      → (IsWalked old.watch new.watch old.waiting.items gained result → StandsAt new.watch fault) → WalksWaiting old new gained fault
-  feeds_waiting result fault feeds other stands =
-      let piece = walked_piece old.watch new.watch old.waiting.items gained result fit.current feeds other in
-      record { fed = piece.fed; signer = piece.signer; none = none; shown = shown; walked = waiting_walk old ∙ piece.walked; stands = stands piece }
-
-  pub feeds_sound : (watched : Watched) → Feeds old.watch old.waiting.items [] new.watch gained (Ok watched) → WalksWaiting old new gained None
-  feeds_sound watched feeds =
-      feeds_waiting (Ok watched) None feeds (λ e. cc) (λ piece. record { walked = piece.rests; sound = sound_at new.watch.at watched piece.answer })
-
-  pub feeds_faulty : (told : ChainFault) → Feeds old.watch old.waiting.items [] new.watch gained (Err told) → (told ≡ chains.NoMemory → ⊥) → WalksWaiting old new gained (Some told)
-  feeds_faulty told feeds other =
-      feeds_waiting (Err told) (Some told) feeds (λ is. other (ap (fault_in told) is)) (λ piece. failed_at new.watch.at told piece.answer)
-
 -- the events of what waited have frames
 pub waiting_framed : (old new : Progress) (events : List Parts) (fault : Option ChainFault) → WalksWaiting old new events fault → AreFramed events
 waiting_framed old new events fault walks =
     walk_framed old.watch.signer old.watch.at (old.waiting.items ++ []) events (stays new.watch.at) (walks.walked ∙ ap (λ (events : List Parts). record { events = events; at = new.watch.at }) (sym (append-nil events)))
-
--- the lines of the events were written
-pub shows_all : (old mid new : Progress) (events : List Parts) (before now : Option (List ℕ)) → WalksWaiting old mid events None → new.watch ≡ mid.watch → new.waiting.items ≡ mid.waiting.items
-    → new.shown ≡ mid.shown + length events → Gains before now (event_lines events) → ShowsAll old new before now
-shows_all old mid new events before now walks watch waiting shown gains =
-    let none : new.waiting.items ≡ [] = waiting ∙ walks.none in
-    let rest : walk_with new [] ≡ stays new.watch.at =
-    ap (λ (bytes : List ℕ). walk new.watch.signer new.watch.at (bytes ++ [])) none ∙ subst (λ (w : Watching). unwalked w ≡ stays w.at) (sym watch) walks.stands.walked in
-    record {
-      advances = record {
-        signer = ap (λ (w : Watching). w.signer) watch ∙ walks.signer;
-        counted = omega (arith, ap (λ (w : Watching). w.fed) watch, walks.fed, ap length none);
-        events = events;
-        walked =
-            walks.walked ∙ ap (λ (w : Watching). record { events = events; at = w.at }) (sym watch)
-            ∙ ap (λ (all : List Parts). record { events = all; at = new.watch.at }) (sym (append-nil events)) ∙ ap (walk_onto events) (sym rest);
-        shown = omega (arith, shown, walks.shown);
-        gains = gains;
-      };
-      none = none;
-    }
 
 pub fit_shown : (old mid new : Progress) (events : List Parts) → IsFit old → WalksWaiting old mid events None → new.watch ≡ mid.watch → new.waiting.items ≡ mid.waiting.items → new.shown ≡ mid.shown + length events → IsFit new
 fit_shown old mid new events fit walks watch waiting shown =
@@ -398,28 +284,17 @@ fit_shown old mid new events fit walks watch waiting shown =
       current = subst IsCurrent (sym watch) walks.stands;
     }
 
--- as many events were written as bytes were fed at most
-pub few_events : (old mid : Progress) (events : List Parts) (fault : Option ChainFault) → IsFit old → WalksWaiting old mid events fault → mid.shown + length events ≤ most_input
-few_events old mid events fault fit walks =
-    let takes = walk_takes old.watch.signer old.watch.at (old.waiting.items ++ []) in
-    omega (arith, walks.shown, fit.few, fit.short, takes, length-append old.waiting.items [], ap (λ (w : Walk). length w.events) walks.walked)
-
--- what waited holds a fault, and the lines of the events before it were written
-pub stops_faulty : (old mid : Progress) (events : List Parts) (told : ChainFault) (before now : Option (List ℕ)) → WalksWaiting old mid events (Some told) → Gains before now (event_lines events)
-    → StopsShowing (walk_with old []) (check_failed (checks.Chain told)) before now
-stops_faulty old mid events told before now walks gains =
-    (ap (λ (w : Walk). w.at) walks.walked ∙ walks.stands, subst (λ (w : Walk). Gains before now (event_lines w.events)) (sym walks.walked) gains)
-
 -- the lines weren't all written
 pub stops_unwritten : (old mid : Progress) (events : List Parts) (fault : Option ChainFault) (before now : Option (List ℕ)) (told : StreamFault) → WalksWaiting old mid events fault
-    → Halts None (event_lines events) before now (halt_of told) → StopsShowing (walk_with old []) (halted (halt_of told)) before now
+    → Halts None (event_lines events) before now (stream_ending told) → StopsShowing (walk_with old []) (stream_ending told) before now
 stops_unwritten old mid events fault before now told walks halts =
-    subst (λ (w : Walk). StopsShowing w (halted (halt_of told)) before now) (sym walks.walked) (by_halt (halt_of told) halts)
+    subst (λ (w : Walk). StopsShowing w (stream_ending told) before now) (sym walks.walked) (by_halt (stream_ending told) halts)
   where
-    by_halt : (halt : Halt) → Halts None (event_lines events) before now halt → StopsShowing (record { events = events; at = mid.watch.at }) (halted halt) before now
-    by_halt (refuses fault) halts = let wrong : None ≡ Some fault = halts.0 in cc
-    by_halt fails halts = halts
-    by_halt wants halts = halts
+    by_halt : (halt : Ending) → Halts None (event_lines events) before now halt → StopsShowing (record { events = events; at = mid.watch.at }) halt before now
+    by_halt (refused fault) halts = let wrong : None ≡ Some fault = halts.0 in cc
+    by_halt output_fault halts = halts
+    by_halt no_memory halts = halts
+    by_halt other halts = absurd halts
 
 -- memory ran out before a line was written
 pub stops_early : (walked : Walk) (held : Option (List ℕ)) → StopsShowing walked no_memory held held
@@ -430,15 +305,7 @@ stops_early walked held = prefix_at_start held (event_lines walked.events)
 -- a walk that stops showing is no reason to read no more
 stops_taking : (old : Progress) (piece : List ℕ) (answer : Ending) (before now : Option (List ℕ)) → StopsShowing (walk_with old (take (room_of old) piece)) answer before now → StopsTaking old piece answer before now
 stops_taking old piece job_too_large before now stops = absurd stops
-stops_taking old piece (check_failed fault) before now stops = stops
-stops_taking old piece output_fault before now stops = stops
-stops_taking old piece no_memory before now stops = stops
-stops_taking old piece done before now stops = stops
-stops_taking old piece (bad_words place) before now stops = stops
-stops_taking old piece (bad_job place) before now stops = stops
-stops_taking old piece read_fault before now stops = stops
-stops_taking old piece (could_not_read_file path) before now stops = stops
-stops_taking old piece (refused fault) before now stops = stops
+stops_taking old piece other before now stops = stops
 
 -- there was no room for it
 pub stops_roomless : (old : Progress) (piece : List ℕ) (held : Option (List ℕ)) → StopsTaking old piece no_memory held held
@@ -480,10 +347,6 @@ reads_stopped start mid taken piece all left a b c answer begins fit reached cut
 pub reads_failed : (start mid : Progress) (taken : List ℕ) (all left a b : Option (List ℕ)) → IsUnfed start → IsFit mid → IsIdle mid → Advances start taken mid a b → IsCutOf all taken left → ReadsSome start all left read_fault a b
 reads_failed start mid taken all left a b begins fit idle reached cut =
     record { taken = taken; cut = cut; ends = ends_failed start mid taken left a b begins fit idle reached }
-
--- there is less room than before
-pub less_room : (old new : Progress) (piece : List ℕ) (before now : Option (List ℕ)) → IsFit new → 0 < length piece → Advances old piece new before now → room_of new < room_of old
-less_room old new piece before now fit some reached = omega (arith, reached.counted, fit.short, some)
 
 -- a read of no bytes leaves what was read
 pub no_more : (all : Option (List ℕ)) (taken : List ℕ) (n : ℕ) (into : List ℕ) (left : Option (List ℕ)) → n ≡ 0 → IsCutOf all (taken ++ take n into) left → IsCutOf all taken left

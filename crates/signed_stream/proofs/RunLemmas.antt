@@ -19,7 +19,7 @@ use Rattle.env_config.specs.Files.{Place}
 use Rattle.sigv4.specs.Request.{Case}
 use Rattle.sigv4.specs.Signed.{signature_of}
 use Rattle.signed_stream.specs.declared.form.Form.{Form}
-use Rattle.signed_stream.specs.Carriers.{GoesForBytes, GoesForInput, GoesForJob, GoesForRecord, GoesForTexts, IsAfterInput}
+use Rattle.signed_stream.specs.Carriers.{GoesForBytes, GoesForInput, GoesForJob, IsAfterInput}
 use Rattle.signed_stream.specs.Case.{job_case, request_moment}
 use Rattle.signed_stream.specs.Chain.{Refusal, fault_at, first_refusal, outside_years, refusal_at, unframed_at, unlinked}
 use Rattle.signed_stream.specs.CheckRecord.{GaveRecord, check_plan, check_signer, checked_plan, sealed_plan, shown_events}
@@ -41,7 +41,7 @@ use Rattle.signed_stream.specs.ShowSettings.{GaveTexts, settings_plan, shown_pla
 use Rattle.signed_stream.specs.Shown.{shown_settings}
 use Rattle.signed_stream.specs.Sign.{case_fault}
 use Rattle.signed_stream.specs.Sources.{selection, when_selected}
-use Rattle.signed_stream.specs.Status.{Ending, RunFault, bad_job, bad_words, check_failed, could_not_read_file, done, header_value_too_long, headers_too_long, invalid_header_name_length, job_too_large, message_too_long, moment_out_of_range, no_memory, output_fault, payload_too_long, read_fault, refused, timestamp_value_too_large}
+use Rattle.signed_stream.specs.Status.{Ending, RunFault, bad_job, bad_words, done, header_value_too_long, headers_too_long, invalid_header_name_length, job_too_large, message_too_long, moment_out_of_range, no_memory, output_fault, payload_too_long, read_fault, refused, timestamp_value_too_large}
 use Rattle.signed_stream.specs.Stream.{GaveReading, case_plan, job_plan, request_plan, selected_plan, target_plan}
 use Rattle.signed_stream.specs.Written.{case_refusal, written_end, written_until}
 
@@ -73,12 +73,7 @@ keeps_same late done before now same = tt
 keeps_same late output_fault before now same = tt
 keeps_same late no_memory before now same = tt
 keeps_same late (refused fault) before now same = unless (late fault) _ same
-keeps_same late (bad_words place) before now same = same
-keeps_same late job_too_large before now same = same
-keeps_same late (bad_job place) before now same = same
-keeps_same late read_fault before now same = same
-keeps_same late (check_failed fault) before now same = same
-keeps_same late (could_not_read_file path) before now same = same
+keeps_same late other before now same = same
 
 -- the faults of frames
 abbrev pub IsOfFrame : RunFault → Type 0
@@ -216,12 +211,7 @@ keeps_later false (refused fault) before now keeps = by_fault fault keeps
 keeps_later false done before now keeps = tt
 keeps_later false output_fault before now keeps = tt
 keeps_later false no_memory before now keeps = tt
-keeps_later false (bad_words place) before now keeps = keeps
-keeps_later false job_too_large before now keeps = keeps
-keeps_later false (bad_job place) before now keeps = keeps
-keeps_later false read_fault before now keeps = keeps
-keeps_later false (check_failed fault) before now keeps = keeps
-keeps_later false (could_not_read_file path) before now keeps = keeps
+keeps_later false other before now keeps = keeps
 
 module _ (gave : List Place → FilesRead → Type 0) (clock : List Instant → Type 0) where
   keeps_selected : (wanted : Wanted) (j : JobParts) (target : TargetRead) (answer : Ending) (before now : Option (List ℕ)) (moments : List Instant) → OfClock clock wanted.at moments
@@ -317,12 +307,8 @@ unasked_at clock unasked (Some at) = (refl, unasked)
 module _ (gave : List Place → FilesRead → Type 0) (free : (places : List Place) → gave places unloaded) (clock : List Instant → Type 0) (unasked : clock []) where
   -- no moment is taken
   takes_none : (command : Command) → TakesMoments clock command []
-  takes_none (bad_word place) = (refl, unasked)
-  takes_none (show_settings wanted) = (refl, unasked)
-  takes_none (generate seed count) = (refl, unasked)
-  takes_none (check_record wanted) = (refl, unasked)
-  takes_none (write_chunks wanted) = (refl, unasked)
   takes_none (stream wanted) = unasked_at clock unasked wanted.at
+  takes_none other = (refl, unasked)
 
   -- an outside that has given nothing, which is always so
   gave_nothing : (env : List (List ℕ × List ℕ)) (command : Command) (bytes : List ℕ) → Gave gave env command bytes nothing_given
@@ -345,79 +331,26 @@ module _ (gave : List Place → FilesRead → Type 0) (free : (places : List Pla
       by_reading (Ok texts) = free _
       by_reading (Err place) = tt
 
-  pub bytes_no_memory : (env : List (List ℕ × List ℕ)) (command : Command) (bytes : List ℕ) (held : Option (List ℕ)) → GoesForBytes gave clock env command bytes no_memory held held
-  bytes_no_memory env command bytes held = record {
-    given = nothing_given;
-    found = gave_nothing env command bytes;
+  -- as planned for a command that takes no moment
+  pub bytes_go : (env : List (List ℕ × List ℕ)) (command : Command) (bytes : List ℕ) (given : Supplied) (answer : Ending) (before now : Option (List ℕ)) → Gave gave env command bytes (record given { moments = [] })
+      → GoesAsPlanned (read_plan env command bytes (record given { moments = [] })) answer before now → GoesForBytes gave clock env command bytes answer before now
+  bytes_go env command bytes given answer before now found goes = record {
+    given = record given { moments = [] };
+    found = found;
     moments = takes_none command;
-    goes = goes_no_memory (read_plan env command bytes nothing_given) held;
-    needed = λ front t rest is. absurd (no_moment front t rest is);
-  }
-
-  -- a bad line of a job, or of profile texts
-  pub job_is_bad : (env : List (List ℕ × List ℕ)) (wanted : Wanted) (bytes : List ℕ) (place : ℕ) (held : Option (List ℕ)) → job bytes ≡ Err place
-      → GoesForBytes gave clock env (stream wanted) bytes (bad_job place) held held
-  job_is_bad env wanted bytes place held is = record {
-    given = nothing_given;
-    found = rw is tt;
-    moments = takes_none (stream wanted);
-    goes = rw is (goes_stopped (bad_job place) held);
-    needed = λ front t rest is. absurd (no_moment front t rest is);
-  }
-
-  pub texts_are_bad : (env : List (List ℕ × List ℕ)) (wanted : ProfileWanted) (bytes : List ℕ) (place : ℕ) (held : Option (List ℕ)) → profile_texts bytes ≡ Err place
-      → GoesForBytes gave clock env (show_settings wanted) bytes (bad_job place) held held
-  texts_are_bad env wanted bytes place held is = record {
-    given = nothing_given;
-    found = rw is tt;
-    moments = (refl, unasked);
-    goes = rw is (goes_stopped (bad_job place) held);
-    needed = λ front t rest is. absurd (no_moment front t rest is);
-  }
-
-  -- as planned for texts that were read
-  pub texts_were_read : (env : List (List ℕ × List ℕ)) (wanted : ProfileWanted) (bytes : List ℕ) (texts : ProfileTexts) (answer : Ending) (before now : Option (List ℕ)) → profile_texts bytes ≡ Ok texts
-      → GoesForTexts gave env wanted texts answer before now → GoesForBytes gave clock env (show_settings wanted) bytes answer before now
-  texts_were_read env wanted bytes texts answer before now is goes = record {
-    given = record goes.0 { moments = [] };
-    found = rw is goes.1;
-    moments = (refl, unasked);
-    goes = rw is goes.2;
-    needed = λ front t rest is. absurd (no_moment front t rest is);
-  }
-
-  -- as planned for an input that is no record
-  pub record_is_bad : (env : List (List ℕ × List ℕ)) (wanted : CheckWanted) (bytes : List ℕ) (place : ℕ) (held : Option (List ℕ)) → spelled_record bytes ≡ Err place
-      → GoesForBytes gave clock env (check_record wanted) bytes (bad_job place) held held
-  record_is_bad env wanted bytes place held is = record {
-    given = nothing_given;
-    found = rw is tt;
-    moments = (refl, unasked);
-    goes = rw is (goes_stopped (bad_job place) held);
-    needed = λ front t rest is. absurd (no_moment front t rest is);
-  }
-
-  -- as planned for a record that was read
-  pub record_was_read : (env : List (List ℕ × List ℕ)) (wanted : CheckWanted) (bytes : List ℕ) (parts : RecordParts) (answer : Ending) (before now : Option (List ℕ)) → spelled_record bytes ≡ Ok parts
-      → GoesForRecord gave env wanted parts answer before now → GoesForBytes gave clock env (check_record wanted) bytes answer before now
-  record_was_read env wanted bytes parts answer before now is goes = record {
-    given = record goes.0 { moments = [] };
-    found = rw is (record { files = goes.1.files; seal = goes.1.seal });
-    moments = (refl, unasked);
-    goes = rw is goes.2;
-    needed = λ front t rest is. absurd (no_moment front t rest is);
-  }
-
-  -- as planned for an input that is written in chunks
-  pub chunks_written : (env : List (List ℕ × List ℕ)) (wanted : ChunkWanted) (bytes : List ℕ) (answer : Ending) (before now : Option (List ℕ)) → GoesAsPlanned (chunk_plan wanted bytes) answer before now
-      → GoesForBytes gave clock env (write_chunks wanted) bytes answer before now
-  chunks_written env wanted bytes answer before now goes = record {
-    given = nothing_given;
-    found = tt;
-    moments = (refl, unasked);
     goes = goes;
     needed = λ front t rest is. absurd (no_moment front t rest is);
   }
+
+  pub bytes_no_memory : (env : List (List ℕ × List ℕ)) (command : Command) (bytes : List ℕ) (held : Option (List ℕ)) → GoesForBytes gave clock env command bytes no_memory held held
+  bytes_no_memory env command bytes held =
+      bytes_go env command bytes nothing_given no_memory held held (gave_nothing env command bytes) (goes_no_memory (read_plan env command bytes nothing_given) held)
+
+  -- an input with a bad line
+  pub bytes_are_bad : (env : List (List ℕ × List ℕ)) (command : Command) (bytes : List ℕ) (place : ℕ) (held : Option (List ℕ)) → read_plan env command bytes nothing_given ≡ stops (bad_job place)
+      → GoesForBytes gave clock env command bytes (bad_job place) held held
+  bytes_are_bad env command bytes place held is =
+      bytes_go env command bytes nothing_given (bad_job place) held held (gave_nothing env command bytes) (rw is (goes_stopped (bad_job place) held))
 
 -- ## The input
 
@@ -440,11 +373,8 @@ plan_of_read env command bytes given short = by_command command
 
     by_command : (command : Command) → command_plan env command bytes given ≡ read_plan env command bytes given
     by_command (bad_word place) = refl
-    by_command (stream wanted) = rw within refl
-    by_command (show_settings wanted) = rw within refl
     by_command (generate seed count) = refl
-    by_command (check_record wanted) = rw within refl
-    by_command (write_chunks wanted) = rw within refl
+    by_command other = rw within refl
 
 -- an answer as planned for its bytes goes as planned for an input that was read to its end
 pub read_runs : (gave : List Place → FilesRead → Type 0) (clock : List Instant → Type 0) (env : List (List ℕ × List ℕ)) (command : Command) (left : Option (List ℕ)) (read : List ℕ) (answer : Ending) (before now : Option (List ℕ))
@@ -481,10 +411,7 @@ plan_too_large env command (Some told_bytes) bytes given is long told = by_comma
     by_command : (command : Command) → reads_input command ≡ true → command_plan env command bytes given ≡ stops job_too_large
     by_command (bad_word place) is = cc
     by_command (generate seed count) is = cc
-    by_command (check_record wanted) is = rw large refl
-    by_command (write_chunks wanted) is = rw large refl
-    by_command (stream wanted) is = rw large refl
-    by_command (show_settings wanted) is = rw large refl
+    by_command other is = rw large refl
 
 module _ (gave : List Place → FilesRead → Type 0) (free : (places : List Place) → gave places unloaded) (clock : List Instant → Type 0) (unasked : clock []) where
   -- with nothing given
@@ -536,19 +463,7 @@ module _ (gave : List Place → FilesRead → Type 0) (free : (places : List Pla
 
 pub holds_untouched : (command : Command) (P : Type 0) → P → UnlessCommand command P
 holds_untouched (bad_word place) P holds = holds
-holds_untouched (stream wanted) P holds = tt
-holds_untouched (show_settings wanted) P holds = tt
-holds_untouched (generate seed count) P holds = tt
-holds_untouched (check_record wanted) P holds = tt
-holds_untouched (write_chunks wanted) P holds = tt
-
-pub command_touches : (command : Command) (P : Type 0) → reads_input command ≡ true → UnlessCommand command P
-command_touches (bad_word place) P is = cc
-command_touches (stream wanted) P is = tt
-command_touches (show_settings wanted) P is = tt
-command_touches (generate seed count) P is = cc
-command_touches (check_record wanted) P is = tt
-command_touches (write_chunks wanted) P is = tt
+holds_untouched other P holds = tt
 
 -- what holds in any case
 pub holds_unless : (test : Bool) (P : Type 0) → P → Unless test P
@@ -558,9 +473,6 @@ pub holds_when : (test : Bool) (P : Type 0) → P → When test P
 holds_when true P holds = holds
 holds_when false P holds = tt
 
-pub reads_touched : (command : Command) (P : Type 0) → reads_input command ≡ true → Unless (reads_input command) P
-reads_touched command P is = rw is tt
-
 -- an input that isn't read
 pub unread_rest : (left : Option (List ℕ)) → IsRestOf left left
 unread_rest left = ([], cut_at_start left)
@@ -568,43 +480,24 @@ unread_rest left = ([], cut_at_start left)
 -- running out of memory ends every run
 pub asked_no_memory : (command : Command) → EndsAsAsked command no_memory
 asked_no_memory (bad_word place) = inr refl
-asked_no_memory (stream wanted) = tt
-asked_no_memory (show_settings wanted) = tt
-asked_no_memory (generate seed count) = tt
-asked_no_memory (check_record wanted) = tt
-asked_no_memory (write_chunks wanted) = tt
+asked_no_memory other = tt
 
 pub of_command : (command : Command) (end : Ending) → reads_input command ≡ true → IsOfCommand end → EndsAsAsked command end
 of_command (bad_word place) end is of = cc
-of_command (stream wanted) end is of = of
-of_command (show_settings wanted) end is of = of
 of_command (generate seed count) end is of = cc
-of_command (check_record wanted) end is of = of
-of_command (write_chunks wanted) end is of = of
+of_command other end is of = of
 
 pub after_input : (end : Ending) → IsAfterInput end → IsOfCommand end
-after_input done of = tt
-after_input (bad_job place) of = tt
-after_input (could_not_read_file path) of = tt
-after_input (refused fault) of = tt
-after_input (check_failed fault) of = tt
-after_input output_fault of = tt
-after_input no_memory of = tt
 after_input (bad_words place) of = absurd of
 after_input job_too_large of = absurd of
 after_input read_fault of = absurd of
+after_input other of = tt
 
 -- a run that only writes ends after its input
 pub after_output : (end : Ending) → IsOfOutput end → IsAfterInput end
 after_output done of = tt
 after_output output_fault of = tt
 after_output no_memory of = tt
-after_output (bad_words place) of = absurd of
-after_output job_too_large of = absurd of
-after_output (bad_job place) of = absurd of
-after_output read_fault of = absurd of
-after_output (could_not_read_file path) of = absurd of
-after_output (refused fault) of = absurd of
-after_output (check_failed fault) of = absurd of
+after_output other of = absurd of
 
 pub ruleset words_of_runs = (keeps_same, holds_untouched, holds_unless, holds_when, unread_rest, asked_no_memory)

@@ -1,12 +1,12 @@
 -- A run that says how it ended: the end stays, or that memory ran out takes its place.
-use Rattle.std.proofs.Common.{◌≡◌, ℕ, ◌≤◌, ◌⊎◌, inl, inr, Bool, true, false, List, Option, refl, sym, ◌∙◌}
-use Rattle.smithy_core.specs.Outside.{RoseOrStands}
+use Rattle.std.proofs.Common.{◌≡◌, ℕ, ◌⊎◌, inl, inr, Bool, true, false, List, Option, refl, sym, ◌∙◌}
 use Rattle.smithy_core.proofs.GainLemmas.{prefix_at_start, prefix_from_whole}
 use Rattle.env_config.specs.Files.{Place}
 use Rattle.signed_stream.specs.Command.{Command}
+use Rattle.signed_stream.specs.Counts.{CountsFault}
 use Rattle.signed_stream.specs.Plan.{FilesRead, GainsAsPlanned, GoesAsPlanned, Plan, Supplied, stops, writes}
-use Rattle.signed_stream.specs.Running.{CountsReads, CountsWrites, EndsAsAsked, KeepsDisk, KeepsOutput, RunsAsPlanned, When, command_plan}
-use Rattle.signed_stream.specs.Status.{Ending, RunFault, bad_job, bad_words, check_failed, could_not_read_file, done, job_too_large, no_memory, output_fault, read_fault, refused}
+use Rattle.signed_stream.specs.Running.{CountsReads, CountsWrites, EndsAsAsked, KeepsOutput, RunsAsPlanned, When, command_plan}
+use Rattle.signed_stream.specs.Status.{Ending, RunFault, done, no_memory, output_fault, read_fault, refused}
 use Rattle.signed_stream.proofs.RunLemmas.{asked_no_memory, goes_no_memory}
 
 -- the answer is the end, or that memory ran out
@@ -24,12 +24,7 @@ cut_short (writes text whole) done before now gains = prefix_from_whole before n
 cut_short (writes text whole) (refused told) before now gains = prefix_from_whole before now text gains
 cut_short (writes text whole) output_fault before now gains = gains
 cut_short (writes text whole) no_memory before now gains = gains
-cut_short (writes text whole) (bad_words place) before now gains = rw gains (prefix_at_start before text)
-cut_short (writes text whole) job_too_large before now gains = rw gains (prefix_at_start before text)
-cut_short (writes text whole) (bad_job place) before now gains = rw gains (prefix_at_start before text)
-cut_short (writes text whole) read_fault before now gains = rw gains (prefix_at_start before text)
-cut_short (writes text whole) (check_failed fault) before now gains = rw gains (prefix_at_start before text)
-cut_short (writes text whole) (could_not_read_file path) before now gains = rw gains (prefix_at_start before text)
+cut_short (writes text whole) other before now gains = rw gains (prefix_at_start before text)
 
 -- a run whose end is said goes as it did
 pub said_goes : (plan : Plan) (end answer : Ending) (before now : Option (List ℕ)) → GoesAsPlanned plan end before now → IsSaid end answer → GoesAsPlanned plan answer before now
@@ -46,10 +41,6 @@ pub said_keeps : (late : RunFault → Bool) (end answer : Ending) (before now : 
 said_keeps late end answer before now keeps (inl is) = rw is keeps
 said_keeps late end answer before now keeps (inr is) = rw is tt
 
-pub said_disk : {D : Type 0} (end answer : Ending) (before now : D) → KeepsDisk end before now → IsSaid end answer → KeepsDisk answer before now
-said_disk end answer before now keeps (inl is) = rw is keeps
-said_disk end answer before now keeps (inr is) = rw is tt
-
 -- an answer other than that memory ran out is the end itself
 pub said_is : (end answer told : Ending) → IsSaid end answer → answer ≡ told → (told ≡ no_memory → ⊥) → end ≡ told
 said_is end answer told (inl is) reached other = sym is ∙ reached
@@ -62,34 +53,20 @@ said_when false end answer P ends said = tt
 
 -- ## The counts
 
-pub said_reads : (end answer : Ending) (before now : ℕ) → IsSaid end answer → before ≤ now → (end ≡ read_fault → RoseOrStands before now) → ((end ≡ read_fault → ⊥) → now ≡ before) → CountsReads answer before now
-said_reads end answer before now (inl is) grew rose stayed = rw is (by_end end rose stayed)
+pub said_reads : (end answer : Ending) (before now : ℕ) → IsSaid end answer → CountsFault (end ≡ read_fault) before now → CountsReads answer before now
+said_reads end answer before now (inl is) counts = rw is (by_end end counts)
   where
-    by_end : (end : Ending) → (end ≡ read_fault → RoseOrStands before now) → ((end ≡ read_fault → ⊥) → now ≡ before) → CountsReads end before now
-    by_end read_fault rose stayed = rose refl
-    by_end no_memory rose stayed = grew
-    by_end done rose stayed = stayed (λ e. cc)
-    by_end (bad_words place) rose stayed = stayed (λ e. cc)
-    by_end job_too_large rose stayed = stayed (λ e. cc)
-    by_end (bad_job place) rose stayed = stayed (λ e. cc)
-    by_end (refused fault) rose stayed = stayed (λ e. cc)
-    by_end (check_failed fault) rose stayed = stayed (λ e. cc)
-    by_end output_fault rose stayed = stayed (λ e. cc)
-    by_end (could_not_read_file path) rose stayed = stayed (λ e. cc)
-said_reads end answer before now (inr is) grew rose stayed = rw is grew
+    by_end : (end : Ending) → CountsFault (end ≡ read_fault) before now → CountsReads end before now
+    by_end read_fault counts = counts.rose refl
+    by_end no_memory counts = counts.grew
+    by_end other counts = counts.stayed (λ e. cc)
+said_reads end answer before now (inr is) counts = rw is counts.grew
 
-pub said_writes : (end answer : Ending) (before now : ℕ) → IsSaid end answer → before ≤ now → (end ≡ output_fault → RoseOrStands before now) → ((end ≡ output_fault → ⊥) → now ≡ before) → CountsWrites answer before now
-said_writes end answer before now (inl is) grew rose stayed = rw is (by_end end rose stayed)
+pub said_writes : (end answer : Ending) (before now : ℕ) → IsSaid end answer → CountsFault (end ≡ output_fault) before now → CountsWrites answer before now
+said_writes end answer before now (inl is) counts = rw is (by_end end counts)
   where
-    by_end : (end : Ending) → (end ≡ output_fault → RoseOrStands before now) → ((end ≡ output_fault → ⊥) → now ≡ before) → CountsWrites end before now
-    by_end output_fault rose stayed = rose refl
-    by_end no_memory rose stayed = grew
-    by_end done rose stayed = stayed (λ e. cc)
-    by_end (bad_words place) rose stayed = stayed (λ e. cc)
-    by_end job_too_large rose stayed = stayed (λ e. cc)
-    by_end (bad_job place) rose stayed = stayed (λ e. cc)
-    by_end read_fault rose stayed = stayed (λ e. cc)
-    by_end (refused fault) rose stayed = stayed (λ e. cc)
-    by_end (check_failed fault) rose stayed = stayed (λ e. cc)
-    by_end (could_not_read_file path) rose stayed = stayed (λ e. cc)
-said_writes end answer before now (inr is) grew rose stayed = rw is grew
+    by_end : (end : Ending) → CountsFault (end ≡ output_fault) before now → CountsWrites end before now
+    by_end output_fault counts = counts.rose refl
+    by_end no_memory counts = counts.grew
+    by_end other counts = counts.stayed (λ e. cc)
+said_writes end answer before now (inr is) counts = rw is counts.grew

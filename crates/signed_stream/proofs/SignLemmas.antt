@@ -37,9 +37,8 @@ use Rattle.smithy_core.specs.Identity.{IsCredentials, IsSameIdentity, secret_of}
 use Rattle.signed_stream.specs.Chain.{outside_years}
 use Rattle.signed_stream.specs.Command.{Wanted}
 use Rattle.signed_stream.specs.Plan.{TargetSpells, TargetRead, accepted, unaccepted, unread}
-use Rattle.signed_stream.specs.Halt.{Halt, fails, refuses, wants}
-use Rattle.signed_stream.specs.Sign.{GivesName, IsRequestError, SealsFor, SignsJob, Unsigned, case_fault, error_halt, run_fault_for, identity_case, request_fault, unsigned}
-use Rattle.signed_stream.specs.Status.{moment_out_of_range}
+use Rattle.signed_stream.specs.Sign.{GivesName, IsRequestError, SealsFor, SignsJob, Unsigned, case_fault, error_ending, run_fault_for, identity_case, request_fault, unsigned}
+use Rattle.signed_stream.specs.Status.{Ending, moment_out_of_range, no_memory, refused}
 use Rattle.signed_stream.proofs.TestLemmas.{IsPartError, IsTestError, unsigned_test}
 
 -- what is chosen by what was wanted, for a region
@@ -74,7 +73,7 @@ passed_fault false t error none = cc
 
 -- the error of a request that isn't signed for this fault, and how it halts
 abbrev pub TellsFault : List ℕ → Instant → (Target → Case) → SigV4SigningError → Type 0
-TellsFault text at case error = IsRequestError error × Unsigned text at case (error_halt error)
+TellsFault text at case error = IsRequestError error × Unsigned text at case (error_ending error)
 
 part_error : (error : SigningError) → IsPartError error → IsRequestError (auth.Signing error)
 part_error (errors.InvalidHeaderName place) test = tt
@@ -106,7 +105,7 @@ target_told text at case error None years reads is =
 target_told text at case error (Some target) years reads is = by_error (unsigned (case target)) refl is
   where
     by_error : (found : Option SigningError) → unsigned (case target) ≡ found → option_map auth.Signing found ≡ Some error
-        → IsRequestError error × Unsigned text at case (error_halt error)
+        → IsRequestError error × Unsigned text at case (error_ending error)
     by_error None found is = cc
     by_error (Some inner) found is =
         let same : error ≡ auth.Signing inner = cc in
@@ -201,11 +200,11 @@ module _ (request copy : HttpRequest) (identity : Identity) (region : List ℕ) 
       )
 
   -- a request that isn't
-  pub unsigned_as_asked : (halt : Halt) → Unsigned (string_bytes copy.target) (request_moment asked first) (identity_case copy identity region asked first) halt
+  pub unsigned_as_asked : (halt : Ending) → Unsigned (string_bytes copy.target) (request_moment asked first) (identity_case copy identity region asked first) halt
       → Unsigned (string_bytes request.target) (request_moment wanted first) (identity_case request identity region wanted first) halt
-  unsigned_as_asked (refuses told) (t, spells, refused) = (t, rw target at spells, sym (fault_is t) ∙ refused)
-  unsigned_as_asked fails wrong = wrong
-  unsigned_as_asked wants free = tt
+  unsigned_as_asked (refused told) (t, spells, stopped) = (t, rw target at spells, sym (fault_is t) ∙ stopped)
+  unsigned_as_asked no_memory free = tt
+  unsigned_as_asked other wrong = absurd wrong
 
 module _ {F : Type 0} (calls : Shared F (Bor SigningSettings × (Bor SigV4OperationSigningConfig × Unit {0})) NameAnswer) (closure : F)
     (identity : Identity) (inputs : SigningInputs) (wanted : Wanted) (region : List ℕ) (first : Instant) (old : HttpRequest) (asks : AsksFor identity inputs wanted region first)
@@ -230,19 +229,19 @@ module _ {F : Type 0} (calls : Shared F (Bor SigningSettings × (Bor SigV4Operat
   pub refused_job : (new : HttpRequest) (error : SigV4SigningError) → SignsByInputs calls (Some closure) identity inputs first old new (Err error)
       → TellsFault (string_bytes old.target) (request_moment wanted first) (identity_case old identity region wanted first) error
   refused_job new error (inr is) = no_memory_told (string_bytes old.target) (request_moment wanted first) (identity_case old identity region wanted first) error is
-  refused_job new error (inl refused) =
-      by_answer refused.answer (gives (given_config inputs) refused.answer (refused.asked asks.before)) (refused.read asks.before) (rw asks.before at refused.refused)
+  refused_job new error (inl stopped) =
+      by_answer stopped.answer (gives (given_config inputs) stopped.answer (stopped.asked asks.before)) (stopped.read asks.before) (rw asks.before at stopped.refused)
     where
       by_years : (years : Bool) → is_in_years (request_moment wanted first) ≡ years
-          → (out_of_years (request_moment wanted first) ≡ None → SpellsAs (string_bytes old.target) refused.target)
-          → option_or (if years then None else Some (auth.Signing (errors.MomentOutOfRange (request_moment wanted first)))) (option_map auth.Signing (unsigned_target (identity_case old identity region wanted first) refused.target)) ≡ Some error
+          → (out_of_years (request_moment wanted first) ≡ None → SpellsAs (string_bytes old.target) stopped.target)
+          → option_or (if years then None else Some (auth.Signing (errors.MomentOutOfRange (request_moment wanted first)))) (option_map auth.Signing (unsigned_target (identity_case old identity region wanted first) stopped.target)) ≡ Some error
           → TellsFault (string_bytes old.target) (request_moment wanted first) (identity_case old identity region wanted first) error
       by_years false outside reads is = outside_told _ (request_moment wanted first) _ error outside (let same : error ≡ auth.Signing (errors.MomentOutOfRange (request_moment wanted first)) = cc in same)
-      by_years true within reads is = target_told _ (request_moment wanted first) _ error refused.target within (reads (rw within refl)) is
+      by_years true within reads is = target_told _ (request_moment wanted first) _ error stopped.target within (reads (rw within refl)) is
 
       by_answer : (answer : NameAnswer) → GivesName wanted.token_name answer
-          → (refusal_before_target (chosen inputs first) answer ≡ None → SpellsAs (string_bytes old.target) refused.target)
-          → option_or (refusal_before_target (chosen inputs first) answer) (option_map auth.Signing (unsigned_target (chosen_case old identity (chosen inputs first) (name_in answer)) refused.target)) ≡ Some error
+          → (refusal_before_target (chosen inputs first) answer ≡ None → SpellsAs (string_bytes old.target) stopped.target)
+          → option_or (refusal_before_target (chosen inputs first) answer) (option_map auth.Signing (unsigned_target (chosen_case old identity (chosen inputs first) (name_in answer)) stopped.target)) ≡ Some error
           → TellsFault (string_bytes old.target) (request_moment wanted first) (identity_case old identity region wanted first) error
       by_answer (Err e) is reads failed =
           let told : Some (override_error e) ≡ Some error = failed in

@@ -1,5 +1,5 @@
 -- The files that a run needs, and what they select.
-use Rattle.std.proofs.Common.{◌≡◌, ℕ, ◌+◌, ◌<◌, inl, inr, Bool, List, [], ◌∷◌, ◌++◌, length, map, take, get_or, Option, Some, None, refl, sym, ap, ◌∙◌, append_assoc, add-one}
+use Rattle.std.proofs.Common.{◌≡◌, ℕ, ◌+◌, ◌<◌, inl, inr, Bool, List, [], ◌∷◌, ◌++◌, length, map, take, get_or, Option, Some, None, refl, sym, ap, ◌∙◌, append_assoc, add-one, arith}
 use Rattle.std.proofs.Math.Seq.{take-suc}
 use Rattle.std.proofs.lemmas.List.{map-append}
 use Rattle.std.specs.Prelude.{Result, Ok, Err, string_bytes}
@@ -15,6 +15,7 @@ use Rattle.env_config.specs.declared.source.EnvConfigFileKind.{EnvConfigFileKind
 use Rattle.env_config.specs.declared.source.EnvConfigFileKind.TheVariants.{Config, Credentials}
 use Rattle.env_config.specs.declared.source.Source.{Source}
 use Rattle.signed_stream.specs.Carriers.{IsAfterTexts}
+use Rattle.signed_stream.specs.Counts.{CountsFault}
 use Rattle.signed_stream.specs.Plan.{FilesRead, loaded, unloaded, unreadable}
 use Rattle.signed_stream.specs.ProfileOptions.{place_of}
 use Rattle.job_text.specs.ProfileTexts.{ProfileTexts}
@@ -112,10 +113,8 @@ module _ {D : Type 0} (answers : D → List ℕ → Result (Vec ℕ) DiskError �
   pub settings_lack : (places : List Place) (service_id : Option (List ℕ)) (before now : D) (source : Source) (fault : SettingsFault) (end : Ending)
       → Loads answers reads tells env places before now (Ok source) → GivesSettings (settings (map file_of source.files.items) (string_bytes source.profile) env service_id) (Err fault)
       → end ≡ settings_ending fault → (files : FilesRead) × DiskGives answers reads tells env before now places files × (selection env service_id files ≡ Err (end))
-  settings_lack places service_id before now source (faults.ParseError error) end found gives ends = (loaded (map file_of source.files.items), found.0, rw (ends, ← found.1, gives) refl)
-  settings_lack places service_id before now source faults.MissingCredentials end found gives ends = (loaded (map file_of source.files.items), found.0, rw (ends, ← found.1, gives) refl)
-  settings_lack places service_id before now source faults.MissingSigningRegion end found gives ends = (loaded (map file_of source.files.items), found.0, rw (ends, ← found.1, gives) refl)
   settings_lack places service_id before now source faults.NoMemory end found gives ends = (unloaded, tt, rw ends refl)
+  settings_lack places service_id before now source other end found gives ends = (loaded (map file_of source.files.items), found.0, rw (ends, ← found.1, gives) refl)
 
   pub settings_select : (places : List Place) (service_id : Option (List ℕ)) (before now : D) (source : Source) (given : Settings)
       → Loads answers reads tells env places before now (Ok source) → settings (map file_of source.files.items) (string_bytes source.profile) env service_id ≡ Ok (selected_in given)
@@ -125,35 +124,25 @@ module _ {D : Type 0} (answers : D → List ℕ → Result (Vec ℕ) DiskError �
 -- files that aren't loaded end a run once its texts were read
 pub loads_after_texts : (fault : EnvConfigFileLoadError) → IsAfterTexts (load_ending fault)
 loads_after_texts (loads.ParseError error) = tt
-loads_after_texts (loads.CouldNotReadFile fault) = tt
-loads_after_texts loads.NoMemory = tt
-
--- the settings' own ends name no file
-pub settings_name_none : (fault : SettingsFault) (path : List ℕ) → settings_ending fault ≡ could_not_read_file path → ⊥
-settings_name_none (faults.ParseError error) path is = cc
-settings_name_none faults.MissingCredentials path is = cc
-settings_name_none faults.MissingSigningRegion path is = cc
-settings_name_none faults.NoMemory path is = cc
+loads_after_texts other = tt
 
 -- nothing selected ends a run once its texts were read
 pub selects_after_texts : (fault : SelectFault) → IsAfterTexts (selection_ending fault)
 selects_after_texts (selections.CouldNotReadFile path) = tt
-selects_after_texts (selections.ParseError error) = tt
-selects_after_texts selections.MissingCredentials = tt
-selects_after_texts selections.MissingSigningRegion = tt
-selects_after_texts selections.NoMemory = tt
+selects_after_texts other = tt
 
 -- it is neither a fault of the output nor one of the input
-pub selects_no_output : (fault : SelectFault) (end : Ending) → end ≡ selection_ending fault → end ≡ output_fault → ⊥
+selects_no_output : (fault : SelectFault) (end : Ending) → end ≡ selection_ending fault → end ≡ output_fault → ⊥
 selects_no_output (selections.CouldNotReadFile path) end ends is = let e = sym ends ∙ is in cc
-selects_no_output (selections.ParseError error) end ends is = let e = sym ends ∙ is in cc
-selects_no_output selections.MissingCredentials end ends is = let e = sym ends ∙ is in cc
-selects_no_output selections.MissingSigningRegion end ends is = let e = sym ends ∙ is in cc
-selects_no_output selections.NoMemory end ends is = let e = sym ends ∙ is in cc
+selects_no_output other end ends is = let e = sym ends ∙ is in cc
 
-pub selects_no_read : (fault : SelectFault) (end : Ending) → end ≡ selection_ending fault → end ≡ read_fault → ⊥
+selects_no_read : (fault : SelectFault) (end : Ending) → end ≡ selection_ending fault → end ≡ read_fault → ⊥
 selects_no_read (selections.CouldNotReadFile path) end ends is = let e = sym ends ∙ is in cc
-selects_no_read (selections.ParseError error) end ends is = let e = sym ends ∙ is in cc
-selects_no_read selections.MissingCredentials end ends is = let e = sym ends ∙ is in cc
-selects_no_read selections.MissingSigningRegion end ends is = let e = sym ends ∙ is in cc
-selects_no_read selections.NoMemory end ends is = let e = sym ends ∙ is in cc
+selects_no_read other end ends is = let e = sym ends ∙ is in cc
+
+-- so neither input nor output failed where nothing is selected
+pub selects_unread : (fault : SelectFault) (end : Ending) (count : ℕ) → end ≡ selection_ending fault → CountsFault (end ≡ read_fault) count count
+selects_unread fault end count ends = record { rose = λ is. absurd (selects_no_read fault end ends is); stayed = λ other. refl; grew = omega arith }
+
+pub selects_unwritten : (fault : SelectFault) (end : Ending) (count : ℕ) → end ≡ selection_ending fault → CountsFault (end ≡ output_fault) count count
+selects_unwritten fault end count ends = record { rose = λ is. absurd (selects_no_output fault end ends is); stayed = λ other. refl; grew = omega arith }

@@ -16,13 +16,13 @@ use Rattle.env_config.specs.Sections.{FileText}
 use Rattle.signed_stream.specs.Case.{job_case, request_moment}
 use Rattle.signed_stream.specs.Chain.{first_refusal}
 use Rattle.signed_stream.specs.Command.{Wanted}
-use Rattle.signed_stream.specs.Halt.{Halt, ended, fails, halt_of, halted, refuses, wants}
+use Rattle.signed_stream.specs.Halt.{ended}
 use Rattle.job_text.specs.Job.{JobParts}
 use Rattle.signed_stream.specs.Plan.{GoesAsPlanned, IsNeeded, Plan, TargetRead, TargetSpells, accepted, stops, unaccepted, unread}
 use Rattle.signed_stream.specs.Sending.{SendsAll}
 use Rattle.signed_stream.specs.Settings.{GivesSettings, Selected, settings}
 use Rattle.signed_stream.specs.Sign.{IsSignedFor, SealsFor, Unsigned, case_fault, request_fault, target_fault}
-use Rattle.signed_stream.specs.Status.{RunFault, invalid_uri, missing_credentials, missing_signing_region, moment_out_of_range, parse_error, refused, settings_ending}
+use Rattle.signed_stream.specs.Status.{Ending, RunFault, invalid_uri, missing_credentials, missing_signing_region, moment_out_of_range, no_memory, parse_error, refused, settings_ending, stream_ending}
 use Rattle.signed_stream.specs.Stream.{case_plan, request_plan, selected_plan, target_plan}
 use Rattle.signed_stream.specs.Streaming.{CompletesStream, Streams, stream_plan}
 use Rattle.signed_stream.specs.Written.{case_refusal, head_in_form}
@@ -82,12 +82,12 @@ module _ (j : JobParts) (wanted : Wanted) (selected : Selected) (first : Instant
       no_more (v ∷ front) e = cc
 
   -- a request that isn't signed
-  pub unsigned_goes : (text : List ℕ) (halt : Halt) (held : Option (List ℕ)) → text ≡ j.target → Unsigned text (request_moment wanted first) (job_case j wanted selected first) halt
-      → (target : TargetRead) × TargetSpells text target × GoesAsPlanned (planned target (first ∷ [])) (halted halt) held held
-  unsigned_goes text (refuses told) held is unsigned =
+  pub unsigned_goes : (text : List ℕ) (halt : Ending) (held : Option (List ℕ)) → text ≡ j.target → Unsigned text (request_moment wanted first) (job_case j wanted selected first) halt
+      → (target : TargetRead) × TargetSpells text target × GoesAsPlanned (planned target (first ∷ [])) halt held held
+  unsigned_goes text (refused told) held is unsigned =
       (unsigned.0, unsigned.1, refused_goes wanted.form j.target (request_moment wanted first) (job_case j wanted selected first) j.events [] unsigned.0 told held unsigned.2)
-  unsigned_goes text fails held is unsigned = absurd unsigned
-  unsigned_goes text wants held is unsigned = (unread, tt, goes_no_memory (planned unread (first ∷ [])) held)
+  unsigned_goes text no_memory held is unsigned = (unread, tt, goes_no_memory (planned unread (first ∷ [])) held)
+  unsigned_goes text other held is unsigned = absurd unsigned
 
   module _ (target : Target) (passed : request_fault (request_moment wanted first) (job_case j wanted selected first) (accepted target) ≡ None) where
     -- the plan of a request that is signed
@@ -136,23 +136,21 @@ module _ (j : JobParts) (wanted : Wanted) (selected : Selected) (first : Instant
       }
 
 -- a request that isn't signed isn't a fault of the sink
-pub never_failed : (text : List ℕ) (at : Instant) (case : Target → Case) (fault : StreamFault) → Unsigned text at case (halt_of fault) → fault ≡ stream.SinkFault → ⊥
-never_failed text at case fault unsigned is = subst (λ (f : StreamFault). Unsigned text at case (halt_of f)) is unsigned
+pub never_failed : (text : List ℕ) (at : Instant) (case : Target → Case) (fault : StreamFault) → Unsigned text at case (stream_ending fault) → fault ≡ stream.SinkFault → ⊥
+never_failed text at case fault unsigned is = subst (λ (f : StreamFault). Unsigned text at case (stream_ending f)) is unsigned
 
 -- ## What is selected
 
 module _ (files : List FileText) (profile : List ℕ) (env : List (List ℕ × List ℕ)) (wanted : Wanted) (j : JobParts) where
   -- settings that aren't whole end it
   pub lacking_goes : (fault : SettingsFault) (told : StreamFault) (target : TargetRead) (held : Option (List ℕ)) → GivesSettings (settings files profile env wanted.profile.service_id) (Err fault)
-      → halted (halt_of told) ≡ settings_ending fault → GoesAsPlanned (stream_plan files profile env wanted j target []) (halted (halt_of told)) held held
-  lacking_goes (faults.ParseError error) told target held gives tells = rw (gives, tells) (goes_stopped _ held)
-  lacking_goes faults.MissingCredentials told target held gives tells = rw (gives, tells) (goes_stopped _ held)
-  lacking_goes faults.MissingSigningRegion told target held gives tells = rw (gives, tells) (goes_stopped _ held)
+      → stream_ending told ≡ settings_ending fault → GoesAsPlanned (stream_plan files profile env wanted j target []) (stream_ending told) held held
   lacking_goes faults.NoMemory told target held gives tells = rw tells (goes_no_memory (stream_plan files profile env wanted j target []) held)
+  lacking_goes other told target held gives tells = rw (gives, tells) (goes_stopped _ held)
 
   -- what is valid isn't lacking
   pub lacking_completes : (fault : SettingsFault) (told : StreamFault) (selected : Selected) → GivesSettings (settings files profile env wanted.profile.service_id) (Err fault)
-      → settings files profile env wanted.profile.service_id ≡ Ok selected → halted (halt_of told) ≡ settings_ending fault → CompletesStream (halted (halt_of told))
+      → settings files profile env wanted.profile.service_id ≡ Ok selected → stream_ending told ≡ settings_ending fault → CompletesStream (stream_ending told)
   lacking_completes (faults.ParseError error) told selected gives settled tells = let wrong : Err (parse_error (faulty_line_of error)) ≡ Ok selected = sym gives ∙ settled in cc
   lacking_completes faults.MissingCredentials told selected gives settled tells = let wrong : Err missing_credentials ≡ Ok selected = sym gives ∙ settled in cc
   lacking_completes faults.MissingSigningRegion told selected gives settled tells = let wrong : Err missing_signing_region ≡ Ok selected = sym gives ∙ settled in cc

@@ -8,7 +8,7 @@ use Rattle.eventstream.specs.Frame.{frame, unframed}
 use Rattle.eventstream.specs.Key.{Signer}
 use Rattle.eventstream.specs.Link.{link_code}
 use Rattle.eventstream.specs.Read.{read}
-use Rattle.eventstream.specs.Reading.{First, nothing, leftover, fault, begins, first_of}
+use Rattle.eventstream.specs.Reading.{First, begins, first_of}
 use Rattle.eventstream.specs.declared.error.ErrorKind.{ErrorKind}
 use Rattle.eventstream.proofs.ReadingLemmas.{shorter}
 use Rattle.chain_watch.specs.Walk.{Passed, Point, Walk, after_closing, carried, closed, failed, frame_test, framed_message, if_framed, inner_event, signed_moment, unclosed, walk, walk_frames, walk_on, walk_passed, walk_tested, walk_within}
@@ -85,10 +85,8 @@ framed_within (suc most) signer signature passed bytes = by_first (λ next rest.
     by_test deeper message rest (Err told) is = tt
 
     by_first : ((next rest : List ℕ) → AllFramed (walk_within most signer next (passed + 1) rest).events) → (first : First) → AllFramed (walk_on (walk_within most signer) signer signature passed bytes first).events
-    by_first deeper nothing = tt
-    by_first deeper (leftover some) = tt
-    by_first deeper (fault kind) = tt
     by_first deeper (begins message rest) = by_test deeper message rest (frame_test signer signature (passed + 1) message) refl
+    by_first deeper other = tt
 
 framed_walk : (signer : Signer) (at : Point) (bytes : List ℕ) → AllFramed (walk signer at bytes).events
 unfolding walk_frames
@@ -131,10 +129,8 @@ takes_within (suc most) signer signature passed bytes = by_first (λ next rest. 
 
     by_first : ((next rest : List ℕ) → Takes (walk_within most signer next (passed + 1) rest) (length rest)) → (first : First) → first_of bytes ≡ first
         → Takes (walk_on (walk_within most signer) signer signature passed bytes first) (length bytes)
-    by_first deeper nothing is = omega arith
-    by_first deeper (leftover some) is = omega arith
-    by_first deeper (fault kind) is = omega arith
     by_first deeper (begins message rest) is = by_test deeper message rest (frame_test signer signature (passed + 1) message) (shorter bytes message rest is)
+    by_first deeper other is = omega arith
 
 pub walk_takes : (signer : Signer) (at : Point) (bytes : List ℕ) → Takes (walk signer at bytes) (length (left_over at) + length bytes)
 unfolding walk_frames

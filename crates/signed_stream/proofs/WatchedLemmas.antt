@@ -17,7 +17,7 @@ use Rattle.signed_stream.specs.Plan.{FilesRead, loaded, most_input, unloaded, un
 use Rattle.signed_stream.specs.Running.{Completes, HasWatchedInput, WentWatching}
 use Rattle.signed_stream.specs.Settings.{Selected, settings}
 use Rattle.signed_stream.specs.Sources.{or_refused, selection}
-use Rattle.signed_stream.specs.Status.{Ending, RunFault, bad_job, bad_words, check_failed, could_not_read_file, done, job_too_large, no_memory, output_fault, read_fault, refused}
+use Rattle.signed_stream.specs.Status.{Ending, RunFault, check_failed, could_not_read_file, done, job_too_large, no_memory, output_fault, read_fault, refused}
 use Rattle.signed_stream.specs.WatchChain.{EndsWalk, FailsFor, GainsFrontOf, HasWatched, IsWholeInput, Watches, WatchesInput, WatchesSelected, WatchesWords, shown_chain, walk_taken, watch_signer}
 use Rattle.signed_stream.specs.WatchWords.{WatchWanted}
 use Rattle.signed_stream.specs.declared.status.CheckFault.TheVariants as checks
@@ -29,15 +29,11 @@ use Rattle.signed_stream.proofs.SaidLemmas.{IsSaid}
 front_of : (walked : Walk) (taken : List ℕ) (left : Option (List ℕ)) (end : Ending) (before now : Option (List ℕ)) → EndsWalk walked taken left end before now → GainsFrontOf walked taken left before now
 front_of walked taken left done before now ends = inr (ends.0, ends.1, prefix_from_whole before now _ ends.2)
 front_of walked taken left (check_failed (checks.Chain told)) before now ends = inl (prefix_from_whole before now _ ends.1)
-front_of walked taken left (check_failed checks.NoSignature) before now ends = absurd ends
 front_of walked taken left job_too_large before now ends = inl (prefix_from_whole before now _ ends.2)
 front_of walked taken left read_fault before now ends = inl (prefix_from_whole before now _ ends.1)
 front_of walked taken left output_fault before now ends = ends
 front_of walked taken left no_memory before now ends = ends
-front_of walked taken left (bad_words place) before now ends = absurd ends
-front_of walked taken left (bad_job place) before now ends = absurd ends
-front_of walked taken left (could_not_read_file path) before now ends = absurd ends
-front_of walked taken left (refused fault) before now ends = absurd ends
+front_of walked taken left other before now ends = absurd ends
 
 said_watches : (signer : Signer) (seed : List ℕ) (all left : Option (List ℕ)) (end answer : Ending) (before now : Option (List ℕ)) → Watches signer seed all left end before now → IsSaid end answer
     → Watches signer seed all left answer before now
@@ -152,12 +148,8 @@ complete_watch wanted selected bytes events all left answer before now short cha
     by_answer output_fault ends = inr (inr (inl refl))
     by_answer no_memory ends = inr (inr (inr refl))
     by_answer (check_failed (checks.Chain fault)) ends = absurd (by_fault fault ends.0)
-    by_answer (check_failed checks.NoSignature) ends = absurd ends
     by_answer job_too_large ends = absurd (omega (arith, ends.1, few))
-    by_answer (bad_words place) ends = absurd ends
-    by_answer (bad_job place) ends = absurd ends
-    by_answer (could_not_read_file path) ends = absurd ends
-    by_answer (refused fault) ends = absurd ends
+    by_answer other ends = absurd ends
 
 complete_selected : (env : List (List ℕ × List ℕ)) (wanted : WatchWanted) (bytes : List ℕ) (files : FilesRead) (all left : Option (List ℕ)) (answer : Ending) (before now : Option (List ℕ)) → all ≡ Some bytes
     → WatchesSelected wanted (selection env wanted.profile.service_id files) all left answer before now → IsWholeInput env wanted bytes files → Completes answer

@@ -1,6 +1,6 @@
 -- What the functions below `run` promise to one another, and what carries the proofs of its promises. A reader of those needs none of it: they are in
 -- Running, and what they rest on in Plan, Stream and ShowSettings.
-use Rattle.std.specs.Prelude.{◌≡◌, ℕ, List, Option, Ok}
+use Rattle.std.specs.Prelude.{ℕ, List, Option, Ok}
 use Rattle.smithy_core.specs.Moment.{Instant}
 use Rattle.env_config.specs.Files.{Place}
 use Rattle.signed_stream.specs.CheckRecord.{GaveRecord, check_plan}

@@ -5,6 +5,7 @@ pub mod CheckRecord
 pub mod ChunkJob
 pub mod ChunkWords
 pub mod Command
+pub mod Counts
 pub mod EventLines
 pub mod Generate
 pub mod Generator

@@ -1,5 +1,5 @@
 -- The words of a program that reads a job without events.
-use Rattle.std.specs.Prelude.{◌≡◌, ℕ, Bool, if◌then◌else◌, List, ◌+◌, length, codes, bytes_eq, Option, Some, None, is_some, option_map, Result, Ok, Err, ℤ}
+use Rattle.std.specs.Prelude.{◌≡◌, ℕ, Bool, if◌then◌else◌, List, codes, bytes_eq, Option, Some, None, is_some, option_map, Result, Ok, Err, ℤ}
 use Rattle.std.specs.Int.{w64}
 use Rattle.std.specs.Option.{option_copied}
 use Rattle.smithy_core.specs.Moment.{Instant}

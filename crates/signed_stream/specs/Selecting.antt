@@ -1,5 +1,5 @@
 -- What is answered where profile files and variables are to select a profile, a region and a key.
-use Rattle.std.specs.Prelude.{◌≡◌, ℕ, List, Option, Result, Ok, Err, string_bytes}
+use Rattle.std.specs.Prelude.{◌≡◌, ℕ, List, Result, Ok, Err, string_bytes}
 use Rattle.env_config.specs.Files.{Place}
 use Rattle.env_config.specs.ParseFault.{faulty_line_of}
 use Rattle.job_text.specs.ProfileTexts.{ProfileTexts}

@@ -14,8 +14,8 @@ use Rattle.event_io.specs.declared.adapter.Next.{Next}
 use Rattle.event_io.specs.declared.adapter.Next.TheVariants.{Frame}
 use Rattle.event_io.specs.declared.adapter_fault.AdapterFault.TheVariants.{Sign, Write}
 use Rattle.signed_stream.specs.Chain.{fault_at, first_refusal, outside_years, refusal_fault, streamed_text, unlinked}
-use Rattle.signed_stream.specs.Halt.{Halt, Sends, halt_of, refuses, wants}
-use Rattle.signed_stream.specs.Status.{RunFault, moment_out_of_range}
+use Rattle.signed_stream.specs.Halt.{Sends}
+use Rattle.signed_stream.specs.Status.{Ending, RunFault, moment_out_of_range, no_memory, refused, stream_ending}
 use Rattle.signed_stream.specs.declared.form.Form.{Form}
 use Rattle.signed_stream.specs.declared.status.StreamFault.{StreamFault}
 
@@ -32,11 +32,11 @@ IsSignFault (signing.FailedToEncodeMessage error) = IsFrameFault (error_kind err
 IsSignFault (signing.MomentOutOfRange t) = Unit {0}
 IsSignFault error = ⊥
 
--- how they halt the stream at a place
-abbrev pub sign_halt : ℕ → SignMessageError → Halt
-sign_halt place (signing.FailedToEncodeMessage error) = refuses (fault_at place (error_kind error))
-sign_halt place (signing.MomentOutOfRange t) = refuses (moment_out_of_range t)
-sign_halt place error = wants
+-- how the run ends with one at a place
+abbrev pub sign_ending : ℕ → SignMessageError → Ending
+sign_ending place (signing.FailedToEncodeMessage error) = refused (fault_at place (error_kind error))
+sign_ending place (signing.MomentOutOfRange t) = refused (moment_out_of_range t)
+sign_ending place error = no_memory
 
 -- the answers of an adapter of messages whose signer has a secret
 abbrev pub IsChainAnswer : Result Next SendError → Type 0
@@ -46,17 +46,17 @@ IsChainAnswer (Err (sdk.ConstructionFailure (Write error))) = IsFrameFault (erro
 IsChainAnswer (Err sdk.NoMemory) = Unit {0}
 IsChainAnswer answer = ⊥
 
--- how they halt the stream at a place
-abbrev pub answer_halt : ℕ → Result Next SendError → Halt
-answer_halt place (Err (sdk.ConstructionFailure (Sign error))) = sign_halt place error
-answer_halt place (Err (sdk.ConstructionFailure (Write error))) = refuses (fault_at place (error_kind error))
-answer_halt place answer = wants
+-- how the run ends with one at a place, where it isn't a frame
+abbrev pub answer_ending : ℕ → Result Next SendError → Ending
+answer_ending place (Err (sdk.ConstructionFailure (Sign error))) = sign_ending place error
+answer_ending place (Err (sdk.ConstructionFailure (Write error))) = refused (fault_at place (error_kind error))
+answer_ending place answer = no_memory
 
--- the frame that was answered, or how the answer halts the stream
+-- the frame that was answered, or how the run ends with the answer
 abbrev pub GivesEventFrame : ℕ → Result Next SendError → Result (List ℕ) StreamFault → Type 0
 GivesEventFrame place answer (Ok bytes) = answer ≡ Ok (Frame bytes)
 GivesEventFrame place (Ok next) (Err fault) = ⊥
-GivesEventFrame place answer (Err fault) = halt_of fault ≡ answer_halt place answer
+GivesEventFrame place answer (Err fault) = stream_ending fault ≡ answer_ending place answer
 
 -- ## The chain
 

@@ -23,8 +23,7 @@ use Rattle.signed_stream.specs.Case.{request_moment, settings_with}
 use Rattle.signed_stream.specs.Chain.{outside_years}
 use Rattle.signed_stream.specs.Command.{Wanted}
 use Rattle.signed_stream.specs.Plan.{TargetSpells, TargetRead, accepted, unaccepted, unread}
-use Rattle.signed_stream.specs.Status.{RunFault, invalid_header_name, invalid_header_value, invalid_token_name, invalid_uri, missing_expires, missing_host, moment_out_of_range}
-use Rattle.signed_stream.specs.Halt.{Halt, fails, halt_of, refuses, wants}
+use Rattle.signed_stream.specs.Status.{Ending, RunFault, invalid_header_name, invalid_header_value, invalid_token_name, invalid_uri, missing_expires, missing_host, moment_out_of_range, no_memory, refused, stream_ending}
 use Rattle.signed_stream.specs.declared.status.StreamFault.{StreamFault}
 
 -- ## Why a request is refused
@@ -86,17 +85,17 @@ pub record SealsFor (c : Case) (signer : SignerState (Unit {0})) : Type 0 where
   pub who : signer_in signer ≡ c.signer
 
 -- why a request isn't signed: the first test that fails, or memory ran out
-abbrev pub Unsigned : List ℕ → Instant → (Target → Case) → Halt → Type 0
-Unsigned text at case (refuses told) = (target : TargetRead) × TargetSpells text target × (request_fault at case target ≡ Some told)
-Unsigned text at case fails = ⊥
-Unsigned text at case wants = Unit {0}
+abbrev pub Unsigned : List ℕ → Instant → (Target → Case) → Ending → Type 0
+Unsigned text at case (refused told) = (target : TargetRead) × TargetSpells text target × (request_fault at case target ≡ Some told)
+Unsigned text at case no_memory = Unit {0}
+Unsigned text at case end = ⊥
 
 -- where no test fails the answer is the signed request, and a signer that goes on from its signature
 abbrev pub SignsJob : Instant → (Target → Case) → HttpRequest → Result (HttpRequest × SignerState (Unit {0})) StreamFault → Type 0
 SignsJob at case old (Ok signed) =
     (target : Target) × TargetSpells (string_bytes old.target) (accepted target) × (request_fault at case (accepted target) ≡ None)
     × IsSignedFor (case target) old signed.0 × SealsFor (case target) signed.1
-SignsJob at case old (Err fault) = Unsigned (string_bytes old.target) at case (halt_of fault)
+SignsJob at case old (Err fault) = Unsigned (string_bytes old.target) at case (stream_ending fault)
 
 -- ## Between the functions that sign: a reader of `run` needs none of it
 
@@ -112,10 +111,10 @@ IsRequestError (auth.Signing (errors.MomentOutOfRange moment)) = Unit {0}
 IsRequestError auth.NoMemory = Unit {0}
 IsRequestError error = ⊥
 
--- how the error of signing a request halts the stream
-abbrev pub error_halt : SigV4SigningError → Halt
-error_halt (auth.Signing error) = refuses (run_fault_for error)
-error_halt error = wants
+-- how a run ends whose request isn't signed for the error
+abbrev pub error_ending : SigV4SigningError → Ending
+error_ending (auth.Signing error) = refused (run_fault_for error)
+error_ending error = no_memory
 
 -- the answer is the name that is asked for, or memory ran out
 abbrev pub GivesName : Option (List ℕ) → Result (Option (String Global)) OverrideError → Type 0

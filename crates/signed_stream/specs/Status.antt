@@ -58,6 +58,7 @@ pub data Ending : Type 0 where
   could_not_read_file : List ℕ → Ending
   refused : RunFault → Ending
   check_failed : CheckFault → Ending
+  -- the output failed
   output_fault : Ending
   -- memory ran out, whatever for
   no_memory : Ending
@@ -95,6 +96,12 @@ ending_of (statuses.Refused fault) = refused (run_fault fault)
 ending_of (statuses.CheckFailed fault) = check_failed fault
 ending_of statuses.OutputFault = output_fault
 ending_of statuses.NoMemory = no_memory
+
+-- how a run ends that a fault ends
+abbrev pub stream_ending : StreamFault → Ending
+stream_ending faults.SinkFault = output_fault
+stream_ending faults.NoMemory = no_memory
+stream_ending fault = refused (run_fault fault)
 
 -- how a run ends whose record isn't a chain
 abbrev pub chain_ending : ChainFault → Ending

@@ -222,10 +222,3 @@ EndsInput progress (check_failed (Chain told)) before now = (ending progress.wat
 EndsInput progress output_fault before now = (ending progress.watch.at ≡ Ok tt) × GainsPrefix before now (count_line progress.shown)
 EndsInput progress no_memory before now = (now ≡ before) ⊎ ((ending progress.watch.at ≡ Ok tt) × GainsPrefix before now (count_line progress.shown))
 EndsInput progress end before now = ⊥
-
--- ## Counts of faults
-
--- a count stays, but where the answer is this end
-abbrev pub StaysBut : Ending → Result (Unit {0}) Status → ℕ → ℕ → Type 0
-StaysBut end (Ok _) before now = now ≡ before
-StaysBut end (Err status) before now = (ending_of status ≡ end → ⊥) → now ≡ before

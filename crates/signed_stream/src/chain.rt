@@ -1,15 +1,16 @@
-ghost use Rattle.std.specs.Prelude.{◌≡◌, ◌≤◌, ◌+◌, ◌++◌, List, None, IsErrOf, length};
+ghost use Rattle.std.specs.Prelude.{◌≡◌, ◌+◌, ◌++◌, List, None, IsErrOf, length};
 ghost use Rattle.smithy_core.specs.Given.{GivesEach};
 ghost use Rattle.smithy_core.specs.Moment.{Instant};
-ghost use Rattle.smithy_core.specs.Outside.{RoseOrStands};
 ghost use Rattle.eventstream.specs.Told.{signs_over};
 ghost use Rattle.eventstream.specs.Write.{IsFrameFault};
 ghost use Rattle.event_io.specs.Adapter.{adapter_signer, item_source_of};
 ghost use Rattle.event_io.specs.Chain.{Chains};
 ghost use Rattle.aws_auth.specs.MessageSigner.{running_signature, signer_in, told_of};
+ghost use Rattle.signed_stream.specs.Counts.{CountsFault};
 ghost use Rattle.signed_stream.specs.Chain.{fault_at, frame_text};
-ghost use Rattle.signed_stream.specs.Halt.{Sends, halt_of, refuses};
-ghost use Rattle.signed_stream.specs.Sending.{IsChainAnswer, IsSignFault, SendsChain, GivesEventFrame, told_signature, told_signer, sign_halt};
+ghost use Rattle.signed_stream.specs.Halt.{Sends};
+ghost use Rattle.signed_stream.specs.Status.{refused, stream_ending};
+ghost use Rattle.signed_stream.specs.Sending.{IsChainAnswer, IsSignFault, SendsChain, GivesEventFrame, told_signature, told_signer, sign_ending};
 
 use crate::form::Form;
 use crate::own_events::OwnEvents;
@@ -42,11 +43,9 @@ pub fn stream_events<C: Clock, K: ByteSink>(
     moments: &mut Vec<Moment>,
 ) -> Result<(), StreamFault>
     requires { told_of signer ≡ signs_over (running_signature signer) (signer_in signer) }
-    ensures count { K.faults sink.old ≤ K.faults sink.new }
     ensures sends { (taken : List Instant) × (moments.new.items ≡ moments.old.items ++ taken) × GivesEach C.Clock clock.old taken clock.new
         × SendsChain form (signer_in signer) events.items (running_signature signer) (K.held sink.old) (K.held sink.new) taken result }
-    ensures failed { IsErrOf result StreamFault.SinkFault → RoseOrStands (K.faults sink.old) (K.faults sink.new) }
-    ensures steady { (IsErrOf result StreamFault.SinkFault → ⊥) → K.faults sink.new ≡ K.faults sink.old }
+    ensures counts { CountsFault (IsErrOf result StreamFault.SinkFault) (K.faults sink.old) (K.faults sink.new) }
 {
     let end = events.len() + 2;
     let events = OwnEvents::new(events);
@@ -72,11 +71,9 @@ fn send_frames<G: SignMessage, C: Clock, K: ByteSink>(
 ) -> Result<(), StreamFault>
     requires places { end ≡ length (item_source_of adapter) + 2 }
     requires chains { Chains ⟦<OwnEvents as EventSource>⟧ G.SignMessage (told_signer (G.told (adapter_signer adapter))) (item_source_of adapter) (told_signature (G.told (adapter_signer adapter))) adapter }
-    ensures count { K.faults sink.old ≤ K.faults sink.new }
     ensures sends { (taken : List Instant) × (moments.new.items ≡ moments.old.items ++ taken) × GivesEach C.Clock clock.old taken clock.new
         × SendsChain form (told_signer (G.told (adapter_signer adapter))) (item_source_of adapter) (told_signature (G.told (adapter_signer adapter))) (K.held sink.old) (K.held sink.new) taken result }
-    ensures failed { IsErrOf result StreamFault.SinkFault → RoseOrStands (K.faults sink.old) (K.faults sink.new) }
-    ensures steady { (IsErrOf result StreamFault.SinkFault → ⊥) → K.faults sink.new ≡ K.faults sink.old }
+    ensures counts { CountsFault (IsErrOf result StreamFault.SinkFault) (K.faults sink.old) (K.faults sink.new) }
 {
     'frames: for place in 1..end {
         let answer = adapter.poll_next(clock, moments);
@@ -111,7 +108,7 @@ fn frame_at(
 // The fault for why the message at a place isn't signed.
 fn sign_fault(place: usize, error: SignMessageError) -> StreamFault
     requires { IsSignFault error }
-    ensures { halt_of result ≡ sign_halt place error }
+    ensures { stream_ending result ≡ sign_ending place error }
 {
     match error {
         SignMessageError::FailedToEncodeMessage(error) => fault_at(place, error.kind()),
@@ -123,7 +120,7 @@ fn sign_fault(place: usize, error: SignMessageError) -> StreamFault
 // The fault for why the message at a place has no frame.
 fn fault_at(place: usize, reason: &ErrorKind) -> StreamFault
     requires { IsFrameFault reason.now }
-    ensures { halt_of result ≡ refuses (fault_at place reason.now) }
+    ensures { stream_ending result ≡ refused (fault_at place reason.now) }
 {
     match reason {
         ErrorKind::InvalidHeaderNameLength => StreamFault::InvalidHeaderNameLength(place),
@@ -148,10 +145,8 @@ pub fn write_frame<K: ByteSink>(
     form: Form,
     sink: &mut K,
 ) -> Result<(), StreamFault>
-    ensures count { K.faults sink.old ≤ K.faults sink.new }
     ensures sends { Sends None (frame_text form frame.now) (K.held sink.old) (K.held sink.new) result }
-    ensures failed { IsErrOf result StreamFault.SinkFault → RoseOrStands (K.faults sink.old) (K.faults sink.new) }
-    ensures steady { (IsErrOf result StreamFault.SinkFault → ⊥) → K.faults sink.new ≡ K.faults sink.old }
+    ensures counts { CountsFault (IsErrOf result StreamFault.SinkFault) (K.faults sink.old) (K.faults sink.new) }
 {
     match form {
         Form::Raw => write_text(sink, frame),
@@ -171,10 +166,8 @@ pub fn write_frame<K: ByteSink>(
 /// After both the sink has gained a prefix of the text.
 #[tactic(auto, using(smithy_core::proofs::GainLemmas::prefix_from_proper))]
 pub fn write_text<K: ByteSink>(sink: &mut K, text: &[u8]) -> Result<(), StreamFault>
-    ensures count { K.faults sink.old ≤ K.faults sink.new }
     ensures sends { Sends None text.now (K.held sink.old) (K.held sink.new) result }
-    ensures failed { IsErrOf result StreamFault.SinkFault → RoseOrStands (K.faults sink.old) (K.faults sink.new) }
-    ensures steady { (IsErrOf result StreamFault.SinkFault → ⊥) → K.faults sink.new ≡ K.faults sink.old }
+    ensures counts { CountsFault (IsErrOf result StreamFault.SinkFault) (K.faults sink.old) (K.faults sink.new) }
 {
     match write_all(sink, text) {
         Ok(()) => Ok(()),

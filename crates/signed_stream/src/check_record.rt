@@ -1,6 +1,6 @@
 //! The command `check`.
 ghost use Rattle.std.specs.Prelude.{◌≡◌, ◌≤◌, ℕ, List, None, IsErrOf};
-ghost use Rattle.smithy_core.specs.Outside.{RoseOrStands};
+ghost use Rattle.signed_stream.specs.Counts.{CountsFault};
 ghost use Rattle.signed_stream.specs.Carriers.{GoesForRecord, IsAfterTexts};
 ghost use Rattle.signed_stream.specs.CheckRecord.{ChecksRecord, GoesForSeal, shown_events};
 ghost use Rattle.signed_stream.specs.Command.{check_record};
@@ -40,9 +40,8 @@ pub fn check_record<D: Disk, K: ByteSink>(
     ensures named { (path : List ℕ) → ending_of result ≡ could_not_read_file path
         → NamesUnreadable (DiskGives D.answers D.faults (D.files disk.old) env.now disk.old disk.new) (check_record (check_wanted words.entry)) path }
     ensures same { D.files disk.new ≡ D.files disk.old }
-    ensures output_failed { ending_of result ≡ output_fault → RoseOrStands (K.faults out.old) (K.faults out.new) }
-    ensures output_steady { (ending_of result ≡ output_fault → ⊥) → K.faults out.new ≡ K.faults out.old }
-    ensures count { (D.faults disk.old ≤ D.faults disk.new) × (K.faults out.old ≤ K.faults out.new) }
+    ensures writes { CountsFault (ending_of result ≡ output_fault) (K.faults out.old) (K.faults out.new) }
+    ensures count { D.faults disk.old ≤ D.faults disk.new }
 {
     let RecordDraft {
         texts,
@@ -77,9 +76,7 @@ fn show_checked<K: ByteSink>(
     ensures end { IsAfterTexts (ending_of result) }
     ensures planned { GoesForSeal request.now name.now (selected_in settings.now) chain.now (ending_of result) (K.held out.old) (K.held out.new) }
     ensures unnamed { (path : List ℕ) → ending_of result ≡ could_not_read_file path → ⊥ }
-    ensures output_failed { ending_of result ≡ output_fault → RoseOrStands (K.faults out.old) (K.faults out.new) }
-    ensures output_steady { (ending_of result ≡ output_fault → ⊥) → K.faults out.new ≡ K.faults out.old }
-    ensures count { K.faults out.old ≤ K.faults out.new }
+    ensures writes { CountsFault (ending_of result ≡ output_fault) (K.faults out.old) (K.faults out.new) }
 {
     match checked_events(alloc, request, chain, name, settings) {
         Ok(events) => status_of(write_events(alloc, events.as_slice(), out)),
@@ -112,10 +109,8 @@ fn write_events<K: ByteSink>(
     out: &mut K,
 ) -> Result<(), StreamFault>
     requires { AreFramed events.now }
-    ensures count { K.faults out.old ≤ K.faults out.new }
     ensures sends { Sends None (shown_events events.now) (K.held out.old) (K.held out.new) result }
-    ensures failed { IsErrOf result StreamFault.SinkFault → RoseOrStands (K.faults out.old) (K.faults out.new) }
-    ensures steady { (IsErrOf result StreamFault.SinkFault → ⊥) → K.faults out.new ≡ K.faults out.old }
+    ensures counts { CountsFault (IsErrOf result StreamFault.SinkFault) (K.faults out.old) (K.faults out.new) }
 {
     write_count(alloc, events.len(), out)?;
     write_lines(alloc, events, out)

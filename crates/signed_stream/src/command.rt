@@ -2,7 +2,7 @@ ghost use Rattle.std.specs.Prelude.{map};
 ghost use Rattle.std.specs.String.{string_bytes};
 ghost use Rattle.job_text.specs.Pieces.{taken_from};
 ghost use Rattle.signed_stream.specs.ChunkWords.{chunk_word, no_chunk_given};
-ghost use Rattle.signed_stream.specs.Command.{command, check_word, check_words, chunk_words, command_from, generator_from, no_check_given, no_options, no_profile_given, settings_word, settings_words, stream_command, stream_word};
+ghost use Rattle.signed_stream.specs.Command.{command, check_word, check_words, chunk_words, command_from, no_check_given, no_options, no_profile_given, settings_word, settings_words, stream_command, stream_word};
 ghost use Rattle.signed_stream.specs.Options.{ReadsCheck, ReadsChunk, ReadsProfile, ReadsStream, ReadsWords};
 
 mod check;

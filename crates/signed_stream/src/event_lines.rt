@@ -1,7 +1,7 @@
 //! The lines that show events: their frames in hexadecimal, and how many there are.
-ghost use Rattle.std.specs.Prelude.{◌≡◌, ◌≤◌, None, IfOk, IsErrOf};
-ghost use Rattle.smithy_core.specs.Outside.{RoseOrStands};
+ghost use Rattle.std.specs.Prelude.{◌≡◌, None, IfOk, IsErrOf};
 ghost use Rattle.eventstream.specs.Frame.{frame, unframed};
+ghost use Rattle.signed_stream.specs.Counts.{CountsFault};
 ghost use Rattle.signed_stream.specs.EventLines.{AreFramed, count_line, event_line, event_lines};
 ghost use Rattle.signed_stream.specs.Halt.{Sends};
 
@@ -19,10 +19,8 @@ use std::alloc::{AllocError, Global};
 /// As those of [`write_text`].
 #[tactic(auto, using(smithy_core::proofs::GainLemmas::prefix_at_start))]
 pub fn write_count<K: ByteSink>(alloc: Global, count: usize, out: &mut K) -> Result<(), StreamFault>
-    ensures count { K.faults out.old ≤ K.faults out.new }
     ensures sends { Sends None (count_line count) (K.held out.old) (K.held out.new) result }
-    ensures failed { IsErrOf result StreamFault.SinkFault → RoseOrStands (K.faults out.old) (K.faults out.new) }
-    ensures steady { (IsErrOf result StreamFault.SinkFault → ⊥) → K.faults out.new ≡ K.faults out.old }
+    ensures counts { CountsFault (IsErrOf result StreamFault.SinkFault) (K.faults out.old) (K.faults out.new) }
 {
     let line = format!(in alloc; "ok {count}\n")?;
     write_text(out, line.as_bytes())
@@ -39,10 +37,8 @@ pub fn write_lines<K: ByteSink>(
     out: &mut K,
 ) -> Result<(), StreamFault>
     requires { AreFramed events.now }
-    ensures count { K.faults out.old ≤ K.faults out.new }
     ensures sends { Sends None (event_lines events.now) (K.held out.old) (K.held out.new) result }
-    ensures failed { IsErrOf result StreamFault.SinkFault → RoseOrStands (K.faults out.old) (K.faults out.new) }
-    ensures steady { (IsErrOf result StreamFault.SinkFault → ⊥) → K.faults out.new ≡ K.faults out.old }
+    ensures counts { CountsFault (IsErrOf result StreamFault.SinkFault) (K.faults out.old) (K.faults out.new) }
 {
     'events: for event in events {
         write_event(alloc, event, out)?;
@@ -54,10 +50,8 @@ pub fn write_lines<K: ByteSink>(
 #[tactic(auto, using(smithy_core::proofs::GainLemmas::prefix_at_start), unfolding(crate::specs::Chain::frame_text))]
 fn write_event<K: ByteSink>(alloc: Global, event: &Message, out: &mut K) -> Result<(), StreamFault>
     requires { unframed event.now ≡ None }
-    ensures count { K.faults out.old ≤ K.faults out.new }
     ensures sends { Sends None (event_line event.now) (K.held out.old) (K.held out.new) result }
-    ensures failed { IsErrOf result StreamFault.SinkFault → RoseOrStands (K.faults out.old) (K.faults out.new) }
-    ensures steady { (IsErrOf result StreamFault.SinkFault → ⊥) → K.faults out.new ≡ K.faults out.old }
+    ensures counts { CountsFault (IsErrOf result StreamFault.SinkFault) (K.faults out.old) (K.faults out.new) }
 {
     let frame = frame_of(alloc, event)?;
     write_frame(alloc, frame.as_slice(), Form::HexLines, out)

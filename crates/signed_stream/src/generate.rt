@@ -2,8 +2,8 @@
 ghost use Rattle.std.specs.Prelude.{◌≡◌, ◌≤◌, ◌-◌, None, IfOk, IsErrOf, drop, length, take};
 ghost use Rattle.std.specs.String.{string_bytes};
 ghost use Rattle.hex.specs.Hex.{encode_lower};
-ghost use Rattle.smithy_core.specs.Outside.{RoseOrStands};
 ghost use Rattle.sigv4.specs.Signed.{signature_of};
+ghost use Rattle.signed_stream.specs.Counts.{CountsFault};
 ghost use Rattle.signed_stream.specs.Generate.{AreDrawn, AreGeneratedOptions, IsGeneratedIdentity, generate_plan, generated_case, generated_moment, generated_stream, shown_stream};
 ghost use Rattle.signed_stream.specs.Generator.{drawn_events};
 ghost use Rattle.signed_stream.specs.Halt.{Sends};
@@ -40,9 +40,7 @@ const NAME: &str = "gen";
 pub fn show_generated<K: ByteSink>(alloc: Global, words: GeneratorWords, out: &mut K) -> Status
     ensures end { IsOfOutput (ending_of result) }
     ensures planned { GoesAsPlanned (generate_plan words.seed words.count) (ending_of result) (K.held out.old) (K.held out.new) }
-    ensures output_failed { ending_of result ≡ output_fault → RoseOrStands (K.faults out.old) (K.faults out.new) }
-    ensures output_steady { (ending_of result ≡ output_fault → ⊥) → K.faults out.new ≡ K.faults out.old }
-    ensures count { K.faults out.old ≤ K.faults out.new }
+    ensures writes { CountsFault (ending_of result ≡ output_fault) (K.faults out.old) (K.faults out.new) }
 {
     status_of(write_generated(alloc, words, out))
 }
@@ -54,10 +52,8 @@ fn write_generated<K: ByteSink>(
     words: GeneratorWords,
     out: &mut K,
 ) -> Result<(), StreamFault>
-    ensures count { K.faults out.old ≤ K.faults out.new }
     ensures sends { Sends None (shown_stream (drawn_events words.count words.seed)) (K.held out.old) (K.held out.new) result }
-    ensures failed { IsErrOf result StreamFault.SinkFault → RoseOrStands (K.faults out.old) (K.faults out.new) }
-    ensures steady { (IsErrOf result StreamFault.SinkFault → ⊥) → K.faults out.new ≡ K.faults out.old }
+    ensures counts { CountsFault (IsErrOf result StreamFault.SinkFault) (K.faults out.old) (K.faults out.new) }
 {
     let events = generated_events(alloc, words.seed, words.count)?;
     let text = shown_text(alloc, events.as_slice())?;

@@ -1,5 +1,4 @@
 ghost use Rattle.std.specs.Prelude.{◌≡◌, ℕ, List, All};
-ghost use Rattle.smithy_core.specs.Message.{Parts};
 ghost use Rattle.smithy_core.specs.Moment.{Instant};
 ghost use Rattle.eventstream.specs.Laws.{IsProper};
 ghost use Rattle.eventstream.specs.Link.{chain};

@@ -1,6 +1,7 @@
 ghost use Rattle.std.specs.Prelude.{◌≡◌, ◌≤◌, ℕ, List, length, map, option_map};
 ghost use Rattle.std.specs.String.{string_bytes};
-ghost use Rattle.smithy_core.specs.Outside.{IsAtEnd, IsRestOf, RoseOrStands};
+ghost use Rattle.smithy_core.specs.Outside.{IsAtEnd, IsRestOf};
+ghost use Rattle.signed_stream.specs.Counts.{CountsFault};
 ghost use Rattle.signed_stream.specs.Carriers.{GoesForBytes, GoesForInput, IsAfterInput};
 ghost use Rattle.signed_stream.specs.Command.{command};
 ghost use Rattle.signed_stream.specs.Options.{input_commanded};
@@ -177,16 +178,14 @@ fn answer<S: ByteSource, D: Disk, C: Clock, K: ByteSink>(
     ensures kept { KeepsOutput (comes_late (command (map string_bytes words.now))) (ending_of result) (K.held out.old) (K.held out.new) }
     ensures named { (path : List ℕ) → ending_of result ≡ could_not_read_file path
         → NamesUnreadable (DiskGives D.answers D.faults (D.files disk.old) env.now disk.old disk.new) (command (map string_bytes words.now)) path }
-    ensures read_failed { ending_of result ≡ read_fault → RoseOrStands (S.faults input.old) (S.faults input.new) }
-    ensures read_steady { (ending_of result ≡ read_fault → ⊥) → S.faults input.new ≡ S.faults input.old }
-    ensures output_failed { ending_of result ≡ output_fault → RoseOrStands (K.faults out.old) (K.faults out.new) }
-    ensures output_steady { (ending_of result ≡ output_fault → ⊥) → K.faults out.new ≡ K.faults out.old }
+    ensures reads { CountsFault (ending_of result ≡ read_fault) (S.faults input.old) (S.faults input.new) }
+    ensures writes { CountsFault (ending_of result ≡ output_fault) (K.faults out.old) (K.faults out.new) }
     ensures untouched { UnlessCommand (command (map string_bytes words.now)) ((K.held out.new ≡ K.held out.old) × (K.faults out.new ≡ K.faults out.old)) }
     ensures unread { Unless (reads_input (command (map string_bytes words.now))) ((S.left input.new ≡ S.left input.old) × (S.faults input.new ≡ S.faults input.old)) }
     ensures disk { KeepsDisk (ending_of result) disk.old disk.new × (D.files disk.new ≡ D.files disk.old) }
     ensures unasked { Unless (reads_files (command (map string_bytes words.now))) (disk.new ≡ disk.old) }
     ensures outside { When (reads_input (command (map string_bytes words.now))) (ending_of result ≡ done → IsAtEnd (S.left input.new)) × IsRestOf (S.left input.old) (S.left input.new)
-        × (S.faults input.old ≤ S.faults input.new) × (D.faults disk.old ≤ D.faults disk.new) × (K.faults out.old ≤ K.faults out.new) }
+        × (D.faults disk.old ≤ D.faults disk.new) }
 {
     match read_words(alloc, words) {
         Ok(Command::Generate(words)) => show_generated(alloc, words, out),
@@ -215,14 +214,12 @@ fn answer_command<S: ByteSource, D: Disk, C: Clock, K: ByteSink>(
     ensures kept { KeepsOutput (comes_late (input_commanded command.entry)) (ending_of result) (K.held out.old) (K.held out.new) }
     ensures named { (path : List ℕ) → ending_of result ≡ could_not_read_file path
         → NamesUnreadable (DiskGives D.answers D.faults (D.files disk.old) env.now disk.old disk.new) (input_commanded command.entry) path }
-    ensures read_failed { ending_of result ≡ read_fault → RoseOrStands (S.faults input.old) (S.faults input.new) }
-    ensures read_steady { (ending_of result ≡ read_fault → ⊥) → S.faults input.new ≡ S.faults input.old }
-    ensures output_failed { ending_of result ≡ output_fault → RoseOrStands (K.faults out.old) (K.faults out.new) }
-    ensures output_steady { (ending_of result ≡ output_fault → ⊥) → K.faults out.new ≡ K.faults out.old }
+    ensures reads { CountsFault (ending_of result ≡ read_fault) (S.faults input.old) (S.faults input.new) }
+    ensures writes { CountsFault (ending_of result ≡ output_fault) (K.faults out.old) (K.faults out.new) }
     ensures disk { KeepsDisk (ending_of result) disk.old disk.new × (D.files disk.new ≡ D.files disk.old) }
     ensures unasked { Unless (reads_files (input_commanded command.entry)) (disk.new ≡ disk.old) }
     ensures outside { (ending_of result ≡ done → IsAtEnd (S.left input.new)) × IsRestOf (S.left input.old) (S.left input.new)
-        × (S.faults input.old ≤ S.faults input.new) × (D.faults disk.old ≤ D.faults disk.new) × (K.faults out.old ≤ K.faults out.new) }
+        × (D.faults disk.old ≤ D.faults disk.new) }
 {
     match read_all(alloc, input, MOST_INPUT) {
         Ok(bytes) => answer_bytes(alloc, command, bytes, env, disk, clock, out),
@@ -253,9 +250,8 @@ fn answer_bytes<D: Disk, C: Clock, K: ByteSink>(
     ensures disk { KeepsDisk (ending_of result) disk.old disk.new }
     ensures same { D.files disk.new ≡ D.files disk.old }
     ensures unasked { Unless (reads_files (input_commanded command.entry)) (disk.new ≡ disk.old) }
-    ensures output_failed { ending_of result ≡ output_fault → RoseOrStands (K.faults out.old) (K.faults out.new) }
-    ensures output_steady { (ending_of result ≡ output_fault → ⊥) → K.faults out.new ≡ K.faults out.old }
-    ensures count { (D.faults disk.old ≤ D.faults disk.new) × (K.faults out.old ≤ K.faults out.new) }
+    ensures writes { CountsFault (ending_of result ≡ output_fault) (K.faults out.old) (K.faults out.new) }
+    ensures count { D.faults disk.old ≤ D.faults disk.new }
 {
     match command {
         InputCommand::Stream(words) => match take_job(alloc, bytes) {

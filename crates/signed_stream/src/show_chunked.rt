@@ -1,10 +1,10 @@
 //! The command `chunk`.
 ghost use Rattle.std.specs.Prelude.{◌≡◌, ◌≤◌, ◌++◌, ◌<◌, None, [], ◌∷◌, length, IfOk, IsErrOf};
-ghost use Rattle.smithy_core.specs.Outside.{RoseOrStands};
 ghost use Rattle.smithy_core.specs.FrameSource.{AreShort};
 ghost use Rattle.smithy_core.specs.declared.outside.frame_part.FramePart.TheVariants as frame;
 ghost use Rattle.aws_chunked.specs.Body.{IsBodyClosed, lines_length};
 ghost use Rattle.aws_chunked.specs.Options.{declared_length};
+ghost use Rattle.signed_stream.specs.Counts.{CountsFault};
 ghost use Rattle.signed_stream.specs.ChunkJob.{IsBodyOf, IsSoundBody, chunk_plan, shown_chunks, text_left};
 ghost use Rattle.signed_stream.specs.ChunkWords.{chunk_wanted};
 ghost use Rattle.signed_stream.specs.Halt.{Sends};
@@ -35,9 +35,7 @@ pub fn show_chunked<K: ByteSink>(
     requires { length bytes.items ≤ most_input }
     ensures end { IsOfOutput (ending_of result) }
     ensures planned { GoesAsPlanned (chunk_plan (chunk_wanted words) bytes.items) (ending_of result) (K.held out.old) (K.held out.new) }
-    ensures output_failed { ending_of result ≡ output_fault → RoseOrStands (K.faults out.old) (K.faults out.new) }
-    ensures output_steady { (ending_of result ≡ output_fault → ⊥) → K.faults out.new ≡ K.faults out.old }
-    ensures count { K.faults out.old ≤ K.faults out.new }
+    ensures writes { CountsFault (ending_of result ≡ output_fault) (K.faults out.old) (K.faults out.new) }
 {
     status_of(write_chunked(alloc, words, bytes, out))
 }
@@ -51,10 +49,8 @@ fn write_chunked<K: ByteSink>(
     out: &mut K,
 ) -> Result<(), StreamFault>
     requires { length bytes.items ≤ most_input }
-    ensures count { K.faults out.old ≤ K.faults out.new }
     ensures sends { Sends None (shown_chunks (chunk_wanted words) bytes.items) (K.held out.old) (K.held out.new) result }
-    ensures failed { IsErrOf result StreamFault.SinkFault → RoseOrStands (K.faults out.old) (K.faults out.new) }
-    ensures steady { (IsErrOf result StreamFault.SinkFault → ⊥) → K.faults out.new ≡ K.faults out.old }
+    ensures counts { CountsFault (IsErrOf result StreamFault.SinkFault) (K.faults out.old) (K.faults out.new) }
 {
     let body = body_of(alloc, words, bytes)?;
     send_body(body, out)
@@ -63,10 +59,8 @@ fn write_chunked<K: ByteSink>(
 // Writes the text of a body.
 fn send_body<K: ByteSink>(mut body: Chunks, out: &mut K) -> Result<(), StreamFault>
     requires { IsSoundBody ⟦<CalmFrames as FrameSource>⟧ ⟦<SigV4MessageSigner<SigningSettings> as SignChunk>⟧ body }
-    ensures count { K.faults out.old ≤ K.faults out.new }
     ensures sends { Sends None (text_left ⟦<CalmFrames as FrameSource>⟧ ⟦<SigV4MessageSigner<SigningSettings> as SignChunk>⟧ body) (K.held out.old) (K.held out.new) result }
-    ensures failed { IsErrOf result StreamFault.SinkFault → RoseOrStands (K.faults out.old) (K.faults out.new) }
-    ensures steady { (IsErrOf result StreamFault.SinkFault → ⊥) → K.faults out.new ≡ K.faults out.old }
+    ensures counts { CountsFault (IsErrOf result StreamFault.SinkFault) (K.faults out.old) (K.faults out.new) }
 {
     'polls: while !body.is_end_stream() {
         let bytes = next_bytes(&mut body)?;

@@ -1,5 +1,5 @@
 ghost use Rattle.std.specs.Prelude.{◌≡◌, ◌≤◌, ℕ, List, None, IsErrOf};
-ghost use Rattle.smithy_core.specs.Outside.{RoseOrStands};
+ghost use Rattle.signed_stream.specs.Counts.{CountsFault};
 ghost use Rattle.signed_stream.specs.Carriers.{GoesForTexts, IsAfterTexts};
 ghost use Rattle.signed_stream.specs.Command.{show_settings};
 ghost use Rattle.signed_stream.specs.Halt.{Sends};
@@ -36,9 +36,8 @@ pub fn show_settings<D: Disk, K: ByteSink>(
     ensures named { (path : List ℕ) → ending_of result ≡ could_not_read_file path
         → NamesUnreadable (DiskGives D.answers D.faults (D.files disk.old) env.now disk.old disk.new) (show_settings (profile_wanted options.entry)) path }
     ensures same { D.files disk.new ≡ D.files disk.old }
-    ensures output_failed { ending_of result ≡ output_fault → RoseOrStands (K.faults out.old) (K.faults out.new) }
-    ensures output_steady { (ending_of result ≡ output_fault → ⊥) → K.faults out.new ≡ K.faults out.old }
-    ensures count { (D.faults disk.old ≤ D.faults disk.new) × (K.faults out.old ≤ K.faults out.new) }
+    ensures writes { CountsFault (ending_of result ≡ output_fault) (K.faults out.old) (K.faults out.new) }
+    ensures count { D.faults disk.old ≤ D.faults disk.new }
 {
     match select(alloc, env, disk, &options, texts) {
         Ok(settings) => status_of(write_settings(alloc, &settings, out)),
@@ -53,10 +52,8 @@ fn write_settings<K: ByteSink>(
     settings: &Settings,
     out: &mut K,
 ) -> Result<(), StreamFault>
-    ensures count { K.faults out.old ≤ K.faults out.new }
     ensures sends { Sends None (shown_settings (selected_in settings.now)) (K.held out.old) (K.held out.new) result }
-    ensures failed { IsErrOf result StreamFault.SinkFault → RoseOrStands (K.faults out.old) (K.faults out.new) }
-    ensures steady { (IsErrOf result StreamFault.SinkFault → ⊥) → K.faults out.new ≡ K.faults out.old }
+    ensures counts { CountsFault (IsErrOf result StreamFault.SinkFault) (K.faults out.old) (K.faults out.new) }
 {
     let text = settings_text(alloc, settings)?;
     write_text(out, text.as_bytes())

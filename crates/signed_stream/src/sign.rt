@@ -1,9 +1,9 @@
-ghost use Rattle.std.specs.Prelude.{◌≡◌, IfOk, option_map};
+ghost use Rattle.std.specs.Prelude.{◌≡◌, option_map};
 ghost use Rattle.std.specs.String.{string_bytes};
 ghost use Rattle.smithy_core.specs.Identity.{IsCredentials};
 ghost use Rattle.signed_stream.specs.Case.{request_moment};
-ghost use Rattle.signed_stream.specs.Halt.{halt_of, refuses};
-ghost use Rattle.signed_stream.specs.Sign.{GivesName, IsRequestError, SignsJob, error_halt, run_fault_for, identity_case};
+ghost use Rattle.signed_stream.specs.Status.{refused, stream_ending};
+ghost use Rattle.signed_stream.specs.Sign.{GivesName, IsRequestError, SignsJob, error_ending, run_fault_for, identity_case};
 ghost use Rattle.signed_stream.specs.Streaming.{stream_wanted};
 
 use crate::status::StreamFault;
@@ -73,7 +73,7 @@ fn name_asked(name: &Option<String>) -> Result<Option<String>, OverrideError>
 /// The fault for an error of signing a request.
 pub fn fault_of(error: &SigV4SigningError) -> StreamFault
     requires { IsRequestError error.now }
-    ensures { halt_of result ≡ error_halt error.now }
+    ensures { stream_ending result ≡ error_ending error.now }
 {
     match error {
         SigV4SigningError::Signing(error) => refusal_for(error),
@@ -85,7 +85,7 @@ pub fn fault_of(error: &SigV4SigningError) -> StreamFault
 // The fault for why a request isn't signed.
 fn refusal_for(error: &SigningError) -> StreamFault
     requires { IsRequestError (SigV4SigningError.Signing error.now) }
-    ensures { halt_of result ≡ refuses (run_fault_for error.now) }
+    ensures { stream_ending result ≡ refused (run_fault_for error.now) }
 {
     match error {
         SigningError::InvalidUri => StreamFault::InvalidUri,

@@ -100,10 +100,9 @@ impl From<AllocError> for StreamFault {
 
 impl From<SettingsFault> for StreamFault {
     ghost use Rattle.std.specs.Prelude.{◌≡◌};
-    ghost use Rattle.signed_stream.specs.Halt.{halt_of, halted};
-    ghost use Rattle.signed_stream.specs.Status.{settings_ending};
+    ghost use Rattle.signed_stream.specs.Status.{settings_ending, stream_ending};
 
-    ghost from_gives = { λ fault result. halted (halt_of result) ≡ settings_ending fault };
+    ghost from_gives = { λ fault result. stream_ending result ≡ settings_ending fault };
 
     fn from(fault: SettingsFault) -> StreamFault {
         match fault {
@@ -228,10 +227,9 @@ impl From<EnvConfigFileLoadError> for Status {
 
 impl From<StreamFault> for Status {
     ghost use Rattle.std.specs.Prelude.{◌≡◌};
-    ghost use Rattle.signed_stream.specs.Halt.{halt_of, halted};
-    ghost use Rattle.signed_stream.specs.Status.{ending_of};
+    ghost use Rattle.signed_stream.specs.Status.{ending_of, stream_ending};
 
-    ghost from_gives = { λ fault status. ending_of status ≡ halted (halt_of fault) };
+    ghost from_gives = { λ fault status. ending_of status ≡ stream_ending fault };
 
     fn from(fault: StreamFault) -> Status {
         match fault {

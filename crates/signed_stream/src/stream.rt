@@ -1,8 +1,8 @@
 ghost use Rattle.std.specs.Prelude.{◌≡◌, ◌≤◌, ℕ, List, IfOk, IsErrOf, map};
 ghost use Rattle.std.specs.String.{string_bytes};
 ghost use Rattle.smithy_core.specs.Given.{Gives};
-ghost use Rattle.smithy_core.specs.Outside.{RoseOrStands};
 ghost use Rattle.env_config.specs.Source.{file_of};
+ghost use Rattle.signed_stream.specs.Counts.{CountsFault};
 ghost use Rattle.signed_stream.specs.Carriers.{GoesForJob, IsAfterTexts};
 ghost use Rattle.signed_stream.specs.Command.{stream};
 ghost use Rattle.job_text.specs.Draft.{job_parts};
@@ -38,9 +38,8 @@ pub fn stream_job<D: Disk, C: Clock, K: ByteSink>(
     ensures named { (path : List ℕ) → ending_of result ≡ could_not_read_file path
         → NamesUnreadable (DiskGives D.answers D.faults (D.files disk.old) env.now disk.old disk.new) (stream (wanted_of words.entry)) path }
     ensures same { D.files disk.new ≡ D.files disk.old }
-    ensures output_failed { ending_of result ≡ output_fault → RoseOrStands (K.faults out.old) (K.faults out.new) }
-    ensures output_steady { (ending_of result ≡ output_fault → ⊥) → K.faults out.new ≡ K.faults out.old }
-    ensures count { (D.faults disk.old ≤ D.faults disk.new) × (K.faults out.old ≤ K.faults out.new) }
+    ensures writes { CountsFault (ending_of result ≡ output_fault) (K.faults out.old) (K.faults out.new) }
+    ensures count { D.faults disk.old ≤ D.faults disk.new }
 {
     let Job {
         request,
@@ -70,56 +69,47 @@ fn stream_source<C: Clock, K: ByteSink>(
     words: StreamWords<'_>,
     clock: &mut C,
     out: &mut K,
-) -> Result<(), StreamFault>
-    ensures count { K.faults out.old ≤ K.faults out.new }
+) -> Result<HttpRequest, StreamFault>
     ensures streams { let wanted = wanted_of words.entry in
         TakesFor (OfClock (λ taken. Gives C.Clock clock.old taken clock.new) wanted.at) (string_bytes request.now.target)
         (stream_plan (map file_of source.now.files.items) (string_bytes source.now.profile) env.now wanted (job_with request.now events.items)) (ended result) (K.held out.old) (K.held out.new) }
-    ensures failed { IsErrOf result StreamFault.SinkFault → RoseOrStands (K.faults out.old) (K.faults out.new) }
-    ensures steady { (IsErrOf result StreamFault.SinkFault → ⊥) → K.faults out.new ≡ K.faults out.old }
+    ensures counts { CountsFault (IsErrOf result StreamFault.SinkFault) (K.faults out.old) (K.faults out.new) }
 {
-    match words.at {
-        Some(at) => {
-            let mut fixed = FixedClock::new(at);
-            stream_by(alloc, source, env, request, events, words, &mut fixed, out)
-        }
-        None => stream_by(alloc, source, env, request, events, words, clock, out),
-    }
-}
-
-// Streams the request and its events at the moments of a clock.
-fn stream_by<C: Clock, K: ByteSink>(
-    alloc: Global,
-    source: &Source,
-    env: &Env,
-    request: &HttpRequest,
-    events: Vec<Message>,
-    words: StreamWords<'_>,
-    clock: &mut C,
-    out: &mut K,
-) -> Result<(), StreamFault>
-    ensures count { K.faults out.old ≤ K.faults out.new }
-    ensures streams { TakesFor (λ taken. Gives C.Clock clock.old taken clock.new) (string_bytes request.now.target)
-        (stream_plan (map file_of source.now.files.items) (string_bytes source.now.profile) env.now (wanted_of words.entry) (job_with request.now events.items)) (ended result) (K.held out.old) (K.held out.new) }
-    ensures failed { IsErrOf result StreamFault.SinkFault → RoseOrStands (K.faults out.old) (K.faults out.new) }
-    ensures steady { (IsErrOf result StreamFault.SinkFault → ⊥) → K.faults out.new ≡ K.faults out.old }
-{
+    let at = words.at;
     let form = words.form;
     let options = options_of(alloc, words)?;
     let mut moments = Vec::new(alloc);
-    sign_and_send(
-        alloc,
-        source,
-        env,
-        request,
-        &options,
-        events,
-        clock,
-        form,
-        out,
-        &mut moments,
-    )?;
-    Ok(())
+    match at {
+        Some(at) => {
+            let mut fixed = FixedClock::new(at);
+            sign_and_send(
+                alloc,
+                source,
+                env,
+                request,
+                &options,
+                events,
+                &mut fixed,
+                form,
+                out,
+                &mut moments,
+            )
+        }
+        None => {
+            sign_and_send(
+                alloc,
+                source,
+                env,
+                request,
+                &options,
+                events,
+                clock,
+                form,
+                out,
+                &mut moments,
+            )
+        }
+    }
 }
 
 // What the words ask of a stream.

@@ -1,13 +1,9 @@
-ghost use Rattle.std.specs.Prelude.{◌≡◌, ◌≤◌, ◌++◌, List, None, IfOk, IsErrOf, map, option_map};
+ghost use Rattle.std.specs.Prelude.{None, IfOk, IsErrOf, map};
 ghost use Rattle.std.specs.String.{string_bytes};
 ghost use Rattle.smithy_core.specs.Given.{Gives, GivesEach};
-ghost use Rattle.smithy_core.specs.Moment.{Instant};
-ghost use Rattle.smithy_core.specs.Outside.{RoseOrStands};
-ghost use Rattle.eventstream.specs.Told.{signs_over};
 ghost use Rattle.env_config.specs.Source.{file_of};
-ghost use Rattle.aws_auth.specs.MessageSigner.{running_signature, signer_in, told_of};
+ghost use Rattle.signed_stream.specs.Counts.{CountsFault};
 ghost use Rattle.signed_stream.specs.Halt.{Sends, ended};
-ghost use Rattle.signed_stream.specs.Sending.{SendsAll};
 ghost use Rattle.signed_stream.specs.Settings.{selected_in};
 ghost use Rattle.signed_stream.specs.Streaming.{IsSameStreamOptions, IsSentSigned, SignsAndStreams, Streams, job_with, stream_wanted};
 ghost use Rattle.signed_stream.specs.Stream.{selected_plan};
@@ -94,12 +90,10 @@ pub fn sign_and_stream<C: Clock, K: ByteSink>(
     sink: &mut K,
     moments: &mut Vec<Moment>,
 ) -> Result<HttpRequest, StreamFault>
-    ensures count { K.faults sink.old ≤ K.faults sink.new }
     ensures streams { SignsAndStreams (λ taken. Gives C.Clock clock.old taken clock.new) moments.old.items moments.new.items
         (map file_of source.now.files.items) (string_bytes source.now.profile) env.now (stream_wanted options.now form) request.now events.now result
         (K.held sink.old) (K.held sink.new) }
-    ensures failed { IsErrOf result StreamFault.SinkFault → RoseOrStands (K.faults sink.old) (K.faults sink.new) }
-    ensures steady { (IsErrOf result StreamFault.SinkFault → ⊥) → K.faults sink.new ≡ K.faults sink.old }
+    ensures counts { CountsFault (IsErrOf result StreamFault.SinkFault) (K.faults sink.old) (K.faults sink.new) }
 {
     let events = copied_events(alloc, events)?;
     sign_and_send(
@@ -125,12 +119,10 @@ pub fn sign_and_send<C: Clock, K: ByteSink>(
     sink: &mut K,
     moments: &mut Vec<Moment>,
 ) -> Result<HttpRequest, StreamFault>
-    ensures count { K.faults sink.old ≤ K.faults sink.new }
     ensures streams { SignsAndStreams (λ taken. Gives C.Clock clock.old taken clock.new) moments.old.items moments.new.items
         (map file_of source.now.files.items) (string_bytes source.now.profile) env.now (stream_wanted options.now form) request.now events.items result
         (K.held sink.old) (K.held sink.new) }
-    ensures failed { IsErrOf result StreamFault.SinkFault → RoseOrStands (K.faults sink.old) (K.faults sink.new) }
-    ensures steady { (IsErrOf result StreamFault.SinkFault → ⊥) → K.faults sink.new ≡ K.faults sink.old }
+    ensures counts { CountsFault (IsErrOf result StreamFault.SinkFault) (K.faults sink.old) (K.faults sink.new) }
 {
     let settings = read_settings(alloc, source, env, lent(&options.service_id))?;
     stream_selected(
@@ -150,43 +142,19 @@ fn stream_selected<C: Clock, K: ByteSink>(
     sink: &mut K,
     moments: &mut Vec<Moment>,
 ) -> Result<HttpRequest, StreamFault>
-    ensures count { K.faults sink.old ≤ K.faults sink.new }
     ensures streams { Streams (λ taken. GivesEach C.Clock clock.old taken clock.new) moments.old.items moments.new.items (string_bytes request.now.target)
         (λ target taken. selected_plan (job_with request.now events.items) (stream_wanted options.now form) target taken (selected_in settings))
         (ended result) (K.held sink.old) (K.held sink.new) }
     ensures signed { IfOk result (IsSentSigned (job_with request.now events.items) (stream_wanted options.now form) (selected_in settings) request.now moments.old.items moments.new.items) }
-    ensures failed { IsErrOf result StreamFault.SinkFault → RoseOrStands (K.faults sink.old) (K.faults sink.new) }
-    ensures steady { (IsErrOf result StreamFault.SinkFault → ⊥) → K.faults sink.new ≡ K.faults sink.old }
+    ensures counts { CountsFault (IsErrOf result StreamFault.SinkFault) (K.faults sink.old) (K.faults sink.new) }
 {
     let identity = Identity::Credentials(settings.credentials);
     let region = settings.region.as_str();
     let first = take_moment(clock, moments)?;
     let (signed, signer) = sign_request(alloc, request, &identity, region, options, first)?;
-    stream_signed(alloc, &signed, signer, events, clock, form, sink, moments)?;
+    write_head(alloc, &signed, form, sink)?;
+    stream_events(alloc, signer, events, clock, form, sink, moments)?;
     Ok(signed)
-}
-
-// Streams the head of a signed request, and the events.
-fn stream_signed<C: Clock, K: ByteSink>(
-    alloc: Global,
-    request: &HttpRequest,
-    signer: SigV4MessageSigner<()>,
-    events: Vec<Message>,
-    clock: &mut C,
-    form: Form,
-    sink: &mut K,
-    moments: &mut Vec<Moment>,
-) -> Result<(), StreamFault>
-    requires { told_of signer ≡ signs_over (running_signature signer) (signer_in signer) }
-    ensures count { K.faults sink.old ≤ K.faults sink.new }
-    ensures sends { (taken : List Instant) × (moments.new.items ≡ moments.old.items ++ taken) × GivesEach C.Clock clock.old taken clock.new
-        × SendsAll form (head_in_form form (string_bytes request.now.method) (string_bytes request.now.target) request.now.headers)
-        (signer_in signer) events.items (running_signature signer) (K.held sink.old) (K.held sink.new) taken result }
-    ensures failed { IsErrOf result StreamFault.SinkFault → RoseOrStands (K.faults sink.old) (K.faults sink.new) }
-    ensures steady { (IsErrOf result StreamFault.SinkFault → ⊥) → K.faults sink.new ≡ K.faults sink.old }
-{
-    write_head(alloc, request, form, sink)?;
-    stream_events(alloc, signer, events, clock, form, sink, moments)
 }
 
 // Writes the head of a request, where the form has one.
@@ -197,10 +165,8 @@ fn write_head<K: ByteSink>(
     form: Form,
     sink: &mut K,
 ) -> Result<(), StreamFault>
-    ensures count { K.faults sink.old ≤ K.faults sink.new }
     ensures sends { Sends None (head_in_form form (string_bytes request.now.method) (string_bytes request.now.target) request.now.headers) (K.held sink.old) (K.held sink.new) result }
-    ensures failed { IsErrOf result StreamFault.SinkFault → RoseOrStands (K.faults sink.old) (K.faults sink.new) }
-    ensures steady { (IsErrOf result StreamFault.SinkFault → ⊥) → K.faults sink.new ≡ K.faults sink.old }
+    ensures counts { CountsFault (IsErrOf result StreamFault.SinkFault) (K.faults sink.old) (K.faults sink.new) }
 {
     match form {
         Form::Raw => Ok(()),

@@ -1,14 +1,14 @@
 //! The command `watch`.
-ghost use Rattle.std.specs.Prelude.{◌≡◌, ◌≤◌, ℕ, List, [], IfErr, IfOk, OnOk, length, map};
+ghost use Rattle.std.specs.Prelude.{◌≡◌, ◌≤◌, ℕ, List, [], IfOk, OnOk, map};
 ghost use Rattle.std.specs.String.{string_bytes};
 ghost use Rattle.job_text.specs.Pieces.{taken_from};
-ghost use Rattle.smithy_core.specs.Outside.{RoseOrStands};
 ghost use Rattle.chain_watch.specs.declared.chain_fault.ChainFault.TheVariants.{NoMemory};
+ghost use Rattle.signed_stream.specs.Counts.{CountsFault, CountsStep};
 ghost use Rattle.signed_stream.specs.Plan.{unreadable};
 ghost use Rattle.signed_stream.specs.Settings.{selected_in};
 ghost use Rattle.signed_stream.specs.Sources.{DiskGives};
 ghost use Rattle.signed_stream.specs.Status.{could_not_read_file, ending_of, output_fault, read_fault};
-ghost use Rattle.signed_stream.specs.WatchChain.{EndsInput, IsFit, IsIdle, IsUnfed, NamesUnread, ReadsInput, ShowsWaiting, StaysBut, TakesNext, UnlessRead, WalksWaiting, Watches, WatchesInput, WatchesWords, watch_signer};
+ghost use Rattle.signed_stream.specs.WatchChain.{EndsInput, IsFit, IsIdle, IsUnfed, NamesUnread, ReadsInput, ShowsWaiting, TakesNext, UnlessRead, WalksWaiting, Watches, WatchesInput, WatchesWords, watch_signer};
 ghost use Rattle.signed_stream.specs.WatchWords.{no_watch_given, watch_from, watch_wanted, watch_word};
 
 use crate::command::{WatchWords, read_watch};
@@ -43,11 +43,9 @@ pub fn watch<S: ByteSource, D: Disk, K: ByteSink>(
         → NamesUnread (DiskGives D.answers D.faults (D.files disk.old) env.now disk.old disk.new) (watch_from (taken_from watch_word 2 no_watch_given (map string_bytes words.now))) path }
     ensures same { D.files disk.new ≡ D.files disk.old }
     ensures unasked { UnlessRead (watch_from (taken_from watch_word 2 no_watch_given (map string_bytes words.now))) (disk.new ≡ disk.old) }
-    ensures read_failed { ending_of result ≡ read_fault → RoseOrStands (S.faults input.old) (S.faults input.new) }
-    ensures read_steady { (ending_of result ≡ read_fault → ⊥) → S.faults input.new ≡ S.faults input.old }
-    ensures output_failed { ending_of result ≡ output_fault → RoseOrStands (K.faults out.old) (K.faults out.new) }
-    ensures output_steady { (ending_of result ≡ output_fault → ⊥) → K.faults out.new ≡ K.faults out.old }
-    ensures count { (S.faults input.old ≤ S.faults input.new) × (D.faults disk.old ≤ D.faults disk.new) × (K.faults out.old ≤ K.faults out.new) }
+    ensures reads { CountsFault (ending_of result ≡ read_fault) (S.faults input.old) (S.faults input.new) }
+    ensures writes { CountsFault (ending_of result ≡ output_fault) (K.faults out.old) (K.faults out.new) }
+    ensures count { D.faults disk.old ≤ D.faults disk.new }
 {
     match read_watch(alloc, words) {
         Ok(words) => watch_wanted(alloc, words, env, input, disk, out),
@@ -70,11 +68,9 @@ fn watch_wanted<S: ByteSource, D: Disk, K: ByteSink>(
     ensures named { (path : List ℕ) → ending_of result ≡ could_not_read_file path
         → DiskGives D.answers D.faults (D.files disk.old) env.now disk.old disk.new (watch_wanted words.entry).profile.files (unreadable path) }
     ensures same { D.files disk.new ≡ D.files disk.old }
-    ensures read_failed { ending_of result ≡ read_fault → RoseOrStands (S.faults input.old) (S.faults input.new) }
-    ensures read_steady { (ending_of result ≡ read_fault → ⊥) → S.faults input.new ≡ S.faults input.old }
-    ensures output_failed { ending_of result ≡ output_fault → RoseOrStands (K.faults out.old) (K.faults out.new) }
-    ensures output_steady { (ending_of result ≡ output_fault → ⊥) → K.faults out.new ≡ K.faults out.old }
-    ensures count { (S.faults input.old ≤ S.faults input.new) × (D.faults disk.old ≤ D.faults disk.new) × (K.faults out.old ≤ K.faults out.new) }
+    ensures reads { CountsFault (ending_of result ≡ read_fault) (S.faults input.old) (S.faults input.new) }
+    ensures writes { CountsFault (ending_of result ≡ output_fault) (K.faults out.old) (K.faults out.new) }
+    ensures count { D.faults disk.old ≤ D.faults disk.new }
 {
     match select(alloc, env, disk, &words.profile, ProfileTexts::new()) {
         Ok(settings) => watch_selected(alloc, &words, &settings, input, out),
@@ -92,11 +88,8 @@ fn watch_selected<S: ByteSource, K: ByteSink>(
 ) -> Status
     ensures watches { Watches (watch_signer (watch_wanted words.now) (selected_in settings.now)) words.now.seed.now (S.left input.old) (S.left input.new)
         (ending_of result) (K.held out.old) (K.held out.new) }
-    ensures read_failed { ending_of result ≡ read_fault → RoseOrStands (S.faults input.old) (S.faults input.new) }
-    ensures read_steady { (ending_of result ≡ read_fault → ⊥) → S.faults input.new ≡ S.faults input.old }
-    ensures output_failed { ending_of result ≡ output_fault → RoseOrStands (K.faults out.old) (K.faults out.new) }
-    ensures output_steady { (ending_of result ≡ output_fault → ⊥) → K.faults out.new ≡ K.faults out.old }
-    ensures count { (S.faults input.old ≤ S.faults input.new) × (K.faults out.old ≤ K.faults out.new) }
+    ensures reads { CountsFault (ending_of result ≡ read_fault) (S.faults input.old) (S.faults input.new) }
+    ensures writes { CountsFault (ending_of result ≡ output_fault) (K.faults out.old) (K.faults out.new) }
 {
     let secret = settings.credentials.secret_access_key();
     let region = settings.region.as_str();
@@ -144,11 +137,8 @@ impl Progress {
         requires fits { IsFit self.old }
         ensures reads { ReadsInput self.old (S.left input.old) (S.left input.new) self.new (K.held out.old) (K.held out.new) result }
         ensures fit { OnOk result (IsFit self.new) }
-        ensures read_failed { IfErr result (λ status. ending_of status ≡ read_fault → RoseOrStands (S.faults input.old) (S.faults input.new)) }
-        ensures read_steady { StaysBut read_fault result (S.faults input.old) (S.faults input.new) }
-        ensures output_failed { IfErr result (λ status. ending_of status ≡ output_fault → RoseOrStands (K.faults out.old) (K.faults out.new)) }
-        ensures output_steady { StaysBut output_fault result (K.faults out.old) (K.faults out.new) }
-        ensures count { (S.faults input.old ≤ S.faults input.new) × (K.faults out.old ≤ K.faults out.new) }
+        ensures counts { CountsStep read_fault result (S.faults input.old) (S.faults input.new) }
+        ensures writes { CountsStep output_fault result (K.faults out.old) (K.faults out.new) }
     {
         let mut piece = [0u8; MOST_PIECE];
         'pieces: loop {
@@ -168,9 +158,7 @@ impl Progress {
         ensures takes { TakesNext self.old piece.now self.new (K.held out.old) (K.held out.new) result }
         ensures fit { OnOk result (IsFit self.new) }
         ensures idle { OnOk result (IsIdle self.new) }
-        ensures output_failed { IfErr result (λ status. ending_of status ≡ output_fault → RoseOrStands (K.faults out.old) (K.faults out.new)) }
-        ensures output_steady { StaysBut output_fault result (K.faults out.old) (K.faults out.new) }
-        ensures count { K.faults out.old ≤ K.faults out.new }
+        ensures writes { CountsStep output_fault result (K.faults out.old) (K.faults out.new) }
     {
         let room = MOST_INPUT - self.watch.fed() as usize - self.waiting.len();
         if piece.len() > room {
@@ -192,9 +180,7 @@ impl Progress {
         ensures shows { ShowsWaiting self.old self.new (K.held out.old) (K.held out.new) result }
         ensures fit { OnOk result (IsFit self.new) }
         ensures idle { OnOk result (IsIdle self.new) }
-        ensures output_failed { IfErr result (λ status. ending_of status ≡ output_fault → RoseOrStands (K.faults out.old) (K.faults out.new)) }
-        ensures output_steady { StaysBut output_fault result (K.faults out.old) (K.faults out.new) }
-        ensures count { K.faults out.old ≤ K.faults out.new }
+        ensures writes { CountsStep output_fault result (K.faults out.old) (K.faults out.new) }
     {
         let mut events = Vec::new(alloc);
         let fault = self.feed_waiting(alloc, &mut events)?;
@@ -235,9 +221,7 @@ impl Progress {
     fn finish<K: ByteSink>(self, alloc: Global, out: &mut K) -> Status
         requires { IsFit self }
         ensures ends { EndsInput self (ending_of result) (K.held out.old) (K.held out.new) }
-        ensures output_failed { ending_of result ≡ output_fault → RoseOrStands (K.faults out.old) (K.faults out.new) }
-        ensures output_steady { (ending_of result ≡ output_fault → ⊥) → K.faults out.new ≡ K.faults out.old }
-        ensures count { K.faults out.old ≤ K.faults out.new }
+        ensures writes { CountsFault (ending_of result ≡ output_fault) (K.faults out.old) (K.faults out.new) }
     {
         let Progress { watch, shown, .. } = self;
         match watch.finish(&mut Vec::new(alloc)) {

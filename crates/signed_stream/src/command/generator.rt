@@ -1,8 +1,7 @@
 //! The words of `gen`.
-ghost use Rattle.std.specs.Prelude.{◌≡◌, map};
+ghost use Rattle.std.specs.Prelude.{map};
 ghost use Rattle.std.specs.String.{string_bytes};
-ghost use Rattle.signed_stream.specs.Command.{count_given, generator_from, seeded};
-ghost use Rattle.job_text.specs.Numbers.{natural_below};
+ghost use Rattle.signed_stream.specs.Command.{generator_from, seeded};
 ghost use Rattle.signed_stream.specs.Options.{ReadsGenerator};
 
 use job_text::{WordsFault, parse_count, parse_u64};

@@ -10,8 +10,8 @@ use Rattle.operation_program.proofs.running.answer_selected.Goals as goal
 pub returns-in-Ok-clause-goes : goal.returns-in-Ok-clause-goes
 returns-in-Ok-clause-goes g c = λ texts.
     text_written (scripted_with c.args.env.now (operation_wanted c.args.words.now) c.args.request.now texts (map reply_parts c.args.replies.now) (selected_in c.args.settings)) c.in-Ok.text
-    (operation_ending c.write_operation.result) (g.K.ByteSink.held c.args.out.now) (g.K.ByteSink.held c.write_operation.new.out) (c.in-Ok.ensures.gives texts)
-    (rw c.as_slice.ensures.value at c.write_operation.ensures.goes)
+    (operation_ending c.write_text.result) (g.K.ByteSink.held c.args.out.now) (g.K.ByteSink.held c.write_text.new.out) (c.in-Ok.ensures.gives texts)
+    (rw c.as_slice.ensures.value at c.write_text.ensures.goes)
 
 pub returns-in-Err-clause-goes : goal.returns-in-Err-clause-goes
 returns-in-Err-clause-goes g c = λ texts.

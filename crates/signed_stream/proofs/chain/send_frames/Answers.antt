@@ -33,7 +33,7 @@ pub frames-preserved : goal.frames-preserved
 frames-preserved g c =
     let sends = rw c.as_slice.ensures at c.in_ok-write_frame.ensures.sends in
     record {
-      count = c.in_ok-write_frame.ensures.steady (λ failed. cc) ∙ c.frames.invariant.count;
+      count = c.in_ok-write_frame.ensures.counts.stayed (λ failed. cc) ∙ c.frames.invariant.count;
       at =
           goes_at _ _ _ _ _ _ _ _ _ _ _ _ _ _ c.poll_next-answer.new.clock _ _ c.poll_next-answer.new.self _ c.frames.invariant.at (omega (arith, c.frames-test.true, c.requires.places)) never_waits
           (λ left signature chains. chain_polled _ identity.ghosts identity.ghosts _ (λ m message answer is. is) _ g.C.Clock _ _ _ _ left signature _ _ _ chains c.poll_next-answer.ensures.want c.poll_next-answer.ensures.polls)

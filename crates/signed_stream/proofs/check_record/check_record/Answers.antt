@@ -6,7 +6,7 @@ use Rattle.signed_stream.specs.Sources.{DiskGives}
 use Rattle.signed_stream.specs.Selecting.{selection_ending}
 use Rattle.signed_stream.specs.Status.{ending_of}
 use Rattle.signed_stream.proofs.FitLemmas.{record_sealed, record_unselected}
-use Rattle.signed_stream.proofs.SourceLemmas.{selects_after_texts, selects_no_output}
+use Rattle.signed_stream.proofs.SourceLemmas.{selects_after_texts, selects_unwritten}
 use Rattle.signed_stream.proofs.check_record.check_record.Goals as goal
 
 pub returns-in-Ok-clause-planned : goal.returns-in-Ok-clause-planned
@@ -32,5 +32,5 @@ returns-clause-end g c = rw c.from.ensures (selects_after_texts c.in-Err.fault)
 pub returns-clause-named : goal.returns-clause-named
 returns-clause-named g c = λ path is. c.in-Err.ensures.named path (sym c.from.ensures ∙ is)
 
-pub returns-clause-output_failed : goal.returns-clause-output_failed
-returns-clause-output_failed g c = λ is. absurd (selects_no_output c.in-Err.fault (ending_of c.from.result) c.from.ensures is)
+pub returns-clause-writes : goal.returns-clause-writes
+returns-clause-writes g c = selects_unwritten c.in-Err.fault (ending_of c.from.result) _ c.from.ensures

@@ -16,4 +16,4 @@ pub stream_without_memory-requires : goal.stream_without_memory-requires
 stream_without_memory-requires c =
     let sends = rw c.in_ok-copies.ensures at c.in-Err.ensures.sends in
     let moments = moments_same fixed.ghosts (λ before moment now gives. gives) c.new-clock.result c.stream_events.new.clock sends.0 (rw c.moment.ensures at c.new-clock.ensures.at) sends.2 in
-    streaming_wants (signer_in c.args.signer) c.args.events.now sends.0 (running_signature c.args.signer) _ _ c.in-Err.fault c.requires.drawn moments (λ is. never_waits (c.in-Err.ensures.failed (ap Err is))) sends.3
+    streaming_wants (signer_in c.args.signer) c.args.events.now sends.0 (running_signature c.args.signer) _ _ c.in-Err.fault c.requires.drawn moments (λ is. never_waits (c.in-Err.ensures.counts.rose (ap Err is))) sends.3

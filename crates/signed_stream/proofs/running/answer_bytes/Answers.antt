@@ -1,12 +1,12 @@
+use Rattle.std.proofs.Common.{refl}
 use Rattle.smithy_core.specs.Given.{Gives}
 use Rattle.smithy_core.proofs.GivenLemmas.{given_none}
 use Rattle.signed_stream.specs.ChunkWords.{chunk_wanted}
+use Rattle.signed_stream.specs.Command.{check_record, show_settings, stream, write_chunks}
 use Rattle.signed_stream.specs.Options.{check_wanted, input_commanded, wanted_of}
 use Rattle.signed_stream.specs.ProfileOptions.{profile_wanted}
-use Rattle.job_text.specs.ProfileTexts.{texts_of}
-use Rattle.job_text.specs.Record.{record_parts}
 use Rattle.signed_stream.specs.Sources.{DiskGives}
-use Rattle.signed_stream.proofs.RunLemmas.{bytes_no_memory, chunks_written, job_is_bad, job_was_read, record_is_bad, record_was_read, texts_are_bad, texts_were_read}
+use Rattle.signed_stream.proofs.RunLemmas.{bytes_are_bad, bytes_go, bytes_no_memory, job_was_read, nothing_given}
 use Rattle.signed_stream.proofs.running.answer_bytes.Goals as goal
 
 pub returns-in-Ok-clause-planned : goal.returns-in-Ok-clause-planned
@@ -24,22 +24,23 @@ pub returns-in-Err-BadLine-clause-planned : goal.returns-in-Err-BadLine-clause-p
 returns-in-Err-BadLine-clause-planned g c =
     let read = rw c.in-Err-BadLine.field-0-is at c.in-Err-BadLine.ensures in
     rw (c.in-Stream.is, c.in-Err-BadLine.field-0-is)
-    (job_is_bad (DiskGives g.D.Disk.answers g.D.Disk.faults (g.D.Disk.files c.args.disk.now) c.args.env.now c.args.disk.now c.args.disk.now) (λ places. tt)
-    (λ taken. Gives g.C.Clock c.args.clock.now taken c.args.clock.now) (given_none g.C.Clock c.args.clock.now) c.args.env.now (wanted_of c.in-Stream.words) c.args.bytes.items _ (g.K.ByteSink.held c.args.out.now) read)
+    (bytes_are_bad (DiskGives g.D.Disk.answers g.D.Disk.faults (g.D.Disk.files c.args.disk.now) c.args.env.now c.args.disk.now c.args.disk.now) (λ places. tt)
+    (λ taken. Gives g.C.Clock c.args.clock.now taken c.args.clock.now) (given_none g.C.Clock c.args.clock.now) c.args.env.now (stream (wanted_of c.in-Stream.words)) c.args.bytes.items _ (g.K.ByteSink.held c.args.out.now) (rw read refl))
 
 pub returns-in-Ok-take_record-clause-planned : goal.returns-in-Ok-take_record-clause-planned
 returns-in-Ok-take_record-clause-planned g c =
+    let goes = c.check_record.ensures.planned in
     rw c.in-Check.is
-    (record_was_read (DiskGives g.D.Disk.answers g.D.Disk.faults (g.D.Disk.files c.args.disk.now) c.args.env.now c.args.disk.now c.check_record.new.disk) (λ places. tt)
-    (λ taken. Gives g.C.Clock c.args.clock.now taken c.args.clock.now) (given_none g.C.Clock c.args.clock.now) c.args.env.now (check_wanted c.in-Check.words) c.args.bytes.items
-    (record_parts c.in-Ok-take_record.draft) _ _ _ c.in-Ok-take_record.ensures c.check_record.ensures.planned)
+    (bytes_go (DiskGives g.D.Disk.answers g.D.Disk.faults (g.D.Disk.files c.args.disk.now) c.args.env.now c.args.disk.now c.check_record.new.disk) (λ places. tt)
+    (λ taken. Gives g.C.Clock c.args.clock.now taken c.args.clock.now) (given_none g.C.Clock c.args.clock.now) c.args.env.now (check_record (check_wanted c.in-Check.words)) c.args.bytes.items
+    goes.0 _ _ _ (rw c.in-Ok-take_record.ensures (record { files = goes.1.files; seal = goes.1.seal })) (rw c.in-Ok-take_record.ensures goes.2))
 
 pub returns-in-Err-BadLine-take_record-clause-planned : goal.returns-in-Err-BadLine-take_record-clause-planned
 returns-in-Err-BadLine-take_record-clause-planned g c =
     let read = rw c.in-Err-BadLine-take_record.field-0-is at c.in-Err-BadLine-take_record.ensures in
     rw (c.in-Check.is, c.in-Err-BadLine-take_record.field-0-is)
-    (record_is_bad (DiskGives g.D.Disk.answers g.D.Disk.faults (g.D.Disk.files c.args.disk.now) c.args.env.now c.args.disk.now c.args.disk.now) (λ places. tt)
-    (λ taken. Gives g.C.Clock c.args.clock.now taken c.args.clock.now) (given_none g.C.Clock c.args.clock.now) c.args.env.now (check_wanted c.in-Check.words) c.args.bytes.items _ (g.K.ByteSink.held c.args.out.now) read)
+    (bytes_are_bad (DiskGives g.D.Disk.answers g.D.Disk.faults (g.D.Disk.files c.args.disk.now) c.args.env.now c.args.disk.now c.args.disk.now) (λ places. tt)
+    (λ taken. Gives g.C.Clock c.args.clock.now taken c.args.clock.now) (given_none g.C.Clock c.args.clock.now) c.args.env.now (check_record (check_wanted c.in-Check.words)) c.args.bytes.items _ (g.K.ByteSink.held c.args.out.now) (rw read refl))
 
 pub returns-in-Check-clause-planned : goal.returns-in-Check-clause-planned
 returns-in-Check-clause-planned g c =
@@ -48,17 +49,18 @@ returns-in-Check-clause-planned g c =
 
 pub returns-in-Ok-take_profile_texts-clause-planned : goal.returns-in-Ok-take_profile_texts-clause-planned
 returns-in-Ok-take_profile_texts-clause-planned g c =
+    let goes = c.show_settings.ensures.planned in
     rw c.in-Settings.is
-    (texts_were_read (DiskGives g.D.Disk.answers g.D.Disk.faults (g.D.Disk.files c.args.disk.now) c.args.env.now c.args.disk.now c.show_settings.new.disk) (λ places. tt)
-    (λ taken. Gives g.C.Clock c.args.clock.now taken c.args.clock.now) (given_none g.C.Clock c.args.clock.now) c.args.env.now (profile_wanted c.in-Settings.options) c.args.bytes.items
-    (texts_of c.in-Ok-take_profile_texts.texts) _ _ _ c.in-Ok-take_profile_texts.ensures c.show_settings.ensures.planned)
+    (bytes_go (DiskGives g.D.Disk.answers g.D.Disk.faults (g.D.Disk.files c.args.disk.now) c.args.env.now c.args.disk.now c.show_settings.new.disk) (λ places. tt)
+    (λ taken. Gives g.C.Clock c.args.clock.now taken c.args.clock.now) (given_none g.C.Clock c.args.clock.now) c.args.env.now (show_settings (profile_wanted c.in-Settings.options)) c.args.bytes.items
+    goes.0 _ _ _ (rw c.in-Ok-take_profile_texts.ensures goes.1) (rw c.in-Ok-take_profile_texts.ensures goes.2))
 
 pub returns-in-Err-BadLine-take_profile_texts-clause-planned : goal.returns-in-Err-BadLine-take_profile_texts-clause-planned
 returns-in-Err-BadLine-take_profile_texts-clause-planned g c =
     let read = rw c.in-Err-BadLine-take_profile_texts.field-0-is at c.in-Err-BadLine-take_profile_texts.ensures in
     rw (c.in-Settings.is, c.in-Err-BadLine-take_profile_texts.field-0-is)
-    (texts_are_bad (DiskGives g.D.Disk.answers g.D.Disk.faults (g.D.Disk.files c.args.disk.now) c.args.env.now c.args.disk.now c.args.disk.now) (λ places. tt)
-    (λ taken. Gives g.C.Clock c.args.clock.now taken c.args.clock.now) (given_none g.C.Clock c.args.clock.now) c.args.env.now (profile_wanted c.in-Settings.options) c.args.bytes.items _ (g.K.ByteSink.held c.args.out.now) read)
+    (bytes_are_bad (DiskGives g.D.Disk.answers g.D.Disk.faults (g.D.Disk.files c.args.disk.now) c.args.env.now c.args.disk.now c.args.disk.now) (λ places. tt)
+    (λ taken. Gives g.C.Clock c.args.clock.now taken c.args.clock.now) (given_none g.C.Clock c.args.clock.now) c.args.env.now (show_settings (profile_wanted c.in-Settings.options)) c.args.bytes.items _ (g.K.ByteSink.held c.args.out.now) (rw read refl))
 
 pub returns-in-Settings-clause-planned : goal.returns-in-Settings-clause-planned
 returns-in-Settings-clause-planned g c =
@@ -68,5 +70,6 @@ returns-in-Settings-clause-planned g c =
 pub returns-clause-planned : goal.returns-clause-planned
 returns-clause-planned g c =
     rw c.in-Chunk.is
-    (chunks_written (DiskGives g.D.Disk.answers g.D.Disk.faults (g.D.Disk.files c.args.disk.now) c.args.env.now c.args.disk.now c.args.disk.now) (λ places. tt)
-    (λ taken. Gives g.C.Clock c.args.clock.now taken c.args.clock.now) (given_none g.C.Clock c.args.clock.now) c.args.env.now (chunk_wanted c.in-Chunk.words) c.args.bytes.items _ _ _ c.show_chunked.ensures.planned)
+    (bytes_go (DiskGives g.D.Disk.answers g.D.Disk.faults (g.D.Disk.files c.args.disk.now) c.args.env.now c.args.disk.now c.args.disk.now) (λ places. tt)
+    (λ taken. Gives g.C.Clock c.args.clock.now taken c.args.clock.now) (given_none g.C.Clock c.args.clock.now) c.args.env.now (write_chunks (chunk_wanted c.in-Chunk.words)) c.args.bytes.items
+    nothing_given _ _ _ tt c.show_chunked.ensures.planned)

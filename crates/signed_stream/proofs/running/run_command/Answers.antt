@@ -27,12 +27,12 @@ returns-clause-headline g c =
         kept = said_keeps _ _ _ _ _ answer.kept said;
         named = λ path is. answer.named path (said_is _ _ _ said is (λ e. cc));
         said = c.say.ensures.said;
-        reads = said_reads _ _ _ _ said answer.outside.2 answer.read_failed answer.read_steady;
-        writes = said_writes _ _ _ _ said answer.outside.4 answer.output_failed answer.output_steady;
+        reads = said_reads _ _ _ _ said answer.reads;
+        writes = said_writes _ _ _ _ said answer.writes;
       },
     )
 
 pub returns-clause-outside : goal.returns-clause-outside
 returns-clause-outside g c =
     let answer = c.answer-status.ensures in
-    (said_when _ _ _ _ answer.outside.0 c.say.ensures.answer, answer.outside.1, answer.outside.2, answer.outside.3, answer.outside.4, c.say.ensures.count)
+    (said_when _ _ _ _ answer.outside.0 c.say.ensures.answer, answer.outside.1, answer.reads.grew, answer.outside.2, answer.writes.grew, c.say.ensures.count)

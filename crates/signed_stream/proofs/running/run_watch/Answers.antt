@@ -19,8 +19,8 @@ returns-clause-headline g c =
       moments = given_none g.C.Clock c.args.clock.now;
       named = λ path is. watch.named path (said_is _ _ _ said is (λ e. cc));
       said = c.say.ensures.said;
-      reads = said_reads _ _ _ _ said watch.count.0 watch.read_failed watch.read_steady;
-      writes = said_writes _ _ _ _ said watch.count.2 watch.output_failed watch.output_steady;
+      reads = said_reads _ _ _ _ said watch.reads;
+      writes = said_writes _ _ _ _ said watch.writes;
     }
 
 pub returns-clause-rest : goal.returns-clause-rest

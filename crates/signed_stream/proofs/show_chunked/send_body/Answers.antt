@@ -18,7 +18,7 @@ polls-preserved-in_ok-write_text g c =
     let sends = rw c.as_slice.ensures at c.in_ok-write_text.ensures.sends in
     record {
       sound = c.in_ok-bytes.ensures.0;
-      count = c.in_ok-write_text.ensures.steady (λ failed. cc) ∙ c.polls.invariant.count;
+      count = c.in_ok-write_text.ensures.counts.stayed (λ failed. cc) ∙ c.polls.invariant.count;
       left = bytes_gained _ _ _ c.in_ok-bytes.bytes _ _ _ c.in_ok-bytes.ensures.1 c.polls.invariant.left sends.1;
     }
 
@@ -27,7 +27,7 @@ polls-preserved g c =
     let sends = rw c.as_slice.ensures at c.in_ok-write_text.ensures.sends in
     record {
       sound = c.in_ok-bytes.ensures.0;
-      count = c.in_ok-write_text.ensures.steady (λ failed. cc) ∙ c.polls.invariant.count;
+      count = c.in_ok-write_text.ensures.counts.stayed (λ failed. cc) ∙ c.polls.invariant.count;
       left = bytes_gained _ _ _ c.in_ok-bytes.bytes _ _ _ c.in_ok-bytes.ensures.1 c.polls.invariant.left sends.1;
     }
 

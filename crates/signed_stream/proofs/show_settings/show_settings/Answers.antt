@@ -1,13 +1,12 @@
-use Rattle.std.proofs.Common.{ap, sym, ◌∙◌}
-use Rattle.signed_stream.specs.Halt.{ended}
+use Rattle.std.proofs.Common.{sym, ◌∙◌}
 use Rattle.signed_stream.specs.ProfileOptions.{profile_wanted}
 use Rattle.job_text.specs.ProfileTexts.{texts_of}
 use Rattle.signed_stream.specs.Settings.{selected_in}
 use Rattle.signed_stream.specs.Sources.{DiskGives}
 use Rattle.signed_stream.specs.Selecting.{selection_ending}
 use Rattle.signed_stream.specs.Status.{ending_of}
-use Rattle.signed_stream.proofs.FitLemmas.{ended_after_texts, ended_failed, ended_unnamed, texts_shown, texts_unselected}
-use Rattle.signed_stream.proofs.SourceLemmas.{selects_after_texts, selects_no_output}
+use Rattle.signed_stream.proofs.FitLemmas.{ended_after_texts, ended_counts, ended_unnamed, texts_shown, texts_unselected}
+use Rattle.signed_stream.proofs.SourceLemmas.{selects_after_texts, selects_unwritten}
 use Rattle.signed_stream.proofs.show_settings.show_settings.Goals as goal
 
 pub returns-in-Ok-clause-planned : goal.returns-in-Ok-clause-planned
@@ -34,14 +33,11 @@ returns-in-Ok-clause-end g c = rw c.status_of.ensures (ended_after_texts c.write
 pub returns-in-Ok-clause-named : goal.returns-in-Ok-clause-named
 returns-in-Ok-clause-named g c = λ path is. absurd (ended_unnamed c.write_settings.result path (sym c.status_of.ensures ∙ is))
 
-pub returns-in-Ok-clause-output_failed : goal.returns-in-Ok-clause-output_failed
-returns-in-Ok-clause-output_failed g c = λ is. c.write_settings.ensures.failed (ended_failed c.write_settings.result (sym c.status_of.ensures ∙ is))
-
-pub returns-in-Ok-clause-output_steady : goal.returns-in-Ok-clause-output_steady
-returns-in-Ok-clause-output_steady g c = λ other. c.write_settings.ensures.steady (λ is. other (c.status_of.ensures ∙ ap ended is))
+pub returns-in-Ok-clause-writes : goal.returns-in-Ok-clause-writes
+returns-in-Ok-clause-writes g c = ended_counts c.write_settings.result _ _ _ c.status_of.ensures c.write_settings.ensures.counts
 
 pub returns-clause-named : goal.returns-clause-named
 returns-clause-named g c = λ path is. c.in-Err.ensures.named path (sym c.from.ensures ∙ is)
 
-pub returns-clause-output_failed : goal.returns-clause-output_failed
-returns-clause-output_failed g c = λ is. absurd (selects_no_output c.in-Err.fault (ending_of c.from.result) c.from.ensures is)
+pub returns-clause-writes : goal.returns-clause-writes
+returns-clause-writes g c = selects_unwritten c.in-Err.fault (ending_of c.from.result) _ c.from.ensures

@@ -1,17 +1,16 @@
-use Rattle.std.proofs.Common.{map, refl, ap, sym, ◌∙◌}
+use Rattle.std.proofs.Common.{map, refl, sym, ◌∙◌}
 use Rattle.std.specs.Option.{option_copied}
 use Rattle.std.specs.Prelude.{string_bytes}
 use Rattle.smithy_core.specs.Given.{Gives}
 use Rattle.smithy_core.proofs.GivenLemmas.{given_none}
 use Rattle.env_config.specs.Source.{file_of}
 use Rattle.job_text.specs.Draft.{job_parts}
-use Rattle.signed_stream.specs.Halt.{ended}
 use Rattle.signed_stream.specs.Options.{wanted_of}
 use Rattle.signed_stream.specs.ProfileOptions.{place_of}
 use Rattle.signed_stream.specs.Sources.{DiskGives}
 use Rattle.signed_stream.specs.Status.{ending_of}
 use Rattle.signed_stream.specs.Streaming.{job_with}
-use Rattle.signed_stream.proofs.FitLemmas.{ended_after_texts, ended_failed, ended_unnamed, job_goes, job_unselected}
+use Rattle.signed_stream.proofs.FitLemmas.{ended_after_texts, ended_counts, ended_unnamed, job_goes, job_unselected}
 use Rattle.signed_stream.proofs.RunLemmas.{unasked_at}
 use Rattle.signed_stream.proofs.SourceLemmas.{load_names, load_selects, loads_after_texts}
 use Rattle.signed_stream.proofs.stream.stream_job.Goals as goal
@@ -39,11 +38,8 @@ returns-in-Ok-clause-end g c = rw c.status_of.ensures (ended_after_texts c.strea
 pub returns-in-Ok-clause-named : goal.returns-in-Ok-clause-named
 returns-in-Ok-clause-named g c = λ path is. absurd (ended_unnamed c.stream_source.result path (sym c.status_of.ensures ∙ is))
 
-pub returns-in-Ok-clause-output_failed : goal.returns-in-Ok-clause-output_failed
-returns-in-Ok-clause-output_failed g c = λ is. c.stream_source.ensures.failed (ended_failed c.stream_source.result (sym c.status_of.ensures ∙ is))
-
-pub returns-in-Ok-clause-output_steady : goal.returns-in-Ok-clause-output_steady
-returns-in-Ok-clause-output_steady g c = λ other. c.stream_source.ensures.steady (λ is. other (c.status_of.ensures ∙ ap ended is))
+pub returns-in-Ok-clause-writes : goal.returns-in-Ok-clause-writes
+returns-in-Ok-clause-writes g c = ended_counts c.stream_source.result _ _ _ c.status_of.ensures c.stream_source.ensures.counts
 
 pub returns-in-Err-clause-end : goal.returns-in-Err-clause-end
 returns-in-Err-clause-end g c = rw c.from.ensures (loads_after_texts c.in-Err.fault)

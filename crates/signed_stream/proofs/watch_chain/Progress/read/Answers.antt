@@ -43,7 +43,7 @@ pieces-preserved g c =
         advances_join c.args.self.now c.pieces.self c.take.new.self so_far.0 piece (sink.held c.args.out.now) (sink.held c.pieces.out) (sink.held c.take.new.out) so_far.2 c.in_ok-take-in-Ok.ensures.takes,
       );
       reads = c.in-Ok.ensures.steady ∙ c.pieces.invariant.reads;
-      writes = c.in_ok-take-in-Ok.ensures.output_steady ∙ c.pieces.invariant.writes;
+      writes = c.in_ok-take-in-Ok.ensures.writes ∙ c.pieces.invariant.writes;
     }
 
 pub returns-in_err-take-in-Ok-clause-reads : goal.returns-in_err-take-in-Ok-clause-reads
