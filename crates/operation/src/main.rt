@@ -13,11 +13,10 @@ ghost use Rattle.operation_program.specs.Status.{operation_code, operation_endin
 
 mod help;
 
-use operation_program::{OperationStatus, run_operation, say_operation};
+use operation_program::{OperationStatus, run_operation, say_operation, write_text};
 use program_start::{StartFault, words_and_env};
 use smithy_core::{
-    ByteSink, ByteSource, Clock, Disk, Env, HostDisk, SinkError, StdSink, StdSource, SystemClock,
-    write_all,
+    ByteSink, ByteSource, Clock, Disk, Env, HostDisk, StdSink, StdSource, SystemClock,
 };
 use std::alloc::Global;
 use std::process::ExitCode;
@@ -75,19 +74,7 @@ fn answer<S: ByteSource, D: Disk, C: Clock, K: ByteSink, E: ByteSink>(
         (record { held_before = E.held err.old; held_now = E.held err.new; faults_before = E.faults err.old; faults_now = E.faults err.new })) }
 {
     match help::text_asked(words) {
-        Some(text) => say_operation(alloc, print_text(text, out), err),
+        Some(text) => say_operation(alloc, write_text(text.as_bytes(), out), err),
         None => run_operation(alloc, words, env, input, disk, clock, out, err),
-    }
-}
-
-// Prints a text, and answers how the run ends.
-fn print_text<K: ByteSink>(text: &str, out: &mut K) -> OperationStatus
-    ensures printed { GoesSo (Ok text.now) (operation_ending result) (K.held out.old) (K.held out.new) }
-    ensures counted { CountsFor output_fault (operation_ending result) (K.faults out.old) (K.faults out.new) }
-{
-    match write_all(out, text.as_bytes()) {
-        Ok(()) => OperationStatus::Done,
-        Err(SinkError::Failed) => OperationStatus::OutputFault,
-        Err(SinkError::NoMemory) => OperationStatus::NoMemory,
     }
 }

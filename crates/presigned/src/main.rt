@@ -1,12 +1,12 @@
 //! The program: makes the real objects, hands them to `run_presigned`, and ends with the number of its status.
 #![tactic(auto)]
 
-ghost use Rattle.std.specs.Prelude.{◌≡◌, ◌≤◌, IfNone, IfSome, Ok, map};
+ghost use Rattle.std.specs.Prelude.{◌≡◌, IfNone, IfSome, Ok, map};
 ghost use Rattle.std.specs.Process.{exit_status};
 ghost use Rattle.std.specs.String.{string_bytes};
 ghost use Rattle.smithy_core.specs.Given.{Gives};
 ghost use Rattle.presigned.specs.PresignedTexts.{presigned_help, presigned_version};
-ghost use Rattle.presigned_program.specs.PresignRun.{CountsOutput, GoesPresigned, RanPresigned};
+ghost use Rattle.presigned_program.specs.PresignRun.{GoesPresigned, RanPresigned};
 ghost use Rattle.presigned_program.specs.PresignSaying.{SaysPresigned};
 ghost use Rattle.presigned_program.specs.PresignStatus.{presign_code, presign_ending};
 ghost use Rattle.program_start.specs.Texts.{text_of_words};
