@@ -41,6 +41,43 @@ typedef struct firuvaik_signer {
     firuvaik_text service; /* as s3 */
 } firuvaik_signer;
 
+/* A header of a message. The kind of its value is one of FIRUVAIK_TRUE and those below it. */
+typedef struct firuvaik_event_header {
+    firuvaik_text name;
+    unsigned int kind;
+    long number;         /* the value, where it is a number, or a moment in milliseconds since 1970-01-01T00:00:00Z */
+    firuvaik_text value; /* the value, where it is bytes, a text, or the 16 bytes of a UUID */
+} firuvaik_event_header;
+
+/* The kinds of values, as the event stream encoding numbers them. */
+#define FIRUVAIK_TRUE 0u
+#define FIRUVAIK_FALSE 1u
+#define FIRUVAIK_BYTE 2u      /* a number of 8 bits */
+#define FIRUVAIK_SHORT 3u     /* a number of 16 bits */
+#define FIRUVAIK_INT 4u       /* a number of 32 bits */
+#define FIRUVAIK_LONG 5u      /* a number of 64 bits */
+#define FIRUVAIK_BYTES 6u
+#define FIRUVAIK_STRING 7u    /* a text */
+#define FIRUVAIK_TIMESTAMP 8u /* a moment */
+#define FIRUVAIK_UUID 9u
+
+/* Where a header of a frame stands, in bytes from the frame's first one on. */
+typedef struct firuvaik_header_place {
+    size_t name;
+    size_t name_length;
+    unsigned int kind;
+    long number; /* the value, where it is a number, or a moment in milliseconds */
+    size_t value; /* the value of every other kind; of true and false it has no bytes */
+    size_t value_length;
+} firuvaik_header_place;
+
+/* How long a frame is, and where its payload stands in it. */
+typedef struct firuvaik_frame_parts {
+    size_t length;
+    size_t payload;
+    size_t payload_length;
+} firuvaik_frame_parts;
+
 /* A request. */
 typedef struct firuvaik_request {
     firuvaik_text method; /* taken as it is */
@@ -100,6 +137,22 @@ typedef struct firuvaik_answer {
 #define FIRUVAIK_HEADERS_TOO_LONG 23u    /* a message's headers pass 131,072 bytes */
 #define FIRUVAIK_PAYLOAD_TOO_LONG 24u    /* a message's payload passes 16,777,200 bytes */
 #define FIRUVAIK_MESSAGE_TOO_LONG 25u    /* the frame passes 16,777,216 bytes */
+#define FIRUVAIK_MORE 30u                /* more bytes are wanted: length says how many there have to be */
+#define FIRUVAIK_BAD_VALUE 31u           /* the value of a frame's header passes the headers or the bytes that are there */
+#define FIRUVAIK_BAD_VALUE_KIND 32u      /* a header of the frame has a kind that there isn't */
+#define FIRUVAIK_BAD_HEADERS_LENGTH 33u  /* the headers are longer than the frame or 131,072 bytes, or too short for one */
+#define FIRUVAIK_BAD_FRAME_LENGTH 34u    /* the frame has under 16 or over 16,777,216 bytes, or they aren't all there */
+#define FIRUVAIK_FRAME_NOT_TEXT 35u      /* a name or a text in the frame isn't UTF-8 */
+#define FIRUVAIK_BAD_CHECKSUM 36u        /* the frame has another checksum */
+#define FIRUVAIK_BAD_PRELUDE 37u         /* the frame's first twelve bytes have another checksum */
+#define FIRUVAIK_UNKNOWN_KIND 40u        /* there is no such kind of value */
+#define FIRUVAIK_NUMBER_TOO_LARGE 41u    /* the number doesn't fit its kind */
+#define FIRUVAIK_BAD_UUID 42u            /* a UUID hasn't 16 bytes */
+#define FIRUVAIK_NOT_ONE_FRAME 50u       /* bytes follow the frame */
+#define FIRUVAIK_NOT_SIGNED 51u          /* the frame's headers aren't those of a signed one */
+#define FIRUVAIK_BAD_FRAME_DATE 52u      /* its date is no whole second in the years 0 to 9999 */
+#define FIRUVAIK_BAD_EVENT 53u           /* its payload is neither empty nor an event's frame */
+#define FIRUVAIK_OTHER_SIGNATURE 54u     /* it has another signature than the one that it carries */
 
 /* Signs a request at a moment, in seconds since 1970-01-01T00:00:00Z.
 
@@ -124,6 +177,12 @@ firuvaik_answer firuvaik_sign(const firuvaik_signer *signer, const firuvaik_requ
    FIRUVAIK_DONE, FIRUVAIK_NOT_TEXT, FIRUVAIK_OUT_OF_YEARS. */
 firuvaik_answer firuvaik_signing_key(const firuvaik_signer *signer, long seconds, unsigned char *key);
 
+/* Writes the signature of a string to sign under a signing key that is at hand, as firuvaik_signing_key wrote it, to signature: 64
+   hexadecimal digits in lower case. It is the text's HMAC, as for the policy of a browser's upload to Amazon S3.
+
+   FIRUVAIK_DONE, FIRUVAIK_NO_MEMORY. */
+firuvaik_answer firuvaik_signature(const unsigned char *key, const char *text, size_t text_length, char *signature);
+
 /* Writes the frame of a message, as of an event before it is signed: headers whose values are texts, in order, and a payload.
 
    FIRUVAIK_DONE, FIRUVAIK_ROOM, FIRUVAIK_NO_MEMORY, and else the first of FIRUVAIK_NOT_TEXT, for each header in order
@@ -131,6 +190,31 @@ firuvaik_answer firuvaik_signing_key(const firuvaik_signer *signer, long seconds
    FIRUVAIK_MESSAGE_TOO_LONG. */
 firuvaik_answer firuvaik_event(const firuvaik_field *headers, size_t header_count, const char *payload, size_t payload_length,
                                char *out, size_t out_room);
+
+/* The same, of headers of every kind.
+
+   FIRUVAIK_DONE, FIRUVAIK_ROOM, FIRUVAIK_NO_MEMORY, and else for each header in order FIRUVAIK_NOT_TEXT for its name,
+   FIRUVAIK_UNKNOWN_KIND, FIRUVAIK_NUMBER_TOO_LARGE, FIRUVAIK_NOT_TEXT for its value, FIRUVAIK_BAD_UUID; and then, again for each
+   header, FIRUVAIK_NAME_TOO_LONG and FIRUVAIK_VALUE_TOO_LONG, and FIRUVAIK_HEADERS_TOO_LONG, FIRUVAIK_PAYLOAD_TOO_LONG and
+   FIRUVAIK_MESSAGE_TOO_LONG. */
+firuvaik_answer firuvaik_frame(const firuvaik_event_header *headers, size_t header_count, const char *payload,
+                               size_t payload_length, char *out, size_t out_room);
+
+/* Tells by length how long the frame is that bytes begin with. Its first twelve bytes are enough.
+
+   FIRUVAIK_DONE, FIRUVAIK_MORE for fewer bytes, FIRUVAIK_NO_MEMORY, and else the first of FIRUVAIK_BAD_FRAME_LENGTH,
+   FIRUVAIK_BAD_HEADERS_LENGTH and FIRUVAIK_BAD_PRELUDE. */
+firuvaik_answer firuvaik_frame_length(const char *bytes, size_t length);
+
+/* Tells what the frame holds that bytes begin with: parts says where its payload is, headers, with room for header_room of them, where
+   its headers are, in order. length is how many headers there are, or with FIRUVAIK_ROOM how many are wanted.
+
+   FIRUVAIK_DONE, FIRUVAIK_ROOM, FIRUVAIK_NO_MEMORY, and else the first of FIRUVAIK_BAD_FRAME_LENGTH for fewer than twelve bytes, those
+   of firuvaik_frame_length, FIRUVAIK_BAD_FRAME_LENGTH for fewer bytes than the frame has; for each header in order
+   FIRUVAIK_BAD_HEADERS_LENGTH, FIRUVAIK_NAME_TOO_LONG for a name that passes the bytes, FIRUVAIK_FRAME_NOT_TEXT,
+   FIRUVAIK_BAD_VALUE_KIND and FIRUVAIK_BAD_VALUE; and last FIRUVAIK_BAD_CHECKSUM. */
+firuvaik_answer firuvaik_read_frame(const char *bytes, size_t length, firuvaik_frame_parts *parts, firuvaik_header_place *headers,
+                                    size_t header_room);
 
 /* Writes the next frame of an event stream: event are the bytes of an event's own frame, as firuvaik_event writes them, or none for
    the frame that ends the stream.
@@ -142,6 +226,44 @@ firuvaik_answer firuvaik_event(const firuvaik_field *headers, size_t header_coun
    FIRUVAIK_PAYLOAD_TOO_LONG and FIRUVAIK_MESSAGE_TOO_LONG. */
 firuvaik_answer firuvaik_next_frame(const firuvaik_signer *signer, long seconds, const char *event, size_t event_length,
                                     char *signature, char *out, size_t out_room);
+
+/* Checks that bytes are the next frame of an event stream: one frame, with its own date, whose signature over the one before it is
+   computed again. The date isn't compared with a clock. parts says where its payload is: the bytes of the event's frame; with no
+   bytes the stream ends there. An event is safe once its own frame and all before it were checked, the whole stream once its last
+   frame was.
+
+   signature has 64 characters: the signature of the frame before, or for the first frame that of the request. With FIRUVAIK_DONE the
+   frame's own takes its place. Key id and token aren't read.
+
+   FIRUVAIK_DONE, FIRUVAIK_NO_MEMORY, and else the first of FIRUVAIK_NOT_TEXT, those of firuvaik_read_frame, FIRUVAIK_NOT_ONE_FRAME,
+   FIRUVAIK_NOT_SIGNED, FIRUVAIK_BAD_FRAME_DATE, FIRUVAIK_BAD_EVENT and FIRUVAIK_OTHER_SIGNATURE. */
+firuvaik_answer firuvaik_check_frame(const firuvaik_signer *signer, const char *frame, size_t frame_length, char *signature,
+                                     firuvaik_frame_parts *parts);
+
+/* Writes the line before the next chunk of an upload in signed chunks (the payload's text of its request is
+   STREAMING-AWS4-HMAC-SHA256-PAYLOAD, or the same with -TRAILER). Behind it go the chunk and "\r\n". The upload ends with a chunk
+   of no bytes: behind its line goes "\r\n" alone, or what firuvaik_trailers writes.
+
+   signature has 64 characters: the signature of the chunk before, or for the first chunk that of the request. With FIRUVAIK_DONE the
+   new signature takes its place. Key id and token aren't read.
+
+   FIRUVAIK_DONE, FIRUVAIK_ROOM, FIRUVAIK_NO_MEMORY, and else the first of FIRUVAIK_NOT_TEXT and FIRUVAIK_OUT_OF_YEARS. */
+firuvaik_answer firuvaik_next_chunk(const firuvaik_signer *signer, long seconds, const char *chunk, size_t chunk_length,
+                                    char *signature, char *out, size_t out_room);
+
+/* Writes the end of an upload with trailers, behind the line of its empty chunk: the trailers, their names in lower case, the line
+   of their signature, and an empty line. signature has 64 characters, and is that of the empty chunk.
+
+   FIRUVAIK_DONE, FIRUVAIK_ROOM, FIRUVAIK_NO_MEMORY, and else the first of FIRUVAIK_NOT_TEXT, FIRUVAIK_OUT_OF_YEARS, FIRUVAIK_NOT_TEXT for
+   a trailer, and for each trailer in order FIRUVAIK_BAD_HEADER_NAME and FIRUVAIK_BAD_HEADER_VALUE. */
+firuvaik_answer firuvaik_trailers(const firuvaik_signer *signer, long seconds, const firuvaik_field *trailers, size_t trailer_count,
+                                  char *signature, char *out, size_t out_room);
+
+/* Writes what a status means, in English. FIRUVAIK_DONE, FIRUVAIK_ROOM. */
+firuvaik_answer firuvaik_status_text(unsigned int status, char *out, size_t out_room);
+
+/* Writes the version, as FIRUVAIK_VERSION is of the header. FIRUVAIK_DONE, FIRUVAIK_ROOM. */
+firuvaik_answer firuvaik_version(char *out, size_t out_room);
 
 #ifdef __cplusplus
 }

@@ -13,7 +13,8 @@ NUMBERS = {"i64": "long", "u64": "unsigned long", "u32": "unsigned int", "usize"
 
 
 def c_name(struct):
-    return "firuvaik_" + struct.lower()
+    """EventHeader is firuvaik_event_header."""
+    return "firuvaik_" + re.sub(r"(?<!^)(?=[A-Z])", "_", struct).lower()
 
 
 def c_types(name, kind):
@@ -24,16 +25,16 @@ def c_types(name, kind):
         return []
     if kind in NUMBERS:
         return [NUMBERS[kind]]
-    if re.fullmatch(r"&mut \[u8; \d+\]", kind):
-        return ["char *"]
+    if match := re.fullmatch(r"&(mut )?\[u8; \d+\]", kind):
+        return ["char *" if match[1] else "const char *"]
     if kind == "&mut [u8]":
         return ["char *", "size_t"]
     if kind == "&[u8]":
         return ["const char *", "size_t"]
-    if match := re.fullmatch(r"&\[(\w+)\]", kind):
-        return [f"const {c_name(match[1])} *", "size_t"]
-    if match := re.fullmatch(r"&(\w+)", kind):
-        return [f"const {c_name(match[1])} *"]
+    if match := re.fullmatch(r"&(mut )?\[(\w+)\]", kind):
+        return [("" if match[1] else "const ") + f"{c_name(match[2])} *", "size_t"]
+    if match := re.fullmatch(r"&(mut )?(\w+)", kind):
+        return [("" if match[1] else "const ") + f"{c_name(match[2])} *"]
     return [c_name(kind)]
 
 

@@ -5,42 +5,25 @@ Nothing beside Python's own modules is needed.
 """
 import ctypes
 import dataclasses
+import datetime
 import os
 import pathlib
 import time
+import uuid
 
-__all__ = ["Error", "Signer", "Stream", "event", "presign", "sign", "signing_key"]
+__all__ = [
+    "Byte", "Error", "Int", "Long", "Message", "Short", "Signer", "Stream", "Timestamp", "Upload", "Watch", "event", "frame",
+    "frame_length", "presign", "read_frame", "sign", "sign_text", "signing_key", "version",
+]
 
 _QUERY, _SINGLE_ENCODE, _KEEP_PATH, _SHA256_HEADER, _UNSIGNED_TOKEN, _PAYLOAD_TEXT, _EXCLUDED = (1 << n for n in range(7))
-_DONE, _ROOM, _NO_MEMORY = 0, 1, 2
-
-_MEANINGS = {
-    3: "a text isn't UTF-8",
-    4: "unknown flags",
-    5: "the moment lies outside the years 0 to 9999",
-    6: "the target isn't accepted",
-    7: "the name of a header isn't accepted",
-    8: "the value of a header isn't accepted",
-    9: "the host is no header's value",
-    10: "the session token is no header's value",
-    11: "the payload's text is no header's value",
-    12: "key id, region or service can't stand in a header",
-    13: "there is no host",
-    14: "the session token can't have this name",
-    15: "there is no expiry",
-    20: "the name of a message's header is too long",
-    21: "the value of a message's header is too long",
-    23: "the headers of a message are too long",
-    24: "the payload of a message is too long",
-    25: "the frame is too long",
-}
-
+_DONE, _ROOM, _NO_MEMORY, _MORE = 0, 1, 2, 30
 
 class Error(ValueError):
-    """What was asked for can't be signed. `status` is the number of c/firuvaik.h, `place` that of the header at fault, or 0."""
+    """What was asked for isn't possible. `status` is the number of c/firuvaik.h, `place` that of the header at fault, or 0."""
 
     def __init__(self, status, place):
-        meaning = _MEANINGS.get(status, f"status {status}")
+        meaning = _written(lambda out, room: _lib.firuvaik_status_text(status, out, room), 100).decode()
         super().__init__(f"{meaning}: header {place}" if place else meaning)
         self.status = status
         self.place = place
@@ -52,6 +35,25 @@ class _Text(ctypes.Structure):
 
 class _Field(ctypes.Structure):
     _fields_ = [("name", _Text), ("value", _Text)]
+
+
+class _EventHeader(ctypes.Structure):
+    _fields_ = [("name", _Text), ("kind", ctypes.c_uint), ("number", ctypes.c_long), ("value", _Text)]
+
+
+class _HeaderPlace(ctypes.Structure):
+    _fields_ = [
+        ("name", ctypes.c_size_t),
+        ("name_length", ctypes.c_size_t),
+        ("kind", ctypes.c_uint),
+        ("number", ctypes.c_long),
+        ("value", ctypes.c_size_t),
+        ("value_length", ctypes.c_size_t),
+    ]
+
+
+class _FrameParts(ctypes.Structure):
+    _fields_ = [(name, ctypes.c_size_t) for name in ("length", "payload", "payload_length")]
 
 
 class _Signer(ctypes.Structure):
@@ -91,19 +93,25 @@ def _library():
 
 
 _lib = _library()
-_lib.firuvaik_sign.argtypes = [
-    ctypes.POINTER(_Signer), ctypes.POINTER(_Request), ctypes.POINTER(_Settings),
-    ctypes.c_long, ctypes.c_char_p, ctypes.c_char_p, ctypes.c_size_t,
-]
-_lib.firuvaik_next_frame.argtypes = [
-    ctypes.POINTER(_Signer), ctypes.c_long, ctypes.c_char_p, ctypes.c_size_t, ctypes.c_char_p, ctypes.c_char_p, ctypes.c_size_t,
-]
-_lib.firuvaik_event.argtypes = [
-    ctypes.POINTER(_Field), ctypes.c_size_t, ctypes.c_char_p, ctypes.c_size_t, ctypes.c_char_p, ctypes.c_size_t,
-]
-_lib.firuvaik_signing_key.argtypes = [ctypes.POINTER(_Signer), ctypes.c_long, ctypes.c_char_p]
-for _call in (_lib.firuvaik_sign, _lib.firuvaik_event, _lib.firuvaik_next_frame, _lib.firuvaik_signing_key):
-    _call.restype = _Answer
+_BYTES = (ctypes.c_char_p, ctypes.c_size_t)
+_LINK = (ctypes.POINTER(_Signer), ctypes.c_long)
+for _name, _types in {
+    "sign": (ctypes.POINTER(_Signer), ctypes.POINTER(_Request), ctypes.POINTER(_Settings), ctypes.c_long, ctypes.c_char_p, *_BYTES),
+    "signing_key": (*_LINK, ctypes.c_char_p),
+    "signature": (ctypes.c_char_p, *_BYTES, ctypes.c_char_p),
+    "event": (ctypes.POINTER(_Field), ctypes.c_size_t, *_BYTES, *_BYTES),
+    "frame": (ctypes.POINTER(_EventHeader), ctypes.c_size_t, *_BYTES, *_BYTES),
+    "frame_length": _BYTES,
+    "read_frame": (*_BYTES, ctypes.POINTER(_FrameParts), ctypes.POINTER(_HeaderPlace), ctypes.c_size_t),
+    "next_frame": (*_LINK, *_BYTES, ctypes.c_char_p, *_BYTES),
+    "check_frame": (ctypes.POINTER(_Signer), *_BYTES, ctypes.c_char_p, ctypes.POINTER(_FrameParts)),
+    "next_chunk": (*_LINK, *_BYTES, ctypes.c_char_p, *_BYTES),
+    "trailers": (*_LINK, ctypes.POINTER(_Field), ctypes.c_size_t, ctypes.c_char_p, *_BYTES),
+    "status_text": (ctypes.c_uint, *_BYTES),
+    "version": _BYTES,
+}.items():
+    _call = getattr(_lib, f"firuvaik_{_name}")
+    _call.argtypes, _call.restype = _types, _Answer
 
 
 def _text(text):
@@ -206,14 +214,124 @@ def signing_key(signer, at=None):
     return key.raw
 
 
+def sign_text(key, text):
+    """The signature of a string to sign under a signing key, as `signing_key` returns it."""
+    if len(key) != 32:
+        raise ValueError("a signing key has 32 bytes")
+    lent, signature = _text(text), ctypes.create_string_buffer(64)
+    _checked(_lib.firuvaik_signature(bytes(key), lent.bytes, lent.length, signature))
+    return signature.raw.decode()
+
+
+def version():
+    """The version of the library."""
+    return _written(_lib.firuvaik_version, 16).decode()
+
+
 def event(headers, payload=b""):
     """The frame of a message: of headers whose values are texts, a mapping or an iterable of pairs, and of a payload."""
     fields = _fields(headers)
     return _written(lambda out, room: _lib.firuvaik_event(fields, len(fields), payload, len(payload), out, room), len(payload) + 256)
 
 
-class Stream:
-    """The signed frames of an event stream. `signature` is that of the request which opens it, as `sign` returns it."""
+class Byte(int):
+    """A number of 8 bits as the value of a message's header."""
+
+
+class Short(int):
+    """A number of 16 bits as the value of a message's header."""
+
+
+class Int(int):
+    """A number of 32 bits as the value of a message's header."""
+
+
+class Long(int):
+    """A number of 64 bits as the value of a message's header. A plain int is written as one."""
+
+
+class Timestamp(int):
+    """A moment as the value of a message's header, in milliseconds since 1970-01-01T00:00:00Z. A datetime is written as one."""
+
+    @property
+    def moment(self):
+        """The moment as a datetime, which holds those of the years 1 to 9999."""
+        return datetime.datetime(1970, 1, 1, tzinfo=datetime.timezone.utc) + datetime.timedelta(milliseconds=int(self))
+
+
+_NUMBERS = {2: Byte, 3: Short, 4: Int, 5: Long, 8: Timestamp}
+
+
+@dataclasses.dataclass(frozen=True)
+class Message:
+    """A message: its headers in order as pairs of a name and a value, its payload, and how many bytes its frame has.
+
+    A value is a bool, a Byte, a Short, an Int, a Long, bytes, a str, a Timestamp or a uuid.UUID.
+    """
+
+    headers: list
+    payload: bytes
+    length: int = 0
+
+
+def _number(value):
+    if not -(1 << 63) <= value < 1 << 63:
+        raise Error(41, 0)
+    return int(value)
+
+
+def _event_header(name, value):
+    """A header, by the type of its value."""
+    if isinstance(value, bool):
+        return _EventHeader(_text(name), 0 if value else 1, 0, _text(b""))
+    if isinstance(value, datetime.datetime):
+        since = value - datetime.datetime(1970, 1, 1, tzinfo=datetime.timezone.utc)
+        value = Timestamp(since // datetime.timedelta(milliseconds=1))
+    if isinstance(value, int):
+        kind = next((kind for kind, number in _NUMBERS.items() if isinstance(value, number)), 5)
+        return _EventHeader(_text(name), kind, _number(value), _text(b""))
+    if isinstance(value, uuid.UUID):
+        return _EventHeader(_text(name), 9, 0, _text(value.bytes))
+    return _EventHeader(_text(name), 7 if isinstance(value, str) else 6, 0, _text(value))
+
+
+def frame(headers, payload=b""):
+    """The frame of a message: of headers, a mapping or an iterable of pairs, with values as those of Message, and of a payload."""
+    pairs = list(headers.items() if hasattr(headers, "items") else headers)
+    lent = (_EventHeader * len(pairs))(*(_event_header(name, value) for name, value in pairs))
+    return _written(lambda out, room: _lib.firuvaik_frame(lent, len(lent), payload, len(payload), out, room), len(payload) + 256)
+
+
+def frame_length(data):
+    """How long the frame is that bytes begin with, or None where its first twelve bytes aren't there."""
+    answer = _lib.firuvaik_frame_length(data, len(data))
+    return None if answer.status == _MORE else _checked(answer).length
+
+
+def _value(data, place):
+    if place.kind in (0, 1):
+        return place.kind == 0
+    if place.kind in _NUMBERS:
+        return _NUMBERS[place.kind](place.number)
+    value = data[place.value : place.value + place.value_length]
+    return value.decode() if place.kind == 7 else uuid.UUID(bytes=value) if place.kind == 9 else value
+
+
+def read_frame(data):
+    """The message whose frame bytes begin with. Raises Error where they begin with none, or where it isn't there whole."""
+    parts, room = _FrameParts(), 16
+    while True:
+        places = (_HeaderPlace * room)()
+        answer = _checked(_lib.firuvaik_read_frame(data, len(data), parts, places, room))
+        if answer.status == _DONE:
+            break
+        room = answer.length
+    headers = [(data[at.name : at.name + at.name_length].decode(), _value(data, at)) for at in places[: answer.length]]
+    return Message(headers, data[parts.payload : parts.payload + parts.payload_length], parts.length)
+
+
+class _Chain:
+    """What is signed piece by piece, each over the signature before it."""
 
     def __init__(self, signer, signature):
         code = signature.encode()
@@ -224,8 +342,42 @@ class Stream:
 
     @property
     def signature(self):
-        """The signature of the last frame, or of the request before the first one."""
+        """The signature of the last piece, or of the request before the first one."""
         return self._signature.raw.decode()
+
+
+class Upload(_Chain):
+    """An upload in signed chunks. `signature` is that of its request, as `sign` returns it, whose payload's text is
+    STREAMING-AWS4-HMAC-SHA256-PAYLOAD, or STREAMING-AWS4-HMAC-SHA256-PAYLOAD-TRAILER. All of it is signed at one moment, the request's
+    own."""
+
+    def __init__(self, signer, signature, at=None):
+        super().__init__(signer, signature)
+        self._seconds = _seconds(at)
+
+    def _line(self, data):
+        lent = self._signer._lent()
+        return _written(lambda out, room: _lib.firuvaik_next_chunk(lent, self._seconds, data, len(data), self._signature, out, room), 200)
+
+    def next_chunk(self, data):
+        """What goes out of the next chunk: the line before it, and the data. There has to be some; `end` ends the upload."""
+        if not data:
+            raise ValueError("a chunk of no bytes ends an upload")
+        return self._line(data) + data + b"\r\n"
+
+    def end(self, trailers=()):
+        """What goes out last: the empty chunk, and trailers where there are some, a mapping or an iterable of pairs."""
+        fields = _fields(trailers)
+        line = self._line(b"")
+        if not len(fields):
+            return line + b"\r\n"
+        lent = self._signer._lent()
+        return line + _written(
+            lambda out, room: _lib.firuvaik_trailers(lent, self._seconds, fields, len(fields), self._signature, out, room), 512)
+
+
+class Stream(_Chain):
+    """The signed frames of an event stream. `signature` is that of the request which opens it, as `sign` returns it."""
 
     def next_frame(self, event, at=None):
         """The signed frame of an event, which is given as the bytes of its own frame, as `event` makes them.
@@ -242,3 +394,23 @@ class Stream:
     def end(self, at=None):
         """The signed frame that ends the stream."""
         return self.next_frame(b"", at)
+
+
+class Watch(_Chain):
+    """Checks the frames of an event stream. `signature` is that of the request which opened it.
+
+    No frame's signature is trusted: each is computed again over the one before it, with the frame's own date, which isn't compared with
+    a clock. `closed` says whether the last frame came.
+    """
+
+    closed = False
+
+    def check(self, frame):
+        """The bytes of the event's own frame, which `read_frame` reads, or None for the frame that ends the stream. Raises Error where
+        the frame isn't the next one; the signature stays then."""
+        if self.closed:
+            raise ValueError("the stream has ended")
+        parts = _FrameParts()
+        _checked(_lib.firuvaik_check_frame(self._signer._lent(), frame, len(frame), self._signature, parts))
+        self.closed = parts.payload_length == 0
+        return None if self.closed else frame[parts.payload : parts.payload + parts.payload_length]

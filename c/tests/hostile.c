@@ -206,6 +206,150 @@ static void frames(void)
     want(firuvaik_next_frame(&signer, 0, NULL, 0, signature, NULL, 0).status == FIRUVAIK_NOT_TEXT, "the signature isn't UTF-8");
 }
 
+/* Each room for a frame of every kind of header, and what it is read as. */
+static void kinds(void)
+{
+    firuvaik_event_header headers[10];
+    firuvaik_header_place places[12];
+    firuvaik_frame_parts parts;
+    firuvaik_answer answer;
+    char *frame;
+    size_t wanted;
+    size_t length;
+    unsigned int kind;
+    memset(headers, 0, sizeof headers);
+    for (kind = 0; kind < 10; kind++) {
+        headers[kind].kind = kind;
+        headers[kind].number = kind == FIRUVAIK_LONG || kind == FIRUVAIK_TIMESTAMP ? LONG_MIN : -(long)kind;
+    }
+    headers[9].value = text("sixteen bytes: 0");
+    headers[6].name = text("bytes");
+    wanted = firuvaik_frame(headers, 10, NULL, 0, NULL, 0).length;
+    for (length = 0; length <= wanted; length++) {
+        char *room = room_of(length);
+        answer = firuvaik_frame(headers, 10, NULL, 0, room, length);
+        want(answer.length == wanted, "the length of a frame differs by the room");
+        want(length < wanted ? answer.status == FIRUVAIK_ROOM && is_untouched(room, length) : answer.status == FIRUVAIK_DONE, "a small room is written");
+        free(room);
+    }
+    frame = room_of(wanted);
+    want(firuvaik_frame(headers, 10, NULL, 0, frame, wanted).status == FIRUVAIK_DONE, "there is no frame");
+    for (length = 0; length < wanted; length++) {
+        char *part = room_of(length);
+        memcpy(part, frame, length);
+        answer = firuvaik_frame_length(part, length);
+        want(length < 12 ? answer.status == FIRUVAIK_MORE && answer.length == 12 : answer.status == FIRUVAIK_DONE && answer.length == wanted, "the length is another one");
+        memset(&parts, '-', sizeof parts);
+        memset(places, '-', sizeof places);
+        want(firuvaik_read_frame(part, length, &parts, places, 12).status == FIRUVAIK_BAD_FRAME_LENGTH, "a part of a frame is read");
+        want(is_untouched((char *)&parts, sizeof parts) && is_untouched((char *)places, sizeof places), "a refusal is written");
+        free(part);
+    }
+    for (length = 0; length <= 12; length++) {
+        firuvaik_header_place *room = (firuvaik_header_place *)room_of(length * sizeof *room);
+        memset(&parts, '-', sizeof parts);
+        answer = firuvaik_read_frame(frame, wanted, &parts, room, length);
+        want(answer.length == 10, "there aren't ten headers");
+        if (length < 10)
+            want(answer.status == FIRUVAIK_ROOM && is_untouched((char *)&parts, sizeof parts) && is_untouched((char *)room, length * sizeof *room), "a small room is written");
+        else
+            want(answer.status == FIRUVAIK_DONE && parts.length == wanted && parts.payload_length == 0 && room[5].number == LONG_MIN && room[9].value_length == 16
+                && memcmp(frame + room[6].name, "bytes", 5) == 0 && is_untouched((char *)(room + 10), (length - 10) * sizeof *room), "the headers are others");
+        free(room);
+    }
+    frame[wanted - 1] = (char)(frame[wanted - 1] + 1);
+    want(firuvaik_read_frame(frame, wanted, &parts, places, 12).status == FIRUVAIK_BAD_CHECKSUM, "another checksum is read");
+    free(frame);
+    want(firuvaik_frame_length(NULL, 0).status == FIRUVAIK_MORE, "nothing has a length");
+    want(firuvaik_read_frame(NULL, 0, &parts, NULL, 0).status == FIRUVAIK_BAD_FRAME_LENGTH, "nothing is read");
+    headers[9].value.length = 15;
+    want(firuvaik_frame(headers, 10, NULL, 0, NULL, 0).status == FIRUVAIK_BAD_UUID, "a UUID has 15 bytes");
+    headers[2].number = 128;
+    want(firuvaik_frame(headers, 10, NULL, 0, NULL, 0).status == FIRUVAIK_NUMBER_TOO_LARGE, "a byte is 128");
+    headers[1].kind = UINT_MAX;
+    want(firuvaik_frame(headers, 10, NULL, 0, NULL, 0).status == FIRUVAIK_UNKNOWN_KIND, "there is another kind");
+    headers[0].name = text("\xff");
+    want(firuvaik_frame(headers, 10, NULL, 0, NULL, 0).status == FIRUVAIK_NOT_TEXT, "a name isn't UTF-8");
+}
+
+/* What is no next frame, and what is one. */
+static void checked(void)
+{
+    firuvaik_frame_parts parts;
+    char before[64];
+    char *frame;
+    size_t wanted;
+    size_t length;
+    plain();
+    memset(signature, 'a', sizeof signature);
+    memcpy(before, signature, 64);
+    wanted = firuvaik_next_frame(&signer, 0, NULL, 0, signature, NULL, 0).length;
+    frame = room_of(wanted);
+    want(firuvaik_next_frame(&signer, 0, NULL, 0, signature, frame, wanted).status == FIRUVAIK_DONE, "there is no frame");
+    memcpy(signature, before, 64);
+    for (length = 0; length < wanted; length++) {
+        char *part = room_of(length);
+        memcpy(part, frame, length);
+        memset(&parts, '-', sizeof parts);
+        want(firuvaik_check_frame(&signer, part, length, signature, &parts).status == FIRUVAIK_BAD_FRAME_LENGTH, "a part of a frame passes");
+        want(is_untouched((char *)&parts, sizeof parts) && memcmp(before, signature, 64) == 0, "a refusal is written");
+        free(part);
+    }
+    signature[0] = 'b';
+    want(firuvaik_check_frame(&signer, frame, wanted, signature, &parts).status == FIRUVAIK_OTHER_SIGNATURE && signature[0] == 'b', "a frame passes over another signature");
+    memcpy(signature, before, 64);
+    want(is_untouched((char *)&parts, sizeof parts), "a refusal is written");
+    want(firuvaik_check_frame(&signer, frame, wanted, signature, &parts).length == wanted && parts.payload_length == 0, "the frame doesn't pass");
+    want(memcmp(before, signature, 64) != 0, "the signature stays");
+    signature[1] = '\xff';
+    want(firuvaik_check_frame(&signer, frame, wanted, signature, &parts).status == FIRUVAIK_NOT_TEXT, "the signature isn't UTF-8");
+    free(frame);
+}
+
+/* Each room for the line of a chunk, for trailers, for the texts and for a signature under a key. */
+static void chunks(void)
+{
+    firuvaik_field trailers[1];
+    char before[64];
+    size_t length;
+    unsigned int status;
+    plain();
+    memset(signature, 'a', sizeof signature);
+    memcpy(before, signature, 64);
+    trailers[0].name = text("x-note");
+    trailers[0].value = text("value");
+    for (length = 0; length < 200; length++) {
+        char *room = room_of(length);
+        firuvaik_answer answer = firuvaik_next_chunk(&signer, 0, NULL, 0, signature, room, length);
+        want(answer.length == 84, "the line of a chunk has another length");
+        want(length < 84 ? answer.status == FIRUVAIK_ROOM && is_untouched(room, length) && memcmp(before, signature, 64) == 0
+            : answer.status == FIRUVAIK_DONE && is_untouched(room + 84, length - 84) && memcmp(before, signature, 64) != 0, "the line of a chunk isn't written as it fits");
+        memcpy(signature, before, 64);
+        memset(room, '-', length);
+        answer = firuvaik_trailers(&signer, 0, trailers, 1, signature, room, length);
+        want(answer.length == 106, "the trailers have another length");
+        want(length < 106 ? answer.status == FIRUVAIK_ROOM && is_untouched(room, length) && memcmp(before, signature, 64) == 0
+            : answer.status == FIRUVAIK_DONE && is_untouched(room + 106, length - 106) && memcmp(before, signature, 64) != 0, "the trailers aren't written as they fit");
+        memcpy(signature, before, 64);
+        free(room);
+    }
+    trailers[0].value = text("a\r\nb");
+    want(firuvaik_trailers(&signer, 0, trailers, 1, signature, NULL, 0).place == 1, "a trailer has a line end");
+    want(firuvaik_trailers(&signer, LONG_MAX, NULL, 0, signature, NULL, 0).status == FIRUVAIK_OUT_OF_YEARS, "the greatest moment has trailers");
+    want(firuvaik_next_chunk(&signer, LONG_MIN, NULL, 0, signature, NULL, 0).status == FIRUVAIK_OUT_OF_YEARS, "the least moment has a chunk");
+    signature[63] = '\xff';
+    want(firuvaik_next_chunk(&signer, 0, NULL, 0, signature, NULL, 0).status == FIRUVAIK_NOT_TEXT, "the signature isn't UTF-8");
+    want(firuvaik_signature((const unsigned char *)before, NULL, 0, signature).status == FIRUVAIK_DONE && signature[63] != '\xff', "nothing isn't signed");
+    for (status = 0; status < 120; status++) {
+        size_t wanted = firuvaik_status_text(status, NULL, 0).length;
+        char *room = room_of(wanted);
+        want(wanted > 0 && firuvaik_status_text(status, room, wanted - 1).status == FIRUVAIK_ROOM && is_untouched(room, wanted), "a small room is written");
+        want(firuvaik_status_text(status, room, wanted).status == FIRUVAIK_DONE && room[0] != '-', "a status has no text");
+        free(room);
+    }
+    want(firuvaik_version(before, 64).length == strlen(FIRUVAIK_VERSION) && memcmp(before, FIRUVAIK_VERSION, strlen(FIRUVAIK_VERSION)) == 0, "the version is another one");
+}
+
 int main(void)
 {
     plain();
@@ -217,5 +361,8 @@ int main(void)
     refusals();
     messages();
     frames();
+    kinds();
+    checked();
+    chunks();
     return failed;
 }

@@ -39,6 +39,33 @@ mod sys {
     }
 
     #[repr(C)]
+    pub struct EventHeader<'a> {
+        pub name: Text<'a>,
+        pub kind: c_uint,
+        pub number: c_long,
+        pub value: Text<'a>,
+    }
+
+    #[repr(C)]
+    #[derive(Clone, Copy, Default)]
+    pub struct HeaderPlace {
+        pub name: usize,
+        pub name_length: usize,
+        pub kind: c_uint,
+        pub number: c_long,
+        pub value: usize,
+        pub value_length: usize,
+    }
+
+    #[repr(C)]
+    #[derive(Clone, Copy, Default)]
+    pub struct FrameParts {
+        pub length: usize,
+        pub payload: usize,
+        pub payload_length: usize,
+    }
+
+    #[repr(C)]
     pub struct Signer<'a> {
         pub key_id: Text<'a>,
         pub secret: Text<'a>,
@@ -92,7 +119,60 @@ mod sys {
             out_room: usize,
         ) -> Answer;
 
+        pub fn firuvaik_frame(
+            headers: *const EventHeader<'_>,
+            header_count: usize,
+            payload: *const c_char,
+            payload_length: usize,
+            out: *mut c_char,
+            out_room: usize,
+        ) -> Answer;
+
+        pub fn firuvaik_frame_length(bytes: *const c_char, length: usize) -> Answer;
+
+        pub fn firuvaik_read_frame(
+            bytes: *const c_char,
+            length: usize,
+            parts: *mut FrameParts,
+            headers: *mut HeaderPlace,
+            header_room: usize,
+        ) -> Answer;
+
         pub fn firuvaik_signing_key(signer: *const Signer<'_>, seconds: c_long, key: *mut u8) -> Answer;
+
+        pub fn firuvaik_signature(key: *const u8, text: *const c_char, text_length: usize, signature: *mut c_char) -> Answer;
+
+        pub fn firuvaik_check_frame(
+            signer: *const Signer<'_>,
+            frame: *const c_char,
+            frame_length: usize,
+            signature: *mut c_char,
+            parts: *mut FrameParts,
+        ) -> Answer;
+
+        pub fn firuvaik_next_chunk(
+            signer: *const Signer<'_>,
+            seconds: c_long,
+            chunk: *const c_char,
+            chunk_length: usize,
+            signature: *mut c_char,
+            out: *mut c_char,
+            out_room: usize,
+        ) -> Answer;
+
+        pub fn firuvaik_trailers(
+            signer: *const Signer<'_>,
+            seconds: c_long,
+            trailers: *const Field<'_>,
+            trailer_count: usize,
+            signature: *mut c_char,
+            out: *mut c_char,
+            out_room: usize,
+        ) -> Answer;
+
+        pub fn firuvaik_status_text(status: c_uint, out: *mut c_char, out_room: usize) -> Answer;
+
+        pub fn firuvaik_version(out: *mut c_char, out_room: usize) -> Answer;
 
         pub fn firuvaik_next_frame(
             signer: *const Signer<'_>,
@@ -168,7 +248,7 @@ impl Settings<'_> {
     }
 }
 
-/// Why nothing is signed: the status of `c/firuvaik.h`, and the place of the header at fault, or 0.
+/// Why nothing is made: the status of `c/firuvaik.h`, and the place of the header at fault, or 0.
 #[derive(Clone, Copy, Debug, PartialEq, Eq)]
 pub struct Error {
     /// The status.
@@ -179,7 +259,13 @@ pub struct Error {
 
 impl fmt::Display for Error {
     fn fmt(&self, f: &mut fmt::Formatter<'_>) -> fmt::Result {
-        write!(f, "not signed: status {} at {}", self.status, self.place)
+        let text = written(100, |out| unsafe { sys::firuvaik_status_text(self.status, out.as_mut_ptr().cast(), out.len()) })
+            .unwrap_or_default();
+        f.write_str(&String::from_utf8_lossy(&text))?;
+        match self.place {
+            0 => Ok(()),
+            place => write!(f, ": header {place}"),
+        }
     }
 }
 
@@ -209,6 +295,14 @@ fn lent<'a>(signer: &Signer<'a>) -> sys::Signer<'a> {
         token: text(signer.token),
         region: text(signer.region),
         service: text(signer.service),
+    }
+}
+
+// Whether a call did what was asked.
+fn done(answer: &sys::Answer) -> Result<(), Error> {
+    match answer.status {
+        0 => Ok(()),
+        status => Err(Error { status, place: answer.place }),
     }
 }
 
@@ -268,10 +362,151 @@ pub fn sign(signer: &Signer<'_>, request: &Request<'_>, settings: &Settings<'_>,
 pub fn signing_key(signer: &Signer<'_>, seconds: i64) -> Result<[u8; 32], Error> {
     let mut key = [0; 32];
     let answer = unsafe { sys::firuvaik_signing_key(&lent(signer), seconds, key.as_mut_ptr()) };
-    match answer.status {
-        0 => Ok(key),
-        status => Err(Error { status, place: answer.place }),
+    done(&answer).map(|()| key)
+}
+
+/// The signature of a string to sign under a signing key, as [`signing_key`] returns it.
+///
+/// # Errors
+///
+/// Memory ran out.
+pub fn sign_text(key: &[u8; 32], text: &[u8]) -> Result<[u8; 64], Error> {
+    let mut signature = [0; 64];
+    let answer =
+        unsafe { sys::firuvaik_signature(key.as_ptr(), text.as_ptr().cast(), text.len(), signature.as_mut_ptr().cast()) };
+    done(&answer).map(|()| signature)
+}
+
+/// The version of the library.
+pub fn version() -> String {
+    let text = written(16, |out| unsafe { sys::firuvaik_version(out.as_mut_ptr().cast(), out.len()) });
+    String::from_utf8(text.expect("there is a version")).expect("it is a text")
+}
+
+/// The value of a message's header.
+#[derive(Clone, Copy, Debug, PartialEq, Eq)]
+#[allow(missing_docs)]
+pub enum Value<'a> {
+    Bool(bool),
+    Byte(i8),
+    Short(i16),
+    Int(i32),
+    Long(i64),
+    Bytes(&'a [u8]),
+    Text(&'a str),
+    /// A moment, in milliseconds since 1970-01-01T00:00:00Z.
+    Timestamp(i64),
+    /// The bits of a UUID, the highest first.
+    Uuid(u128),
+}
+
+/// A message, as it was read of a frame.
+#[derive(Clone, Debug, PartialEq, Eq)]
+pub struct Message<'a> {
+    /// The headers in order, each with its name and its value.
+    pub headers: Vec<(&'a str, Value<'a>)>,
+    /// The payload.
+    pub payload: &'a [u8],
+    /// How many bytes the frame has.
+    pub length: usize,
+}
+
+// The kind, the number and the bytes of a value. Those of a UUID are written to the room.
+fn shape<'a>(value: Value<'a>, room: &'a mut [u8; 16]) -> (u32, i64, &'a [u8]) {
+    match value {
+        Value::Bool(true) => (0, 0, b""),
+        Value::Bool(false) => (1, 0, b""),
+        Value::Byte(number) => (2, number.into(), b""),
+        Value::Short(number) => (3, number.into(), b""),
+        Value::Int(number) => (4, number.into(), b""),
+        Value::Long(number) => (5, number, b""),
+        Value::Bytes(bytes) => (6, 0, bytes),
+        Value::Text(text) => (7, 0, text.as_bytes()),
+        Value::Timestamp(millis) => (8, millis, b""),
+        Value::Uuid(bits) => {
+            *room = bits.to_be_bytes();
+            (9, 0, room)
+        }
     }
+}
+
+// The value at a place of a frame, whose numbers fit their kinds and whose texts are UTF-8.
+fn value_at<'a>(bytes: &'a [u8], place: &sys::HeaderPlace) -> Value<'a> {
+    let value = &bytes[place.value..place.value + place.value_length];
+    match place.kind {
+        0 => Value::Bool(true),
+        1 => Value::Bool(false),
+        2 => Value::Byte(place.number as i8),
+        3 => Value::Short(place.number as i16),
+        4 => Value::Int(place.number as i32),
+        5 => Value::Long(place.number),
+        6 => Value::Bytes(value),
+        7 => Value::Text(std::str::from_utf8(value).expect("it was tested")),
+        8 => Value::Timestamp(place.number),
+        _ => Value::Uuid(u128::from_be_bytes(value.try_into().expect("a UUID has 16 bytes"))),
+    }
+}
+
+/// The frame of a message: of headers in order, each with its name and its value, and of a payload.
+///
+/// # Errors
+///
+/// A header or a payload that is too long.
+pub fn frame(headers: &[(&str, Value<'_>)], payload: &[u8]) -> Result<Vec<u8>, Error> {
+    let mut rooms = vec![[0; 16]; headers.len()];
+    let lent: Vec<_> = headers
+        .iter()
+        .zip(&mut rooms)
+        .map(|((name, value), room)| {
+            let (kind, number, bytes) = shape(*value, room);
+            sys::EventHeader { name: text(name), kind, number, value: sys::Text::new(bytes) }
+        })
+        .collect();
+    let (start, length) = (payload.as_ptr().cast(), payload.len());
+    written(payload.len().saturating_add(256), |out| unsafe {
+        sys::firuvaik_frame(lent.as_ptr(), lent.len(), start, length, out.as_mut_ptr().cast(), out.len())
+    })
+}
+
+/// How long the frame is that bytes begin with; nothing where its first twelve bytes aren't there.
+///
+/// # Errors
+///
+/// These are no frame's.
+pub fn frame_length(bytes: &[u8]) -> Result<Option<usize>, Error> {
+    let answer = unsafe { sys::firuvaik_frame_length(bytes.as_ptr().cast(), bytes.len()) };
+    match answer.status {
+        30 => Ok(None),
+        _ => done(&answer).map(|()| Some(answer.length)),
+    }
+}
+
+/// The message whose frame bytes begin with.
+///
+/// # Errors
+///
+/// They begin with none, or it isn't there whole.
+pub fn read_frame(bytes: &[u8]) -> Result<Message<'_>, Error> {
+    let mut parts = sys::FrameParts::default();
+    let mut places = vec![sys::HeaderPlace::default(); 16];
+    let answer = loop {
+        let (start, room) = (bytes.as_ptr().cast(), places.len());
+        let answer = unsafe { sys::firuvaik_read_frame(start, bytes.len(), &mut parts, places.as_mut_ptr(), room) };
+        match answer.status {
+            1 => places.resize(answer.length, sys::HeaderPlace::default()),
+            _ => break answer,
+        }
+    };
+    done(&answer)?;
+    let headers = places[..answer.length].iter().map(|place| {
+        let name = &bytes[place.name..place.name + place.name_length];
+        (std::str::from_utf8(name).expect("it was tested"), value_at(bytes, place))
+    });
+    Ok(Message {
+        headers: headers.collect(),
+        payload: &bytes[parts.payload..parts.payload + parts.payload_length],
+        length: parts.length,
+    })
 }
 
 /// The frame of a message: of headers whose values are texts, in order, and of a payload.
@@ -316,5 +551,86 @@ impl<'a> Stream<'a> {
             let room = out.len();
             sys::firuvaik_next_frame(&signer, seconds, event.as_ptr().cast(), event.len(), signature, out.as_mut_ptr().cast(), room)
         })
+    }
+}
+
+/// An upload in signed chunks, all of it signed at one moment: the request's own.
+pub struct Upload<'a> {
+    signer: Signer<'a>,
+    signature: [u8; 64],
+    seconds: i64,
+}
+
+impl<'a> Upload<'a> {
+    /// An upload whose request has this signature. The payload's text of the request is `STREAMING-AWS4-HMAC-SHA256-PAYLOAD`, or
+    /// `STREAMING-AWS4-HMAC-SHA256-PAYLOAD-TRAILER`.
+    pub fn new(signer: Signer<'a>, signature: [u8; 64], seconds: i64) -> Upload<'a> {
+        Upload { signer, signature, seconds }
+    }
+
+    /// The signature of the last chunk or of the trailers, or of the request before the first one.
+    pub fn signature(&self) -> &[u8; 64] {
+        &self.signature
+    }
+
+    /// The line before the next chunk: behind it go the chunk and `\r\n`. A chunk of no bytes ends the upload: behind its line goes
+    /// `\r\n` alone, or what [`Upload::trailers`] returns.
+    ///
+    /// # Errors
+    ///
+    /// A moment outside the years 0 to 9999. The signature stays.
+    pub fn next_chunk(&mut self, chunk: &[u8]) -> Result<Vec<u8>, Error> {
+        let signer = lent(&self.signer);
+        let (start, seconds, signature) = (chunk.as_ptr().cast(), self.seconds, self.signature.as_mut_ptr().cast());
+        written(200, |out| unsafe {
+            let room = out.len();
+            sys::firuvaik_next_chunk(&signer, seconds, start, chunk.len(), signature, out.as_mut_ptr().cast(), room)
+        })
+    }
+
+    /// The trailers behind the line of the empty chunk, with their signature and the empty line that ends the upload.
+    ///
+    /// # Errors
+    ///
+    /// A trailer that is no header. The signature stays.
+    pub fn trailers(&mut self, trailers: &[(&str, &str)]) -> Result<Vec<u8>, Error> {
+        let signer = lent(&self.signer);
+        let fields: Vec<_> = trailers.iter().map(|(name, value)| field(name, value)).collect();
+        let (seconds, signature) = (self.seconds, self.signature.as_mut_ptr().cast());
+        written(512, |out| unsafe {
+            let room = out.len();
+            sys::firuvaik_trailers(&signer, seconds, fields.as_ptr(), fields.len(), signature, out.as_mut_ptr().cast(), room)
+        })
+    }
+}
+
+/// Checks the frames of an event stream.
+pub struct Watch<'a> {
+    signer: Signer<'a>,
+    signature: [u8; 64],
+}
+
+impl<'a> Watch<'a> {
+    /// A watch of the stream that a request with this signature opened.
+    pub fn new(signer: Signer<'a>, signature: [u8; 64]) -> Watch<'a> {
+        Watch { signer, signature }
+    }
+
+    /// The signature of the last frame that passed, or of the request before the first one.
+    pub fn signature(&self) -> &[u8; 64] {
+        &self.signature
+    }
+
+    /// The bytes of the event's own frame, which [`read_frame`] reads; with none the stream ends.
+    ///
+    /// # Errors
+    ///
+    /// The bytes aren't the next frame. The signature stays.
+    pub fn check<'f>(&mut self, frame: &'f [u8]) -> Result<&'f [u8], Error> {
+        let (signer, mut parts) = (lent(&self.signer), sys::FrameParts::default());
+        let signature = self.signature.as_mut_ptr().cast();
+        let answer = unsafe { sys::firuvaik_check_frame(&signer, frame.as_ptr().cast(), frame.len(), signature, &mut parts) };
+        done(&answer)?;
+        Ok(&frame[parts.payload..parts.payload + parts.payload_length])
     }
 }

@@ -1,5 +1,8 @@
 //! Signatures that AWS published, and what a caller meets.
-use firuvaik::{event, sign, signing_key, Error, Request, Settings, Signer, Stream};
+use firuvaik::{
+    event, frame, frame_length, read_frame, sign, sign_text, signing_key, version, Error, Request, Settings, Signer, Stream,
+    Upload, Value, Watch,
+};
 
 const NOW: i64 = 1_440_938_160;
 const SIGNER: Signer<'static> = Signer {
@@ -48,6 +51,10 @@ fn stream() {
     let last = stream.next_frame(b"", NOW).expect("there is a frame");
     assert_eq!((first.len(), last.len()), (84, 83));
     assert_ne!(stream.signature(), &signed.signature);
+    let mut watch = Watch::new(SIGNER, signed.signature);
+    assert_eq!(watch.check(&last).err(), Some(Error { status: 54, place: 0 }));
+    assert_eq!(watch.signature(), &signed.signature);
+    assert_eq!(watch.check(&first).err(), Some(Error { status: 53, place: 0 }));
     assert!(stream.next_frame(b"", i64::MAX).is_err());
 }
 
@@ -57,4 +64,71 @@ fn message() {
     let frame = event(&[], b"hello world").expect("there is a frame");
     assert_eq!(frame, b"\x00\x00\x00\x1b\x00\x00\x00\x00\x72\x12\x79\xfahello world\x7c\x04\x57\x95");
     assert_eq!(event(&[("a", &"b".repeat(32_768))], b"").err(), Some(Error { status: 21, place: 0 }));
+}
+
+#[test]
+fn kinds() {
+    let headers = [
+        ("yes", Value::Bool(true)),
+        ("no", Value::Bool(false)),
+        ("byte", Value::Byte(-1)),
+        ("short", Value::Short(i16::MIN)),
+        ("int", Value::Int(3)),
+        ("long", Value::Long(i64::MAX)),
+        ("bytes", Value::Bytes(b"\x00\xff")),
+        ("text", Value::Text("\u{e9}")),
+        ("moment", Value::Timestamp(-1)),
+        ("id", Value::Uuid(1 << 100)),
+    ];
+    let bytes = frame(&headers, b"payload").expect("there is a frame");
+    assert_eq!(frame_length(&bytes[..12]), Ok(Some(bytes.len())));
+    assert_eq!(frame_length(&bytes[..11]), Ok(None));
+    let message = read_frame(&bytes).expect("it is one");
+    assert_eq!((&message.headers[..], message.payload, message.length), (&headers[..], &b"payload"[..], bytes.len()));
+    assert_eq!(read_frame(&bytes[..bytes.len() - 1]).err().map(|error| error.status), Some(34));
+    let many = vec![("a", Value::Bool(true)); 40];
+    let bytes = frame(&many, b"").expect("there is a frame");
+    assert_eq!(read_frame(&bytes).map(|message| message.headers), Ok(many));
+}
+
+/// The string to sign and the signature of get-vanilla of AWS's test suite for Signature Version 4.
+#[test]
+fn under_a_key() {
+    let text = "AWS4-HMAC-SHA256\n20150830T123600Z\n20150830/us-east-1/service/aws4_request\n\
+                bb579772317eb040ac9ed261061d46c1f17a8133879d6129b6e1c25292927e63";
+    let key = signing_key(&SIGNER, NOW).expect("there is a key");
+    let signature = sign_text(&key, text.as_bytes()).expect("there is memory");
+    assert_eq!(&signature, b"5fa00fa31553b73ebf1942676e86291e8372ff2a2260956d9b8aae1d763fbf31");
+}
+
+/// The example of Amazon S3, "Transferring payload in multiple chunks".
+#[test]
+fn upload() {
+    let signer = Signer { secret: "wJalrXUtnFEMI/K7MDENG/bPxRfiCYEXAMPLEKEY", service: "s3", ..SIGNER };
+    let seed = *b"4f232c4386841ef735655705268965c44a0e4690baa4adea153f7db9fa80a0a9";
+    let mut upload = Upload::new(signer, seed, 1_369_353_600);
+    let line = upload.next_chunk(&[b'a'; 65_536]).expect("there is a line");
+    assert_eq!(line, b"10000;chunk-signature=ad80c730a21e5b8d04586a2213dd63b9a0e99e0e2307b0ade35a65485a288648\r\n");
+    upload.next_chunk(&[b'a'; 1024]).expect("there is a line");
+    upload.next_chunk(b"").expect("there is a line");
+    assert_eq!(upload.signature(), b"b6c6ea8a5354eaf15b3cb7646744f4275b71ea724fed81ceb9323e279d449df9");
+    assert_eq!(upload.trailers(&[("a", "b\n")]).err(), Some(Error { status: 8, place: 1 }));
+}
+
+#[test]
+fn texts() {
+    assert_eq!(Error { status: 8, place: 2 }.to_string(), "the value of a header isn't accepted: header 2");
+    assert_eq!(version(), env!("CARGO_PKG_VERSION"));
+}
+
+#[test]
+fn watch() {
+    let signed = sign(&SIGNER, &GET, &Settings::default(), NOW).expect("it is signed");
+    let event = event(&[], b"hello world").expect("there is a frame");
+    let (mut stream, mut watch) = (Stream::new(SIGNER, signed.signature), Watch::new(SIGNER, signed.signature));
+    let frame = stream.next_frame(&event, NOW).expect("there is a frame");
+    assert_eq!(watch.check(&frame), Ok(&event[..]));
+    let last = stream.next_frame(b"", NOW).expect("there is a frame");
+    assert_eq!(watch.check(&last), Ok(&b""[..]));
+    assert_eq!(watch.signature(), stream.signature());
 }

@@ -1,1 +1,4 @@
-pub mod SignLemmas
+mod FrameLemmas
+mod LinkLemmas
+mod SignLemmas
+mod WatchLemmas

@@ -1,4 +1,4 @@
--- A request of pieces is signed as it was asked for, and a frame as it is told.
+-- A request of pieces is signed as it was asked for.
 use Rattle.std.proofs.Common.{◌≡◌, ◌&&◌, ◌⊎◌, ℕ, ℤ, Bool, true, false, ◌*◌, nat_lt, map, List, length, Option, Some, None, refl, ap, sym, ◌∙◌, option_map, inl, inr, if◌then◌else◌}
 use Rattle.std.specs.Prelude.{Ok, Err}
 use Rattle.std.specs.Borrow.{Bor}
@@ -44,7 +44,6 @@ use Rattle.sigv4.specs.declared.signing_params.SigningParams.{SigningParams}
 use Rattle.sigv4.specs.declared.signing_params.SigningParams.TheVariants.{V4}
 use Rattle.firuvaik_c.specs.Faults.{beyond_years, frame_fault, fault_of_signing, unknown_flags}
 use Rattle.firuvaik_c.specs.Asked.{are_plain_texts, lent_case, lent_payload, lent_settings, given_text, is_text_field, is_text_keys, is_text_payload, is_text_settings, lent_header, moment_at, unless_utf8, unreadable}
-use Rattle.firuvaik_c.specs.Events.{GivesLink, GivesNextFrame, is_text_scope, key_signer}
 use Rattle.firuvaik_c.specs.Signing.{RefusesSpelled, SignsPieces, SignsSpelled, http_lines, is_query_params, pieces_case}
 use Rattle.firuvaik_c.specs.declared.answer.Made.{Made}
 use Rattle.firuvaik_c.specs.declared.fault.Fault.{Fault}
@@ -57,17 +56,6 @@ use Rattle.firuvaik_c.specs.declared.sign.PlainTexts.{PlainTexts}
 pub length-signature_of : (c : Case) → length (signature_of c) ≡ 64
 unfolding signature_of signature
 length-signature_of c = length-encode_with lower_digits _ ∙ ap (λ n. 2 * n) (length-mac _ _)
-
--- and so has that of a frame
-pub length-link_signature : (signer : Signer) (before bytes : List ℕ) (t : Instant) → length (link_signature signer before bytes t) ≡ 64
-unfolding link_signature
-length-link_signature signer before bytes t = length-encode_with lower_digits _ ∙ ap (λ n. 2 * n) (length-link_code signer before bytes t)
-
--- why a message has no frame, as the number that is told
-pub encoding_fault : (reason : Option ErrorKind) (error : SigningError) → option_map failed_encoding reason ≡ Some error
-    → option_map frame_fault reason ≡ Some (fault_of_signing error)
-encoding_fault None error is = cc
-encoding_fault (Some kind) error is = ap (option_map fault_of_signing) is
 
 -- the case that is signed is that of the pieces
 pub case_made : (texts : PlainTexts) (headers : List Pair) (payload : List ℕ) (params : SigningParams) (signable : SignableRequest)
@@ -192,49 +180,3 @@ pub readable : (signer : LentSigner) (request : Request) (settings : Settings) (
 readable signer request settings seconds flags plain keys fields payload set years =
     read_if (nat_lt 127 settings.flags) (are_plain_texts signer request) (is_text_keys signer) (list_all is_text_field request.headers.now)
     (is_text_payload settings.flags request.body.now) (is_text_settings settings) (is_in_years (moment_at seconds)) flags plain keys fields payload set years
-
--- who signs by parameters, and when, as it is asked for
-pub link_asked : (signer : LentSigner) (seconds : ℤ) (params : V4Params (Unit {0})) (identity : Bor Identity) (region name : Bor (List ℕ)) (at : Instant)
-    → params ≡ params_of identity region name at tt → secret_of identity.now ≡ signer.secret.now → region.now ≡ signer.region.now → name.now ≡ signer.service.now
-    → at ≡ moment_at seconds → (signer_of params ≡ key_signer signer) × (v4_time params ≡ moment_at seconds)
-link_asked signer seconds params identity region name at built secret place service when = (rw (built, secret, place, service) refl, rw (built, when) refl)
-
--- a link is that of equal signers, moments and signatures
-pub link_moved : (who other : Signer) (at then_at : Instant) (before signed_before bytes : List ℕ) (made : Made) → who ≡ other → at ≡ then_at → before ≡ signed_before
-    → GivesLink (link_message who before bytes at) (link_signature who before bytes at) made
-    → GivesLink (link_message other signed_before bytes then_at) (link_signature other signed_before bytes then_at) made
-link_moved who other at then_at before signed_before bytes made same when code link = rw (← same, ← when, ← code) link
-
--- and so is the reason why there is none
-pub refusal_moved : (who other : Signer) (at then_at : Instant) (before signed_before bytes : List ℕ) (error : SigningError) → who ≡ other → at ≡ then_at
-    → before ≡ signed_before → (option_map failed_encoding (unframed (link_message who before bytes at)) ≡ Some error) ⊎ (error ≡ NoMemory)
-    → (option_map failed_encoding (unframed (link_message other signed_before bytes then_at)) ≡ Some error) ⊎ (error ≡ NoMemory)
-refusal_moved who other at then_at before signed_before bytes error same when code refused = rw (← same, ← when, ← code) refused
-
-frame_if : (scope code years : Bool) (reason : Option Fault) → scope ≡ true → code ≡ true → years ≡ true
-    → option_or (option_or (unless_utf8 (scope && code)) (if years then None else Some beyond_years)) reason ≡ reason
-frame_if scope code years reason s c y = rw (s, c, y) refl
-
--- the frame of a link is the next one
-pub frame_made : (signer : LentSigner) (seconds : ℤ) (bytes before : List ℕ) (made : Made) → is_text_scope signer ≡ true → is_utf8 before ≡ true
-    → is_in_years (moment_at seconds) ≡ true
-    → GivesLink (link_message (key_signer signer) before bytes (moment_at seconds)) (link_signature (key_signer signer) before bytes (moment_at seconds)) made
-    → GivesNextFrame signer seconds bytes before (Ok made)
-frame_made signer seconds bytes before made scope code years link =
-    let reason = unframed (link_message (key_signer signer) before bytes (moment_at seconds)) in (
-      frame_if (is_text_scope signer) (is_utf8 before) (is_in_years (moment_at seconds)) (option_map frame_fault reason) scope code years
-          ∙ ap (option_map frame_fault) link.0,
-      link.1,
-      link.2,
-    )
-
--- and so is the reason why there is none
-pub frame_refused : (signer : LentSigner) (seconds : ℤ) (bytes before : List ℕ) (error : SigningError) (fault : Fault) → is_text_scope signer ≡ true → is_utf8 before ≡ true
-    → is_in_years (moment_at seconds) ≡ true → fault ≡ fault_of_signing error
-    → (option_map failed_encoding (unframed (link_message (key_signer signer) before bytes (moment_at seconds))) ≡ Some error) ⊎ (error ≡ NoMemory)
-    → GivesNextFrame signer seconds bytes before (Err fault)
-frame_refused signer seconds bytes before error fault scope code years is (inl refused) =
-    let reason = unframed (link_message (key_signer signer) before bytes (moment_at seconds)) in
-    inl (frame_if (is_text_scope signer) (is_utf8 before) (is_in_years (moment_at seconds)) (option_map frame_fault reason) scope code years
-    ∙ encoding_fault reason error refused ∙ ap Some (sym is))
-frame_refused signer seconds bytes before error fault scope code years is (inr memory) = inr (is ∙ ap fault_of_signing memory)

@@ -6,7 +6,7 @@ use Rattle.sigv4.specs.declared.error.ValuePlace.{ValuePlace}
 use Rattle.sigv4.specs.declared.error.ValuePlace.TheVariants.{Header, Host, Token, PayloadHash, Authorization}
 use Rattle.eventstream.specs.Error.{error_kind}
 use Rattle.eventstream.specs.declared.error.ErrorKind.{ErrorKind}
-use Rattle.eventstream.specs.declared.error.ErrorKind.TheVariants.{HeadersTooLong, HeaderValueTooLong, InvalidHeaderNameLength, MessageTooLong, PayloadTooLong, TimestampValueTooLarge, NoMemory as NoRoom}
+use Rattle.eventstream.specs.declared.error.ErrorKind.TheVariants.{HeadersTooLong, HeaderValueTooLong, InvalidHeaderNameLength, InvalidHeaderValue as BadValue, InvalidHeaderValueType, InvalidHeadersLength, InvalidMessageLength, InvalidUtf8String, MessageChecksumMismatch, MessageTooLong, PayloadTooLong, PreludeChecksumMismatch, TimestampValueTooLarge, NoMemory as NoRoom}
 use Rattle.firuvaik_c.specs.declared.fault.Fault.{Fault}
 
 -- the fault of a status, at a place
@@ -41,7 +41,7 @@ value_fault Token = fault_numbered 10 0
 value_fault PayloadHash = fault_numbered 11 0
 value_fault Authorization = fault_numbered 12 0
 
--- the fault of a message that has no frame; those that writing a frame can't have share a number
+-- the fault of a message that has no frame, or of bytes that are none; those of an event that is no message share a number
 abbrev pub frame_fault : ErrorKind → Fault
 frame_fault NoRoom = no_memory
 frame_fault InvalidHeaderNameLength = fault_numbered 20 0
@@ -50,6 +50,13 @@ frame_fault (TimestampValueTooLarge moment) = fault_numbered 22 0
 frame_fault HeadersTooLong = fault_numbered 23 0
 frame_fault PayloadTooLong = fault_numbered 24 0
 frame_fault MessageTooLong = fault_numbered 25 0
+frame_fault BadValue = fault_numbered 31 0
+frame_fault (InvalidHeaderValueType kind) = fault_numbered 32 0
+frame_fault InvalidHeadersLength = fault_numbered 33 0
+frame_fault InvalidMessageLength = fault_numbered 34 0
+frame_fault InvalidUtf8String = fault_numbered 35 0
+frame_fault (MessageChecksumMismatch computed carried) = fault_numbered 36 0
+frame_fault (PreludeChecksumMismatch computed carried) = fault_numbered 37 0
 frame_fault _ = fault_numbered 26 0
 
 -- the fault of an error of signing; those that a request with a secret can't have share a number

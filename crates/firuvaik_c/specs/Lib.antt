@@ -1,6 +1,12 @@
 pub mod Answers
 pub mod Asked
+pub mod Chunks
 pub mod Events
 pub mod Faults
+pub mod Frames
+pub mod Keys
+pub mod Links
 pub mod Messages
 pub mod Signing
+pub mod Statuses
+pub mod Watching

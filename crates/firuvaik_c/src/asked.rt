@@ -4,10 +4,6 @@ ghost use Rattle.smithy_core.specs.Identity.{IsCredentials, access_key_id, secre
 ghost use Rattle.sigv4.specs.Body.{payload_text};
 ghost use Rattle.sigv4.specs.Request.{key_id_of, token_of};
 ghost use Rattle.sigv4.specs.Settings.{default_exclusions, settings_of};
-ghost use Rattle.sigv4.specs.declared.modes.PercentEncodingMode.TheVariants.{Double, Single};
-ghost use Rattle.sigv4.specs.declared.settings.PayloadChecksumKind.TheVariants.{NoHeader, XAmzSha256};
-ghost use Rattle.sigv4.specs.declared.settings.SessionTokenMode.TheVariants.{Exclude, Include};
-ghost use Rattle.sigv4.specs.declared.settings.SignatureLocation.TheVariants.{Headers, QueryParams};
 ghost use Rattle.firuvaik_c.specs.Asked.{asked_exclusions, asked_expiry, lent_payload, lent_settings, given_text, has_flag, is_text_keys, is_text_payload, is_text_settings};
 ghost use Rattle.firuvaik_c.specs.Faults.{no_memory, not_text};
 
@@ -80,59 +76,49 @@ fn settings_with(
     requires token_name { option_map string_bytes token_name ≡ given_text asked.now.token_name.now }
     ensures { settings_of result ≡ lent_settings asked.now }
 {
+    let flags = asked.flags;
     SigningSettings {
-        percent_encoding_mode: encoding(asked.flags),
-        payload_checksum_kind: checksum_kind(asked.flags),
-        signature_location: location(asked.flags),
+        percent_encoding_mode: by_flag(
+            flags,
+            SINGLE_ENCODE,
+            PercentEncodingMode::Single,
+            PercentEncodingMode::Double,
+        ),
+        payload_checksum_kind: by_flag(
+            flags,
+            SHA256_HEADER,
+            PayloadChecksumKind::XAmzSha256,
+            PayloadChecksumKind::NoHeader,
+        ),
+        signature_location: by_flag(
+            flags,
+            QUERY,
+            SignatureLocation::QueryParams,
+            SignatureLocation::Headers,
+        ),
         expires_in: expiry(asked.expires_in),
         excluded_headers: excluded,
-        uri_path_normalization_mode: UriPathNormalizationMode::from(!has_flag(
-            asked.flags,
+        uri_path_normalization_mode: by_flag(
+            flags,
             KEEP_PATH,
-        )),
-        session_token_mode: token_mode(asked.flags),
+            UriPathNormalizationMode::Disabled,
+            UriPathNormalizationMode::Enabled,
+        ),
+        session_token_mode: by_flag(
+            flags,
+            UNSIGNED_TOKEN,
+            SessionTokenMode::Exclude,
+            SessionTokenMode::Include,
+        ),
         session_token_name_override: token_name,
     }
 }
 
-fn encoding(flags: u32) -> PercentEncodingMode
-    ensures { result ≡ (if has_flag flags 2 then Single else Double) }
+// One value where a flag is one of the sum, and else the other.
+fn by_flag<T: Copy>(flags: u32, flag: u32, set: T, unset: T) -> T
+    ensures { result ≡ (if has_flag flags flag then set else unset) }
 {
-    if has_flag(flags, SINGLE_ENCODE) {
-        PercentEncodingMode::Single
-    } else {
-        PercentEncodingMode::Double
-    }
-}
-
-fn checksum_kind(flags: u32) -> PayloadChecksumKind
-    ensures { result ≡ (if has_flag flags 8 then XAmzSha256 else NoHeader) }
-{
-    if has_flag(flags, SHA256_HEADER) {
-        PayloadChecksumKind::XAmzSha256
-    } else {
-        PayloadChecksumKind::NoHeader
-    }
-}
-
-fn location(flags: u32) -> SignatureLocation
-    ensures { result ≡ (if has_flag flags 1 then QueryParams else Headers) }
-{
-    if has_flag(flags, QUERY) {
-        SignatureLocation::QueryParams
-    } else {
-        SignatureLocation::Headers
-    }
-}
-
-fn token_mode(flags: u32) -> SessionTokenMode
-    ensures { result ≡ (if has_flag flags 16 then Exclude else Include) }
-{
-    if has_flag(flags, UNSIGNED_TOKEN) {
-        SessionTokenMode::Exclude
-    } else {
-        SessionTokenMode::Include
-    }
+    if has_flag(flags, flag) { set } else { unset }
 }
 
 fn expiry(seconds: u64) -> Option<u64>

@@ -3,7 +3,7 @@ ghost use Rattle.firuvaik_c.specs.Faults.{fault_numbered, frame_fault, no_memory
 
 use eventstream::{Error, ErrorKind};
 use sigv4::{SigningError, ValuePlace};
-use std::alloc::AllocError;
+use std::alloc::{AllocError, AllocFailed};
 
 /// Why a call wrote nothing, as a number, and where: the place of a header, counted from 1, or else 0.
 #[derive(Clone, Copy, Debug, PartialEq, Eq)]
@@ -35,6 +35,17 @@ impl From<AllocError> for Fault {
     ghost from_gives = { λ _ fault. fault ≡ no_memory };
 
     fn from(_e: AllocError) -> Fault {
+        plain(2)
+    }
+}
+
+impl<T: Drop> From<AllocFailed<T>> for Fault {
+    ghost use Rattle.std.specs.Prelude.{◌≡◌};
+    ghost use Rattle.firuvaik_c.specs.Faults.{no_memory};
+
+    ghost from_gives = { λ _ fault. fault ≡ no_memory };
+
+    fn from(_e: AllocFailed<T>) -> Fault {
         plain(2)
     }
 }
@@ -93,7 +104,7 @@ impl From<Error> for Fault {
     }
 }
 
-// The fault of a message that has no frame.
+// The fault of a message that has no frame, or of bytes that are none.
 fn kind_fault(kind: &ErrorKind) -> Fault
     ensures { result ≡ frame_fault kind.now }
 {
@@ -105,6 +116,13 @@ fn kind_fault(kind: &ErrorKind) -> Fault
         ErrorKind::HeadersTooLong => plain(23),
         ErrorKind::PayloadTooLong => plain(24),
         ErrorKind::MessageTooLong => plain(25),
-        _ => plain(26),
+        ErrorKind::InvalidHeaderValue => plain(31),
+        ErrorKind::InvalidHeaderValueType(_) => plain(32),
+        ErrorKind::InvalidHeadersLength => plain(33),
+        ErrorKind::InvalidMessageLength => plain(34),
+        ErrorKind::InvalidUtf8String => plain(35),
+        ErrorKind::MessageChecksumMismatch(_, _) => plain(36),
+        ErrorKind::PreludeChecksumMismatch(_, _) => plain(37),
+        ErrorKind::Marshalling(_) | ErrorKind::Unmarshalling(_) => plain(26),
     }
 }

@@ -18,6 +18,21 @@ pub struct Field<'a> {
     pub value: &'a [u8],
 }
 
+/// A header of a message.
+#[repr(C)]
+#[derive(Clone, Copy)]
+pub struct EventHeader<'a> {
+    /// The name.
+    pub name: &'a [u8],
+    /// The kind of the value, as the event stream encoding numbers them: 0 true, 1 false, 2, 3, 4 and 5 a number of 8, 16, 32 and 64
+    /// bits, 6 bytes, 7 a text, 8 a moment in milliseconds, 9 a UUID.
+    pub kind: u32,
+    /// The value, where it is a number or a moment.
+    pub number: i64,
+    /// The value, where it is bytes, a text or the 16 bytes of a UUID.
+    pub value: &'a [u8],
+}
+
 /// Who signs, and for which region and service.
 #[repr(C)]
 #[derive(Clone, Copy)]

@@ -1,5 +1,5 @@
 use Rattle.std.proofs.Common.{ap, length, ◌∙◌}
-use Rattle.firuvaik_c.proofs.SignLemmas.{length-link_signature}
+use Rattle.firuvaik_c.proofs.LinkLemmas.{length-link_signature}
 use Rattle.firuvaik_c.proofs.events.linked.Goals as goal
 
 pub code_of-signature-requires : goal.code_of-signature-requires

@@ -1,0 +1,56 @@
+-- What the statuses mean.
+use Rattle.std.specs.Prelude.{ℕ, ◌==◌, ◌&&◌, nat_le, codes, List, if◌then◌else◌}
+
+-- the statuses of requests and signatures
+abbrev pub request_status : ℕ → List ℕ
+request_status n =
+    if n == 0 then codes "all was written"
+    else if n == 1 then codes "more room is wanted"
+    else if n == 2 then codes "memory ran out"
+    else if n == 3 then codes "a text isn't UTF-8"
+    else if n == 4 then codes "a flag is none that there is"
+    else if n == 5 then codes "the moment lies outside the years 0 to 9999"
+    else if n == 6 then codes "the target isn't accepted"
+    else if n == 7 then codes "the name of a header isn't accepted"
+    else if n == 8 then codes "the value of a header isn't accepted"
+    else if n == 9 then codes "the host is no header's value"
+    else if n == 10 then codes "the session token is no header's value"
+    else if n == 11 then codes "the payload's text is no header's value"
+    else if n == 12 then codes "key id, region or service can't stand in a header"
+    else if n == 13 then codes "there is no host"
+    else if n == 14 then codes "the session token can't have this name"
+    else if n == 15 then codes "there is no expiry"
+    else codes "there is no such status"
+
+-- the statuses of frames and their headers
+abbrev pub frame_status : ℕ → List ℕ
+frame_status n =
+    if n == 20 then codes "the name of a message's header is too long"
+    else if n == 21 then codes "the value of a message's header is too long"
+    else if n == 23 then codes "the headers of a message are too long"
+    else if n == 24 then codes "the payload of a message is too long"
+    else if n == 25 then codes "the frame is too long"
+    else if n == 30 then codes "more bytes are wanted"
+    else if n == 31 then codes "the value of a message's header passes the bytes that are there"
+    else if n == 32 then codes "a message's header has a kind that there isn't"
+    else if n == 33 then codes "the length of the headers isn't one"
+    else if n == 34 then codes "the length of the frame isn't one, or its bytes aren't all there"
+    else if n == 35 then codes "a name or a text in the frame isn't UTF-8"
+    else if n == 36 then codes "the checksum of the frame is another one"
+    else if n == 37 then codes "the checksum of the prelude is another one"
+    else if n == 40 then codes "there is no such kind of value"
+    else if n == 41 then codes "the number doesn't fit its kind"
+    else if n == 42 then codes "a UUID has 16 bytes"
+    else if n == 50 then codes "bytes follow the frame"
+    else if n == 51 then codes "the frame's headers aren't those of a signed one"
+    else if n == 52 then codes "the frame's date is no whole second in the years 0 to 9999"
+    else if n == 53 then codes "the frame's payload is neither empty nor an event's frame"
+    else if n == 54 then codes "the frame has another signature than the one that it carries"
+    else codes "there is no such status"
+
+-- what a status means
+abbrev pub status_text : ℕ → List ℕ
+status_text n =
+    if nat_le n 19 then request_status n
+    else if nat_le 20 n && nat_le n 59 then frame_status n
+    else codes "there is no such status"

@@ -1,0 +1,199 @@
+//! An upload in signed chunks.
+ghost use Rattle.std.specs.Prelude.{◌≡◌, ◌++◌, ◌⊎◌, None, Some, Result, IfOk, OnOk, MatchResult, length};
+ghost use Rattle.std.specs.List.{flat_map};
+ghost use Rattle.aws_chunked.specs.Text.{crlf, head_text, last_line, trailer_line};
+ghost use Rattle.sigv4.specs.Chunk.{chunk_signature, trailer_signature};
+ghost use Rattle.sigv4.specs.EventStream.{unsignable};
+ghost use Rattle.sigv4.specs.Params.{signer_of, v4_identity, v4_time};
+ghost use Rattle.firuvaik_c.specs.Answers.{LendsSigned};
+ghost use Rattle.firuvaik_c.specs.Chunks.{GivesChunk, GivesTrailers, MakesText, trailers_text};
+ghost use Rattle.firuvaik_c.specs.Faults.{no_memory};
+ghost use Rattle.firuvaik_c.specs.declared.answer.Made.{Made};
+ghost use Rattle.firuvaik_c.specs.declared.fault.Fault.{Fault};
+
+use crate::answer::{Answer, Made, lend_signed};
+use crate::fault::Fault;
+use crate::lent::{Field, Signer};
+use crate::link::{nameless, scope_texts};
+use crate::sign::code_of;
+use crate::texts::{headers_of, test_years, text_of};
+use aws_chunked::X_AMZ_TRAILER_SIGNATURE;
+use bytes::Bytes;
+use sigv4::parts::test_headers;
+use sigv4::{SigningError, v4};
+use smithy_core::{Headers, Mem, Moment};
+use std::alloc::Global;
+
+/// Writes the line before the next chunk of an upload, with the chunk's signature over the one before it. No data end the upload.
+///
+/// The signature is that of the request, or of the chunk before; the chunk's own takes its place where the line fits the room, and
+/// else nothing is written.
+#[unsafe(no_mangle)]
+pub extern "C" fn firuvaik_next_chunk(
+    alloc: Global,
+    signer: &Signer<'_>,
+    seconds: i64,
+    chunk: &[u8],
+    signature: &mut [u8; 64],
+    out: &mut [u8],
+) -> Answer
+    ensures { (made : Result Made Fault) × GivesChunk signer.now seconds chunk.now signature.old made
+        × LendsSigned made signature.old signature.new out.old out.new result }
+{
+    let made = next_chunk(alloc, signer, seconds, chunk, signature);
+    lend_signed(made, signature, out)
+}
+
+// The line before the next chunk, and its signature.
+#[tactic(auto, using(crate::proofs::SignLemmas::able))]
+fn next_chunk(
+    alloc: Global,
+    signer: &Signer<'_>,
+    seconds: i64,
+    chunk: &[u8],
+    signature: &[u8; 64],
+) -> Result<Made, Fault>
+    ensures { GivesChunk signer.now seconds chunk.now signature.now result }
+{
+    let texts = scope_texts(signer)?;
+    let before = text_of(signature.as_slice())?;
+    let at = Moment::new(seconds, 0);
+    test_years(at)?;
+    let identity = nameless(alloc, texts.secret)?;
+    let params = v4::SigningParams::new(&identity, texts.region, texts.service, at, ());
+    match signed_chunk(alloc, chunk, before, &params) {
+        Ok(made) => Ok(made),
+        Err(error) => Err(Fault::from(error)),
+    }
+}
+
+// The line before a chunk, with its signature over the one before it.
+fn signed_chunk(
+    alloc: Global,
+    chunk: &[u8],
+    before: &str,
+    params: &v4::SigningParams<'_, ()>,
+) -> Result<Made, SigningError>
+    requires { unsignable (v4_identity params.now) (v4_time params.now) ≡ None }
+    ensures { MakesText
+        (head_text (length chunk.now) (Some (chunk_signature chunk.now (signer_of params.now) (v4_time params.now) before.now)))
+        (chunk_signature chunk.now (signer_of params.now) (v4_time params.now) before.now) result }
+{
+    let bytes = Bytes::copy_from_slice(alloc, chunk)?;
+    let signed = v4::sign_chunk(alloc, &bytes, before, params)?;
+    let signature = code_of(&signed);
+    let text = chunk_head(alloc, chunk.len(), &signature)?;
+    Ok(Made { text, signature })
+}
+
+// The line before a chunk of this length.
+fn chunk_head(alloc: Global, length: usize, signature: &[u8; 64]) -> Mem<Vec<u8>>
+    ensures { IfOk result (λ text. text.items ≡ head_text length (Some signature.now)) }
+{
+    let mut text = format!(in alloc; "{length:X}")?.into_bytes();
+    text.extend_from_slice(b";chunk-signature=")?;
+    text.extend_from_slice(signature.as_slice())?;
+    text.extend_from_slice(b"\r\n")?;
+    Ok(text)
+}
+
+/// Writes the trailers of an upload behind its empty chunk, and the line of their signature, with the empty line that ends it.
+///
+/// The signature is that of the empty chunk; that of the trailers takes its place where the lines fit the room, and else nothing is
+/// written.
+#[unsafe(no_mangle)]
+pub extern "C" fn firuvaik_trailers(
+    alloc: Global,
+    signer: &Signer<'_>,
+    seconds: i64,
+    trailers: &[Field<'_>],
+    signature: &mut [u8; 64],
+    out: &mut [u8],
+) -> Answer
+    ensures { (made : Result Made Fault) × GivesTrailers signer.now seconds trailers.now signature.old made
+        × LendsSigned made signature.old signature.new out.old out.new result }
+{
+    let made = last_trailers(alloc, signer, seconds, trailers, signature);
+    lend_signed(made, signature, out)
+}
+
+// The lines of the trailers, and their signature.
+#[tactic(auto, using(crate::proofs::SignLemmas::able))]
+fn last_trailers(
+    alloc: Global,
+    signer: &Signer<'_>,
+    seconds: i64,
+    trailers: &[Field<'_>],
+    signature: &[u8; 64],
+) -> Result<Made, Fault>
+    ensures { GivesTrailers signer.now seconds trailers.now signature.now result }
+{
+    let texts = scope_texts(signer)?;
+    let before = text_of(signature.as_slice())?;
+    let at = Moment::new(seconds, 0);
+    test_years(at)?;
+    let headers = headers_of(alloc, trailers)?;
+    test_headers(&headers)?;
+    let identity = nameless(alloc, texts.secret)?;
+    let params = v4::SigningParams::new(&identity, texts.region, texts.service, at, ());
+    match signed_trailers(alloc, &headers, before, &params) {
+        Ok(made) => Ok(made),
+        Err(error) => Err(Fault::from(error)),
+    }
+}
+
+// The lines of trailers, and their signature over the one before it.
+fn signed_trailers(
+    alloc: Global,
+    headers: &Headers,
+    before: &str,
+    params: &v4::SigningParams<'_, ()>,
+) -> Result<Made, SigningError>
+    requires { unsignable (v4_identity params.now) (v4_time params.now) ≡ None }
+    ensures { MakesText
+        (trailers_text headers.now (trailer_signature headers.now (signer_of params.now) (v4_time params.now) before.now))
+        (trailer_signature headers.now (signer_of params.now) (v4_time params.now) before.now) result }
+{
+    let signed = v4::sign_trailer(alloc, headers, before, params)?;
+    let signature = code_of(&signed);
+    let text = trailer_lines(alloc, headers, &signature)?;
+    Ok(Made { text, signature })
+}
+
+// The lines of trailers, that of their signature, and an empty line.
+fn trailer_lines(alloc: Global, headers: &Headers, signature: &[u8; 64]) -> Mem<Vec<u8>>
+    ensures { IfOk result (λ text. text.items ≡ trailers_text headers.now signature.now) }
+{
+    let mut text = Vec::new(alloc);
+    push_lines(&mut text, headers)?;
+    push_last(&mut text, signature)?;
+    text.extend_from_slice(b"\r\n")?;
+    Ok(text)
+}
+
+// Appends the line of the trailers' signature.
+fn push_last(text: &mut Vec<u8>, signature: &[u8; 64]) -> Mem<()>
+    ensures { OnOk result (text.new.items ≡ text.old.items ++ last_line (Some signature.now)) }
+{
+    push_trailer(text, X_AMZ_TRAILER_SIGNATURE, signature.as_slice())
+}
+
+// Appends the lines of the trailers.
+fn push_lines(text: &mut Vec<u8>, headers: &Headers) -> Mem<()>
+    ensures { OnOk result (text.new.items ≡ text.old.items ++ flat_map trailer_line headers.now) }
+{
+    for (name, value) in headers.iter() {
+        push_trailer(text, name, value.as_bytes())?;
+    }
+    Ok(())
+}
+
+// Appends `name:value` as a line.
+fn push_trailer(text: &mut Vec<u8>, name: &str, value: &[u8]) -> Mem<()>
+    ensures { OnOk result (text.new.items ≡ text.old.items ++ trailer_line (name.now, value.now)) }
+{
+    text.extend_from_slice(name.as_bytes())?;
+    text.extend_from_slice(b":")?;
+    text.extend_from_slice(value)?;
+    text.extend_from_slice(b"\r\n")
+}
