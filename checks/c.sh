@@ -44,13 +44,17 @@ if has nm "the names"; then
 fi
 if has cc "the callers in C"; then
   strict="-std=c89 -pedantic -Wall -Wextra -Werror -g -Ic"
-  for source in c/examples/sign.c c/examples/stream.c c/tests/hostile.c; do
+  for source in c/examples/sign.c c/examples/stream.c c/examples/watch.c c/tests/hostile.c; do
     name=$(basename "$source" .c)
     # shellcheck disable=SC2086
     tries "$source" cc $strict "$source" "$out/libfiruvaik.a" -o "$folder/$name"
   done
   finds sign.c 'SignedHeaders=host;my-header1;x-amz-date, Signature=' "$folder/sign"
   finds stream.c 'hello world' "$folder/stream"
+  "$folder/stream" > "$folder/frames"
+  finds watch.c '^hello world$' "$folder/watch" < "$folder/frames"
+  head -c 100 "$folder/frames" | "$folder/watch" > /dev/null 2>&1 && { echo "checks/c.sh: watch.c takes a stream that breaks off"; failed=1; }
+  tr w v < "$folder/frames" | "$folder/watch" > /dev/null 2>&1 && { echo "checks/c.sh: watch.c takes another event"; failed=1; }
   tries hostile.c "$folder/hostile"
   # shellcheck disable=SC2086
   tries "the header in C++" cc -x c++ -Wall -Wextra -Werror -Ic -fsyntax-only c/examples/sign.c
