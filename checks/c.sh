@@ -64,7 +64,9 @@ if has cc "the callers in C"; then
 fi
 if has python3 "the Python module"; then
   tries "the Python module" env FIRUVAIK_LIBRARY="$out/libfiruvaik.so" PYTHONDONTWRITEBYTECODE=1 python3 c/python/test_firuvaik.py
-  python3 -c 'import botocore' 2> /dev/null || echo "checks/c.sh: botocore is missing: nothing is compared with it"
+  for other in botocore awscrt; do
+    python3 -c "import $other" 2> /dev/null || echo "checks/c.sh: $other is missing: nothing is compared with it"
+  done
 fi
 if has cargo "the Rust crate"; then
   tries "the Rust crate" env CARGO_TARGET_DIR="$folder/rust" cargo test -q --offline --manifest-path c/rust/Cargo.toml

@@ -10,6 +10,7 @@ import json
 import pathlib
 import random
 import threading
+import types
 import unittest
 import urllib.parse
 import uuid
@@ -22,6 +23,12 @@ try:
     import botocore.credentials
 except ImportError:
     botocore = None
+
+try:
+    import awscrt.auth
+    import awscrt.http
+except ImportError:
+    awscrt = None
 
 KEY_ID, SECRET = "AKIDEXAMPLE", "wJalrXUtnFEMI/K7MDENG+bPxRfiCYEXAMPLEKEY"
 NOW = datetime.datetime(2015, 8, 30, 12, 36, tzinfo=datetime.timezone.utc)
@@ -236,16 +243,20 @@ class Streams(unittest.TestCase):
 
 
 def by_botocore(kind, signer, method, target, headers, body, at, *more):
-    """The request as botocore signs it at a moment."""
-    kept = botocore.auth.get_current_datetime
-    botocore.auth.get_current_datetime = lambda: at.replace(tzinfo=None)
+    """The request as botocore signs it at a moment. Older ones ask the class of their module datetime for that."""
+    now = at.replace(tzinfo=None)
+    clock, held = (
+        ("get_current_datetime", lambda: now) if hasattr(botocore.auth, "get_current_datetime")
+        else ("datetime", types.SimpleNamespace(datetime=type("At", (datetime.datetime,), {"utcnow": staticmethod(lambda: now)}))))
+    kept = getattr(botocore.auth, clock)
+    setattr(botocore.auth, clock, held)
     try:
         keys = botocore.credentials.Credentials(signer.key_id, signer.secret, signer.token or None)
         request = botocore.awsrequest.AWSRequest(method=method, url=target, headers=headers, data=body)
         kind(keys, signer.service, signer.region, *more).add_auth(request)
         return request
     finally:
-        botocore.auth.get_current_datetime = kept
+        setattr(botocore.auth, clock, kept)
 
 
 def signature_of(authorization):
@@ -288,6 +299,38 @@ class AsBotocore(unittest.TestCase):
             found = firuvaik.presign(signer, "GET", target, at=at, expires_in=900, s3=True)
             pairs = [sorted(urllib.parse.parse_qsl(urllib.parse.urlsplit(url).query)) for url in (found, wanted.url)]
             self.assertEqual(*pairs)
+
+
+@unittest.skipIf(awscrt is None, "awscrt isn't there")
+class ByCommonRuntime(unittest.TestCase):
+    """The AWS Common Runtime signs the same."""
+
+    def authorization(self, target, headers, kind, at):
+        place = urllib.parse.urlsplit(target)
+        request = awscrt.http.HttpRequest(
+            "GET", f"{place.path}?{place.query}", awscrt.http.HttpHeaders([("host", place.netloc), *headers.items()]))
+        config = awscrt.auth.AwsSigningConfig(
+            algorithm=awscrt.auth.AwsSigningAlgorithm.V4, signature_type=kind,
+            credentials_provider=awscrt.auth.AwsCredentialsProvider.new_static(KEY_ID, SECRET), region="us-east-1", service="service",
+            date=at, expiration_in_seconds=900)
+        return awscrt.auth.aws_sign_request(request, config).result()
+
+    def test_in_headers(self):
+        source = random.Random(7)
+        for _ in range(100):
+            target = f"https://h.example.com/a/{source.choice(['', 'b', '../c', 'd%20e', './/f'])}?{source.choice(['b=2&a=1', 'x', 'c=%2F&c=%21'])}"
+            headers = {f"x-note-{n}": source.choice(["one", " two  three ", "4"]) for n in range(source.randrange(3))}
+            at = NOW + datetime.timedelta(seconds=source.randrange(10 ** 8))
+            wanted = self.authorization(target, headers, awscrt.auth.AwsSignatureType.HTTP_REQUEST_HEADERS, at)
+            found, _ = firuvaik.sign(SIGNER, "GET", target, headers, at=at)
+            self.assertEqual(found["authorization"], wanted.headers.get("Authorization"), target)
+
+    def test_presigned(self):
+        target = "https://h.example.com/a?b=2&a=1"
+        wanted = self.authorization(target, {}, awscrt.auth.AwsSignatureType.HTTP_REQUEST_QUERY_PARAMS, NOW)
+        found = firuvaik.presign(SIGNER, "GET", target, at=NOW, expires_in=900)
+        pairs = [sorted(urllib.parse.parse_qsl(urllib.parse.urlsplit(url).query)) for url in (found, wanted.path)]
+        self.assertEqual(*pairs)
 
 
 @unittest.skipIf(botocore is None, "botocore isn't there")
