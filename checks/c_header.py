@@ -2,7 +2,7 @@
 """Says where c/firuvaik.h and the exports of the crate firuvaik_c differ: a line for each place, and then the status 1.
 
 Each export is declared with the C types of its parameters in their order, each struct has the C types of its fields, each flag has
-its number, and nothing else is declared.
+its number, each status that has a text has a name, and nothing else is declared.
 """
 import pathlib
 import re
@@ -80,8 +80,18 @@ def header_items():
     return exports, structs, flags
 
 
+def statuses():
+    """The numbers of the statuses that have a text, and of those that have a name."""
+    source = (ROOT / "crates/firuvaik_c/src/status.rt").read_text()
+    header = (ROOT / "c/firuvaik.h").read_text().split("/* The statuses.", 1)[1].split("\n\n", 1)[0]
+    return set(re.findall(r'^        (\d+) => "', source, re.M)), set(re.findall(r"#define FIRUVAIK_\w+ (\d+)u", header))
+
+
 def faults():
     here, there = rattle_items(), header_items()
+    texts, names = statuses()
+    for number in sorted(texts ^ names, key=int):
+        yield f"status {number}: it has only a {'text' if number in texts else 'name'}"
     for kind, mine, other in zip(("call", "struct"), here, there):
         for name in sorted({*mine, *other}):
             if mine.get(name) != other.get(name):
