@@ -123,10 +123,12 @@ module _ (signing : Signing) (before : List ℕ) where
   judged_given : (trailers : List Trailer) (bytes : List ℕ) (announced : Option (List ℕ)) (result : Result (List Trailer) ChunkFault)
       → IsTrailersEnd trailers (own trailers) bytes → are_announced announced trailers ≡ true → JudgesTrailers signing before announced bytes result
       → (result ≡ Ok trailers) ⊎ (result ≡ Err NoMemory)
-  judged_given trailers bytes announced (Ok others) end known (reads, same) =
+  judged_given trailers bytes announced (Ok others) end known (inl reads, same) =
       inl (ap (λ (t : List Trailer). let r : Result (List Trailer) ChunkFault = Ok t in r) (sym (reads.only trailers (own trailers) end).0))
-  judged_given trailers bytes announced (Err fault) end known (inl (bad, none)) = absurd (none trailers (own trailers) end)
-  judged_given trailers bytes announced (Err fault) end known (inr (inl (others, signature, reads, refuses))) =
+  judged_given trailers bytes announced (Ok others) end known (inr (lacks, reads), same) = absurd (lacks trailers (own trailers) end)
+  judged_given trailers bytes announced (Err fault) end known (inl (bad, lacks, more)) = absurd (lacks trailers (own trailers) end)
+  judged_given trailers bytes announced (Err fault) end known (inr (inl (others, signature, inr (lacks, reads), refuses))) = absurd (lacks trailers (own trailers) end)
+  judged_given trailers bytes announced (Err fault) end known (inr (inl (others, signature, inl reads, refuses))) =
       let same = reads.only trailers (own trailers) end in
       let told : RefusesTrailers true (own others) signature fault =
       subst (λ (b : Bool). RefusesTrailers b (own others) signature fault) (ap (are_announced announced) (sym same.0) ∙ known) refuses in

@@ -1,5 +1,6 @@
 pub mod CountLemmas
 pub mod DigitLemmas
+pub mod EitherLemmas
 pub mod EndLemmas
 pub mod EndReadLemmas
 pub mod FrontLemmas

@@ -4,7 +4,7 @@ use Rattle.std.specs.declared.alloc.Global.{Global}
 use Rattle.aws_chunked.specs.Body.{Trailer}
 use Rattle.aws_chunked.specs.Text.{crlf}
 use Rattle.aws_chunked.specs.declared.decode.Decoded.{Decoded}
-use Rattle.chunk_watch.specs.Trailers.{IsNoEnd, ReadsAs}
+use Rattle.chunk_watch.specs.Trailers.{IsNoEnd, IsReadAs, ReadsAs, plain_lines}
 use Rattle.chunk_watch.specs.declared.fault.ChunkFault.{ChunkFault}
 use Rattle.chunk_watch.specs.declared.fault.ChunkFault.TheVariants.{BadTrailers, NoMemory}
 
@@ -20,6 +20,11 @@ empty_line = codes "0;chunk-signature=" ++ (zeros ++ crlf)
 abbrev pub ReadsEnd : List ℕ → Result (List Trailer × String Global) ChunkFault → Type 0
 ReadsEnd bytes (Ok (trailers, signature)) = ReadsAs bytes trailers (string_bytes signature)
 ReadsEnd bytes (Err fault) = ((fault ≡ BadTrailers) × IsNoEnd bytes) ⊎ (fault ≡ NoMemory)
+
+-- the same, also without loose line feeds
+abbrev pub ReadsEitherEnd : List ℕ → Result (List Trailer × String Global) ChunkFault → Type 0
+ReadsEitherEnd bytes (Ok (trailers, signature)) = IsReadAs bytes trailers (string_bytes signature)
+ReadsEitherEnd bytes (Err fault) = ((fault ≡ BadTrailers) × IsNoEnd bytes × IsNoEnd (plain_lines bytes)) ⊎ (fault ≡ NoMemory)
 
 -- of a text without data and with two signatures the trailers and the second signature are taken
 abbrev pub TakesEnd : Decoded → Result (List Trailer × String Global) ChunkFault → Type 0

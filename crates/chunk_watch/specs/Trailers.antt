@@ -1,15 +1,29 @@
 -- The end of a body with trailers (Amazon S3, "Signature calculations for the Authorization header: including trailing headers"): their lines, the line of
 -- their signature, and an empty line.
-use Rattle.std.specs.Prelude.{◌≡◌, ◌≢◌, ◌⊎◌, ℕ, ◌<◌, Bool, true, false, List, ◌++◌, bytes_eq, length, Option, Some, None, Result, Ok, Err}
+use Rattle.std.specs.Prelude.{◌≡◌, ◌≢◌, ◌⊎◌, ℕ, ◌<◌, ◌==◌, ◌&&◌, Bool, true, false, not, List, [], ◌∷◌, ◌++◌, if◌then◌else◌, bytes_eq, length, Option, Some, None, Result, Ok, Err}
 use Rattle.std.specs.List.{AllByRecursion, flat_map}
 use Rattle.sigv4.specs.Chunk.{trailer_signature}
 use Rattle.aws_chunked.specs.Announcement.{trailer_names}
 use Rattle.aws_chunked.specs.Body.{Trailer}
 use Rattle.aws_chunked.specs.Decoded.{IsSignature, IsTrailer}
+use Rattle.aws_chunked.specs.Rests.{begins_with}
 use Rattle.aws_chunked.specs.Text.{crlf, last_line, trailer_line}
 use Rattle.chunk_watch.specs.Signing.{Signing}
 use Rattle.chunk_watch.specs.declared.fault.ChunkFault.{ChunkFault}
 use Rattle.chunk_watch.specs.declared.fault.ChunkFault.TheVariants.{BadTrailers, NoMemory, OtherTrailers, TrailerMismatch}
+
+-- a line feed that stands before the end of a line and isn't the end of one
+abbrev pub is_loose : ℕ → ℕ → List ℕ → Bool
+is_loose before byte bytes = (byte == 10) && (not (before == 13) && begins_with 13 bytes)
+
+-- bytes behind another one without loose line feeds
+abbrev pub plain_after : ℕ → List ℕ → List ℕ
+plain_after before [] = []
+plain_after before (byte ∷ bytes) = if is_loose before byte bytes then plain_after byte bytes else byte ∷ plain_after byte bytes
+
+-- bytes without loose line feeds: minio's client writes one before the end of a trailer's line
+abbrev pub plain_lines : List ℕ → List ℕ
+plain_lines bytes = plain_after 0 bytes
 
 -- the end with these trailers and this signature of them
 abbrev pub trailers_text : List Trailer → List ℕ → List ℕ
@@ -31,6 +45,10 @@ pub record ReadsAs (bytes : List ℕ) (trailers : List Trailer) (signature : Lis
 abbrev pub IsNoEnd : List ℕ → Type 0
 IsNoEnd bytes = (trailers : List Trailer) (signature : List ℕ) → IsTrailersEnd trailers signature bytes → ⊥
 
+-- they are read as they are, or else without loose line feeds
+abbrev pub IsReadAs : List ℕ → List Trailer → List ℕ → Type 0
+IsReadAs bytes trailers signature = ReadsAs bytes trailers signature ⊎ (IsNoEnd bytes × ReadsAs (plain_lines bytes) trailers signature)
+
 -- trailers have the announced names, with `,` between, as `x-amz-trailer` gives them, where they were announced
 abbrev pub are_announced : Option (List ℕ) → List Trailer → Bool
 are_announced None trailers = true
@@ -45,9 +63,9 @@ RefusesTrailers true own signature fault = (fault ≡ TrailerMismatch) × (signa
 -- signature; or the first reason against them; or memory ran out
 abbrev pub JudgesTrailers : Signing → List ℕ → Option (List ℕ) → List ℕ → Result (List Trailer) ChunkFault → Type 0
 JudgesTrailers signing before announced bytes (Ok trailers) =
-    ReadsAs bytes trailers (trailer_signature trailers signing.signer signing.at before) × (are_announced announced trailers ≡ true)
+    IsReadAs bytes trailers (trailer_signature trailers signing.signer signing.at before) × (are_announced announced trailers ≡ true)
 JudgesTrailers signing before announced bytes (Err fault) =
-    ((fault ≡ BadTrailers) × IsNoEnd bytes)
-    ⊎ (((trailers : List Trailer) × (signature : List ℕ) × ReadsAs bytes trailers signature
+    ((fault ≡ BadTrailers) × IsNoEnd bytes × IsNoEnd (plain_lines bytes))
+    ⊎ (((trailers : List Trailer) × (signature : List ℕ) × IsReadAs bytes trailers signature
     × RefusesTrailers (are_announced announced trailers) (trailer_signature trailers signing.signer signing.at before) signature fault)
     ⊎ (fault ≡ NoMemory))

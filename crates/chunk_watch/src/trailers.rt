@@ -1,8 +1,9 @@
 //! The end of a body with trailers.
-ghost use Rattle.std.specs.Prelude.{◌≡◌, ◌++◌, IfOk, OnOk, option_copied, string_bytes};
+ghost use Rattle.std.specs.Prelude.{◌≡◌, ◌++◌, ◌∷◌, IfOk, OnOk, option_copied, string_bytes};
 ghost use Rattle.aws_chunked.specs.Announcement.{next_trailer_name, trailer_names};
-ghost use Rattle.chunk_watch.specs.EndRead.{ReadsEnd, TakesEnd, empty_line};
-ghost use Rattle.chunk_watch.specs.Trailers.{JudgesTrailers, are_announced};
+ghost use Rattle.aws_chunked.specs.Rests.{begins_with};
+ghost use Rattle.chunk_watch.specs.EndRead.{ReadsEitherEnd, ReadsEnd, TakesEnd, empty_line};
+ghost use Rattle.chunk_watch.specs.Trailers.{JudgesTrailers, are_announced, is_loose, plain_after, plain_lines};
 
 use crate::fault::ChunkFault;
 use crate::signing::ChunkSigner;
@@ -26,7 +27,7 @@ pub(crate) fn judged_trailers(
 ) -> Result<Headers, ChunkFault>
     ensures { JudgesTrailers signer.now before.now (option_copied announced.entry) bytes.now result }
 {
-    let (trailers, signature) = read_end(alloc, bytes)?;
+    let (trailers, signature) = read_either_end(alloc, bytes)?;
     if !are_announced(alloc, announced, &trailers)? {
         return Err(ChunkFault::OtherTrailers);
     }
@@ -38,7 +39,68 @@ pub(crate) fn judged_trailers(
     }
 }
 
-// Reads the end of a body with trailers: the trailers, and their signature.
+// Reads the end of a body with trailers: the trailers, and their signature. Where it has none, line feeds before the ends of lines
+// are left out, since minio's client writes one before that of a trailer's line.
+#[tactic(auto, using(crate::proofs::EitherLemmas::read_first, crate::proofs::EitherLemmas::read_second))]
+fn read_either_end(alloc: Global, bytes: &[u8]) -> Result<(Headers, String), ChunkFault>
+    ensures { ReadsEitherEnd bytes.now result }
+{
+    match read_end(alloc, bytes) {
+        Ok(read) => Ok(read),
+        Err(ChunkFault::BadTrailers) => {
+            let plain = plain_lines(alloc, bytes)?;
+            read_end(alloc, plain.as_slice())
+        }
+        Err(_) => Err(ChunkFault::NoMemory),
+    }
+}
+
+// The bytes without loose line feeds.
+#[tactic(auto, using(crate::proofs::EitherLemmas::lines_plain))]
+fn plain_lines(alloc: Global, bytes: &[u8]) -> Mem<Vec<u8>>
+    ensures { IfOk result (λ plain. plain.items ≡ plain_lines bytes.now) }
+{
+    let mut plain = Vec::new(alloc);
+    let mut before = 0;
+    let mut rest = bytes;
+    while let Some((byte, others)) = rest.split_first() {
+        push_unless_loose(&mut plain, before, *byte, others)?;
+        before = *byte;
+        rest = others;
+    }
+    Ok(plain)
+}
+
+// Appends the byte, unless it is a loose line feed.
+#[tactic(auto, using(crate::proofs::EitherLemmas::bytes_more))]
+fn push_unless_loose(plain: &mut Vec<u8>, before: u8, byte: u8, others: &[u8]) -> Mem<()>
+    ensures { OnOk result (plain.new.items ++ plain_after byte others.now ≡ plain.old.items ++ plain_after before (byte ∷ others.now)) }
+{
+    if is_loose(before, byte, others) {
+        return Ok(());
+    }
+    plain.push(byte)?;
+    Ok(())
+}
+
+// Whether the byte is a line feed that stands before the end of a line and isn't the end of one.
+fn is_loose(before: u8, byte: u8, others: &[u8]) -> bool
+    ensures { result ≡ is_loose before byte others.now }
+{
+    byte == b'\n' && before != b'\r' && begins_with(others, b'\r')
+}
+
+// Whether this byte stands first.
+fn begins_with(bytes: &[u8], byte: u8) -> bool
+    ensures { result ≡ begins_with byte bytes.now }
+{
+    match bytes.first() {
+        Some(first) => *first == byte,
+        None => false,
+    }
+}
+
+// Reads the end of a body with trailers as it is: the trailers, and their signature.
 #[tactic(auto, using(crate::proofs::EndReadLemmas::reads_text))]
 fn read_end(alloc: Global, bytes: &[u8]) -> Result<(Headers, String), ChunkFault>
     ensures { ReadsEnd bytes.now result }

@@ -168,8 +168,8 @@ impl ChunkWatch {
 
     /// Ends the body of a request over `STREAMING-AWS4-HMAC-SHA256-PAYLOAD-TRAILER`, and returns its trailers, once their signature was
     /// computed again over that of the empty chunk and compared. Behind the empty chunk's line stand a line for each trailer, whose name
-    /// is in lower case, the line of their signature, and an empty line, and nothing else. There is one trailer at least, so that
-    /// trailers that were cut off are missed.
+    /// is in lower case, the line of their signature, and an empty line, and nothing else; minio's client writes a line feed before the
+    /// end of a trailer's line, which is taken too. There is one trailer at least, so that trailers that were cut off are missed.
     ///
     /// If the request's `x-amz-trailer` is handed over, the trailers have the names that it announces, in its order, each as often as
     /// it does, and `,` alone stands between them. It is compared as it is: hand it over as it was signed.
