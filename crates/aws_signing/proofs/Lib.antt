@@ -1,1 +1,4 @@
+pub mod AwsSettingsLemmas
+pub mod PresigningLemmas
 pub mod SigningByLemmas
+pub mod UploadLemmas

@@ -1,7 +1,10 @@
+pub mod AwsSettings
 pub mod EventFrames
 pub mod KeyHolder
+pub mod Presigning
 pub mod Received
 pub mod Service
 pub mod SigningBy
 pub mod SigningFaults
+pub mod Upload
 pub mod Watched

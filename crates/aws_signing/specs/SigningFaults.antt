@@ -1,5 +1,6 @@
 -- The faults of the calls of this crate: those of the crates below, and its own.
 use Rattle.std.specs.Prelude.{ℕ, List, ◌++◌, codes, string_bytes}
+use Rattle.std.specs.Fmt.{decimal}
 use Rattle.eventstream.specs.Error.{error_kind, error_kind_text}
 use Rattle.eventstream.specs.declared.error.Error.{Error}
 use Rattle.eventstream.specs.declared.error.ErrorKind.{ErrorKind}
@@ -10,11 +11,17 @@ use Rattle.sigv4.specs.declared.error.SigningError.TheVariants as signing
 use Rattle.chain_watch.specs.ChainFault.{chain_fault_text}
 use Rattle.chain_watch.specs.declared.chain_fault.ChainFault.{ChainFault}
 use Rattle.chain_watch.specs.declared.chain_fault.ChainFault.TheVariants as chain
+use Rattle.aws_chunked.specs.Announcement.{announce_fault_text}
+use Rattle.aws_chunked.specs.declared.announcement.AnnounceFault.{AnnounceFault}
+use Rattle.aws_chunked.specs.declared.announcement.AnnounceFault.TheVariants as announcing
+use Rattle.env_config.specs.ParseFault.{parse_error_text}
+use Rattle.env_config.specs.declared.parse_fault.ParseFault.{ParseFault}
+use Rattle.env_config.specs.declared.parse_fault.ParseFault.TheVariants as parsing
 use Rattle.request_door.specs.DoorFaults.{door_fault_text}
 use Rattle.request_door.specs.declared.fault.DoorFault.{DoorFault}
 use Rattle.request_door.specs.declared.fault.DoorFault.TheVariants as door
 use Rattle.aws_signing.specs.declared.fault.AwsSigningError.{AwsSigningError}
-use Rattle.aws_signing.specs.declared.fault.AwsSigningError.TheVariants.{EmptyKeyId, EmptySecret, EmptyRegion, EmptyName, StreamTooLong, CutOff, Signing, Frame, Chain, Refused, NoMemory}
+use Rattle.aws_signing.specs.declared.fault.AwsSigningError.TheVariants.{EmptyKeyId, EmptySecret, EmptyRegion, EmptyName, InvalidExpiry, AlreadyPresigned, Profile, MissingCredentials, MissingRegion, InvalidChunkSize, DataTooLong, Unannounced, StreamTooLong, CutOff, Signing, Frame, Chain, Refused, NoMemory}
 
 -- the fault of a signing that failed
 abbrev pub of_signing : SigningError → AwsSigningError
@@ -40,12 +47,30 @@ abbrev pub of_door : DoorFault → AwsSigningError
 of_door door.NoMemory = NoMemory
 of_door fault = Refused fault
 
+-- the fault of texts of profile files that give no sections
+abbrev pub of_parsing : ParseFault → AwsSigningError
+of_parsing (parsing.Parse error) = Profile error
+of_parsing parsing.NoMemory = NoMemory
+
+-- the fault of an upload that isn't announced
+abbrev pub of_announcing : AnnounceFault → AwsSigningError
+of_announcing announcing.NoMemory = NoMemory
+of_announcing fault = Unannounced fault
+
 -- what a fault is printed as
 abbrev pub signing_fault_text : AwsSigningError → List ℕ
 signing_fault_text EmptyKeyId = codes "the key id is empty"
 signing_fault_text EmptySecret = codes "the secret is empty"
 signing_fault_text EmptyRegion = codes "the region is empty"
 signing_fault_text EmptyName = codes "the service's name is empty"
+signing_fault_text (InvalidExpiry seconds) = codes "a URL is good for 1 to 604800 seconds, not for " ++ decimal seconds
+signing_fault_text AlreadyPresigned = codes "the URL is presigned already"
+signing_fault_text (Profile error) = parse_error_text error
+signing_fault_text MissingCredentials = codes "the profile has no credentials"
+signing_fault_text MissingRegion = codes "there is no region"
+signing_fault_text (InvalidChunkSize size) = codes "a chunk has 1 to 4294967295 bytes, not " ++ decimal size
+signing_fault_text DataTooLong = codes "the data is too long"
+signing_fault_text (Unannounced fault) = announce_fault_text fault
 signing_fault_text StreamTooLong = codes "the stream is too long"
 signing_fault_text CutOff = codes "the stream ended within a frame"
 signing_fault_text (Signing error) = error_text error

@@ -1,4 +1,6 @@
+use aws_chunked::AnnounceFault;
 use chain_watch::ChainFault;
+use env_config::{EnvConfigParseError, ParseFault};
 use eventstream::{Error, ErrorKind};
 use request_door::DoorFault;
 use sigv4::SigningError;
@@ -16,6 +18,22 @@ pub enum AwsSigningError {
     EmptyRegion,
     /// The service's name is empty.
     EmptyName,
+    /// A URL was to be good for so many seconds, which aren't from 1 to 604,800.
+    InvalidExpiry(u64),
+    /// The URL that was to be presigned has a parameter `X-Amz-Signature`.
+    AlreadyPresigned,
+    /// A line of a profile file is outside the grammar: the first one of the first faulty file.
+    Profile(EnvConfigParseError),
+    /// The selected profile lacks `aws_access_key_id` or `aws_secret_access_key`.
+    MissingCredentials,
+    /// Neither a variable nor the selected profile has a region.
+    MissingRegion,
+    /// A chunk was to have so many bytes, which aren't from 1 to 4,294,967,295.
+    InvalidChunkSize(usize),
+    /// The data of an upload has more than 4,294,967,295 bytes.
+    DataTooLong,
+    /// An upload isn't announced for this reason.
+    Unannounced(AnnounceFault),
     /// The stream of events has 18,446,744,073,709,551,616 bytes or more.
     StreamTooLong,
     /// The stream of events ended with bytes that no message was answered of.
@@ -44,6 +62,20 @@ impl fmt::Display for AwsSigningError {
             AwsSigningError::EmptySecret => f.write_str("the secret is empty"),
             AwsSigningError::EmptyRegion => f.write_str("the region is empty"),
             AwsSigningError::EmptyName => f.write_str("the service's name is empty"),
+            AwsSigningError::InvalidExpiry(seconds) => write!(
+                f,
+                "a URL is good for 1 to 604800 seconds, not for {seconds}"
+            ),
+            AwsSigningError::AlreadyPresigned => f.write_str("the URL is presigned already"),
+            AwsSigningError::Profile(error) => write!(f, "{error}"),
+            AwsSigningError::MissingCredentials => f.write_str("the profile has no credentials"),
+            AwsSigningError::MissingRegion => f.write_str("there is no region"),
+            AwsSigningError::InvalidChunkSize(size) => write!(
+                f,
+                "a chunk has 1 to 4294967295 bytes, not {size}"
+            ),
+            AwsSigningError::DataTooLong => f.write_str("the data is too long"),
+            AwsSigningError::Unannounced(fault) => write!(f, "{fault}"),
             AwsSigningError::StreamTooLong => f.write_str("the stream is too long"),
             AwsSigningError::CutOff => f.write_str("the stream ended within a frame"),
             AwsSigningError::Signing(error) => write!(f, "{error}"),
@@ -109,6 +141,34 @@ impl From<DoorFault> for AwsSigningError {
         match inner {
             DoorFault::NoMemory => AwsSigningError::NoMemory,
             _ => AwsSigningError::Refused(inner),
+        }
+    }
+}
+
+impl From<ParseFault> for AwsSigningError {
+    ghost use Rattle.std.specs.Prelude.{◌≡◌};
+    ghost use Rattle.aws_signing.specs.SigningFaults.{of_parsing};
+
+    ghost from_gives = { λ inner fault. fault ≡ of_parsing inner };
+
+    fn from(inner: ParseFault) -> AwsSigningError {
+        match inner {
+            ParseFault::Parse(error) => AwsSigningError::Profile(error),
+            ParseFault::NoMemory => AwsSigningError::NoMemory,
+        }
+    }
+}
+
+impl From<AnnounceFault> for AwsSigningError {
+    ghost use Rattle.std.specs.Prelude.{◌≡◌};
+    ghost use Rattle.aws_signing.specs.SigningFaults.{of_announcing};
+
+    ghost from_gives = { λ inner fault. fault ≡ of_announcing inner };
+
+    fn from(inner: AnnounceFault) -> AwsSigningError {
+        match inner {
+            AnnounceFault::NoMemory => AwsSigningError::NoMemory,
+            _ => AwsSigningError::Unannounced(inner),
         }
     }
 }

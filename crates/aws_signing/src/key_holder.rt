@@ -1,15 +1,17 @@
 ghost use Rattle.std.specs.Prelude.{◌≡◌, None, Some, IfOk, MatchResult, string_bytes};
 ghost use Rattle.smithy_core.specs.Identity.{IsCredentials};
 ghost use Rattle.eventstream.specs.Key.{signing_key};
-ghost use Rattle.sigv4.specs.ChunkTold.{unsigned_chunk_at};
+ghost use Rattle.sigv4.specs.ChunkTold.{signs_over, unsigned_chunk_at};
+ghost use Rattle.aws_auth.specs.ChunkSigner.{chunk_told};
 ghost use Rattle.sigv4.specs.Params.{signer_of, v4_identity, v4_settings, v4_time};
 ghost use Rattle.sigv4.specs.Request.{key_id_of, token_of};
 ghost use Rattle.chain_watch.specs.Watch.{new_watch};
 ghost use Rattle.aws_signing.specs.KeyHolder.{held_key, key_kept};
 
+use aws_auth::SigV4MessageSigner;
 use chain_watch::ChainWatch;
-use sigv4::{KeptKey, SigningError, v4};
-use smithy_core::{Credentials, Identity, Mem, Moment, is_in_years};
+use sigv4::{KeptKey, SigningError, SigningSettings, v4};
+use smithy_core::{Credentials, Identity, Mem, Moment, Region, SigningName, is_in_years};
 use std::alloc::Global;
 use std::marker::Model;
 
@@ -109,6 +111,26 @@ impl KeyHolder {
             region,
             name,
         )
+    }
+
+    /// What signs chunks and trailers over the signature of a request, at its moment.
+    pub(crate) fn chunk_signer(
+        &self,
+        signature: String,
+        at: Moment,
+        settings: SigningSettings,
+    ) -> Mem<SigV4MessageSigner<SigningSettings>>
+        ensures { IfOk result (λ signer. chunk_told signer ≡ signs_over (string_bytes signature) self.now.kept.signer at) }
+    {
+        let alloc = self.allocator();
+        Ok(SigV4MessageSigner::new(
+            signature,
+            self.identity.try_clone()?,
+            Region::from_str(alloc, self.region.as_str())?,
+            SigningName::from_str(alloc, self.name.as_str())?,
+            at,
+            settings,
+        ))
     }
 
     /// The same, with the same key kept.

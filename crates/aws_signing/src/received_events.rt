@@ -1,6 +1,8 @@
 ghost use Rattle.std.specs.Prelude.{◌≡◌, [], IfOk};
 ghost use Rattle.std.specs.List.{flat_map};
-ghost use Rattle.aws_signing.specs.Received.{EndsReceived, GivesNextMessage, TakesMessageFront, FeedsReceived};
+ghost use Rattle.eventstream.specs.Decode.{IsUnfinished};
+ghost use Rattle.eventstream.specs.Reading.{first_of};
+ghost use Rattle.aws_signing.specs.Received.{AnswersMessage, EndsReceived, GivesNextMessage, TakesMessageFront, FeedsReceived, messages_of_bytes};
 
 use crate::fault::AwsSigningError;
 use bytes::Bytes;
@@ -125,20 +127,94 @@ impl fmt::Debug for ReceivedEvents {
     }
 }
 
+/// The messages of pieces that came, one after another: an iterator, whose last item is an error where the bytes aren't frames.
+///
+/// Contracts see the bytes without those of the messages that were answered, and whether no more are.
+#[derive(Drop)]
+pub struct ReceivedMessages {
+    received: ReceivedEvents,
+    is_over: bool,
+}
+
+impl Model for ReceivedMessages {
+    ghost use Rattle.aws_signing.specs.Received.{MessagesLeft};
+
+    ghost Value = { MessagesLeft };
+
+    ghost view = { λ messages. record { bytes = messages.received; is_over = messages.is_over } };
+}
+
+/// After an error there is no item: [`AwsSigningError::Frame`] where the bytes are no frame, [`AwsSigningError::CutOff`] where they
+/// end within one, and [`AwsSigningError::NoMemory`].
+impl Iterator for ReceivedMessages {
+    ghost use Rattle.std.specs.Iterator.{at_most};
+    ghost use Rattle.aws_signing.specs.Received.{YieldsMessage, most_answers};
+
+    type Item = Result<Message, AwsSigningError>;
+
+    ghost next_gives = { λ old answer new. YieldsMessage old answer new };
+
+    ghost remaining = { λ messages. at_most (most_answers messages) };
+
+    #[tactic(auto, using(eventstream::proofs::ReadingLemmas::shorter))]
+    fn next(&mut self) -> Option<Result<Message, AwsSigningError>> {
+        if self.is_over {
+            return None;
+        }
+        let answer = self.answer();
+        self.is_over = !matches!(answer, Some(Ok(_)));
+        answer
+    }
+}
+
+impl ReceivedMessages {
+    // The next message, or why there is none.
+    fn answer(&mut self) -> Option<Result<Message, AwsSigningError>>
+        ensures answers { AnswersMessage self.old.bytes self.new.bytes result }
+        ensures over { self.new.is_over ≡ self.old.is_over }
+    {
+        match self.received.next() {
+            Ok(Some(message)) => Some(Ok(message)),
+            Ok(None) => self.end(),
+            Err(fault) => Some(Err(fault)),
+        }
+    }
+
+    // The end, or that bytes are left.
+    fn end(&self) -> Option<Result<Message, AwsSigningError>>
+        requires { IsUnfinished (first_of self.now.bytes) }
+        ensures { AnswersMessage self.now.bytes self.now.bytes result }
+    {
+        if self.received.buffer.remaining() > 0 {
+            Some(Err(AwsSigningError::CutOff))
+        } else {
+            None
+        }
+    }
+}
+
 /// The messages of pieces that came.
 ///
 /// ```rust
-/// let mut messages = received(alloc, pieces)?;
-/// while let Some(message) = messages.next()? {
-///     act_on(message)?;
+/// for message in received(alloc, pieces)? {
+///     act_on(message?)?;
 /// }
-/// messages.finish()?;
 /// ```
 ///
 /// # Errors
 ///
 /// Those of [`ReceivedEvents::feed`].
-pub fn received(alloc: Global, pieces: Vec<Bytes>) -> Result<ReceivedEvents, AwsSigningError>
+pub fn received(alloc: Global, pieces: Vec<Bytes>) -> Result<ReceivedMessages, AwsSigningError>
+    ensures { IfOk result (λ messages. messages ≡ messages_of_bytes (flat_map (λ piece. piece) pieces.items)) }
+{
+    Ok(ReceivedMessages {
+        received: fed(alloc, pieces)?,
+        is_over: false,
+    })
+}
+
+// All pieces, fed.
+fn fed(alloc: Global, pieces: Vec<Bytes>) -> Result<ReceivedEvents, AwsSigningError>
     ensures { IfOk result (λ received. received ≡ flat_map (λ piece. piece) pieces.items) }
 {
     let mut received = ReceivedEvents::new(alloc);
