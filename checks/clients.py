@@ -1,13 +1,17 @@
 #!/usr/bin/env python3
 """Records what clients that people have send to a listener on loopback, and asks the built program of the door's cases who
-signed it, of each request as it came and of one with another path. It runs outside the gate:
+signed it, of each request as it came and of one with another path; and of bodies in signed chunks the built program of their
+cases, as they came and with another byte. It runs outside the gate:
 
-    checks/clients.py [--lines] [PROGRAM]
+    checks/clients.py [--lines | --chunk-lines]
 
-PROGRAM is crates/tool_door_cases/out/tool_door_cases unless it is named. A client that isn't installed is skipped, and named;
---lines prints the case lines. Clients: curl (--aws-sigv4), botocore, awscli, s3cmd, rclone, and Ruby's aws-sigv4.
+The programs are crates/tool_door_cases/out/tool_door_cases and crates/tool_chunk_cases/out/tool_chunk_cases. A client that isn't
+installed is skipped, and named; --lines prints the door's case lines, --chunk-lines those of bodies. Clients: curl (--aws-sigv4),
+botocore, awscli, s3cmd, rclone, Ruby's aws-sigv4, the AWS Common Runtime (awscrt), and from Go the AWS SDK and minio's client, by
+Debian's packages golang-go, golang-github-aws-aws-sdk-go-v2-dev and golang-github-minio-minio-go-v7-dev.
 """
 import calendar
+import hashlib
 import http.server
 import os
 import pathlib
@@ -109,6 +113,86 @@ def by_ruby(at, folder):
     return "execute-api"
 
 
+CRT = """
+import http.client, io
+from awscrt import auth
+from awscrt.http import HttpHeaders, HttpRequest
+def send(kind, method, body, value, header, expiry):
+    request = HttpRequest(method, "/bucket/a%20b/c?b=2&a=1", HttpHeaders([("Host", HOST)]), io.BytesIO(body))
+    config = auth.AwsSigningConfig(
+        algorithm=auth.AwsSigningAlgorithm.V4, signature_type=kind, credentials_provider=auth.AwsCredentialsProvider.new_static(KEY, SECRET), region="us-east-1",
+        service="s3", use_double_uri_encode=False, should_normalize_uri_path=False, signed_body_value=value, signed_body_header_type=header,
+        expiration_in_seconds=expiry)
+    signed = auth.aws_sign_request(request, config).result(10)
+    link = http.client.HTTPConnection(HOST)
+    link.putrequest(method, signed.path, skip_host=True, skip_accept_encoding=True)
+    for name, value in [*signed.headers, *([("content-length", str(len(body)))] if body else [])]: link.putheader(name, value)
+    link.endheaders(body or None)
+    link.getresponse().read()
+send(auth.AwsSignatureType.HTTP_REQUEST_HEADERS, "PUT", b"hello", None, auth.AwsSignedBodyHeaderType.X_AMZ_CONTENT_SHA_256, None)
+send(auth.AwsSignatureType.HTTP_REQUEST_QUERY_PARAMS, "GET", b"", auth.AwsSignedBodyValue.UNSIGNED_PAYLOAD, auth.AwsSignedBodyHeaderType.NONE, 900)
+"""
+
+SDK_FOR_GO = """
+package main
+import ("context"; "net/http"; "os"; "strings"; "github.com/aws/aws-sdk-go-v2/aws"; "github.com/aws/aws-sdk-go-v2/credentials"
+  "github.com/aws/aws-sdk-go-v2/service/s3")
+func main() {
+  client := s3.New(s3.Options{Region: "us-east-1", Credentials: credentials.NewStaticCredentialsProvider(os.Args[2], os.Args[3], ""),
+    EndpointResolver: s3.EndpointResolverFromURL(os.Args[1]), UsePathStyle: true})
+  bucket, key := aws.String("bucket"), aws.String("a b/c")
+  client.PutObject(context.TODO(), &s3.PutObjectInput{Bucket: bucket, Key: key, Body: strings.NewReader("hello")})
+  signed, err := s3.NewPresignClient(client).PresignGetObject(context.TODO(), &s3.GetObjectInput{Bucket: bucket, Key: key})
+  if err == nil { http.Get(signed.URL) }
+}
+"""
+
+MINIO = """
+package main
+import ("context"; "io"; "net/http"; "os"; "strings"; "time"; "github.com/minio/minio-go/v7"; "github.com/minio/minio-go/v7/pkg/credentials"
+  "github.com/minio/minio-go/v7/pkg/signer")
+func main() {
+  at, key, secret := os.Args[1], os.Args[2], os.Args[3]
+  client, err := minio.New(strings.TrimPrefix(at, "http://"), &minio.Options{Creds: credentials.NewStaticV4(key, secret, ""), Region: "us-east-1"})
+  if err == nil { client.PutObject(context.TODO(), "bucket", "a b/c", strings.NewReader("hello"), 5, minio.PutObjectOptions{}) }
+  request, err := http.NewRequest("PUT", at + "/bucket/trailer", io.NopCloser(strings.NewReader("hello")))
+  if err == nil {
+    request.Trailer = http.Header{"X-Amz-Checksum-Crc32c": []string{"mnG7TA=="}}
+    http.DefaultClient.Do(signer.StreamingSignV4(request, key, secret, "", "us-east-1", 5, time.Now().UTC()))
+  }
+}
+"""
+
+
+def by_crt(at, folder):
+    """Debian's package is for Debian's own Python."""
+    for python in (sys.executable, "/usr/bin/python3"):
+        if not subprocess.run([python, "-c", "import awscrt"], capture_output=True).returncode:
+            run([python, "-c", f"HOST, KEY, SECRET = {at.removeprefix('http://')!r}, {KEY!r}, {SECRET!r}\n{CRT}"], folder)
+            return "s3"
+    return False
+
+
+def by_program_in_go(at, folder, text):
+    """Builds the program over Debian's sources, half a minute or more, and runs it."""
+    if not shutil.which("go"):
+        return False
+    pathlib.Path(folder, "main.go").write_text(text)
+    environment = {**os.environ, "GO111MODULE": "off", "GOPATH": "/usr/share/gocode"}
+    if subprocess.run(["go", "build", "-o", f"{folder}/main", f"{folder}/main.go"], env=environment, capture_output=True).returncode:
+        return False
+    run([f"{folder}/main", at, KEY, SECRET], folder)
+    return "s3"
+
+
+def by_go(at, folder):
+    return by_program_in_go(at, folder, SDK_FOR_GO)
+
+
+def by_minio(at, folder):
+    return by_program_in_go(at, folder, MINIO)
+
+
 def escaped(text):
     """A word of a case line."""
     return "".join(c if " " <= c <= "~" and c != "%" else "".join(f"%{b:02X}" for b in c.encode()) for c in text)
@@ -163,42 +247,71 @@ def altered(target):
     return path + "x" + mark + query
 
 
+def chunk_case(request, body, answer):
+    """The case of a body in signed chunks, with the answer that is wanted of it."""
+    fields = {key.lower(): value for key, value in request[2]}
+    words = [f"seed {carried(request)[4]}", f"secret {SECRET}", f"at {moment(request)}", f"length {fields['x-amz-decoded-content-length']}"]
+    if "x-amz-trailer" in fields:
+        words += ["trailers", f"announced {fields['x-amz-trailer']}"]
+    return "\t".join(escaped(word) for word in [*words, f"piece {body.decode()}"]) + "\t" + answer
+
+
+def chunk_lines(request):
+    """The case lines of a body in signed chunks: as it came, and with another byte."""
+    body, whole = request[3], f"5 bytes {hashlib.sha256(b'hello').hexdigest()} | whole"
+    for name, value in re.findall(rb"\r\n(x-amz-checksum-\w+):(\S+)", body):
+        whole += f" | {name.decode()}: {value.decode()}"
+    mismatch = f"0 bytes {hashlib.sha256(b'').hexdigest()} | Mismatch(1) chunk 1 has another signature than its own"
+    return [chunk_case(request, body, whole), chunk_case(request, body.replace(b"hello", b"hellp"), mismatch)]
+
+
 def lines_of(at, client):
-    """The case lines of what a client sends, or none where it isn't installed."""
+    """The case lines of what a client sends for the door, and of its bodies in signed chunks; none where it isn't installed."""
     RECORDED.clear()
     with tempfile.TemporaryDirectory() as folder:
         name = client(at, folder)
-    lines, seen = [], set()
+    lines, chunks, seen = [], [], set()
     for request in RECORDED if name else []:
         if request[:2] not in seen:
             seen.add(request[:2])
             wanted = admitted(request, name)
             lines.append(case_line(at, request, name, wanted))
             lines.append(case_line(at, request, name, wanted if wanted == MALFORMED else MISMATCH, altered(request[1])))
-    return lines
+            if (carried(request)[5] or "").startswith("STREAMING-AWS4-HMAC-SHA256-PAYLOAD"):
+                chunks += chunk_lines(request)
+    return lines, chunks
+
+
+def passes(who, program, lines):
+    """Whether the built program finds each wanted answer."""
+    told = subprocess.run([ROOT / f"crates/{program}/out/{program}"], input="\n".join([form(program), *lines]) + "\n", capture_output=True, text=True)
+    good = told.returncode == 0 and told.stdout.strip() == f"{len(lines)} cases"
+    print(f"{who}: {len(lines)} cases of {program} {'passed' if good else 'FAILED'}")
+    if not good:
+        print(told.stderr, file=sys.stderr)
+    return good
+
+
+def form(program):
+    """The line that says which words the program's cases may have."""
+    return next(line for line in (ROOT / f"crates/{program}/stdin").read_text().split("\n") if line.startswith("form\t"))
 
 
 def main():
-    words = [word for word in sys.argv[1:] if word != "--lines"]
-    program = pathlib.Path(words[0]) if words else ROOT / "crates/tool_door_cases/out/tool_door_cases"
     server = http.server.ThreadingHTTPServer(("127.0.0.1", 0), Listener)
     threading.Thread(target=server.serve_forever, daemon=True).start()
     at, failed = f"http://127.0.0.1:{server.server_port}", []
-    for client in (by_curl, by_botocore, by_awscli, by_s3cmd, by_rclone, by_ruby):
+    for client in (by_curl, by_botocore, by_awscli, by_s3cmd, by_rclone, by_ruby, by_crt, by_go, by_minio):
         who = client.__name__.removeprefix("by_")
-        lines = lines_of(at, client)
-        if "--lines" in sys.argv:
-            print("\n".join(lines))
+        lines, chunks = lines_of(at, client)
+        if "--lines" in sys.argv or "--chunk-lines" in sys.argv:
+            print("\n".join(lines if "--lines" in sys.argv else chunks))
         elif not lines:
             print(f"{who}: skipped, it isn't installed or sent nothing")
-        else:
-            told = subprocess.run([program], input="\n".join(lines) + "\n", capture_output=True, text=True)
-            if told.returncode or told.stdout.strip() != f"{len(lines)} cases":
-                failed.append(who)
-                print(told.stderr, file=sys.stderr)
-            print(f"{who}: {len(lines)} cases {'FAILED' if who in failed else 'passed'}")
+        elif not all([passes(who, "tool_door_cases", lines), *([passes(who, "tool_chunk_cases", chunks)] if chunks else [])]):
+            failed.append(who)
     server.shutdown()
-    sys.exit(f"######## CHECK FAILED: the door refuses what these send: {', '.join(failed)}" if failed else 0)
+    sys.exit(f"######## CHECK FAILED: another answer to what these send: {', '.join(failed)}" if failed else 0)
 
 
 if __name__ == "__main__":
