@@ -222,10 +222,7 @@ def moment(request):
 
 
 def admitted(request, name):
-    """What the door has to tell of the request: all of it stands in the request. It reads a space behind each comma of the
-    authorization header, as AWS's SDKs write it, and s3cmd writes none."""
-    if any(key.lower() == "authorization" and ",SignedHeaders=" in value for key, value in request[2]):
-        return MALFORMED
+    """What the door has to tell of the request: all of it stands in the request."""
     place, names, _, expiry, signature, payload = carried(request)
     second = moment(request)
     form = {"UNSIGNED-PAYLOAD": "Unsigned", "STREAMING-UNSIGNED-PAYLOAD-TRAILER": "UnsignedChunks"}.get(payload, "Digest")
@@ -237,7 +234,6 @@ def admitted(request, name):
     return f"{KEY} {place} {second} {until} {names} {form} {signature}"
 
 
-MALFORMED = "Malformed a malformed signature: AuthorizationHeaderMalformed 400"
 MISMATCH = "Mismatch another signature than its own: SignatureDoesNotMatch 403"
 
 
@@ -276,7 +272,7 @@ def lines_of(at, client):
             seen.add(request[:2])
             wanted = admitted(request, name)
             lines.append(case_line(at, request, name, wanted))
-            lines.append(case_line(at, request, name, wanted if wanted == MALFORMED else MISMATCH, altered(request[1])))
+            lines.append(case_line(at, request, name, MISMATCH, altered(request[1])))
             if (carried(request)[5] or "").startswith("STREAMING-AWS4-HMAC-SHA256-PAYLOAD"):
                 chunks += chunk_lines(request)
     return lines, chunks
