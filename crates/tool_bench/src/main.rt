@@ -3,6 +3,8 @@
 //! ```notrust
 //! bench sign COUNT            signs a small request: three headers and no body
 //! bench kept-sign COUNT       signs such a request each time under one key
+//! bench kept-request COUNT    makes such a request each time, signs it under one key, and puts the signature in
+//! bench signer COUNT          does so by a signer, each a second after the last one
 //! bench operation COUNT       signs the small request by the inputs of its operation
 //! bench operate COUNT         runs an operation over a transport in memory
 //! bench admit COUNT           lets a signed small request in at a service's door
@@ -29,6 +31,7 @@ mod kept;
 mod operating;
 mod profiles;
 mod receiving;
+mod requests;
 mod signing;
 mod sums;
 mod work;

@@ -1,5 +1,7 @@
 use crate::digest::Digest;
-use crate::{admitting, chunked, frames, kept, operating, profiles, receiving, signing, sums};
+use crate::{
+    admitting, chunked, frames, kept, operating, profiles, receiving, requests, signing, sums,
+};
 use std::alloc::{AllocError, Global};
 use std::fmt;
 
@@ -8,6 +10,8 @@ use std::fmt;
 pub enum Work {
     Sign { count: u32 },
     KeptSign { count: u32 },
+    KeptRequest { count: u32 },
+    Signer { count: u32 },
     Operation { count: u32 },
     Operate { count: u32 },
     Admit { count: u32 },
@@ -44,6 +48,8 @@ impl Work {
         let works = vec![in alloc;
             Work::Sign { count },
             Work::KeptSign { count },
+            Work::KeptRequest { count },
+            Work::Signer { count },
             Work::Operation { count },
             Work::Operate { count },
             Work::Admit { count },
@@ -78,6 +84,8 @@ impl Work {
         match kind {
             "sign" => Some(Work::Sign { count }),
             "kept-sign" => Some(Work::KeptSign { count }),
+            "kept-request" => Some(Work::KeptRequest { count }),
+            "signer" => Some(Work::Signer { count }),
             "operation" => Some(Work::Operation { count }),
             "operate" => Some(Work::Operate { count }),
             "admit" => Some(Work::Admit { count }),
@@ -107,6 +115,8 @@ impl Work {
         match self {
             Work::Sign { count } => signing::signatures(alloc, count),
             Work::KeptSign { count } => kept::signatures(alloc, count),
+            Work::KeptRequest { count } => requests::by_key(alloc, count),
+            Work::Signer { count } => requests::by_signer(alloc, count),
             Work::Operation { count } => signing::operations(alloc, count),
             Work::Operate { count } => operating::operations(alloc, count),
             Work::Admit { count } => admitting::admissions(alloc, count),
@@ -130,6 +140,8 @@ impl fmt::Display for Work {
         match self {
             Work::Sign { count } => write!(f, "sign {count}"),
             Work::KeptSign { count } => write!(f, "kept-sign {count}"),
+            Work::KeptRequest { count } => write!(f, "kept-request {count}"),
+            Work::Signer { count } => write!(f, "signer {count}"),
             Work::Operation { count } => write!(f, "operation {count}"),
             Work::Operate { count } => write!(f, "operate {count}"),
             Work::Admit { count } => write!(f, "admit {count}"),

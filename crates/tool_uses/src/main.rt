@@ -1,4 +1,4 @@
-//! Uses of each crate, every one a function to copy: requests that are signed, presigned and checked, a
+//! Uses of each crate, every one a function to copy: first steps by one crate, requests that are signed, presigned and checked, a
 //! stream of events that is signed, received and watched, settings of profile files, a body in chunks, a service that takes uploads,
 //! and an operation with its attempts.
 //! `docs/CALLING.md` shows them. The program runs each once and prints what came of it.
@@ -6,6 +6,7 @@
 
 mod attempts;
 mod chunked_upload;
+mod first_steps;
 mod opened_stream;
 mod operation;
 mod presigned_door;
@@ -27,6 +28,8 @@ use aws_intercept::{
     ConfigBag, InvocationId, PredefinedInvocationIdGenerator, RecursionDetectionInterceptor,
     ServiceClockSkewInterceptor,
 };
+use aws_signing::Signer;
+use bytes::Bytes;
 use chain_watch::ChainWatch;
 use smithy_core::{
     CalmDisk, Credentials, Env, ErrorMetadata, FixedClock, Headers, HttpRequest, HttpResponse,
@@ -58,6 +61,7 @@ fn main(rt: HostRuntime) -> io::Result<ExitCode> {
 // What comes of each use.
 fn uses(alloc: Global) -> anyhow::Result<String> {
     let mut text = String::new(alloc);
+    push_first(alloc, &mut text, object_moment())?;
     push_requests(alloc, &mut text, &example_identity(alloc)?)?;
     push_events(alloc, &mut text)?;
     push_lines(alloc, &mut text, chunked_upload::body(alloc)?.as_slice())?;
@@ -68,6 +72,64 @@ fn uses(alloc: Global) -> anyhow::Result<String> {
     push_outcome(alloc, &mut text)?;
     push_operation(alloc, &mut text)?;
     Ok(text)
+}
+
+// The first steps, at the moment of AWS's examples for Amazon S3.
+fn push_first(alloc: Global, text: &mut String, at: Moment) -> anyhow::Result<()> {
+    let settings = first_steps::settings(alloc)?;
+    let region = settings.region.as_str();
+    let mut signer = Signer::for_s3(alloc, &settings.credentials, region)?;
+    let request = first_steps::signed(alloc, &mut signer, at)?;
+    push_request(text, &request)?;
+    let url = first_steps::presigned(&mut signer, at)?;
+    let key_id = first_steps::signed_by(alloc, &settings.credentials, url.as_str(), at)?;
+    write!(text, "{url}\nby {key_id}\n\n")?;
+    push_upload(alloc, text, &mut signer, at)?;
+    push_three_events(alloc, text, &signer, at)
+}
+
+// The request of an upload, and its pieces.
+fn push_upload(
+    alloc: Global,
+    text: &mut String,
+    signer: &mut Signer,
+    at: Moment,
+) -> anyhow::Result<()> {
+    let target = "https://s3.amazonaws.com/examplebucket/chunkObject.txt";
+    let mut request = HttpRequest::new(alloc, "PUT", target)?;
+    let content = Bytes::from_vec(vec![in alloc; b'a'; 66_560]?)?;
+    let pieces = first_steps::uploaded(alloc, signer, &mut request, content, at)?;
+    push_request(text, &request)?;
+    for piece in pieces {
+        push_piece(alloc, text, piece.as_slice())?;
+    }
+    text.push('\n')?;
+    Ok(())
+}
+
+// A piece, or how long it is.
+fn push_piece(alloc: Global, text: &mut String, piece: &[u8]) -> anyhow::Result<()> {
+    if piece.len() > 200 {
+        write!(text, "{} bytes\n", piece.len())?;
+        return Ok(());
+    }
+    push_lines(alloc, text, piece)?;
+    Ok(())
+}
+
+// How many messages and how many events three events and their end are, behind a request of this signature.
+fn push_three_events(
+    alloc: Global,
+    text: &mut String,
+    signer: &Signer,
+    at: Moment,
+) -> anyhow::Result<()> {
+    let seed = signed_events::SEED;
+    let frames = first_steps::frames(alloc, signer, seed, at)?;
+    let messages = first_steps::count_messages(alloc, frames.clone()?)?;
+    let events = first_steps::count_events(alloc, signer, seed, frames)?;
+    write!(text, "{messages} messages, {events} events\n\n")?;
+    Ok(())
 }
 
 fn push_requests(alloc: Global, text: &mut String, identity: &Identity) -> anyhow::Result<()> {
@@ -293,6 +355,10 @@ fn example_id(alloc: Global) -> anyhow::Result<InvocationId> {
 
 fn hour_later() -> Moment {
     Moment::new(1_440_941_760, 0)
+}
+
+fn object_moment() -> Moment {
+    Moment::new(1_369_353_600, 0)
 }
 
 fn example_moment() -> Moment {
