@@ -1,13 +1,14 @@
 -- An upload in signed chunks, for a caller.
-use Rattle.std.specs.Prelude.{◌≡◌, ◌⊎◌, ◌++◌, ℕ, ℤ, List, length, map, Option, Some, None, Result, Ok, Err, option_map}
-use Rattle.std.specs.List.{flat_map, list_all}
+use Rattle.std.specs.Prelude.{◌≡◌, ◌⊎◌, ℕ, ℤ, List, length, map, Option, Some, None, Result, Ok, Err, option_map}
+use Rattle.std.specs.List.{list_all}
 use Rattle.std.specs.Option.{option_or}
-use Rattle.aws_chunked.specs.Text.{crlf, head_text, last_line, trailer_line}
+use Rattle.aws_chunked.specs.Text.{head_text}
 use Rattle.sigv4.specs.Chunk.{chunk_signature, trailer_signature}
 use Rattle.sigv4.specs.Query.{Pair}
 use Rattle.sigv4.specs.Refusal.{unfit_headers}
 use Rattle.sigv4.specs.declared.error.SigningError.{SigningError}
 use Rattle.sigv4.specs.declared.error.SigningError.TheVariants.{NoMemory}
+use Rattle.chunk_watch.specs.Trailers.{trailers_text}
 use Rattle.firuvaik_c.specs.Asked.{is_text_field, lent_header, moment_at, unless_utf8}
 use Rattle.firuvaik_c.specs.Faults.{fault_of_signing, no_memory}
 use Rattle.firuvaik_c.specs.Links.{key_signer, linkless}
@@ -27,10 +28,6 @@ GivesChunk signer seconds chunk before (Ok made) =
     × (made.signature ≡ next_chunk_signature signer seconds chunk before)
 GivesChunk signer seconds chunk before (Err fault) = (linkless signer seconds before ≡ Some fault) ⊎ (fault ≡ no_memory)
 
--- the lines of trailers, the line of their signature, and an empty line
-abbrev pub trailers_text : List Pair → List ℕ → List ℕ
-trailers_text trailers signature = flat_map trailer_line trailers ++ last_line (Some signature) ++ crlf
-
 -- the trailers that fields are, their names in lower case
 abbrev pub lent_trailers : List Field → List Pair
 lent_trailers trailers = map lent_header trailers
@@ -41,16 +38,16 @@ trailers_refusal signer seconds trailers before =
     option_or (linkless signer seconds before)
     (option_or (unless_utf8 (list_all is_text_field trailers)) (option_map fault_of_signing (unfit_headers 1 (lent_trailers trailers))))
 
--- the signature of the trailers
-abbrev pub last_signature : Signer → ℤ → List Field → List ℕ → List ℕ
-last_signature signer seconds trailers before = trailer_signature (lent_trailers trailers) (key_signer signer) (moment_at seconds) before
+-- the signature of the trailers that fields are
+abbrev pub lent_trailers_signature : Signer → ℤ → List Field → List ℕ → List ℕ
+lent_trailers_signature signer seconds trailers before = trailer_signature (lent_trailers trailers) (key_signer signer) (moment_at seconds) before
 
 -- the lines of the trailers, and their signature; or the first reason why there are none, or memory ran out
 abbrev pub GivesTrailers : Signer → ℤ → List Field → List ℕ → Result Made Fault → Type 0
 GivesTrailers signer seconds trailers before (Ok made) =
     (trailers_refusal signer seconds trailers before ≡ None)
-    × (made.text.items ≡ trailers_text (lent_trailers trailers) (last_signature signer seconds trailers before))
-    × (made.signature ≡ last_signature signer seconds trailers before)
+    × (made.text.items ≡ trailers_text (lent_trailers trailers) (lent_trailers_signature signer seconds trailers before))
+    × (made.signature ≡ lent_trailers_signature signer seconds trailers before)
 GivesTrailers signer seconds trailers before (Err fault) = (trailers_refusal signer seconds trailers before ≡ Some fault) ⊎ (fault ≡ no_memory)
 
 -- a text and a signature are made, or memory ran out

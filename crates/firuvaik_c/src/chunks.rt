@@ -5,8 +5,9 @@ ghost use Rattle.aws_chunked.specs.Text.{crlf, head_text, last_line, trailer_lin
 ghost use Rattle.sigv4.specs.Chunk.{chunk_signature, trailer_signature};
 ghost use Rattle.sigv4.specs.EventStream.{unsignable};
 ghost use Rattle.sigv4.specs.Params.{signer_of, v4_identity, v4_time};
+ghost use Rattle.chunk_watch.specs.Trailers.{trailers_text};
 ghost use Rattle.firuvaik_c.specs.Answers.{LendsSigned};
-ghost use Rattle.firuvaik_c.specs.Chunks.{GivesChunk, GivesTrailers, MakesText, trailers_text};
+ghost use Rattle.firuvaik_c.specs.Chunks.{GivesChunk, GivesTrailers, MakesText};
 ghost use Rattle.firuvaik_c.specs.Faults.{no_memory};
 ghost use Rattle.firuvaik_c.specs.declared.answer.Made.{Made};
 ghost use Rattle.firuvaik_c.specs.declared.fault.Fault.{Fault};
