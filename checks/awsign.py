@@ -1,11 +1,12 @@
 #!/usr/bin/env python3
-"""Ten tasks from the shell with the built program `awsign`: it signs, curl sends, and a listener on loopback asks botocore what the
-signature has to be and keeps the objects. For each task that goes wrong there is a line; the status is then 1. Without botocore or curl it
-checks nothing. AWSIGN_BIG is how many bytes the big file has."""
+"""Tasks from the shell with the built program `awsign`: it signs, curl sends, and a listener on loopback asks botocore what the
+signature has to be and keeps the objects; and it verifies what it signed, and what botocore presigned. For each task that goes wrong there
+is a line; the status is then 1. Without botocore or curl it checks nothing. AWSIGN_BIG is how many bytes the big file has."""
 import hashlib
 import http.server
 import os
 import shutil
+import socket
 import subprocess
 import sys
 import tempfile
@@ -102,8 +103,103 @@ def shell(task, command, wanted, **more):
         failed.append(f"{task}: wrote {run.stdout[:200]!r} and said {run.stderr[:300]!r}")
 
 
+def says(task, command, code, out="", err="", **more):
+    """Runs one command of a shell, which has to end with this number, and to write and say texts that have these in them; what it writes
+    is empty where none is wanted, and no secret is in either."""
+    env = {"PATH": os.environ["PATH"], "HOME": os.getcwd(), "AWS_ACCESS_KEY_ID": KEY, "AWS_SECRET_ACCESS_KEY": SECRET, "AWS_REGION": REGION, **more}
+    run = subprocess.run(["bash", "-o", "pipefail", "-c", command], capture_output=True, env=env, timeout=600)
+    wrote, said = run.stdout.decode(errors="replace"), run.stderr.decode(errors="replace")
+    if run.returncode != code or out not in wrote or err not in said or (not out and wrote) or SECRET in wrote + said:
+        failed.append(f"{task}: ended with {run.returncode}, wrote {wrote[:300]!r} and said {said[:300]!r}")
+
+
+def wire(task, port, command, body, wanted):
+    """Sends the head that a command prints, and a body, and compares the status of the answer."""
+    env = {"PATH": os.environ["PATH"], "HOME": os.getcwd(), "AWS_ACCESS_KEY_ID": KEY, "AWS_SECRET_ACCESS_KEY": SECRET, "AWS_REGION": REGION}
+    head = subprocess.run(["sh", "-c", command], capture_output=True, env=env, timeout=60).stdout
+    with socket.create_connection(("127.0.0.1", port)) as it:
+        it.sendall(head + body)
+        got = it.recv(1 << 16).split(b"\r\n")[0].decode()
+    if got.split(" ")[1:2] != [wanted]:
+        failed.append(f"{task}: answered {got!r} to {head[:300]!r}")
+
+
+def heads(at, port):
+    """Heads as they go over the wire, and services that hosts name."""
+    wire("a head", port, f"awsign sign GET {at}/b/a%20b --s3 --as http", b"", "200")
+    wire("a head without a path", port, f"awsign sign GET '{at}?list-type=2#part' --s3 --as http", b"", "200")
+    wire("a head with a body", port, f"awsign sign PUT {at}/b/w --s3 --data word -H 'content-length: 5' --as http", b"hello", "200")
+    wire("a head with another body", port, f"awsign sign PUT {at}/b/w --s3 --data word -H 'content-length: 5' --as http", b"hallo", "403")
+    for host, service in (("iam.amazonaws.com", "iam"), ("dynamodb.us-east-1.amazonaws.com", "dynamodb"), ("b.c.s3.eu-west-1.amazonaws.com:443", "s3"),
+                          ("x.execute-api.us-east-1.amazonaws.com", "execute-api"), ("b.s3.dualstack.us-gov-west-1.amazonaws.com", "s3"),
+                          ("b.s3-us-west-2.amazonaws.com", "s3"), ("x.us-east-1.es.amazonaws.com", "es")):
+        says(f"service of {host}", f"awsign sign GET 'https://{host}/a?x=//sqs.amazonaws.com/' --as headers", 0, f"/{REGION}/{service}/aws4_request", f"the service is {service}, by the host")
+        says(f"service of {host} in a head", f"awsign sign GET https://{host}/a --as http 2>&1 | grep -v ^awsign: | awsign verify", 0, f"service {service}\n")
+    says("a named service", "awsign sign GET https://iam.amazonaws.com/ --service sts --as headers 2>&1", 0, "/sts/aws4_request")
+    for host in ("example.com", "us-east-1.amazonaws.com", "amazonaws.com", "iam.amazonaws.com.example.com", "u@iam.amazonaws.com"):
+        says(f"no service of {host}", f"awsign sign GET https://{host}/", 1, "", "no service")
+
+
+def verified(at):
+    """What `awsign verify` says of good requests, and of bad ones."""
+    good = "--at 1440938160"
+    head = f"awsign sign PUT {at}/b/a%20b --s3 --data word -H 'x-amz-meta-a: b' --as http {good}"
+    told = f"key {KEY}\nregion {REGION}\nservice s3\nplace headers\nsigned 2015-08-30T12:36:00Z\nuntil 2015-08-30T12:51:01Z\n" \
+        "headers host;x-amz-content-sha256;x-amz-date;x-amz-meta-a\npayload digest\n"
+    says("a good request", f"({head}; cat word) | awsign verify --s3 {good}", 0, told)
+    says("a good request with bare line ends", f"({head} | tr -d '\\r'; cat word) | awsign verify --s3 {good}", 0, told)
+    says("a good request later", f"({head}; cat word) | awsign verify --s3 --at 1440939060", 0, told)
+    says("a request too late", f"({head}; cat word) | awsign verify --s3 --at 1440939061", 1, "", "awsign: the request isn't good: too late\n")
+    says("a request too early", f"({head}; cat word) | awsign verify --s3 --at 1440937259", 1, "", "too early")
+    says("another method", f"({head} | sed 's,^PUT,GET,'; cat word) | awsign verify --s3 {good}", 1, "", "another signature than its own")
+    says("another path", f"({head} | sed 's,/b/,/c/,'; cat word) | awsign verify --s3 {good}", 1, "", "another signature than its own")
+    says("another header", f"({head} | sed 's,meta-a: b,meta-a: c,'; cat word) | awsign verify --s3 {good}", 1, "", "another signature than its own")
+    says("an added header", f"({head} | sed 's,^host,x-amz-acl: public-read\\r\\nhost,'; cat word) | awsign verify --s3 {good}", 1, "", "a header isn't signed")
+    says("another body", f"({head}; echo hallo) | awsign verify --s3 {good}", 1, "", "another payload")
+    says("another secret", f"({head}; cat word) | awsign verify --s3 {good}", 1, "", "another signature than its own", AWS_SECRET_ACCESS_KEY="x")
+    says("another key", f"({head}; cat word) | awsign verify --s3 {good}", 1, "", "unknown key", AWS_ACCESS_KEY_ID="x")
+    says("another region", f"({head}; cat word) | awsign verify --s3 {good} --region eu-west-1", 1, "", "a credential for another region")
+    says("another service", f"({head}; cat word) | awsign verify --service iam {good}", 1, "", "a credential for another service")
+    says("no key", f"({head}; cat word) | env -u AWS_ACCESS_KEY_ID awsign verify --s3 {good}", 1, "", "awsign: no key")
+    says("no service", f"({head}; cat word) | awsign verify {good}", 1, "", "awsign: no service")
+    says("an unsigned request", f"printf 'GET / HTTP/1.1\\r\\nhost: h\\r\\n\\r\\n' | awsign verify --s3 {good}", 1, "", "no signature")
+    says("a bad line", f"printf 'GET / HTTP/1.1\\r\\nhost: h\\r\\nnothing\\r\\n\\r\\n' | awsign verify --s3 {good}", 1, "", "awsign: line 3 of the request isn't understood")
+    says("no first line", f"printf 'GET /\\r\\n\\r\\n' | awsign verify --s3 {good}", 1, "", "line 1 of the request")
+    says("no request", f"awsign verify --s3 {good} < /dev/null", 1, "", "line 1 of the request")
+    says("a file that isn't there", f"({head}; cat word) | awsign verify --s3 --config nowhere {good}", 3, "", "could not read the profile file nowhere")
+    says("a full device", f"({head}; cat word) | awsign verify --s3 {good} > /dev/full", 3, "", "awsign: the output failed")
+    says("half of a request", f"awsign verify GET {good}", 2, "", "a word is missing at the end")
+    says("a word of sign", f"awsign verify GET {at}/b --data word", 2, "", "word 4 isn't understood here: --data")
+    url = f"awsign presign GET {at}/b/a%20b --s3 --expires 600 {good}"
+    says("a good URL", f"awsign verify GET \"$({url})\" --s3 --at 1440938759", 0, f"place URL\nsigned 2015-08-30T12:36:00Z\nuntil 2015-08-30T12:46:00Z\nheaders host\npayload unsigned\n")
+    says("a URL too late", f"awsign verify GET \"$({url})\" --s3 --at 1440938760", 1, "", "too late")
+    says("a URL of another method", f"awsign verify PUT \"$({url})\" --s3 {good}", 1, "", "another signature than its own")
+    says("an altered URL", f"awsign verify GET \"$({url} | sed s,/b/,/c/,)\" --s3 {good}", 1, "", "another signature than its own")
+    says("a URL without its host", f"awsign verify GET \"$({url} | sed s,http://[^/]*,,)\" --s3 {good}", 1, "", "a header or the host isn't fit")
+    says("a token", f"({head}; cat word) | awsign verify --s3 {good}", 0, "headers host;x-amz-content-sha256;x-amz-date;x-amz-meta-a;x-amz-security-token\n", AWS_SESSION_TOKEN=TOKEN)
+    outside()
+
+
+def outside():
+    """What `awsign verify` says of requests that botocore signed."""
+    from botocore.auth import S3SigV4Auth, S3SigV4QueryAuth, SigV4Auth
+    from botocore.awsrequest import AWSRequest
+    from botocore.credentials import Credentials
+
+    made = AWSRequest(method="GET", url="https://b.s3.us-east-1.amazonaws.com/a//%C3%A4?x=1&y=%2F")
+    S3SigV4QueryAuth(Credentials(KEY, SECRET, TOKEN), "s3", REGION, expires=60).add_auth(made)
+    says("a URL of botocore", "awsign verify GET \"$URL\"", 0, "headers host\npayload unsigned\n", URL=made.url)
+    for sign, service, host in ((S3SigV4Auth, "s3", "b.s3.us-east-1.amazonaws.com"), (SigV4Auth, "iam", "iam.amazonaws.com")):
+        made = AWSRequest(method="POST", url=f"https://{host}/a%20b", data=b"hello", headers={"Content-Type": "text/plain"})
+        sign(Credentials(KEY, SECRET), service, REGION).add_auth(made)
+        head = f"POST /a%20b HTTP/1.1\r\nHost: {host}\r\n" + "".join(f"{name}:{value}\r\n" for name, value in made.headers.items())
+        with open("message", "w") as it:
+            it.write(head + "\r\nhello")
+        says(f"a request of botocore to {service}", "awsign verify < message", 0, f"service {service}\nplace headers\n")
+
+
 def tasks(at, at_body):
-    """The ten tasks."""
+    """The tasks with a listener."""
     curl = "curl -sS -K - -w '%{http_code}'"
     shell("put 3 MB", f"awsign sign PUT {at}/b/small --s3 --data small | {curl}", "200")
     if BIG:
@@ -123,6 +219,8 @@ def tasks(at, at_body):
     shell("headers", f"awsign sign PUT {at}/b/meta --s3 --data word -H 'x-amz-meta-a:  say \"two\"  \\\\ words' -H 'x-amz-meta-none: ' -H 'content-type: text/plain' | {curl}", "200")
     shell("an altered request", f"awsign sign PUT {at}/b/small --s3 --data word | sed 's,/b/small,/b/other,' | {curl}", "403")
     shell("an altered body", f"awsign sign PUT {at}/b/small --s3 --data word | sed 's,\"word\",\"small\",' | {curl}", "403")
+    heads(at, int(at.rsplit(":", 1)[1]))
+    verified(at)
     Listener.token = TOKEN
     shell("a session token", f"awsign sign GET {at}/b/a%20b --s3 | curl -sS -K -", "hello", AWS_SESSION_TOKEN=TOKEN)
     shell("a token in a URL", f"curl -sS \"$(awsign presign GET {at}/b/a%20b --s3 --expires 600)\"", "hello", AWS_SESSION_TOKEN=TOKEN)

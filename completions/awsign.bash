@@ -7,10 +7,10 @@ _awsign() {
       return
       ;;
     --as)
-      mapfile -t COMPREPLY < <(compgen -W 'curl headers json url' -- "$word")
+      mapfile -t COMPREPLY < <(compgen -W 'curl headers json http url' -- "$word")
       return
       ;;
-    sign | presign)
+    sign | presign | verify)
       mapfile -t COMPREPLY < <(compgen -W 'GET PUT POST HEAD DELETE PATCH' -- "$word")
       return
       ;;
@@ -19,12 +19,15 @@ _awsign() {
       return
       ;;
   esac
-  words='-H --data --payload-hash --payload-text --unsigned --as --service --s3 --region --profile --config --credentials --at'
+  words='-H --service --s3 --region --profile --config --credentials --at'
+  case ${COMP_WORDS[1]} in
+    sign | presign) words="$words --data --payload-hash --payload-text --unsigned --as" ;;
+  esac
   case ${COMP_WORDS[1]} in
     presign) words="$words --expires --long" ;;
   esac
   if ((COMP_CWORD == 1)); then
-    words='sign presign --help --version'
+    words='sign presign verify --help --version'
   fi
   mapfile -t COMPREPLY < <(compgen -W "$words" -- "$word")
 }

@@ -4,11 +4,6 @@ _awsign() {
   local -a options
   options=(
     '*-H[a header]:header:'
-    '--data[the body]:file:_files'
-    '--payload-hash[the SHA-256 of the body]:digits:'
-    '--payload-text[a text in place of the digest]:text:'
-    '--unsigned[the body is not signed]'
-    '--as[the form]:form:(curl headers json url)'
     '--service[the signing name]:name:'
     '--s3[the settings of Amazon S3]'
     '--region[the region]:name:'
@@ -18,8 +13,17 @@ _awsign() {
     '--at[the moment]:seconds:'
   )
   if ((CURRENT == 2)); then
-    _values command 'sign[prints a signed request]' 'presign[prints a presigned URL]' --help --version
+    _values command 'sign[prints a signed request]' 'presign[prints a presigned URL]' 'verify[says who signed a request]' --help --version
     return
+  fi
+  if [[ $words[2] == (sign|presign) ]]; then
+    options+=(
+      '--data[the body]:file:_files'
+      '--payload-hash[the SHA-256 of the body]:digits:'
+      '--payload-text[a text in place of the digest]:text:'
+      '--unsigned[the body is not signed]'
+      '--as[the form]:form:(curl headers json http url)'
+    )
   fi
   if [[ $words[2] == presign ]]; then
     options+=('--expires[how long it is good]:seconds:' '--long[over seven days]')

@@ -1,46 +1,53 @@
-//! The program: makes the real objects, hands them to `run_signing`, and ends with the number of its status.
+//! The program: makes the real objects, hands them to `run_signing` or `run_verify`, and ends with the number of its status.
 #![tactic(auto)]
 
 mod help;
 
 use crate::help::text_asked;
-use awsign_run::{Asked, Status, read_asked, run_signing, say, write_text};
+use awsign_run::{Status, run_signing, say, tell_service, url_host, write_text};
+use awsign_verify::{run_verify, say_verify};
+use awsign_words::{Asked, AskedCommand, VerifyAsked, read_command};
 use program_start::{StartFault, words_and_env};
 use smithy_core::{ByteSource, CalmSource, Env, HostDisk, StdSink, StdSource, SystemClock};
 use std::fs::File;
 use std::process::ExitCode;
 
 fn main(rt: HostRuntime) -> ExitCode {
-    let alloc = rt.alloc();
-    let mut err = StdSink::new(rt.stderr());
-    let status = match words_and_env(&rt) {
-        Ok((words, env)) => {
-            let status = answer(&rt, words.as_slice(), &env);
-            say(alloc, words.as_slice(), &status, &mut err);
-            status
-        }
+    let code = match words_and_env(&rt) {
+        Ok((words, env)) => answer(&rt, words.as_slice(), &env),
         Err(StartFault::BadWord) => {
+            let mut err = StdSink::new(rt.stderr());
             write_text(b"awsign: a word isn't UTF-8\n".as_slice(), &mut err);
-            Status::BadWord(1)
+            Status::BadWord(1).code()
         }
-        Err(StartFault::NoMemory) => Status::NoMemory,
+        Err(StartFault::NoMemory) => Status::NoMemory.code(),
     };
-    ExitCode::from(status.code())
+    ExitCode::from(code)
 }
 
-// Prints the text that the words ask for, or else what they ask to sign.
-fn answer(rt: &HostRuntime, words: &[String], env: &Env) -> Status {
+// Does what the words ask for, and says how that ended.
+fn answer(rt: &HostRuntime, words: &[String], env: &Env) -> u8 {
     if let Some(text) = text_asked(words) {
-        return write_text(text.as_bytes(), &mut StdSink::new(rt.stdout()));
+        let status = write_text(text.as_bytes(), &mut StdSink::new(rt.stdout()));
+        return said(rt, words, &status);
     }
-    match read_asked(rt.alloc(), words) {
-        Ok(asked) => sign(rt, &asked, env),
-        Err(fault) => Status::from(fault),
+    match read_command(rt.alloc(), words) {
+        Ok(AskedCommand::Signing(asked)) => said(rt, words, &sign(rt, &asked, env)),
+        Ok(AskedCommand::Verifying(asked)) => verify(rt, &asked, env),
+        Err(fault) => said(rt, words, &Status::from(fault)),
     }
+}
+
+// Says how a run ended, and answers its number.
+fn said(rt: &HostRuntime, words: &[String], status: &Status) -> u8 {
+    say(rt.alloc(), words, status, &mut StdSink::new(rt.stderr()));
+    status.code()
 }
 
 // Opens the data that an option names, and signs.
 fn sign(rt: &HostRuntime, asked: &Asked<'_>, env: &Env) -> Status {
+    let mut err = StdSink::new(rt.stderr());
+    tell_service(rt.alloc(), &asked.options, url_host(asked.url), &mut err);
     match asked.options.get("--data") {
         None => sign_over(rt, asked, env, &mut CalmSource::new(Vec::new(rt.alloc()))),
         Some("-") => sign_over(rt, asked, env, &mut StdSource::new(rt.reader())),
@@ -70,4 +77,23 @@ fn sign_over<S: ByteSource>(
         &mut clock,
         &mut out,
     )
+}
+
+// Verifies a request, says how that ended, and answers its number.
+fn verify(rt: &HostRuntime, asked: &VerifyAsked<'_>, env: &Env) -> u8 {
+    let mut input = StdSource::new(rt.reader());
+    let mut disk = HostDisk::new(rt.alloc(), rt);
+    let mut clock = SystemClock::new(rt);
+    let mut out = StdSink::new(rt.stdout());
+    let status = run_verify(
+        rt.alloc(),
+        asked,
+        env,
+        &mut input,
+        &mut disk,
+        &mut clock,
+        &mut out,
+    );
+    say_verify(rt.alloc(), &status, &mut StdSink::new(rt.stderr()));
+    status.code()
 }

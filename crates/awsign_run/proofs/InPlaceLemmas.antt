@@ -65,6 +65,11 @@ target_made : (request : HttpRequest) (payload : List ℕ) (params : SigningPara
 unfolding signed_target
 target_made request payload (V4 params) target made is = rw is refl
 
+-- what a target spelled, where the request is signed
+abbrev pub with_uri : Uri → Result (Unit {0}) SigningError → Result Uri SigningError
+with_uri uri (Ok _) = Ok uri
+with_uri uri (Err error) = Err error
+
 -- what a signature adds is put into the request, or its target takes no more
 pub applied : (request new : HttpRequest) (payload : List ℕ) (params : SigningParams) (identity : Identity) (uri : Uri) (made : Instructions) (result : Result (Unit {0}) SigningError)
     → let case = in_place_case request payload params in let c = case (target_of uri) in
@@ -72,11 +77,10 @@ pub applied : (request new : HttpRequest) (payload : List ℕ) (params : Signing
     → string_bytes new.method ≡ string_bytes request.method
     → OnOk result (new.headers ≡ with_instructions request.headers made.headers)
     → AppliesTo made.params (target_of uri) (string_bytes request.target) (string_bytes new.target) result
-    → SignsInPlace identity case request new result
+    → SignsInPlace identity case request new (with_uri uri result)
 applied request new payload params identity uri made (Ok _) spells fit headers_are params_are method headers applies =
     let target = target_of uri in
     let passed = taken (in_place_case request payload params target) target made.params (case_target request payload params target) params_are applies.0 in (
-      uri,
       spells,
       rw (fit, passed) refl,
       record {
@@ -97,7 +101,7 @@ pub applied_case : (request new : HttpRequest) (payload : List ℕ) (params : Si
     → SpellsTarget (string_bytes request.target) uri → request_refusal identity c ≡ None → made.headers ≡ instructions c → made.params ≡ parameters c
     → string_bytes new.method ≡ string_bytes request.method → OnOk result (new.headers ≡ with_instructions request.headers made.headers)
     → AppliesTo made.params (target_of uri) (string_bytes request.target) (string_bytes new.target) result
-    → SignsInPlace identity (in_place_case request payload params) request new result
+    → SignsInPlace identity (in_place_case request payload params) request new (with_uri uri result)
 applied_case request new payload params identity c uri made result same spells fit headers_are params_are method headers applies =
     let IsFit : Case → Type 0 = λ c. request_refusal identity c ≡ None in
     applied request new payload params identity uri made result spells (subst IsFit same fit) (headers_are ∙ ap instructions same) (params_are ∙ ap parameters same) method headers applies

@@ -3,13 +3,14 @@ use Rattle.std.proofs.Common.{◌≡◌, ℕ, true, false, inl, inr, List, Optio
 use Rattle.std.specs.Prelude.{Result, Ok, Err, string_bytes}
 use Rattle.std.specs.Global.{Vec}
 use Rattle.smithy_core.specs.Moment.{Instant}
-use Rattle.smithy_core.specs.declared.request.HttpRequest.{HttpRequest}
 use Rattle.smithy_http.specs.Target.{Target}
 use Rattle.sigv4.specs.Request.{Case}
 use Rattle.env_config.specs.Sections.{FileText, sections}
 use Rattle.awsign_run.specs.Chosen.{IsFaultOf, Profile, SignRefusal, SignsFor, chosen_signer, profile_name, profile_of}
 use Rattle.awsign_run.specs.Signing.{GivesPrinted, PrintsFor, PrintsSigned, SignsAsked, SignsPrinted, is_long}
-use Rattle.awsign_run.specs.Words.{SignWanted}
+use Rattle.awsign_words.specs.Words.{SignWanted}
+use Rattle.awsign_run.specs.Guess.{url_host}
+use Rattle.awsign_run.specs.declared.signing.SignedRequest.{SignedRequest}
 use Rattle.awsign_run.specs.declared.fault.Fault.{Fault}
 use Rattle.awsign_run.specs.declared.fault.Fault.TheVariants.{LongExpiry, NoMemory}
 
@@ -37,12 +38,12 @@ profile_lacks sign_wanted env files digest at fault short (inr is) = out_of_memo
 -- what a profile gives is printed
 pub by_profile : (sign_wanted : SignWanted) (env : List (List ℕ × List ℕ)) (files : List FileText) (digest : Option (List ℕ)) (at : Instant) (profile : Profile) (result : Result (Vec ℕ) Fault)
     → is_long sign_wanted.options ≡ false → profile_of (sections files) (profile_name sign_wanted.options env) ≡ Ok profile
-    → PrintsFor sign_wanted (chosen_signer sign_wanted.options env profile) digest at result → PrintsSigned sign_wanted env files digest at result
+    → PrintsFor sign_wanted (chosen_signer sign_wanted.options (url_host sign_wanted.url) env profile) digest at result → PrintsSigned sign_wanted env files digest at result
 by_profile sign_wanted env files digest at profile result short is prints = rw (short, is) prints
 
 -- a signed request is printed
-pub request_printed : (sign_wanted : SignWanted) (case : Target → Case) (request : HttpRequest) (result : Result (Vec ℕ) Fault) → SignsAsked sign_wanted case (Ok request)
-    → GivesPrinted sign_wanted request result → SignsPrinted sign_wanted case result
-request_printed sign_wanted case request (Ok text) signs printed =
-    (signs.0, signs.1, signs.2, rw (← signs.3, ← signs.4, ← signs.5) printed)
-request_printed sign_wanted case request (Err fault) signs printed = inr printed
+pub request_printed : (sign_wanted : SignWanted) (case : Target → Case) (signed : SignedRequest) (result : Result (Vec ℕ) Fault) → SignsAsked sign_wanted case (Ok signed)
+    → GivesPrinted sign_wanted signed result → SignsPrinted sign_wanted case result
+request_printed sign_wanted case signed (Ok text) signs printed =
+    (signed.uri, signs.0, signs.1, rw (← signs.2, ← signs.3, ← signs.4) printed)
+request_printed sign_wanted case signed (Err fault) signs printed = inr printed

@@ -11,7 +11,7 @@ use Rattle.env_config.specs.declared.load_fault.EnvConfigFileLoadError.TheVarian
 use Rattle.awsign_run.specs.Run.{GivesByDigest, GivesByFiles, GivesRunText, HasWritten, LoadsAsked, RanSigning}
 use Rattle.awsign_run.specs.Signing.{PrintsSigned}
 use Rattle.awsign_run.specs.Status.{fault_status, load_status, read_status}
-use Rattle.awsign_run.specs.Words.{SignWanted, has}
+use Rattle.awsign_words.specs.Words.{SignWanted, has}
 use Rattle.awsign_run.specs.declared.fault.Fault.{Fault}
 use Rattle.awsign_run.specs.declared.fault.Fault.TheVariants.{NoMemory as FaultNoMemory}
 use Rattle.awsign_run.specs.declared.status.Status.{Status}

@@ -8,7 +8,8 @@ use Rattle.env_config.specs.ParseFault.{faulty_line_of}
 use Rattle.env_config.specs.Sections.{FaultyLine, Sections}
 use Rattle.env_config.specs.Value.{Chosen, selected_value}
 use Rattle.sigv4.specs.declared.error.SigningError.{SigningError}
-use Rattle.awsign_run.specs.Words.{OptionValues, has}
+use Rattle.awsign_words.specs.Words.{OptionValues, has}
+use Rattle.awsign_run.specs.Guess.{guessed_service}
 use Rattle.awsign_run.specs.declared.chosen.Signer.{Signer}
 use Rattle.awsign_run.specs.declared.fault.Fault.{Fault}
 use Rattle.awsign_run.specs.declared.fault.Fault.TheVariants.{ParseError, MissingKey, MissingSecret, MissingRegion, MissingService, LongExpiry, Signing, NoMemory}
@@ -107,9 +108,10 @@ abbrev pub signer_region : OptionValues → List (List ℕ × List ℕ) → Prof
 signer_region options env profile =
     option_or (option_or (option_or (last_value options (codes "--region")) (variable env (codes "AWS_REGION"))) (variable env (codes "AWS_DEFAULT_REGION"))) (filled profile.region)
 
--- the service: the option, or `s3` where its settings are asked for
-abbrev pub chosen_service : OptionValues → Option (List ℕ)
-chosen_service options = option_or (last_value options (codes "--service")) (if has options (codes "--s3") then Some (codes "s3") else None)
+-- the service: the option, or `s3` where its settings are asked for, or the one that the host names
+abbrev pub chosen_service : OptionValues → List ℕ → Option (List ℕ)
+chosen_service options host =
+    option_or (option_or (last_value options (codes "--service")) (if has options (codes "--s3") then Some (codes "s3") else None)) (guessed_service host)
 
 -- a key: its id, its secret, and the token where there is one
 pub record SignerKey : Type 0 where
@@ -150,14 +152,14 @@ signs_for (Ok key) None service = Err missing_region
 signs_for (Ok key) (Some region) None = Err missing_service
 signs_for (Ok key) (Some region) (Some service) = Ok (record { key = key; region = region; service = service })
 
--- who signs, by these options, variables and profile
-unfoldable pub chosen_signer : OptionValues → List (List ℕ × List ℕ) → Profile → Result SignsFor SignRefusal
-chosen_signer options env profile = signs_for (chosen_key options env profile) (signer_region options env profile) (chosen_service options)
+-- who signs for a host, by these options, variables and profile
+unfoldable pub chosen_signer : OptionValues → List ℕ → List (List ℕ × List ℕ) → Profile → Result SignsFor SignRefusal
+chosen_signer options host env profile = signs_for (chosen_key options env profile) (signer_region options env profile) (chosen_service options host)
 
 -- the same where the profile is still to be read
-abbrev pub signer_by : OptionValues → List (List ℕ × List ℕ) → Result Profile SignRefusal → Result SignsFor SignRefusal
-signer_by options env (Ok profile) = chosen_signer options env profile
-signer_by options env (Err refusal) = Err refusal
+abbrev pub signer_by : OptionValues → List ℕ → List (List ℕ × List ℕ) → Result Profile SignRefusal → Result SignsFor SignRefusal
+signer_by options host env (Ok profile) = chosen_signer options host env profile
+signer_by options host env (Err refusal) = Err refusal
 
 -- what contracts see of a key
 abbrev pub key_in : Credentials → SignerKey

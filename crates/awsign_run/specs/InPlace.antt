@@ -41,10 +41,10 @@ pub record HasSigned (c : Case) (old new : HttpRequest) : Type 0 where
   pub target : string_bytes new.target ≡ signed_target c (string_bytes old.target)
   pub headers : new.headers ≡ signed_headers c
 
--- the request of a case is signed, for what its target spells; or it is refused, or spells no target; or memory ran out
-abbrev pub SignsInPlace : Identity → (Target → Case) → HttpRequest → HttpRequest → Result (Unit {0}) SigningError → Type 0
-SignsInPlace identity case old new (Ok _) =
-    (uri : Uri) × SpellsTarget (string_bytes old.target) uri × (in_place_refusal identity (case (target_of uri)) ≡ None)
+-- the request of a case is signed, for what its target spells, which is answered; or it is refused, or spells no target; or memory ran out
+abbrev pub SignsInPlace : Identity → (Target → Case) → HttpRequest → HttpRequest → Result Uri SigningError → Type 0
+SignsInPlace identity case old new (Ok uri) =
+    SpellsTarget (string_bytes old.target) uri × (in_place_refusal identity (case (target_of uri)) ≡ None)
     × HasSigned (case (target_of uri)) old new
 SignsInPlace identity case old new (Err error) =
     (((uri : Uri) × SpellsTarget (string_bytes old.target) uri × (in_place_refusal identity (case (target_of uri)) ≡ Some error))

@@ -1,8 +1,8 @@
 pub mod Chosen
 pub mod Faults
+pub mod Guess
 pub mod InPlace
 pub mod Run
 pub mod Saying
 pub mod Signing
 pub mod Status
-pub mod Words

@@ -16,7 +16,7 @@ use Rattle.env_config.specs.declared.source.EnvConfigFileKind.{EnvConfigFileKind
 use Rattle.env_config.specs.declared.source.EnvConfigFileKind.TheVariants.{Config, Credentials}
 use Rattle.env_config.specs.declared.source.Source.{Source}
 use Rattle.awsign_run.specs.Signing.{DigestsAll, PrintsSigned}
-use Rattle.awsign_run.specs.Words.{OptionValues, SignWanted, has}
+use Rattle.awsign_words.specs.Words.{OptionValues, SignWanted, has}
 use Rattle.awsign_run.specs.declared.status.Status.{Status}
 use Rattle.awsign_run.specs.declared.status.Status.TheVariants.{Done, BadWord, CouldNotReadFile, DataFault, Refused, OutputFault, NoMemory}
 

@@ -15,6 +15,7 @@ use Rattle.smithy_http.specs.QueryWriter.{SpellsNoTarget, SpellsTarget}
 use Rattle.smithy_http.specs.Target.{Target, target_of}
 use Rattle.job_text.specs.Numbers.{natural_below}
 use Rattle.env_config.specs.Sections.{FileText, sections}
+use Rattle.sigv4.specs.Host.{host_text}
 use Rattle.sigv4.specs.Refusal.{unfit, unfit_signed_target}
 use Rattle.sigv4.specs.Request.{Case}
 use Rattle.sigv4.specs.Settings.{Settings, default_settings, s3_settings}
@@ -26,7 +27,9 @@ use Rattle.awsign_text.specs.Forms.{text_in_form}
 use Rattle.awsign_text.specs.declared.forms.Form.{Form}
 use Rattle.awsign_text.specs.declared.forms.Form.TheVariants.{Curl, Url}
 use Rattle.awsign_run.specs.Chosen.{SignRefusal, SignsFor, long_expiry, out_of_memory, profile_name, profile_of, refusal_of, signer_by, unsigned}
-use Rattle.awsign_run.specs.Words.{OptionValues, SignWanted, form_named, has}
+use Rattle.awsign_run.specs.Guess.{url_host}
+use Rattle.awsign_run.specs.declared.signing.SignedRequest.{SignedRequest}
+use Rattle.awsign_words.specs.Words.{OptionValues, SignWanted, form_named, has}
 use Rattle.awsign_run.specs.declared.fault.Fault.{Fault}
 use Rattle.awsign_run.specs.declared.fault.Fault.TheVariants.{NoMemory}
 
@@ -90,15 +93,16 @@ asked_refusal c = option_or (option_or (if is_in_years c.at then None else Some 
 abbrev pub asked_form : SignWanted → Form
 asked_form sign_wanted = unwrap_or (option_and_then form_named (last_value sign_wanted.options (codes "--as"))) (if sign_wanted.presigns then Url else Curl)
 
--- the signed request of a case, in the form that is asked for
-abbrev pub printed : SignWanted → Case → List ℕ
-printed sign_wanted c =
-    text_in_form (asked_form sign_wanted) sign_wanted.method (signed_target c sign_wanted.url) (signed_headers c) (last_value sign_wanted.options (codes "--data"))
+-- the signed request of a case, whose target was this one, in the form that is asked for
+abbrev pub printed : SignWanted → Target → Case → List ℕ
+printed sign_wanted target c =
+    text_in_form (asked_form sign_wanted) sign_wanted.method (signed_target c sign_wanted.url) (signed_headers c) (host_text target)
+    (last_value sign_wanted.options (codes "--data"))
 
 -- the signed request, for what the URL spells, as it is printed; or why it isn't signed
 abbrev pub SignsPrinted : SignWanted → (Target → Case) → Result (Vec ℕ) Fault → Type 0
 SignsPrinted sign_wanted case (Ok text) =
-    (uri : Uri) × SpellsTarget sign_wanted.url uri × (asked_refusal (case (target_of uri)) ≡ None) × (text.items ≡ printed sign_wanted (case (target_of uri)))
+    (uri : Uri) × SpellsTarget sign_wanted.url uri × (asked_refusal (case (target_of uri)) ≡ None) × (text.items ≡ printed sign_wanted (target_of uri) (case (target_of uri)))
 SignsPrinted sign_wanted case (Err fault) =
     (((uri : Uri) × (error : SigningError) × SpellsTarget sign_wanted.url uri × (asked_refusal (case (target_of uri)) ≡ Some error) × (refusal_of fault ≡ unsigned error))
     ⊎ (SpellsNoTarget sign_wanted.url × (refusal_of fault ≡ unsigned InvalidUri))) ⊎ (fault ≡ NoMemory)
@@ -114,7 +118,7 @@ PrintsFor sign_wanted (Err refusal) digest at (Err fault) = (refusal_of fault �
 abbrev pub asked_signer : SignWanted → List (List ℕ × List ℕ) → List FileText → Result SignsFor SignRefusal
 asked_signer sign_wanted env files =
     if is_long sign_wanted.options then Err long_expiry
-    else signer_by sign_wanted.options env (profile_of (sections files) (profile_name sign_wanted.options env))
+    else signer_by sign_wanted.options (url_host sign_wanted.url) env (profile_of (sections files) (profile_name sign_wanted.options env))
 
 -- the text that words, variables, the texts of profile files, the digest of the data and a moment give, or why there is none
 abbrev pub PrintsSigned : SignWanted → List (List ℕ × List ℕ) → List FileText → Option (List ℕ) → Instant → Result (Vec ℕ) Fault → Type 0
@@ -131,15 +135,17 @@ pub record IsAsked (sign_wanted : SignWanted) (request : HttpRequest) : Type 0 w
   pub headers : request.headers ≡ sign_wanted.headers
 
 -- the signed request, for what the URL spells, or why it isn't signed
-abbrev pub SignsAsked : SignWanted → (Target → Case) → Result HttpRequest Fault → Type 0
-SignsAsked sign_wanted case (Ok request) =
-    (uri : Uri) × SpellsTarget sign_wanted.url uri × (asked_refusal (case (target_of uri)) ≡ None)
-    × (string_bytes request.method ≡ sign_wanted.method) × (string_bytes request.target ≡ signed_target (case (target_of uri)) sign_wanted.url)
-    × (request.headers ≡ signed_headers (case (target_of uri)))
+abbrev pub SignsAsked : SignWanted → (Target → Case) → Result SignedRequest Fault → Type 0
+SignsAsked sign_wanted case (Ok signed) =
+    SpellsTarget sign_wanted.url signed.uri × (asked_refusal (case (target_of signed.uri)) ≡ None)
+    × (string_bytes signed.request.method ≡ sign_wanted.method)
+    × (string_bytes signed.request.target ≡ signed_target (case (target_of signed.uri)) sign_wanted.url)
+    × (signed.request.headers ≡ signed_headers (case (target_of signed.uri)))
 SignsAsked sign_wanted case (Err fault) = SignsPrinted sign_wanted case (Err fault)
 
 -- the text of a request in the form that is asked for, or memory ran out
-abbrev pub GivesPrinted : SignWanted → HttpRequest → Result (Vec ℕ) Fault → Type 0
-GivesPrinted sign_wanted request (Ok text) =
-    text.items ≡ text_in_form (asked_form sign_wanted) (string_bytes request.method) (string_bytes request.target) request.headers (last_value sign_wanted.options (codes "--data"))
-GivesPrinted sign_wanted request (Err fault) = fault ≡ NoMemory
+abbrev pub GivesPrinted : SignWanted → SignedRequest → Result (Vec ℕ) Fault → Type 0
+GivesPrinted sign_wanted signed (Ok text) =
+    text.items ≡ text_in_form (asked_form sign_wanted) (string_bytes signed.request.method) (string_bytes signed.request.target) signed.request.headers
+    (host_text (target_of signed.uri)) (last_value sign_wanted.options (codes "--data"))
+GivesPrinted sign_wanted signed (Err fault) = fault ≡ NoMemory

@@ -4,6 +4,7 @@ ghost use Rattle.std.specs.Option.{option_or};
 ghost use Rattle.awsign_run.specs.Chosen.{GivesSignerKey, GivesSigner, chosen_key, signer_region, chosen_service, chosen_signer, filled, key_behind, key_in, signer_key, profile_name, refusal_of, signs_for, profile_values, variable, variable_key};
 
 use crate::fault::Fault;
+use crate::guess::guessed_service;
 use crate::profile::ProfileValues;
 use job_text::copied;
 use smithy_core::{Credentials, Env, Mem};
@@ -20,7 +21,8 @@ pub struct Signer {
     pub service: String,
 }
 
-/// Who signs, by options, variables and a profile, in this order; an empty variable counts as unset.
+/// Who signs for a host, by options, variables and a profile, in this order; an empty variable counts as unset. The service is the one that
+/// the host names, where no option says it.
 ///
 /// # Errors
 ///
@@ -29,15 +31,16 @@ pub struct Signer {
 pub fn choose_signer(
     alloc: Global,
     options: &Env,
+    host: &str,
     env: &Env,
     profile: &ProfileValues,
 ) -> Result<Signer, Fault>
-    ensures { GivesSigner (chosen_signer options.now env.now (profile_values profile.now)) result }
+    ensures { GivesSigner (chosen_signer options.now host.now env.now (profile_values profile.now)) result }
 {
     match choose_key(alloc, options, env, profile) {
         Ok(credentials) => {
             let region = region_of(options, env, profile);
-            signer_of(alloc, credentials, region, service_of(options))
+            signer_of(alloc, credentials, region, service_of(options, host))
         }
         Err(fault) => Err(fault),
     }
@@ -150,8 +153,8 @@ fn either<'a>(first: Option<&'a str>, second: Option<&'a str>) -> Option<&'a str
     }
 }
 
-fn service_of(options: &Env) -> Option<&str>
-    ensures { option_copied result ≡ chosen_service options.now }
+fn service_of<'a>(options: &'a Env, host: &'a str) -> Option<&'a str>
+    ensures { option_copied result ≡ chosen_service options.now host.now }
 {
     let named = options.get("--service");
     let usual = if options.get("--s3").is_some() {
@@ -159,7 +162,7 @@ fn service_of(options: &Env) -> Option<&str>
     } else {
         None
     };
-    named.or(usual)
+    either(either(named, usual), guessed_service(host))
 }
 
 // A variable; an empty one counts as unset.

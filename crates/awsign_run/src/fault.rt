@@ -14,7 +14,7 @@ pub enum Fault {
     MissingSecret,
     /// No option, no variable and not the profile has a region.
     MissingRegion,
-    /// No option names the service.
+    /// Neither an option nor the host names the service.
     MissingService,
     /// A presigned URL would be good for more than seven days.
     LongExpiry,

@@ -4,11 +4,12 @@ ghost use Rattle.sigv4.specs.Body.{payload_text};
 ghost use Rattle.sigv4.specs.Request.{identity_of};
 ghost use Rattle.awsign_run.specs.InPlace.{SignsInPlace, in_place_case};
 
+use http_uri::Uri;
 use sigv4::{SignableBody, SignableRequest, SigningError, SigningParams, sign_request};
 use smithy_core::HttpRequest;
 use std::alloc::Global;
 
-/// Signs a request in place, over a payload.
+/// Signs a request in place, over a payload, and answers what its target spelled.
 ///
 /// # Errors
 ///
@@ -18,7 +19,7 @@ pub fn sign_in_place(
     request: &mut HttpRequest,
     payload: SignableBody<'_>,
     params: &SigningParams<'_>,
-) -> Result<(), SigningError>
+) -> Result<Uri, SigningError>
     ensures { SignsInPlace (identity_of params.now) (in_place_case request.old (payload_text payload.entry) params.now) request.old request.new result }
 {
     let signable = SignableRequest::new(
@@ -31,5 +32,8 @@ pub fn sign_in_place(
     let output = sign_request(alloc, &signable, params)?;
     let uri = signable.into_uri();
     let (instructions, _) = output.into_parts();
-    instructions.apply_to_parsed(request, &uri)
+    match instructions.apply_to_parsed(request, &uri) {
+        Ok(()) => Ok(uri),
+        Err(error) => Err(error),
+    }
 }

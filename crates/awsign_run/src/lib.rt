@@ -3,27 +3,27 @@
 //! The program is promised of [`run_signing`]: where it answers [`Status::Done`] the output gained exactly the signed request of the words,
 //! in the form that they ask for, under the key, region and service that options, variables and profile give in this order, over the digest
 //! of all data that its source had left, at a moment that is named or the clock's; and where nothing is signed it answers the first reason
-//! and the output is as it was (`specs/Run.antt`, and below it `specs/Signing.antt`, `specs/Chosen.antt` and `specs/Words.antt`).
+//! and the output is as it was (`specs/Run.antt`, and below it `specs/Signing.antt`, `specs/Chosen.antt` and `specs/Guess.antt`).
 #![tactic(auto)]
 
 mod chosen;
 mod digest;
 mod fault;
+mod guess;
 mod in_place;
 mod profile;
 mod run;
 mod saying;
 mod signing;
 mod status;
-mod words;
 
 pub use crate::chosen::{Signer, choose_signer, profile_name};
 pub use crate::digest::digest_of;
 pub use crate::fault::Fault;
+pub use crate::guess::{guessed_service, tell_service, url_host};
 pub use crate::in_place::sign_in_place;
 pub use crate::profile::{ProfileValues, read_profile};
-pub use crate::run::{run_signing, write_text};
-pub use crate::saying::say;
-pub use crate::signing::signed_text;
+pub use crate::run::{load_source, moment_asked, moment_of, run_signing, write_text};
+pub use crate::saying::{fault_line, say, tool_line, write_some};
+pub use crate::signing::{is_s3, signed_text, usual_settings};
 pub use crate::status::Status;
-pub use crate::words::{Asked, form_named, read_asked};

@@ -8,13 +8,13 @@ ghost use Rattle.env_config.specs.Source.{file_of};
 ghost use Rattle.env_config.specs.Loading.{Loaded, StopsAtFile};
 ghost use Rattle.awsign_run.specs.Chosen.{profile_name};
 ghost use Rattle.awsign_run.specs.Run.{Digests, GivesByDigest, GivesByFiles, GivesRunText, HasWritten, LoadsAsked, RanSigning, TakesAskedMoment, asked_moment, asked_places, named_place, or_usual};
-ghost use Rattle.awsign_run.specs.Words.{has, sign_wanted};
+ghost use Rattle.awsign_words.specs.Words.{has, sign_wanted};
 
 use crate::chosen::profile_name;
 use crate::digest::digest_of;
 use crate::signing::signed_text;
 use crate::status::Status;
-use crate::words::Asked;
+use awsign_words::Asked;
 use env_config::{
     BuildFault, Builder, EnvConfigFileKind, EnvConfigFileLoadError, EnvConfigFiles, Source, load,
 };
@@ -135,8 +135,12 @@ fn borrowed(text: &Option<String>) -> Option<&str>
     }
 }
 
-// The texts of profile files, and the name of the profile.
-fn load_source<D: Disk>(
+/// The texts of the profile files that options name, or of the default ones, and the name of the profile.
+///
+/// # Errors
+///
+/// Those of [`load`](env_config::load).
+pub fn load_source<D: Disk>(
     alloc: Global,
     env: &Env,
     disk: &mut D,
@@ -215,16 +219,16 @@ fn data_digest<S: ByteSource>(
     }
 }
 
-// The moment that an option names.
-fn moment_asked(options: &Env) -> Option<Moment>
+/// The moment that an option names.
+pub fn moment_asked(options: &Env) -> Option<Moment>
     ensures { result ≡ asked_moment options.now }
 {
     let secs = parse_i64(options.get("--at")?)?;
     Some(Moment::new(secs, 0))
 }
 
-// The moment that is asked for, or else one of the clock.
-fn moment_of<C: Clock>(asked: Option<Moment>, clock: &mut C) -> Moment
+/// The moment that is asked for, or else one of the clock.
+pub fn moment_of<C: Clock>(asked: Option<Moment>, clock: &mut C) -> Moment
     ensures { TakesAskedMoment (λ taken. Gives C.Clock clock.old taken clock.new) asked result }
 {
     match asked {

@@ -25,8 +25,8 @@ pub fn say<E: ByteSink>(alloc: Global, words: &[String], status: &Status, err: &
     }
 }
 
-// Writes a line; a fault of the error stream can't be said anywhere.
-fn write_some<E: ByteSink>(line: &str, err: &mut E)
+/// Writes a line; a fault of the error stream can't be said anywhere.
+pub fn write_some<E: ByteSink>(line: &str, err: &mut E)
     ensures gains { GainsSome (E.held err.old) (E.held err.new) line.now }
     ensures count { E.faults err.old ≤ E.faults err.new }
 {
@@ -47,8 +47,8 @@ fn line_of(alloc: Global, words: &[String], status: &Status) -> Mem<String>
     }
 }
 
-// A line of the tool.
-fn tool_line(alloc: Global, text: &str) -> Mem<String>
+/// A line of the tool.
+pub fn tool_line(alloc: Global, text: &str) -> Mem<String>
     ensures { IfOk result (λ line. string_bytes line ≡ tool_line text.now) }
 {
     format!(in alloc; "awsign: {text}\n")
@@ -92,7 +92,8 @@ fn bad_word_line(alloc: Global, place: usize, word: &str) -> Mem<String>
     tool_line(alloc, text.as_str())
 }
 
-fn fault_line(alloc: Global, fault: &Fault) -> Mem<String>
+/// The line that says why nothing is signed.
+pub fn fault_line(alloc: Global, fault: &Fault) -> Mem<String>
     ensures { IfOk result (λ line. string_bytes line ≡ tool_line (fault_reason fault.now)) }
 {
     match fault {
@@ -110,7 +111,10 @@ fn fault_line(alloc: Global, fault: &Fault) -> Mem<String>
             alloc,
             "no region: say --region, set AWS_REGION, or give the profile a region",
         ),
-        Fault::MissingService => tool_line(alloc, "no service: say --service NAME, or --s3"),
+        Fault::MissingService => tool_line(
+            alloc,
+            "no service, and the host names none: say --service NAME, or --s3",
+        ),
         Fault::LongExpiry => tool_line(
             alloc,
             "the URL would be good for over 604800 seconds, which AWS refuses; --long makes it all the same",

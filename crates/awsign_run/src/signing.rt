@@ -3,21 +3,32 @@ ghost use Rattle.std.specs.Prelude.{◌≡◌, ◌||◌, IfOk, codes, map, optio
 ghost use Rattle.env_config.specs.Source.{file_of};
 ghost use Rattle.sigv4.specs.Settings.{settings_of};
 ghost use Rattle.awsign_run.specs.Chosen.{chosen_signer, profile_name, signs_for_of, profile_values};
+ghost use Rattle.awsign_run.specs.Guess.{url_host};
 ghost use Rattle.awsign_run.specs.Signing.{GivesPrinted, IsAsked, PrintsFor, PrintsSigned, SignsAsked, SignsPrinted, asked_case, asked_form, asked_payload, asked_settings, expiry, is_long, is_s3, default_payload, usual_settings};
-ghost use Rattle.awsign_run.specs.Words.{sign_wanted};
+ghost use Rattle.awsign_words.specs.Words.{sign_wanted};
 
 use crate::chosen::{Signer, choose_signer};
 use crate::fault::Fault;
+use crate::guess::url_host;
 use crate::in_place::sign_in_place;
 use crate::profile::{ProfileValues, read_profile};
-use crate::words::{Asked, form_named};
 use awsign_text::{Form, text_of};
+use awsign_words::{Asked, form_named};
 use env_config::Source;
+use http_uri::Uri;
 use job_text::parse_u64;
 use mac_core::sha256_hex;
+use sigv4::parts::host_text;
 use sigv4::{SignableBody, SignatureLocation, SigningParams, SigningSettings, v4};
 use smithy_core::{Env, HttpRequest, Identity, Mem, Moment};
 use std::alloc::Global;
+
+/// A signed request, and what its target spelled before.
+#[derive(Drop)]
+pub(crate) struct SignedRequest {
+    pub(crate) request: HttpRequest,
+    pub(crate) uri: Uri,
+}
 
 /// The most seconds for which a service takes a presigned URL.
 const MOST_EXPIRY: u64 = 604_800;
@@ -58,9 +69,10 @@ fn print_by(
     digest: Option<&str>,
     at: Moment,
 ) -> Result<Vec<u8>, Fault>
-    ensures { PrintsFor (sign_wanted asked.now) (chosen_signer asked.now.options env.now (profile_values profile.now)) (option_copied digest.entry) at result }
+    ensures { PrintsFor (sign_wanted asked.now) (chosen_signer asked.now.options (url_host asked.now.url.now) env.now (profile_values profile.now)) (option_copied digest.entry) at result }
 {
-    match choose_signer(alloc, &asked.options, env, profile) {
+    let host = url_host(asked.url);
+    match choose_signer(alloc, &asked.options, host, env, profile) {
         Ok(signer) => print_signed(alloc, asked, signer, digest, at),
         Err(fault) => Err(fault),
     }
@@ -95,17 +107,18 @@ fn print_over(
     ensures { SignsPrinted (sign_wanted asked.now) (asked_case (sign_wanted asked.now) (signs_for_of signer) (string_bytes payload) at) result }
 {
     match signed_request(alloc, asked, signer, payload, at) {
-        Ok(request) => print_request(alloc, asked, &request),
+        Ok(signed) => print_request(alloc, asked, &signed),
         Err(fault) => Err(fault),
     }
 }
 
 // A signed request, as it is printed.
-fn print_request(alloc: Global, asked: &Asked<'_>, request: &HttpRequest) -> Result<Vec<u8>, Fault>
-    ensures { GivesPrinted (sign_wanted asked.now) request.now result }
+fn print_request(alloc: Global, asked: &Asked<'_>, signed: &SignedRequest) -> Result<Vec<u8>, Fault>
+    ensures { GivesPrinted (sign_wanted asked.now) signed.now result }
 {
     let file = asked.options.get("--data");
-    Ok(text_of(alloc, form_of(asked), request, file)?)
+    let host = host_text(&signed.uri);
+    Ok(text_of(alloc, form_of(asked), &signed.request, host, file)?)
 }
 
 // The request, signed over the payload of this text.
@@ -115,7 +128,7 @@ fn signed_request(
     signer: Signer,
     payload: String,
     at: Moment,
-) -> Result<HttpRequest, Fault>
+) -> Result<SignedRequest, Fault>
     ensures { SignsAsked (sign_wanted asked.now) (asked_case (sign_wanted asked.now) (signs_for_of signer) (string_bytes payload) at) result }
 {
     let request = request_of(alloc, asked)?;
@@ -132,7 +145,7 @@ fn sign_as(
     signer: Signer,
     payload: String,
     at: Moment,
-) -> Result<HttpRequest, Fault>
+) -> Result<SignedRequest, Fault>
     requires asked { IsAsked (sign_wanted asked.now) request }
     requires settings { settings_of settings ≡ asked_settings (sign_wanted asked.now) (is_s3 asked.now.options (string_bytes signer.service)) }
     ensures { SignsAsked (sign_wanted asked.now) (asked_case (sign_wanted asked.now) (signs_for_of signer) (string_bytes payload) at) result }
@@ -148,7 +161,7 @@ fn sign_as(
         SignableBody::Precomputed(payload),
         &params,
     ) {
-        Ok(()) => Ok(request),
+        Ok(uri) => Ok(SignedRequest { request, uri }),
         Err(error) => Err(Fault::from(error)),
     }
 }
@@ -178,7 +191,8 @@ fn settings_of(alloc: Global, asked: &Asked<'_>, s3: bool) -> Mem<SigningSetting
     })
 }
 
-fn usual_settings(alloc: Global, s3: bool) -> Mem<SigningSettings>
+/// The settings of a service, with the signature in headers.
+pub fn usual_settings(alloc: Global, s3: bool) -> Mem<SigningSettings>
     ensures { IfOk result (λ settings. settings_of settings ≡ usual_settings s3) }
 {
     if s3 {
@@ -220,14 +234,14 @@ fn form_of(asked: &Asked<'_>) -> Form
     } else {
         Form::Curl
     };
-    asked
-        .options
-        .get("--as")
-        .and_then(form_named)
-        .unwrap_or(usual)
+    match asked.options.get("--as") {
+        Some(word) => form_named(word).unwrap_or(usual),
+        None => usual,
+    }
 }
 
-fn is_s3(options: &Env, service: &str) -> bool
+/// Whether the settings are those of Amazon S3.
+pub fn is_s3(options: &Env, service: &str) -> bool
     ensures { result ≡ is_s3 options.now service.now }
 {
     options.get("--s3").is_some() || service == "s3"

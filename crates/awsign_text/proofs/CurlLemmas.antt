@@ -1,12 +1,12 @@
 -- A config reads back as its options.
-use Rattle.std.proofs.Common.{◌≡◌, ℕ, Bool, true, false, ◌&&◌, not, eqb, cond, List, [], ◌∷◌, ◌++◌, map, length, codes, Option, Some, None, option_map, refl, sym, ap, ◌∙◌, append_assoc}
+use Rattle.std.proofs.Common.{◌≡◌, ℕ, Bool, true, false, ◌&&◌, not, eqb, cond, List, [], ◌∷◌, ◌++◌, map, codes, Option, Some, None, option_map, refl, sym, ap, ◌∙◌, append_assoc}
 use Rattle.std.specs.Prelude.{bytes_eq, is_some}
-use Rattle.std.specs.List.{flat_map, list_all}
+use Rattle.std.specs.List.{flat_map}
 use Rattle.std.proofs.lemmas.Bool.{and_parts, eqb-true}
 use Rattle.std.proofs.lemmas.List.{append-nil}
 use Rattle.std.proofs.lemmas.List.Concat.{flat_map-append}
 use Rattle.smithy_core.specs.TextPairs.{first_value}
-use Rattle.awsign_text.specs.Curl.{ConfigPlace, Setting, before_others, behind_name, behind_value, body_settings, config_settings, curl_config_text, escape, file_settings, flag, header_setting, in_escape, in_name, in_value, is_plain_name, is_uploaded, method_setting, no_content_type, quoted, request_settings, sent_settings, setting_line, config_settings_from, config_step, unescaped, valued}
+use Rattle.awsign_text.specs.Curl.{Setting, body_settings, config_settings, curl_config_text, escape, file_settings, flag, header_setting, in_name, in_value, is_plain_name, is_uploaded, method_setting, no_content_type, quoted, request_settings, sent_settings, setting_line, config_settings_from, config_step, unescaped, valued}
 
 -- a test that is denied isn't true
 not_true : (v : Bool) → not v ≡ true → v ≡ false

@@ -3,8 +3,9 @@ use Rattle.std.specs.Prelude.{ℕ, List, [], ◌∷◌, ◌++◌, codes, Option}
 use Rattle.std.specs.List.{flat_map}
 use Rattle.smithy_core.specs.Text.{line}
 use Rattle.awsign_text.specs.Curl.{curl_config_text, quoted, request_settings}
+use Rattle.awsign_text.specs.Head.{wire_head}
 use Rattle.awsign_text.specs.declared.forms.Form.{Form}
-use Rattle.awsign_text.specs.declared.forms.Form.TheVariants.{Curl, Headers, Json, Url}
+use Rattle.awsign_text.specs.declared.forms.Form.TheVariants.{Curl, Headers, Json, Http, Url}
 
 -- a header as a line
 abbrev pub plain_header_line : List ℕ × List ℕ → List ℕ
@@ -28,9 +29,10 @@ unfoldable pub json_text : List ℕ → List ℕ → List (List ℕ × List ℕ)
 json_text method target headers =
     codes "{" ++ (quoted (codes "method") ++ (codes ":" ++ (quoted method ++ (codes "," ++ (quoted (codes "url") ++ (codes ":" ++ (quoted target ++ (codes "," ++ (quoted (codes "headers") ++ (codes ":[" ++ (json_headers headers ++ line (codes "]}"))))))))))))
 
--- a request in a form, whose body is this file
-abbrev pub text_in_form : Form → List ℕ → List ℕ → List (List ℕ × List ℕ) → Option (List ℕ) → List ℕ
-text_in_form Curl method target headers file = curl_config_text (request_settings method target headers file)
-text_in_form Headers method target headers file = flat_map plain_header_line headers
-text_in_form Json method target headers file = json_text method target headers
-text_in_form Url method target headers file = line target
+-- a request in a form, whose target has this host and whose body is this file
+abbrev pub text_in_form : Form → List ℕ → List ℕ → List (List ℕ × List ℕ) → Option (List ℕ) → Option (List ℕ) → List ℕ
+text_in_form Curl method target headers host file = curl_config_text (request_settings method target headers file)
+text_in_form Headers method target headers host file = flat_map plain_header_line headers
+text_in_form Json method target headers host file = json_text method target headers
+text_in_form Http method target headers host file = wire_head method target headers host
+text_in_form Url method target headers host file = line target

@@ -1,2 +1,3 @@
 pub mod Curl
 pub mod Forms
+pub mod Head

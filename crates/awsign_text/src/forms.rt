@@ -7,6 +7,7 @@ ghost use Rattle.awsign_text.specs.Curl.{quoted};
 ghost use Rattle.awsign_text.specs.Forms.{plain_header_line, json_header, json_headers, json_text, text_in_form};
 
 use crate::curl::{curl_config, push_quoted};
+use crate::head::head_of;
 use smithy_core::{Headers, HttpRequest, Mem, push_line};
 use std::alloc::Global;
 
@@ -19,19 +20,28 @@ pub enum Form {
     Headers,
     /// An object with `method`, `url` and `headers`, a list of pairs.
     Json,
+    /// The head as it goes over the wire: a host that no header gives goes before the others.
+    Http,
     /// The target alone.
     Url,
 }
 
-/// A request in a form; the body is the file at a path.
-pub fn text_of(alloc: Global, form: Form, request: &HttpRequest, file: Option<&str>) -> Mem<Vec<u8>>
+/// A request in a form; the host is that of its target, and the body is the file at a path.
+pub fn text_of(
+    alloc: Global,
+    form: Form,
+    request: &HttpRequest,
+    host: Option<&str>,
+    file: Option<&str>,
+) -> Mem<Vec<u8>>
     ensures { IfOk result (λ text. text.items
-        ≡ text_in_form form (string_bytes request.now.method) (string_bytes request.now.target) request.now.headers (option_copied file.entry)) }
+        ≡ text_in_form form (string_bytes request.now.method) (string_bytes request.now.target) request.now.headers (option_copied host.entry) (option_copied file.entry)) }
 {
     match form {
         Form::Curl => curl_config(alloc, request, file),
         Form::Headers => header_lines(alloc, &request.headers),
         Form::Json => json_of(alloc, request),
+        Form::Http => head_of(alloc, request, host),
         Form::Url => line_of(alloc, request.target.as_str()),
     }
 }

@@ -8,7 +8,7 @@ returns-in-Err c =
     let options = c.args.options.now in
     let env = c.args.env.now in
     let profile = profile_values c.args.profile.now in
-    key_refused (chosen_key options env profile) (signer_region options env profile) (chosen_service options) c.in-Err.fault c.in-Err.ensures
+    key_refused (chosen_key options env profile) (signer_region options env profile) (chosen_service options c.args.host.now) c.in-Err.fault c.in-Err.ensures
 
 pub returns-in-Ok : goal.returns-in-Ok
 unfolding chosen_signer

@@ -4,7 +4,7 @@ use Rattle.smithy_core.specs.Given.{Gives}
 use Rattle.env_config.specs.Source.{file_of}
 use Rattle.env_config.specs.Loading.{Loaded, StopsAtFile}
 use Rattle.awsign_run.specs.Run.{Digests, TakesAskedMoment, asked_moment, asked_places}
-use Rattle.awsign_run.specs.Words.{sign_wanted}
+use Rattle.awsign_words.specs.Words.{sign_wanted}
 use Rattle.awsign_run.proofs.RunLemmas.{ran_text, ran_without}
 use Rattle.awsign_run.proofs.run.run_signing.Goals as goal
 

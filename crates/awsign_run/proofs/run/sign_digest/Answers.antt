@@ -3,7 +3,7 @@ use Rattle.std.specs.Prelude.{string_bytes}
 use Rattle.smithy_core.specs.Given.{Gives}
 use Rattle.env_config.specs.Source.{file_of}
 use Rattle.awsign_run.specs.Run.{TakesAskedMoment, asked_moment}
-use Rattle.awsign_run.specs.Words.{sign_wanted}
+use Rattle.awsign_words.specs.Words.{sign_wanted}
 use Rattle.awsign_run.proofs.RunLemmas.{moment_given, text_refused}
 use Rattle.awsign_run.proofs.run.sign_digest.Goals as goal
 

@@ -5,7 +5,7 @@ use Rattle.env_config.specs.Source.{file_of}
 use Rattle.env_config.specs.Loading.{Loaded, StopsAtFile}
 use Rattle.awsign_run.specs.Chosen.{profile_name}
 use Rattle.awsign_run.specs.Run.{Digests, TakesAskedMoment, asked_moment, asked_places}
-use Rattle.awsign_run.specs.Words.{sign_wanted}
+use Rattle.awsign_words.specs.Words.{sign_wanted}
 use Rattle.awsign_run.proofs.RunLemmas.{files_given, files_unread}
 use Rattle.awsign_run.proofs.run.signed_bytes.Goals as goal
 

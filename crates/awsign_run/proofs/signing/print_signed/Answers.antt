@@ -2,7 +2,7 @@ use Rattle.std.proofs.Common.{◌≡◌, ℕ, Bool, List, ap, option_copied, sub
 use Rattle.std.specs.Prelude.{string_bytes}
 use Rattle.awsign_run.specs.Chosen.{signs_for_of}
 use Rattle.awsign_run.specs.Signing.{SignsPrinted, asked_case, asked_payload, is_s3}
-use Rattle.awsign_run.specs.Words.{sign_wanted}
+use Rattle.awsign_words.specs.Words.{sign_wanted}
 use Rattle.awsign_run.proofs.signing.print_signed.Goals as goal
 
 pub returns-in-Ok : goal.returns-in-Ok

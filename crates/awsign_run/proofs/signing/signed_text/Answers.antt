@@ -3,7 +3,7 @@ use Rattle.env_config.specs.Source.{file_of}
 use Rattle.awsign_run.proofs.PrintLemmas.{by_profile, long_refused, profile_lacks}
 use Rattle.awsign_run.specs.Chosen.{profile_values}
 use Rattle.awsign_run.specs.Signing.{is_long}
-use Rattle.awsign_run.specs.Words.{sign_wanted}
+use Rattle.awsign_words.specs.Words.{sign_wanted}
 use Rattle.awsign_run.proofs.signing.signed_text.Goals as goal
 
 pub returns-then-is_long : goal.returns-then-is_long

@@ -1,24 +1,29 @@
--- The words of `awsign sign` and `awsign presign`: options, of which each but `-H` stands once, and two operands, a method and a URL.
+-- The words of `awsign`: a command, and then options, of which each but `-H` stands once, and two operands, a method and a URL.
 use Rattle.std.specs.Prelude.{◌≡◌, ℕ, ◌==◌, Bool, true, false, not, ◌&&◌, ◌||◌, if◌then◌else◌, List, [], ◌∷◌, ◌++◌, length, slice_index, codes, bytes_eq, map, Option, Some, None, is_some, option_map, option_copied, Result, Ok, Err}
 use Rattle.std.specs.Int.{w64}
 use Rattle.std.specs.List.{list_all}
 use Rattle.http_header.specs.Token.{is_token_byte}
 use Rattle.smithy_core.specs.TextPairs.{last_value, lower}
-use Rattle.job_text.specs.Lines.{header_of_line}
+use Rattle.job_text.specs.Lines.{header_of_line, texts_of_pair}
 use Rattle.job_text.specs.Numbers.{natural_below, number}
 use Rattle.job_text.specs.Pieces.{after_pieces, taken_from}
 use Rattle.job_text.specs.declared.words.WordsFault.{WordsFault}
 use Rattle.job_text.specs.declared.words.WordsFault.TheVariants.{BadWord, NoMemory}
 use Rattle.awsign_text.specs.declared.forms.Form.{Form}
-use Rattle.awsign_text.specs.declared.forms.Form.TheVariants.{Curl, Headers, Json, Url}
-use Rattle.awsign_run.specs.declared.words.Asked.{Asked}
-use Rattle.awsign_run.specs.declared.words.GivenWords.{GivenWords}
+use Rattle.awsign_text.specs.declared.forms.Form.TheVariants.{Curl, Headers, Json, Http, Url}
+use Rattle.awsign_words.specs.declared.command.Command.{Command}
+use Rattle.awsign_words.specs.declared.command.Command.TheVariants.{Sign, Presign, Verify}
+use Rattle.awsign_words.specs.declared.words.Asked.{Asked}
+use Rattle.awsign_words.specs.declared.words.AskedCommand.{AskedCommand}
+use Rattle.awsign_words.specs.declared.words.AskedCommand.TheVariants.{Signing, Verifying}
+use Rattle.awsign_words.specs.declared.words.GivenWords.{GivenWords}
+use Rattle.awsign_words.specs.declared.words.VerifyAsked.{VerifyAsked}
 
 -- the values of options by their words, in order
 abbrev pub OptionValues : Type 0
 OptionValues = List (List ℕ × List ℕ)
 
--- what the words ask for: whether to presign, the values of options, headers, the method and the URL
+-- what the words of `sign` and `presign` ask for: whether to presign, the values of options, headers, the method and the URL
 pub record SignWanted : Type 0 where
   pub presigns : Bool
   pub options : OptionValues
@@ -26,9 +31,20 @@ pub record SignWanted : Type 0 where
   pub method : List ℕ
   pub url : List ℕ
 
+-- what the words of `verify` ask for: the values of options, headers, and a method with a URL, or the request that the input has
+pub record VerifyWanted : Type 0 where
+  pub options : OptionValues
+  pub headers : List (List ℕ × List ℕ)
+  pub named : Option (List ℕ × List ℕ)
+
+-- what words ask for
+pub data CommandWanted : Type 0 where
+  signs : SignWanted → CommandWanted
+  verifies : VerifyWanted → CommandWanted
+
 -- what the words so far gave, and the option that waits for its value
 pub record Given : Type 0 where
-  pub presigns : Bool
+  pub command : Command
   pub options : OptionValues
   pub headers : List (List ℕ × List ℕ)
   pub method : Option (List ℕ)
@@ -36,29 +52,46 @@ pub record Given : Type 0 where
   pub awaited : Option (List ℕ)
 
 -- no words yet
-abbrev pub no_words : Bool → Given
-no_words presigns = record { presigns = presigns; options = []; headers = []; method = None; url = None; awaited = None }
+abbrev pub no_words : Command → Given
+no_words command = record { command = command; options = []; headers = []; method = None; url = None; awaited = None }
 
 -- ## Options
+
+-- the command prints a signed request
+abbrev pub prints : Command → Bool
+prints Sign = true
+prints Presign = true
+prints Verify = false
+
+-- the command prints a presigned URL
+abbrev pub is_presign : Command → Bool
+is_presign Sign = false
+is_presign Presign = true
+is_presign Verify = false
 
 -- an option that says who signs, for what, or when
 abbrev pub is_signing_option : List ℕ → Bool
 is_signing_option word =
     bytes_eq word (codes "--profile") || bytes_eq word (codes "--region") || bytes_eq word (codes "--service") || bytes_eq word (codes "--config")
-    || bytes_eq word (codes "--credentials") || bytes_eq word (codes "--at") || bytes_eq word (codes "-H") || bytes_eq word (codes "--as")
+    || bytes_eq word (codes "--credentials") || bytes_eq word (codes "--at") || bytes_eq word (codes "-H")
 
 -- an option that gives the payload by a value: a file, its digest, or the payload's text
 abbrev pub is_payload_option : List ℕ → Bool
 is_payload_option word = bytes_eq word (codes "--data") || bytes_eq word (codes "--payload-hash") || bytes_eq word (codes "--payload-text")
 
+-- an option that says what is printed, and over which payload
+abbrev pub is_printing_option : List ℕ → Bool
+is_printing_option word = bytes_eq word (codes "--as") || is_payload_option word
+
 -- an option whose value is the next word; only a presigned URL has an expiry
-abbrev pub takes_value : Bool → List ℕ → Bool
-takes_value presigns word = is_signing_option word || is_payload_option word || (presigns && bytes_eq word (codes "--expires"))
+abbrev pub takes_value : Command → List ℕ → Bool
+takes_value command word =
+    is_signing_option word || (prints command && is_printing_option word) || (is_presign command && bytes_eq word (codes "--expires"))
 
 -- an option without a value
-abbrev pub is_flag : Bool → List ℕ → Bool
-is_flag presigns word =
-    bytes_eq word (codes "--s3") || bytes_eq word (codes "--unsigned") || (presigns && bytes_eq word (codes "--long"))
+abbrev pub is_flag : Command → List ℕ → Bool
+is_flag command word =
+    bytes_eq word (codes "--s3") || (prints command && bytes_eq word (codes "--unsigned")) || (is_presign command && bytes_eq word (codes "--long"))
 
 -- the option stood
 abbrev pub has : OptionValues → List ℕ → Bool
@@ -83,6 +116,7 @@ form_named word =
     if bytes_eq word (codes "curl") then Some Curl
     else if bytes_eq word (codes "headers") then Some Headers
     else if bytes_eq word (codes "json") then Some Json
+    else if bytes_eq word (codes "http") then Some Http
     else if bytes_eq word (codes "url") then Some Url
     else None
 
@@ -126,8 +160,8 @@ minus = 45
 unfoldable pub take_other : Given → List ℕ → Option Given
 take_other given word =
     if is_spent given.options word then None
-    else if takes_value given.presigns word then Some (record given { awaited = Some word })
-    else if is_flag given.presigns word then Some (record given { options = given.options ++ (word, []) ∷ [] })
+    else if takes_value given.command word then Some (record given { awaited = Some word })
+    else if is_flag given.command word then Some (record given { options = given.options ++ (word, []) ∷ [] })
     else if slice_index word 0 == minus then None
     else take_operand given given.method given.url word
 
@@ -143,26 +177,57 @@ given_word given word = take_sign_word given given.awaited word
 -- the words are over: what is asked for, or the place behind the last word where one is missing
 abbrev pub sign_wanted_of : ℕ → Given → Option (List ℕ) → Option (List ℕ) → Option (List ℕ) → Result SignWanted ℕ
 sign_wanted_of place given None (Some method) (Some url) =
-    Ok (record { presigns = given.presigns; options = given.options; headers = given.headers; method = method; url = url })
+    Ok (record { presigns = is_presign given.command; options = given.options; headers = given.headers; method = method; url = url })
 sign_wanted_of place given None (Some method) None = Err place
 sign_wanted_of place given None None url = Err place
 sign_wanted_of place given (Some option) method url = Err place
 
--- what all words ask for; a presigned URL has to have an expiry
+-- what all words of `sign` and `presign` ask for; a presigned URL has to have an expiry
 abbrev pub all_words : ℕ → Given → Result SignWanted ℕ
 all_words place given =
-    if given.presigns && not (has given.options (codes "--expires")) then Err place else sign_wanted_of place given given.awaited given.method given.url
+    if is_presign given.command && not (has given.options (codes "--expires")) then Err place
+    else sign_wanted_of place given given.awaited given.method given.url
 
--- what the words behind the command's name ask for, or the place of the first bad one
-unfoldable pub words_behind : Bool → List (List ℕ) → Result SignWanted ℕ
-words_behind presigns words = after_pieces all_words (taken_from given_word 2 (no_words presigns) words)
+-- what this method and this URL ask to verify
+abbrev pub verify_wanted_of : Given → Option (List ℕ × List ℕ) → VerifyWanted
+verify_wanted_of given named = record { options = given.options; headers = given.headers; named = named }
 
--- what the words ask for: `sign` or `presign`, and what stands behind it
-abbrev pub command_words : List (List ℕ) → Result SignWanted ℕ
+-- the words of `verify` are over: both operands stood, or none, and then no header
+abbrev pub verify_words_of : ℕ → Given → Option (List ℕ) → Option (List ℕ) → Option (List ℕ) → Result VerifyWanted ℕ
+verify_words_of place given None (Some method) (Some url) = Ok (verify_wanted_of given (Some (method, url)))
+verify_words_of place given None (Some method) None = Err place
+verify_words_of place given None None url = if length given.headers == 0 then Ok (verify_wanted_of given None) else Err place
+verify_words_of place given (Some option) method url = Err place
+
+-- what all words of `verify` ask for
+abbrev pub all_verify_words : ℕ → Given → Result VerifyWanted ℕ
+all_verify_words place given = verify_words_of place given given.awaited given.method given.url
+
+-- what the words behind `sign` and `presign` ask for, or the place of the first bad one
+unfoldable pub words_behind : Command → List (List ℕ) → Result SignWanted ℕ
+words_behind command words = after_pieces all_words (taken_from given_word 2 (no_words command) words)
+
+-- what the words behind `verify` ask for
+unfoldable pub verify_words : List (List ℕ) → Result VerifyWanted ℕ
+verify_words words = after_pieces all_verify_words (taken_from given_word 2 (no_words Verify) words)
+
+-- to sign what is asked
+abbrev pub to_sign : Result SignWanted ℕ → Result CommandWanted ℕ
+to_sign (Ok wanted) = Ok (signs wanted)
+to_sign (Err place) = Err place
+
+-- to verify what is asked
+abbrev pub to_verify : Result VerifyWanted ℕ → Result CommandWanted ℕ
+to_verify (Ok wanted) = Ok (verifies wanted)
+to_verify (Err place) = Err place
+
+-- what the words ask for: a command, and what stands behind it
+abbrev pub command_words : List (List ℕ) → Result CommandWanted ℕ
 command_words [] = Err 1
 command_words (word ∷ words) =
-    if bytes_eq word (codes "sign") then words_behind false words
-    else if bytes_eq word (codes "presign") then words_behind true words
+    if bytes_eq word (codes "sign") then to_sign (words_behind Sign words)
+    else if bytes_eq word (codes "presign") then to_sign (words_behind Presign words)
+    else if bytes_eq word (codes "verify") then to_verify (verify_words words)
     else Err 1
 
 -- ## Answers
@@ -170,7 +235,7 @@ command_words (word ∷ words) =
 -- what contracts see of what the words gave
 abbrev pub given_words : GivenWords → Given
 given_words given = record {
-  presigns = given.presigns;
+  command = given.command;
   options = given.options;
   headers = given.headers;
   method = option_copied given.method;
@@ -187,3 +252,24 @@ abbrev pub ReadsAsked : Result SignWanted ℕ → Result Asked WordsFault → Ty
 ReadsAsked read (Ok asked) = read ≡ Ok (sign_wanted asked)
 ReadsAsked read (Err (BadWord place)) = read ≡ Err place
 ReadsAsked read (Err NoMemory) = Unit {0}
+
+-- what contracts see of what is to be verified
+abbrev pub verify_wanted : VerifyAsked → VerifyWanted
+verify_wanted asked = record { options = asked.options; headers = asked.headers; named = texts_of_pair asked.named }
+
+-- this is what is to be verified, or the word at this place is bad; or memory ran out
+abbrev pub ReadsVerify : Result VerifyWanted ℕ → Result VerifyAsked WordsFault → Type 0
+ReadsVerify read (Ok asked) = read ≡ Ok (verify_wanted asked)
+ReadsVerify read (Err (BadWord place)) = read ≡ Err place
+ReadsVerify read (Err NoMemory) = Unit {0}
+
+-- what contracts see of what words ask for
+abbrev pub command_wanted : AskedCommand → CommandWanted
+command_wanted (Signing asked) = signs (sign_wanted asked)
+command_wanted (Verifying asked) = verifies (verify_wanted asked)
+
+-- this is what words ask for, or the word at this place is bad; or memory ran out
+abbrev pub ReadsCommand : Result CommandWanted ℕ → Result AskedCommand WordsFault → Type 0
+ReadsCommand read (Ok asked) = read ≡ Ok (command_wanted asked)
+ReadsCommand read (Err (BadWord place)) = read ≡ Err place
+ReadsCommand read (Err NoMemory) = Unit {0}

@@ -1,12 +1,13 @@
-//! The words of `awsign sign` and `awsign presign`.
+//! The words of the tool.
 ghost use Rattle.std.specs.Prelude.{◌≡◌, ◌==◌, None, map, slice_index};
 ghost use Rattle.std.specs.List.{list_all};
 ghost use Rattle.std.specs.String.{string_bytes};
 ghost use Rattle.http_header.specs.Token.{is_token_byte};
 ghost use Rattle.job_text.specs.Words.{TakesWord};
-ghost use Rattle.awsign_run.specs.Words.{ReadsAsked, minus, all_words, command_words, form_named, given_words, has, has_payload, is_fit, is_flag, is_method, is_payload, is_payload_option, is_signing_option, no_words, is_spent, take_header, take_operand, take_other, take_value, takes_value, words_behind};
+ghost use Rattle.awsign_words.specs.Words.{ReadsAsked, ReadsCommand, ReadsVerify, all_verify_words, all_words, command_words, form_named, given_words, has, has_payload, is_fit, is_flag, is_method, is_payload, is_payload_option, is_printing_option, is_signing_option, is_spent, minus, no_words, take_header, take_operand, take_other, take_value, takes_value, to_sign, to_verify, verify_words, words_behind};
 ghost use Rattle.job_text.specs.Lines.{header_of_line};
 
+use crate::command::Command;
 use awsign_text::Form;
 use http_header::is_token_char;
 use job_text::{TakeWord, WordsFault, cut_pair, parse_i64, parse_u64, take_words};
@@ -14,6 +15,26 @@ use smithy_core::{Env, Headers};
 use std::alloc::Global;
 
 /// What the words ask for.
+#[derive(Drop)]
+pub enum AskedCommand<'a> {
+    /// To print a signed request, or a presigned URL.
+    Signing(Asked<'a>),
+    /// To say who signed a request.
+    Verifying(VerifyAsked<'a>),
+}
+
+/// What the words of `verify` ask for.
+#[derive(Drop)]
+pub struct VerifyAsked<'a> {
+    /// The values of the options, by their words.
+    pub options: Env,
+    /// The headers in order, beside a method and a URL.
+    pub headers: Headers,
+    /// The method and the URL; without them the input has the request.
+    pub named: Option<(&'a str, &'a str)>,
+}
+
+/// What the words of `sign` and `presign` ask for.
 #[derive(Drop)]
 pub struct Asked<'a> {
     /// Whether a URL is presigned, and not a request signed.
@@ -31,7 +52,7 @@ pub struct Asked<'a> {
 /// What the words so far gave, and the option that waits for its value.
 #[derive(Drop)]
 pub struct GivenWords<'a> {
-    presigns: bool,
+    command: Command,
     options: Env,
     headers: Headers,
     method: Option<&'a str>,
@@ -41,11 +62,11 @@ pub struct GivenWords<'a> {
 
 impl<'a> GivenWords<'a> {
     /// No words yet.
-    pub fn new(alloc: Global, presigns: bool) -> Self
-        ensures { given_words result ≡ no_words presigns }
+    pub fn new(alloc: Global, command: Command) -> Self
+        ensures { given_words result ≡ no_words command }
     {
         GivenWords {
-            presigns,
+            command,
             options: Env::new(alloc),
             headers: Headers::new(alloc),
             method: None,
@@ -89,9 +110,9 @@ impl<'a> GivenWords<'a> {
         if is_spent(&self.options, word) {
             return Err(WordsFault::BadWord(place));
         }
-        if takes_value(self.presigns, word) {
+        if takes_value(self.command, word) {
             self.awaited = Some(word);
-        } else if is_flag(self.presigns, word) {
+        } else if is_flag(self.command, word) {
             self.options.set(word, "")?;
         } else if begins_with_minus(word) {
             return Err(WordsFault::BadWord(place));
@@ -121,16 +142,17 @@ impl<'a> GivenWords<'a> {
         Ok(())
     }
 
-    /// What is asked, where the place behind the last word is reached.
+    /// What is to be signed, where the place behind the last word is reached.
     pub fn finish(self, place: usize) -> Result<Asked<'a>, WordsFault>
         ensures { ReadsAsked (all_words place (given_words self.entry)) result }
     {
-        if self.presigns && !has(&self.options, "--expires") {
+        let presigns = self.command.is_presign();
+        if presigns && !has(&self.options, "--expires") {
             return Err(WordsFault::BadWord(place));
         }
         match (self.awaited, self.method, self.url) {
             (None, Some(method), Some(url)) => Ok(Asked {
-                presigns: self.presigns,
+                presigns,
                 options: self.options,
                 headers: self.headers,
                 method,
@@ -139,10 +161,26 @@ impl<'a> GivenWords<'a> {
             _ => Err(WordsFault::BadWord(place)),
         }
     }
+
+    /// What is to be verified, where the place behind the last word is reached.
+    pub fn finish_verify(self, place: usize) -> Result<VerifyAsked<'a>, WordsFault>
+        ensures { ReadsVerify (all_verify_words place (given_words self.entry)) result }
+    {
+        let named = match (self.awaited, self.method, self.url) {
+            (None, Some(method), Some(url)) => Some((method, url)),
+            (None, None, _) if self.headers.len() == 0 => None,
+            _ => return Err(WordsFault::BadWord(place)),
+        };
+        Ok(VerifyAsked {
+            options: self.options,
+            headers: self.headers,
+            named,
+        })
+    }
 }
 
 impl<'a> TakeWord<'a> for GivenWords<'a> {
-    ghost use Rattle.awsign_run.specs.Words.{Given, given_words, given_word};
+    ghost use Rattle.awsign_words.specs.Words.{Given, given_words, given_word};
 
     ghost Given = { Given };
 
@@ -203,19 +241,28 @@ fn is_signing_option(word: &str) -> bool
         || word == "--credentials"
         || word == "--at"
         || word == "-H"
-        || word == "--as"
 }
 
-fn takes_value(presigns: bool, word: &str) -> bool
-    ensures { result ≡ takes_value presigns word.now }
+fn is_printing_option(word: &str) -> bool
+    ensures { result ≡ is_printing_option word.now }
 {
-    is_signing_option(word) || is_payload_option(word) || (presigns && word == "--expires")
+    word == "--as" || is_payload_option(word)
 }
 
-fn is_flag(presigns: bool, word: &str) -> bool
-    ensures { result ≡ is_flag presigns word.now }
+fn takes_value(command: Command, word: &str) -> bool
+    ensures { result ≡ takes_value command word.now }
 {
-    word == "--s3" || word == "--unsigned" || (presigns && word == "--long")
+    is_signing_option(word)
+        || (command.prints() && is_printing_option(word))
+        || (command.is_presign() && word == "--expires")
+}
+
+fn is_flag(command: Command, word: &str) -> bool
+    ensures { result ≡ is_flag command word.now }
+{
+    word == "--s3"
+        || (command.prints() && word == "--unsigned")
+        || (command.is_presign() && word == "--long")
 }
 
 fn begins_with_minus(word: &str) -> bool
@@ -227,7 +274,8 @@ fn begins_with_minus(word: &str) -> bool
     }
 }
 
-fn is_method(word: &str) -> bool
+/// Whether the text is a method: a token (RFC 9110, section 9.1).
+pub fn is_method(word: &str) -> bool
     ensures { result ≡ is_method word.now }
 {
     !word.is_empty() && has_token_bytes(word)
@@ -259,39 +307,73 @@ pub fn form_named(word: &str) -> Option<Form>
         "curl" => Some(Form::Curl),
         "headers" => Some(Form::Headers),
         "json" => Some(Form::Json),
+        "http" => Some(Form::Http),
         "url" => Some(Form::Url),
         _ => None,
     }
 }
 
-/// What the words behind the program's name ask for: `sign` or `presign`, a method, a URL, and options in any order.
+/// What the words behind the program's name ask for: a command, and then its options in any order, with a method and a URL among them.
 ///
 /// # Errors
 ///
 /// The place of the first bad word, or the place behind the last word where one is missing.
-pub fn read_asked<'a>(alloc: Global, words: &'a [String]) -> Result<Asked<'a>, WordsFault>
-    ensures { ReadsAsked (command_words (map string_bytes words.now)) result }
+pub fn read_command<'a>(alloc: Global, words: &'a [String]) -> Result<AskedCommand<'a>, WordsFault>
+    ensures { ReadsCommand (command_words (map string_bytes words.now)) result }
 {
     let [first, rest @ ..] = words else {
         return Err(WordsFault::BadWord(1));
     };
     match first.as_str() {
-        "sign" => read_behind(alloc, false, rest),
-        "presign" => read_behind(alloc, true, rest),
+        "sign" => read_signing(alloc, Command::Sign, rest),
+        "presign" => read_signing(alloc, Command::Presign, rest),
+        "verify" => read_verifying(alloc, rest),
         _ => Err(WordsFault::BadWord(1)),
     }
 }
 
-// What the words behind the command's name ask for.
+// What the words behind `sign` or `presign` ask for.
+fn read_signing<'a>(
+    alloc: Global,
+    command: Command,
+    words: &'a [String],
+) -> Result<AskedCommand<'a>, WordsFault>
+    ensures { ReadsCommand (to_sign (words_behind command (map string_bytes words.now))) result }
+{
+    match read_behind(alloc, command, words) {
+        Ok(asked) => Ok(AskedCommand::Signing(asked)),
+        Err(fault) => Err(fault),
+    }
+}
+
 #[tactic(auto, unfolding(crate::specs::Words::words_behind))]
 fn read_behind<'a>(
     alloc: Global,
-    presigns: bool,
+    command: Command,
     words: &'a [String],
 ) -> Result<Asked<'a>, WordsFault>
-    ensures { ReadsAsked (words_behind presigns (map string_bytes words.now)) result }
+    ensures { ReadsAsked (words_behind command (map string_bytes words.now)) result }
 {
-    let mut given = GivenWords::new(alloc, presigns);
+    let mut given = GivenWords::new(alloc, command);
     let place = take_words(&mut given, 2, words)?;
     given.finish(place)
+}
+
+// What the words behind `verify` ask for.
+fn read_verifying<'a>(alloc: Global, words: &'a [String]) -> Result<AskedCommand<'a>, WordsFault>
+    ensures { ReadsCommand (to_verify (verify_words (map string_bytes words.now))) result }
+{
+    match read_verify(alloc, words) {
+        Ok(asked) => Ok(AskedCommand::Verifying(asked)),
+        Err(fault) => Err(fault),
+    }
+}
+
+#[tactic(auto, unfolding(crate::specs::Words::verify_words))]
+fn read_verify<'a>(alloc: Global, words: &'a [String]) -> Result<VerifyAsked<'a>, WordsFault>
+    ensures { ReadsVerify (verify_words (map string_bytes words.now)) result }
+{
+    let mut given = GivenWords::new(alloc, Command::Verify);
+    let place = take_words(&mut given, 2, words)?;
+    given.finish_verify(place)
 }

@@ -1,0 +1,4 @@
+pub mod MessageLemmas
+pub mod TimeLemmas
+pub mod VerifyLemmas
+pub mod VerifyRunLemmas

@@ -1,0 +1,19 @@
+use Rattle.std.proofs.Common.{inl, refl}
+use Rattle.smithy_core.specs.Given.{Gives}
+use Rattle.env_config.specs.Loading.{Loaded, StopsAtFile}
+use Rattle.awsign_run.specs.Run.{TakesAskedMoment, asked_moment, asked_places}
+use Rattle.awsign_words.specs.Words.{verify_wanted}
+use Rattle.awsign_verify.proofs.VerifyRunLemmas.{text_written}
+use Rattle.awsign_verify.proofs.run.run_verify.Goals as goal
+
+pub returns-in-Ok-clause-headline : goal.returns-in-Ok-clause-headline
+returns-in-Ok-clause-headline g c =
+    let options = c.args.asked.now.options in
+    text_written (TakesAskedMoment (λ taken. Gives g.C.Clock c.args.clock.now taken c.judge_input.new.clock) (asked_moment options)) c.args.env.now
+    (Loaded g.D.Disk.answers g.D.Disk.faults (g.D.Disk.files c.args.disk.now) c.args.env.now (asked_places options) c.args.disk.now c.judge_input.new.disk)
+    (StopsAtFile g.D.Disk.answers g.D.Disk.faults (g.D.Disk.files c.args.disk.now) c.args.env.now (asked_places options) c.args.disk.now c.judge_input.new.disk)
+    (verify_wanted c.args.asked.now) (g.S.ByteSource.left c.args.input.now) c.in-Ok.text c.write_verified.result (g.K.ByteSink.held c.args.out.now) (g.K.ByteSink.held c.write_verified.new.out)
+    c.in-Ok.ensures.judges (rw c.as_slice.ensures.value at c.write_verified.ensures.wrote)
+
+pub returns-in-Err-clause-headline : goal.returns-in-Err-clause-headline
+returns-in-Err-clause-headline g c = inl (c.in-Err.ensures.judges, refl)

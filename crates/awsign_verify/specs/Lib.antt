@@ -1,0 +1,4 @@
+pub mod Message
+pub mod Verify
+pub mod VerifyRun
+pub mod VerifySaying

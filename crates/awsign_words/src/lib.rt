@@ -1,0 +1,13 @@
+//! The words of the tool `awsign`.
+//!
+//! The layer above is promised that [`read_command`] answers exactly what the words ask for, or the place of the first one that is bad
+//! (`specs/Words.antt`).
+#![tactic(auto)]
+
+mod command;
+mod words;
+
+pub use crate::command::Command;
+pub use crate::words::{
+    Asked, AskedCommand, GivenWords, VerifyAsked, form_named, is_method, read_command,
+};
