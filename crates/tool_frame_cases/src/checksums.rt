@@ -7,32 +7,14 @@ use tool_case_lines::unknown;
 
 pub fn answer(alloc: Global, call: &[&str]) -> Result<String, AllocError> {
     match call {
-        [call, bytes] => of_bytes(alloc, call, bytes),
-        [call, words @ ..] => of_pieces(alloc, call, words),
-        [] => unknown(alloc),
-    }
-}
-
-fn of_bytes(alloc: Global, call: &str, bytes: &str) -> Result<String, AllocError> {
-    match call {
-        "crc32" => crc32_of(alloc, bytes),
-        "crc32_appended" => crc32_appended(alloc, bytes),
-        "sha256" => sha256_hex(alloc, bytes_of(alloc, bytes)?.as_slice()),
-        _ => of_pieces(alloc, call, &[bytes]),
-    }
-}
-
-fn of_pieces(alloc: Global, call: &str, words: &[&str]) -> Result<String, AllocError> {
-    match call {
-        "crc32_pieces" => answers_of(alloc, &mut Crc::new(), words),
-        "hmac" => hmac(alloc, words),
-        "hmac_pieces" => hmac_of_pieces(alloc, words),
+        ["crc32", bytes] => checksum_told(alloc, crc32(bytes_of(alloc, bytes)?.as_slice())),
+        ["crc32_appended", bytes] => crc32_appended(alloc, bytes),
+        ["crc32_pieces", pieces @ ..] => answers_of(alloc, &mut Crc::new(), pieces),
+        ["sha256", bytes] => sha256_hex(alloc, bytes_of(alloc, bytes)?.as_slice()),
+        ["hmac", key, text] => hmac(alloc, key, text),
+        ["hmac_pieces", front, back, pieces @ ..] => hmac_of_pieces(alloc, front, back, pieces),
         _ => unknown(alloc),
     }
-}
-
-fn crc32_of(alloc: Global, bytes: &str) -> Result<String, AllocError> {
-    checksum_told(alloc, crc32(bytes_of(alloc, bytes)?.as_slice()))
 }
 
 // The bytes and their checksum.
@@ -55,10 +37,7 @@ fn checksum_told(alloc: Global, checksum: u32) -> Result<String, AllocError> {
     format!(in alloc; "{checksum:08x}")
 }
 
-fn hmac(alloc: Global, words: &[&str]) -> Result<String, AllocError> {
-    let [key, text] = words else {
-        return unknown(alloc);
-    };
+fn hmac(alloc: Global, key: &str, text: &str) -> Result<String, AllocError> {
     let key = bytes_of(alloc, key)?;
     let text = bytes_of(alloc, text)?;
     digits(
@@ -68,10 +47,12 @@ fn hmac(alloc: Global, words: &[&str]) -> Result<String, AllocError> {
 }
 
 // The code under a key in two parts.
-fn hmac_of_pieces(alloc: Global, words: &[&str]) -> Result<String, AllocError> {
-    let [front, back, pieces @ ..] = words else {
-        return unknown(alloc);
-    };
+fn hmac_of_pieces(
+    alloc: Global,
+    front: &str,
+    back: &str,
+    pieces: &[&str],
+) -> Result<String, AllocError> {
     let mut hasher = hasher_of(alloc, front, back)?;
     for piece in pieces {
         hasher.update(bytes_of(alloc, piece)?.as_slice());

@@ -178,15 +178,14 @@ fn push_each(alloc: Global, stream: &mut Stream, bytes: &[u8]) -> Mem<String> {
     let mut waits = 0u32;
     for byte in bytes {
         push_piece(alloc, &mut answers, stream, [*byte].as_slice())?;
-        waits = push_decoded(&mut answers, waits, decode(alloc, stream))?;
+        waits = push_decoded(&mut answers, waits, decode(alloc, stream)?.as_str())?;
     }
     Ok(answers)
 }
 
 // Counts one answer `Incomplete` more, or tells how many there were and the other answer.
-fn push_decoded(answers: &mut String, waits: u32, answer: Mem<String>) -> Mem<u32> {
-    let answer = answer?;
-    if answer.as_str() == "Incomplete" {
+fn push_decoded(answers: &mut String, waits: u32, answer: &str) -> Mem<u32> {
+    if answer == "Incomplete" {
         return Ok(waits.saturating_add(1));
     }
     if !answers.is_empty() {

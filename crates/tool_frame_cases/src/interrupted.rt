@@ -5,7 +5,6 @@ use smithy_core::{Mem, StdSink, StdSource};
 use std::alloc::Global;
 use std::io;
 use std::io::{ErrorKind, Read, Write};
-use tool_case_lines::unknown;
 
 /// A reader or a writer of which a signal interrupts so many calls before each that goes through.
 #[derive(Drop)]
@@ -55,20 +54,14 @@ impl<W: Write> Write for Interrupted<W> {
 }
 
 /// What a source over an interrupted reader answers to the steps.
-pub fn source(alloc: Global, words: &[&str]) -> Mem<String> {
-    let [times, content, steps @ ..] = words else {
-        return unknown(alloc);
-    };
+pub fn source(alloc: Global, times: &str, content: &str, steps: &[&str]) -> Mem<String> {
     let content = bytes_of(alloc, content)?;
     let reader = Interrupted::new(content.as_slice(), size_of(times));
     answers_of(alloc, &mut StdSource::new(reader), steps)
 }
 
 /// What a sink over an interrupted writer answers to the steps, and what was written.
-pub fn sink(alloc: Global, words: &[&str]) -> Mem<String> {
-    let [times, steps @ ..] = words else {
-        return unknown(alloc);
-    };
+pub fn sink(alloc: Global, times: &str, steps: &[&str]) -> Mem<String> {
     let mut written = Vec::new(alloc);
     let writer = Interrupted::new(&mut written, size_of(times));
     let answers = answers_of(alloc, &mut StdSink::new(writer), steps)?;

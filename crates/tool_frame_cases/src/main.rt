@@ -14,7 +14,6 @@
 #![tactic(auto)]
 
 mod checksums;
-mod copies;
 mod decoding;
 mod documents;
 mod faults;
@@ -76,8 +75,7 @@ fn answer(alloc: Global, subject: &str, words: &[&str]) -> Result<String, AllocE
 
 fn upper_answer(alloc: Global, subject: &str, words: &[&str]) -> Result<String, AllocError> {
     match subject {
-        "outside" => outside::answer(alloc, words),
-        "copy" => copies::answer(alloc, words),
+        "outside" | "copy" => outside::answer(alloc, subject, words),
         "source" => sources::answer(alloc, words),
         "frame" => frames::answer(alloc, words),
         "decoder" => decoding::answer(alloc, words),

@@ -1,6 +1,6 @@
 use crate::shown;
 use crate::words::moment_of;
-use smithy_core::{DateTime, Format, civil};
+use smithy_core::{Civil, DateTime, Format, civil};
 use std::alloc::{AllocError, Global};
 use tool_case_lines::{number, unknown};
 
@@ -14,35 +14,20 @@ pub fn answer(alloc: Global, call: &[&str]) -> Result<String, AllocError> {
 
 fn of_moment(alloc: Global, call: &str, moment: DateTime) -> Result<String, AllocError> {
     match call {
-        "date" => date(alloc, moment),
-        "stamp" => stamp(alloc, moment),
-        "stamp_text" => stamp_text(alloc, moment),
         "to_millis" => to_millis(alloc, moment),
         "date_time" => text(alloc, moment, Format::DateTime),
         "http_date" => text(alloc, moment, Format::HttpDate),
         "epoch_seconds" => text(alloc, moment, Format::EpochSeconds),
-        _ => unknown(alloc),
+        _ => of_civil(alloc, call, civil(moment)),
     }
 }
 
-fn date(alloc: Global, moment: DateTime) -> Result<String, AllocError> {
-    match civil(moment) {
-        Some(civil) => shown::quoted(alloc, civil.date().as_slice()),
-        None => String::from_str(alloc, "none"),
-    }
-}
-
-fn stamp(alloc: Global, moment: DateTime) -> Result<String, AllocError> {
-    match civil(moment) {
-        Some(civil) => shown::quoted(alloc, civil.stamp().as_slice()),
-        None => String::from_str(alloc, "none"),
-    }
-}
-
-fn stamp_text(alloc: Global, moment: DateTime) -> Result<String, AllocError> {
-    match civil(moment) {
-        Some(civil) => civil.stamp_text(alloc),
-        None => String::from_str(alloc, "none"),
+fn of_civil(alloc: Global, call: &str, civil: Option<Civil>) -> Result<String, AllocError> {
+    match (call, civil) {
+        ("date", Some(civil)) => shown::quoted(alloc, civil.date().as_slice()),
+        ("stamp", Some(civil)) => shown::quoted(alloc, civil.stamp().as_slice()),
+        (_, Some(civil)) => civil.stamp_text(alloc),
+        (_, None) => String::from_str(alloc, "none"),
     }
 }
 

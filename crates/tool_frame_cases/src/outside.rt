@@ -13,7 +13,7 @@ use std::rt::Files;
 use tool_case_lines::{halves, unknown};
 
 // An I/O object: a source, a sink or a disk.
-pub trait Outside: Steps + Sized {
+trait Outside: Steps + Sized {
     // What it tells after the steps.
     fn rest(&self, alloc: Global) -> Mem<String>;
 
@@ -135,101 +135,102 @@ impl<R: Files> Steps for HostDisk<R> {
     }
 }
 
-// What an object answers to the steps, and what it then tells.
-pub fn told_after<O: Outside>(alloc: Global, object: &mut O, steps: &[&str]) -> Mem<String> {
+// What an object answers to the steps, and what it then tells. With `copies` a copy that is made after the first step takes
+// the others.
+fn told_after<O: Outside + Drop>(
+    alloc: Global,
+    copies: bool,
+    object: &mut O,
+    steps: &[&str],
+) -> Mem<String> {
+    match steps {
+        [first, others @ ..] if copies => {
+            let mut answers = object.after(alloc, first)?;
+            push_given(&mut answers, told_by_copy(alloc, object, others))?;
+            Ok(answers)
+        }
+        _ => all_told(alloc, object, steps),
+    }
+}
+
+fn told_by_copy<O: Outside + Drop>(alloc: Global, object: &O, steps: &[&str]) -> Mem<String> {
+    let mut copy = object.copied()?;
+    all_told(alloc, &mut copy, steps)
+}
+
+fn all_told<O: Outside>(alloc: Global, object: &mut O, steps: &[&str]) -> Mem<String> {
     let mut answers = answers_of(alloc, object, steps)?;
     push_given(&mut answers, object.rest(alloc))?;
     Ok(answers)
 }
 
-pub fn answer(alloc: Global, call: &[&str]) -> Mem<String> {
+/// The answers of an object to its steps, and of `copy` those of its copy to all but the first.
+pub fn answer(alloc: Global, subject: &str, call: &[&str]) -> Mem<String> {
     match call {
-        [call, words @ ..] => of_calm(alloc, call, words),
+        [call, words @ ..] => of_calm(alloc, subject == "copy", call, words),
         [] => unknown(alloc),
     }
 }
 
-fn of_calm(alloc: Global, call: &str, words: &[&str]) -> Mem<String> {
-    match call {
-        "calm_source" => calm_source(alloc, words),
-        "calm_sink" => told_after(alloc, &mut CalmSink::new(alloc), words),
-        "calm_disk" => calm_disk(alloc, words),
-        "list_clock" => list_clock(alloc, words),
-        "fixed_clock" => fixed_clock(alloc, words),
-        _ => of_faulty(alloc, call, words),
+fn of_calm(alloc: Global, copies: bool, call: &str, words: &[&str]) -> Mem<String> {
+    match (call, words) {
+        ("calm_sink", steps) => told_after(alloc, copies, &mut CalmSink::new(alloc), steps),
+        ("calm_source", [content, steps @ ..]) => {
+            let mut source = CalmSource::new(bytes_of(alloc, content)?);
+            told_after(alloc, copies, &mut source, steps)
+        }
+        ("calm_disk", [files, paths @ ..]) => {
+            let mut disk = CalmDisk::new(files_of(alloc, files)?);
+            told_after(alloc, copies, &mut disk, paths)
+        }
+        ("faulty_sink", [fails, steps @ ..]) => {
+            let mut sink = FaultySink::new(alloc, numbers_of(alloc, fails)?);
+            told_after(alloc, copies, &mut sink, steps)
+        }
+        ("faulty_source", [content, fails, steps @ ..]) => {
+            let mut source = faulty_source_of(alloc, content, fails)?;
+            told_after(alloc, copies, &mut source, steps)
+        }
+        ("faulty_disk", [files, fails, paths @ ..]) => {
+            let mut disk = faulty_disk_of(alloc, files, fails)?;
+            told_after(alloc, copies, &mut disk, paths)
+        }
+        ("list_clock", [words @ .., count]) => list_clock(alloc, copies, words, size_of(count)),
+        _ => of_std(alloc, call, words),
     }
 }
 
-fn of_faulty(alloc: Global, call: &str, words: &[&str]) -> Mem<String> {
-    match call {
-        "faulty_source" => faulty_source(alloc, words),
-        "faulty_sink" => faulty_sink(alloc, words),
-        "faulty_disk" => faulty_disk(alloc, words),
-        "std_source" => std_source(alloc, words),
-        "std_sink" => std_sink(alloc, words),
-        "full_sink" => full_sink(alloc, words),
-        "interrupted_source" => interrupted::source(alloc, words),
-        "interrupted_sink" => interrupted::sink(alloc, words),
+fn of_std(alloc: Global, call: &str, words: &[&str]) -> Mem<String> {
+    match (call, words) {
+        ("fixed_clock", [moment, count]) => {
+            given(
+                alloc,
+                &mut FixedClock::new(moment_of(moment)),
+                size_of(count),
+            )
+        }
+        ("std_source", [content, steps @ ..]) => {
+            let content = bytes_of(alloc, content)?;
+            answers_of(alloc, &mut StdSource::new(content.as_slice()), steps)
+        }
+        ("std_sink", steps) => std_sink(alloc, steps),
+        ("full_sink", [room, steps @ ..]) => full_sink(alloc, size_of(room), steps),
+        ("interrupted_source", [times, content, steps @ ..]) => {
+            interrupted::source(alloc, times, content, steps)
+        }
+        ("interrupted_sink", [times, steps @ ..]) => interrupted::sink(alloc, times, steps),
         _ => unknown(alloc),
     }
 }
 
-fn calm_source(alloc: Global, words: &[&str]) -> Mem<String> {
-    let [content, steps @ ..] = words else {
-        return unknown(alloc);
-    };
-    let mut source = CalmSource::new(bytes_of(alloc, content)?);
-    told_after(alloc, &mut source, steps)
-}
-
-fn faulty_source(alloc: Global, words: &[&str]) -> Mem<String> {
-    let [content, fails, steps @ ..] = words else {
-        return unknown(alloc);
-    };
-    let mut source = faulty_source_of(alloc, content, fails)?;
-    told_after(alloc, &mut source, steps)
-}
-
-pub fn faulty_source_of(alloc: Global, content: &str, fails: &str) -> Mem<FaultySource> {
+fn faulty_source_of(alloc: Global, content: &str, fails: &str) -> Mem<FaultySource> {
     let fails = numbers_of(alloc, fails)?;
     Ok(FaultySource::new(bytes_of(alloc, content)?, fails))
 }
 
-fn faulty_sink(alloc: Global, words: &[&str]) -> Mem<String> {
-    let [fails, steps @ ..] = words else {
-        return unknown(alloc);
-    };
-    let mut sink = FaultySink::new(alloc, numbers_of(alloc, fails)?);
-    told_after(alloc, &mut sink, steps)
-}
-
-fn calm_disk(alloc: Global, words: &[&str]) -> Mem<String> {
-    let [files, paths @ ..] = words else {
-        return unknown(alloc);
-    };
-    let mut disk = CalmDisk::new(files_of(alloc, files)?);
-    told_after(alloc, &mut disk, paths)
-}
-
-fn faulty_disk(alloc: Global, words: &[&str]) -> Mem<String> {
-    let [files, fails, paths @ ..] = words else {
-        return unknown(alloc);
-    };
-    let mut disk = faulty_disk_of(alloc, files, fails)?;
-    told_after(alloc, &mut disk, paths)
-}
-
-pub fn faulty_disk_of(alloc: Global, files: &str, fails: &str) -> Mem<FaultyDisk> {
+fn faulty_disk_of(alloc: Global, files: &str, fails: &str) -> Mem<FaultyDisk> {
     let fails = numbers_of(alloc, fails)?;
     Ok(FaultyDisk::new(files_of(alloc, files)?, fails))
-}
-
-fn std_source(alloc: Global, words: &[&str]) -> Mem<String> {
-    let [content, steps @ ..] = words else {
-        return unknown(alloc);
-    };
-    let content = bytes_of(alloc, content)?;
-    answers_of(alloc, &mut StdSource::new(content.as_slice()), steps)
 }
 
 // A step reads once into so much room or into a buffer, or all up to a limit.
@@ -271,11 +272,8 @@ fn std_sink(alloc: Global, steps: &[&str]) -> Mem<String> {
 }
 
 // A sink over a slice, which can be full.
-fn full_sink(alloc: Global, words: &[&str]) -> Mem<String> {
-    let [room, steps @ ..] = words else {
-        return unknown(alloc);
-    };
-    let mut slice = vec![in alloc; b'.'; size_of(room)]?;
+fn full_sink(alloc: Global, room: usize, steps: &[&str]) -> Mem<String> {
+    let mut slice = vec![in alloc; b'.'; room]?;
     let answers = answers_of(alloc, &mut StdSink::new(slice.as_mut_slice()), steps)?;
     with_written(alloc, answers, slice.as_slice())
 }
@@ -307,7 +305,7 @@ fn write_once<K: ByteSink>(alloc: Global, sink: &mut K, piece: &str) -> Mem<Stri
 }
 
 // The files between `;`, each a path and its bytes.
-pub fn files_of(alloc: Global, word: &str) -> Mem<Vec<(String, Vec<u8>)>> {
+fn files_of(alloc: Global, word: &str) -> Mem<Vec<(String, Vec<u8>)>> {
     let mut files = Vec::new(alloc);
     for file in word.split(';') {
         files.push(file_of(alloc, file)?)?;
@@ -328,18 +326,26 @@ fn read_path<D: Disk>(alloc: Global, disk: &mut D, path: &str) -> Mem<String> {
     }
 }
 
-fn list_clock(alloc: Global, words: &[&str]) -> Mem<String> {
-    let [words @ .., count] = words else {
-        return unknown(alloc);
-    };
+fn list_clock(alloc: Global, copies: bool, words: &[&str], count: usize) -> Mem<String> {
     let moments = moments_of(alloc, words)?;
     if moments.is_empty() {
         return String::from_str(alloc, "no moments");
     }
-    given(alloc, &mut ListClock::new(moments), size_of(count))
+    let mut clock = ListClock::new(moments);
+    if copies {
+        return given_by_copy(alloc, &mut clock, count);
+    }
+    given(alloc, &mut clock, count)
 }
 
-pub fn moments_of(alloc: Global, words: &[&str]) -> Mem<Vec<DateTime>> {
+// A first moment, and then so many of a copy.
+fn given_by_copy(alloc: Global, clock: &mut ListClock, count: usize) -> Mem<String> {
+    let mut answers = given(alloc, clock, 1)?;
+    push_given(&mut answers, given(alloc, &mut clock.try_clone()?, count))?;
+    Ok(answers)
+}
+
+fn moments_of(alloc: Global, words: &[&str]) -> Mem<Vec<DateTime>> {
     let mut moments = Vec::new(alloc);
     for word in words {
         moments.push(moment_of(word))?;
@@ -347,16 +353,8 @@ pub fn moments_of(alloc: Global, words: &[&str]) -> Mem<Vec<DateTime>> {
     Ok(moments)
 }
 
-fn fixed_clock(alloc: Global, words: &[&str]) -> Mem<String> {
-    let [moment, count] = words else {
-        return unknown(alloc);
-    };
-    let mut clock = FixedClock::new(moment_of(moment));
-    given(alloc, &mut clock, size_of(count))
-}
-
 // What so many calls of a clock give.
-pub fn given<C: Clock>(alloc: Global, clock: &mut C, count: usize) -> Mem<String> {
+fn given<C: Clock>(alloc: Global, clock: &mut C, count: usize) -> Mem<String> {
     let mut answers = String::new(alloc);
     for _ in 0..count {
         push_given(&mut answers, moment(alloc, clock.now()))?;

@@ -1,4 +1,4 @@
-use crate::shown::{nothing, push_answer, push_given, quoted, truth};
+use crate::shown::{nothing, push_answer, quoted, truth};
 use crate::steps::{Steps, answers_of};
 use crate::texts::unless_empty;
 use crate::words::{moment_of, shared};
@@ -10,31 +10,30 @@ use tool_case_lines::{halves, unknown};
 
 pub fn answer(alloc: Global, call: &[&str]) -> Mem<String> {
     match call {
-        [call, word] => of_word(alloc, call, word),
-        [call, words @ ..] => of_words(alloc, call, words),
-        [] => unknown(alloc),
-    }
-}
-
-fn of_word(alloc: Global, call: &str, word: &str) -> Mem<String> {
-    match call {
-        "copied_identity" => copied_token(alloc, word),
-        _ => of_words(alloc, call, &[word]),
-    }
-}
-
-fn of_words(alloc: Global, call: &str, words: &[&str]) -> Mem<String> {
-    match call {
-        "headers" => answers_of(alloc, &mut Headers::new(alloc), words),
-        "collected" => collected(alloc, words),
-        "new" => new_request(alloc, words),
-        "copied_request" => copied_request(alloc, words),
-        "copied_response" => copied_response(alloc, words),
-        "copied_credentials" => copied_credentials(alloc, words),
-        "copied_identity" => copied_signer(alloc, words),
-        "identity_from" => identity_from(alloc, words),
-        "max_attempts" => max_attempts(alloc),
+        ["headers", steps @ ..] => answers_of(alloc, &mut Headers::new(alloc), steps),
+        ["collected", words @ ..] => collected(alloc, words),
+        ["new", method, target] => copied_request(alloc, method, target, "", &[]),
+        ["copied_request", method, target, body, steps @ ..] => {
+            copied_request(alloc, method, target, body, steps)
+        }
+        ["copied_response", status, skew, steps @ ..] => {
+            copied_response(alloc, status, skew, steps)
+        }
+        ["max_attempts"] => RetryConfig::standard().max_attempts.to_string(alloc),
+        [_, token] => copied_identity(alloc, &Identity::Token(String::from_str(alloc, token)?)),
+        [call, key_id, secret, token, expiry] => {
+            let signer = credentials(alloc, key_id, secret, token, expiry_of(expiry))?;
+            of_signer(alloc, call, signer)
+        }
         _ => unknown(alloc),
+    }
+}
+
+fn of_signer(alloc: Global, call: &str, signer: Credentials) -> Mem<String> {
+    match call {
+        "copied_credentials" => parts_of(alloc, &signer.try_clone()?),
+        "copied_identity" => copied_identity(alloc, &Identity::Credentials(signer)),
+        _ => copied_identity(alloc, &Identity::from(signer)),
     }
 }
 
@@ -87,10 +86,15 @@ fn values(alloc: Global, headers: &Headers, name: &str) -> Mem<String> {
 
 pub fn pairs(alloc: Global, headers: &Headers) -> Mem<String> {
     let mut answers = String::new(alloc);
-    for (name, value) in headers.iter() {
-        push_pair(&mut answers, name, value)?;
-    }
+    push_pairs(&mut answers, headers)?;
     Ok(answers)
+}
+
+fn push_pairs(answers: &mut String, headers: &Headers) -> Mem<()> {
+    for (name, value) in headers.iter() {
+        push_pair(answers, name, value)?;
+    }
+    Ok(())
 }
 
 // The pairs that a loop over the headers gives.
@@ -125,10 +129,14 @@ fn put_all(headers: &mut Headers, steps: &[&str]) -> Mem<()> {
     Ok(())
 }
 
-fn copied_request(alloc: Global, words: &[&str]) -> Mem<String> {
-    let [method, target, body, steps @ ..] = words else {
-        return unknown(alloc);
-    };
+// A copy of a request that was made of a method and a target.
+fn copied_request(
+    alloc: Global,
+    method: &str,
+    target: &str,
+    body: &str,
+    steps: &[&str],
+) -> Mem<String> {
     let mut request = HttpRequest::new(alloc, method, target)?;
     copied_with(alloc, &mut request, body, steps)
 }
@@ -141,59 +149,43 @@ fn copied_with(
 ) -> Mem<String> {
     put_all(&mut request.headers, steps)?;
     request.body = shared(alloc, body)?;
-    whole_copy(alloc, request)
-}
-
-fn whole_copy(alloc: Global, request: &HttpRequest) -> Mem<String> {
-    let copy = request.try_clone()?;
-    whole(alloc, &copy)
-}
-
-fn new_request(alloc: Global, words: &[&str]) -> Mem<String> {
-    let [method, target] = words else {
-        return unknown(alloc);
-    };
-    let request = HttpRequest::new(alloc, method, target)?;
-    whole(alloc, &request)
+    whole(alloc, &request.try_clone()?)
 }
 
 fn whole(alloc: Global, request: &HttpRequest) -> Mem<String> {
     let body = quoted(alloc, request.body.as_slice())?;
     let mut answers = format!(in alloc; "{} {} {body}", request.method, request.target)?;
-    push_given(&mut answers, pairs(alloc, &request.headers))?;
+    push_pairs(&mut answers, &request.headers)?;
     Ok(answers)
 }
 
-fn copied_response(alloc: Global, words: &[&str]) -> Mem<String> {
-    let [status, skew, steps @ ..] = words else {
-        return unknown(alloc);
-    };
+fn copied_response(alloc: Global, status: &str, skew: &str, steps: &[&str]) -> Mem<String> {
     let mut response = HttpResponse {
         status: status.parse().unwrap_or(0),
         headers: Headers::new(alloc),
         skew: skew.parse().ok(),
     };
     put_all(&mut response.headers, steps)?;
-    response_copy(alloc, &response)
+    response_shown(alloc, &response.try_clone()?)
 }
 
-fn response_copy(alloc: Global, response: &HttpResponse) -> Mem<String> {
-    let copy = response.try_clone()?;
-    let mut answers = format!(in alloc; "{} {:?}", copy.status, copy.skew)?;
-    push_given(&mut answers, pairs(alloc, &copy.headers))?;
+fn response_shown(alloc: Global, response: &HttpResponse) -> Mem<String> {
+    let mut answers = format!(in alloc; "{} {:?}", response.status, response.skew)?;
+    push_pairs(&mut answers, &response.headers)?;
     Ok(answers)
 }
 
-// The credentials of a key's id, a secret, a token and an expiry, the last two empty for none.
-fn credentials(alloc: Global, words: &[&str]) -> Mem<Credentials> {
-    let (key_id, secret, token, expiry) = match words {
-        [key_id, secret, token, expiry] => (*key_id, *secret, *token, *expiry),
-        _ => ("", "", "", ""),
-    };
+// The credentials of a key's id, a secret, a token, empty for none, and an expiry.
+fn credentials(
+    alloc: Global,
+    key_id: &str,
+    secret: &str,
+    token: &str,
+    expiry: Option<Moment>,
+) -> Mem<Credentials> {
     let key_id = String::from_str(alloc, key_id)?;
     let secret = String::from_str(alloc, secret)?;
-    let token = unless_empty(alloc, token)?;
-    Ok(Credentials::new(key_id, secret, token, expiry_of(expiry)))
+    Ok(Credentials::new(key_id, secret, unless_empty(alloc, token)?, expiry))
 }
 
 fn expiry_of(word: &str) -> Option<Moment> {
@@ -213,31 +205,9 @@ fn parts_of(alloc: Global, signer: &Credentials) -> Mem<String> {
     )
 }
 
-fn copied_credentials(alloc: Global, words: &[&str]) -> Mem<String> {
-    let copy = credentials(alloc, words)?.try_clone()?;
-    parts_of(alloc, &copy)
-}
-
-fn copied_token(alloc: Global, token: &str) -> Mem<String> {
-    copied_identity(alloc, &Identity::Token(String::from_str(alloc, token)?))
-}
-
-fn copied_signer(alloc: Global, words: &[&str]) -> Mem<String> {
-    copied_identity(alloc, &Identity::Credentials(credentials(alloc, words)?))
-}
-
-fn max_attempts(alloc: Global) -> Mem<String> {
-    let attempts = RetryConfig::standard().max_attempts;
-    format!(in alloc; "{attempts}")
-}
-
 fn copied_identity(alloc: Global, identity: &Identity) -> Mem<String> {
     let copy = identity.try_clone()?;
     signer(alloc, &copy)
-}
-
-fn identity_from(alloc: Global, words: &[&str]) -> Mem<String> {
-    signer(alloc, &Identity::from(credentials(alloc, words)?))
 }
 
 fn signer(alloc: Global, identity: &Identity) -> Mem<String> {

@@ -43,12 +43,6 @@ fn expected(alloc: Global, kind: &str, header: &Header) -> Mem<String> {
         "expect_int16" => plain(alloc, expect_int16(alloc, header)),
         "expect_int32" => plain(alloc, expect_int32(alloc, header)),
         "expect_int64" => plain(alloc, expect_int64(alloc, header)),
-        _ => expected_long(alloc, kind, header),
-    }
-}
-
-fn expected_long(alloc: Global, kind: &str, header: &Header) -> Mem<String> {
-    match kind {
         "expect_string" => plain(alloc, expect_string(alloc, header)),
         "expect_byte_array" => expected_bytes(alloc, header),
         "expect_timestamp" => expected_moment(alloc, header),

@@ -48,18 +48,11 @@ pub fn value(alloc: Global, value: &HeaderValue) -> Result<String, AllocError> {
         HeaderValue::String(value) => told(alloc, "text", text(alloc, value.as_str())),
         HeaderValue::Timestamp(time) => told(alloc, "time", moment(alloc, *time)),
         HeaderValue::Uuid(value) => format!(in alloc; "uuid {value:032x}"),
-        _ => plain_value(alloc, value),
-    }
-}
-
-fn plain_value(alloc: Global, value: &HeaderValue) -> Result<String, AllocError> {
-    match value {
         HeaderValue::Bool(value) => of_kind(alloc, "bool", value),
         HeaderValue::Byte(value) => of_kind(alloc, "i8", value),
         HeaderValue::Int16(value) => of_kind(alloc, "i16", value),
         HeaderValue::Int32(value) => of_kind(alloc, "i32", value),
         HeaderValue::Int64(value) => of_kind(alloc, "i64", value),
-        _ => nothing(alloc),
     }
 }
 
@@ -78,24 +71,31 @@ pub fn told(
 }
 
 pub fn header(alloc: Global, header: &Header) -> Result<String, AllocError> {
-    let name = text(alloc, header.name().as_str())?;
-    let value = value(alloc, header.value())?;
-    format!(in alloc; "{name} {value}")
+    let mut shown = text(alloc, header.name().as_str())?;
+    push_value(alloc, &mut shown, header.value())?;
+    Ok(shown)
+}
+
+fn push_value(
+    alloc: Global,
+    shown: &mut String,
+    header_value: &HeaderValue,
+) -> Result<(), AllocError> {
+    write!(shown, " {}", value(alloc, header_value)?)
 }
 
 // The headers and the payload, with `;` between them.
 pub fn message(alloc: Global, message: &Message) -> Result<String, AllocError> {
     let mut text = String::new(alloc);
-    for each in message.headers() {
-        push_header(alloc, &mut text, each)?;
-    }
-    text.push_str(quoted(alloc, message.payload().as_slice())?.as_str())?;
+    push_message(alloc, &mut text, message)?;
     Ok(text)
 }
 
-fn push_header(alloc: Global, text: &mut String, each: &Header) -> Result<(), AllocError> {
-    text.push_str(header(alloc, each)?.as_str())?;
-    text.push_str("; ")
+fn push_message(alloc: Global, text: &mut String, message: &Message) -> Result<(), AllocError> {
+    for each in message.headers() {
+        write!(text, "{}; ", header(alloc, each)?)?;
+    }
+    write!(text, "{}", quoted(alloc, message.payload().as_slice())?)
 }
 
 // Adds the answer of one step more, where it has one.

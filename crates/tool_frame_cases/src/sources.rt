@@ -14,25 +14,14 @@ const LONGEST: usize = 4_294_967_295;
 
 pub fn answer(alloc: Global, call: &[&str]) -> Mem<String> {
     match call {
-        [call, word] => copied(alloc, call, word),
-        [call, words @ ..] => polled_source(alloc, call, words),
-        [] => unknown(alloc),
-    }
-}
-
-fn copied(alloc: Global, call: &str, word: &str) -> Mem<String> {
-    match call {
-        "copied_frame" => copied_frame(alloc, word),
-        "copied_answer" => copied_answer(alloc, word),
-        _ => unknown(alloc),
-    }
-}
-
-fn polled_source(alloc: Global, call: &str, words: &[&str]) -> Mem<String> {
-    match call {
-        "faulty" => faulty(alloc, words),
-        "empty" => empty(alloc, words),
-        "calm" => calm(alloc, words),
+        ["copied_frame", word] => {
+            let copy = frame_of(alloc, word)?.try_clone()?;
+            polled(alloc, &Polled::from(copy))
+        }
+        ["copied_answer", word] => polled(alloc, &answer_of(alloc, word)?.try_clone()?),
+        ["faulty", words @ ..] => faulty(alloc, words),
+        ["empty", words @ ..] => empty(alloc, words),
+        ["calm", words @ ..] => calm(alloc, words),
         _ => unknown(alloc),
     }
 }
@@ -127,17 +116,6 @@ fn polls<S: FrameSource>(alloc: Global, source: &mut S, count: usize) -> Mem<Str
 
 fn poll<S: FrameSource>(alloc: Global, source: &mut S) -> Mem<String> {
     polled(alloc, &source.poll_frame())
-}
-
-fn copied_frame(alloc: Global, word: &str) -> Mem<String> {
-    let copy = frame_of(alloc, word)?.try_clone()?;
-    polled(alloc, &Polled::from(copy))
-}
-
-fn copied_answer(alloc: Global, word: &str) -> Mem<String> {
-    let answer = answer_of(alloc, word)?;
-    let copy = answer.try_clone()?;
-    polled(alloc, &copy)
 }
 
 fn polled(alloc: Global, answer: &Polled) -> Mem<String> {
