@@ -51,6 +51,13 @@ def expected(handler, token):
     return auth.signature(auth.string_to_sign(request, canonical), request), signature
 
 
+class Server(http.server.ThreadingHTTPServer):
+    """Says nothing of a client that ends the connection first, as curl may."""
+
+    def handle_error(self, request, client_address):
+        pass
+
+
 class Listener(http.server.BaseHTTPRequestHandler):
     """Keeps the objects of signed requests, and refuses the others."""
     protocol_version = "HTTP/1.1"
@@ -246,7 +253,7 @@ def main():
         for name, data in (("small", small), ("word", b"hello")):
             with open(name, "wb") as it:
                 it.write(data)
-        server = http.server.ThreadingHTTPServer(("127.0.0.1", 0), Listener)
+        server = Server(("127.0.0.1", 0), Listener)
         threading.Thread(target=server.serve_forever, daemon=True).start()
         tasks(f"http://127.0.0.1:{server.server_address[1]}", hashlib.sha256(small).hexdigest())
         server.shutdown()
