@@ -1,6 +1,6 @@
 use crate::files::sections_of;
 use crate::profiles::fault_told;
-use crate::texts::{env_of, given, printed, text};
+use crate::texts::{env_of, given, text};
 use env_config::{
     EnvConfigError, EnvConfigSections, EnvConfigSource, EnvConfigValue, Origin, Os,
     ServiceConfigKey, ValidateFault, get_service_env_config, home_dir,
@@ -11,8 +11,16 @@ use tool_case_lines::unknown;
 
 pub fn answer(alloc: Global, call: &str, words: &[&str]) -> Mem<String> {
     match words {
-        [system, variables] => home_of(alloc, os_of(system), &env_of(alloc, variables)?),
+        [system, variables] => home(alloc, call, system, variables),
         [asked, variables, file] => value(alloc, call, asked, &env_of(alloc, variables)?, file),
+        _ => unknown(alloc),
+    }
+}
+
+fn home(alloc: Global, call: &str, system: &str, variables: &str) -> Mem<String> {
+    let env = env_of(alloc, variables)?;
+    match call {
+        "home" => home_of(alloc, os_of(system), &env),
         _ => unknown(alloc),
     }
 }
@@ -99,9 +107,14 @@ fn load(
     sections: Option<&EnvConfigSections>,
 ) -> Mem<String> {
     match value.load(alloc, env, sections)? {
-        Some((value, source)) => place_told(alloc, value.as_str(), &source.try_clone()?),
+        Some((value, source)) => place_copied(alloc, value.as_str(), &source),
         None => text(alloc, "-"),
     }
+}
+
+fn place_copied(alloc: Global, value: &str, source: &EnvConfigSource) -> Mem<String> {
+    let copy = source.try_clone()?;
+    place_told(alloc, value, &copy)
 }
 
 fn place_told(alloc: Global, value: &str, source: &EnvConfigSource) -> Mem<String> {
@@ -127,8 +140,13 @@ fn checked(
     match answer {
         Ok(Some(length)) => format!(in alloc; "{length}"),
         Ok(None) => text(alloc, "-"),
-        Err(fault) => printed(alloc, &fault.try_clone()?),
+        Err(fault) => copy_printed(alloc, &fault),
     }
+}
+
+pub fn copy_printed(alloc: Global, fault: &ValidateFault<&'static str>) -> Mem<String> {
+    let copy = fault.try_clone()?;
+    format!(in alloc; "{copy}")
 }
 
 // Why the value was refused, and what a copy of the error prints.
