@@ -4,7 +4,6 @@ mod decoding;
 mod frames;
 mod lengths;
 mod parts;
-mod signers;
 mod signing;
 
 use smithy_core::Mem;
@@ -14,14 +13,13 @@ use tool_case_lines::unknown;
 /// The answer of a call.
 pub fn answer(alloc: Global, call: &str, words: &[&str]) -> Mem<String> {
     match (call, words) {
-        ("chunk", [signature, data]) => signing::chunk(alloc, signature, data),
-        ("trailer", [signature, pairs @ ..]) => signing::trailer(alloc, signature, pairs),
+        ("chunk" | "trailer", [signature, words @ ..]) => {
+            signing::signature(alloc, call, signature, words)
+        }
         ("signer", [name, steps @ ..]) => signing::steps(alloc, name, steps),
-        ("length", parts) => lengths::answer(alloc, parts),
-        ("data_length", parts) => lengths::data_answer(alloc, parts),
-        ("text", parts) => bodies::text(alloc, parts),
+        ("length" | "data_length", parts) => lengths::answer(alloc, call, parts),
+        ("text" | "digest", parts) => bodies::answer(alloc, call, parts),
         ("pieces", parts) => bodies::pieces(alloc, parts),
-        ("digest", parts) => bodies::digest(alloc, parts),
         ("decode", parts) => decoding::answer(alloc, parts),
         _ => unknown(alloc),
     }

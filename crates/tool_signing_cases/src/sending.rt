@@ -3,23 +3,26 @@ mod adapters;
 mod copies;
 mod errors;
 mod events;
-mod marshalling;
-mod parts;
-mod senders;
+pub mod marshalling;
 mod signers;
 mod signing;
 
+use crate::parts::{frame_or_error, number_of, word};
+use crate::sending::events::sender_of;
+use crate::sending::marshalling::marshalled;
 use smithy_core::Mem;
 use std::alloc::Global;
 
 /// The answer of a call.
 pub fn answer(alloc: Global, call: &str, words: &[&str]) -> Mem<String> {
-    match call {
-        "signer" => signing::answer(alloc, words),
-        "copy" => copies::answer(alloc, words),
-        "marshaller" => marshalling::answer(alloc, words),
-        "adapter" => adapters::answer(alloc, words),
-        "sender" => senders::answer(alloc, words),
-        _ => errors::answer(alloc, call, words),
+    match (call, words) {
+        ("signer", [name, steps @ ..]) => signing::answer(alloc, name, steps),
+        ("copy", [kind, words @ ..]) => copies::answer(alloc, kind, words),
+        ("marshaller", [name, word]) => frame_or_error(alloc, marshalled(alloc, name, word)),
+        ("adapter", [kind, parts @ ..]) => adapters::answer(alloc, kind, parts),
+        ("sender", [kind, parts @ ..]) => {
+            sender_of(alloc, kind, parts, number_of(parts, "polls", 1))
+        }
+        _ => errors::answer(alloc, call, word(words, 0), word(words, 1)),
     }
 }

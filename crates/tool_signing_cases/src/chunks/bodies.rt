@@ -1,10 +1,10 @@
 //! Polls bodies.
 use crate::chunks::frames::GivenFrames;
 use crate::chunks::lengths::options_of;
-use crate::chunks::signers::published_signer;
-use crate::parts::{push, push_text};
+use crate::chunks::signing::published_signer;
+use crate::parts::{debugged, push, push_text};
 use aws_auth::{ChunkDeferredSigner, SigV4MessageSigner};
-use aws_chunked::{AwsChunkedBody, AwsChunkedBodyError, AwsChunkedBodyOptions, ChunkNext};
+use aws_chunked::{AwsChunkedBody, AwsChunkedBodyError, ChunkNext};
 use mac_core::sha256_hex;
 use sigv4::{SignChunk, SigningSettings};
 use smithy_core::Mem;
@@ -14,83 +14,92 @@ use tool_case_lines::part;
 // How often a body is polled at most.
 const MOST_POLLS: u32 = 1000;
 
-// What the polls of a body of the frames and the options that parts name answer, and of the signer: `unwired`, or one that
-// goes on from a signature.
-fn polled_of(alloc: Global, parts: &[&str]) -> Mem<(Vec<u8>, String)> {
-    let source = GivenFrames::of(alloc, parts)?;
-    let body = AwsChunkedBody::new(alloc, source, options_of(alloc, parts)?);
+/// The whole `text`, or its length and its `digest`, and then each other answer up to the end, of the body of the frames and
+/// the options that parts name, and of the signer: `unwired`, or one that goes on from a signature.
+pub fn answer(alloc: Global, call: &str, parts: &[&str]) -> Mem<String> {
     match part(parts, "signer") {
-        Some("unwired") => polled(alloc, body.with_signer(ChunkDeferredSigner::new())),
-        Some(signature) => of_signer(alloc, parts, signature),
-        None => polled(alloc, body),
-    }
-}
-
-fn of_signer(alloc: Global, parts: &[&str], signature: &str) -> Mem<(Vec<u8>, String)> {
-    let source = GivenFrames::of(alloc, parts)?;
-    let body = AwsChunkedBody::new(alloc, source, options_of(alloc, parts)?);
-    polled(alloc, body.with_signer(published_signer(alloc, signature)?))
-}
-
-/// The whole text, and then each other answer up to the end, and once more.
-pub fn text(alloc: Global, parts: &[&str]) -> Mem<String> {
-    let (text, others) = polled_of(alloc, parts)?;
-    let mut found = escaped(alloc, text.as_slice())?;
-    push_text(&mut found, others.as_str())?;
-    Ok(found)
-}
-
-/// The length of the whole text, its digest, and then each other answer.
-pub fn digest(alloc: Global, parts: &[&str]) -> Mem<String> {
-    let (text, others) = polled_of(alloc, parts)?;
-    let digest = sha256_hex(alloc, text.as_slice())?;
-    format!(in alloc; "{} {digest} | {others}", text.len())
-}
-
-/// Each answer of a body that passes its data on as it comes, up to the end.
-pub fn pieces(alloc: Global, parts: &[&str]) -> Mem<String> {
-    let source = GivenFrames::of(alloc, parts)?;
-    let mut body = unsigned(alloc, source, options_of(alloc, parts)?);
-    let mut found = String::new(alloc);
-    for _ in 0..MOST_POLLS {
-        match body.poll_data() {
-            Ok(ChunkNext::End) => {
-                push_text(&mut found, ended(body.is_end_stream()))?;
-                break;
-            }
-            answer => push(&mut found, shown(alloc, answer))?,
+        Some("unwired") => {
+            let body = body_of(alloc, parts)?;
+            polled(alloc, call, body.with_signer(ChunkDeferredSigner::new()))
         }
+        Some(signature) => {
+            let signer = published_signer(alloc, signature)?;
+            polled(alloc, call, body_of(alloc, parts)?.with_signer(signer))
+        }
+        None => polled(alloc, call, unsigned(alloc, parts)?),
     }
-    Ok(found)
 }
+
+fn body_of<G: SignChunk>(alloc: Global, parts: &[&str]) -> Mem<AwsChunkedBody<GivenFrames, G>> {
+    let source = GivenFrames::of(alloc, parts)?;
+    Ok(AwsChunkedBody::new(alloc, source, options_of(alloc, parts)?))
+}
+
+type Unsigned = AwsChunkedBody<GivenFrames, SigV4MessageSigner<SigningSettings>>;
 
 /// A body without a signer, which names some type of one.
-pub fn unsigned(
-    alloc: Global,
-    source: GivenFrames,
-    options: AwsChunkedBodyOptions,
-) -> AwsChunkedBody<GivenFrames, SigV4MessageSigner<SigningSettings>> {
-    AwsChunkedBody::new(alloc, source, options)
+pub fn unsigned(alloc: Global, parts: &[&str]) -> Mem<Unsigned> {
+    body_of(alloc, parts)
 }
 
 fn polled<G: SignChunk>(
     alloc: Global,
+    call: &str,
     body: AwsChunkedBody<GivenFrames, G>,
-) -> Mem<(Vec<u8>, String)> {
+) -> Mem<String> {
     let mut body = body;
     let mut text = Vec::new(alloc);
     let mut others = String::new(alloc);
+    push_polled(alloc, &mut text, &mut others, &mut body)?;
+    told(alloc, call, text.as_slice(), others.as_str())
+}
+
+fn push_polled<G: SignChunk>(
+    alloc: Global,
+    text: &mut Vec<u8>,
+    others: &mut String,
+    body: &mut AwsChunkedBody<GivenFrames, G>,
+) -> Mem<()> {
     for _ in 0..MOST_POLLS {
         match body.poll_frame() {
             Ok(ChunkNext::Frame(bytes)) => text.extend_from_slice(bytes.as_slice())?,
-            Ok(ChunkNext::End) => {
-                push_text(&mut others, ended(body.is_end_stream()))?;
-                break;
-            }
-            answer => push(&mut others, shown(alloc, answer))?,
+            Ok(ChunkNext::End) => return push_text(others, ended(body.is_end_stream())),
+            answer => push(others, shown(alloc, &answer))?,
         }
     }
-    Ok((text, others))
+    Ok(())
+}
+
+fn told(alloc: Global, call: &str, text: &[u8], others: &str) -> Mem<String> {
+    match call {
+        "digest" => {
+            let digest = sha256_hex(alloc, text)?;
+            format!(in alloc; "{} {digest} | {others}", text.len())
+        }
+        _ => {
+            let mut found = escaped(alloc, text)?;
+            push_text(&mut found, others)?;
+            Ok(found)
+        }
+    }
+}
+
+/// Each answer of a body that passes its data on as it comes, up to the end.
+pub fn pieces(alloc: Global, parts: &[&str]) -> Mem<String> {
+    let mut body = unsigned(alloc, parts)?;
+    let mut found = String::new(alloc);
+    push_pieces(alloc, &mut found, &mut body)?;
+    Ok(found)
+}
+
+fn push_pieces(alloc: Global, found: &mut String, body: &mut Unsigned) -> Mem<()> {
+    for _ in 0..MOST_POLLS {
+        match body.poll_data() {
+            Ok(ChunkNext::End) => return push_text(found, ended(body.is_end_stream())),
+            answer => push(found, shown(alloc, &answer))?,
+        }
+    }
+    Ok(())
 }
 
 fn ended(is_closed: bool) -> &'static str {
@@ -107,12 +116,12 @@ fn escaped(alloc: Global, bytes: &[u8]) -> Mem<String> {
     text.as_str().replace(alloc, "\r\n", "\\r\\n")
 }
 
-fn shown(alloc: Global, answer: Result<ChunkNext, AwsChunkedBodyError>) -> Mem<String> {
+fn shown(alloc: Global, answer: &Result<ChunkNext, AwsChunkedBodyError>) -> Mem<String> {
     match answer {
         Ok(ChunkNext::Frame(bytes)) => escaped(alloc, bytes.as_slice()),
         Ok(ChunkNext::NotYet) => String::from_str(alloc, "NotYet"),
         Ok(ChunkNext::OutOfTurns) => String::from_str(alloc, "OutOfTurns"),
         Ok(ChunkNext::End) => String::from_str(alloc, "End"),
-        Err(error) => format!(in alloc; "{error:?}"),
+        Err(error) => debugged(alloc, error),
     }
 }

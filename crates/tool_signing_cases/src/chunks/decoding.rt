@@ -1,6 +1,7 @@
 //! Reads whole texts.
 use crate::chunks::parts::bytes_of;
-use aws_chunked::{DecodeFault, Decoded, decode_chunked};
+use crate::parts::debugged;
+use aws_chunked::{Decoded, decode_chunked};
 use mac_core::sha256_hex;
 use smithy_core::Mem;
 use std::alloc::Global;
@@ -9,36 +10,41 @@ use tool_case_lines::{bytes_of_hex, on_one_line};
 // The most bytes of data that are shown as a text.
 const MOST_SHOWN: usize = 100;
 
-/// What the text says that parts make up one after the other: `hex DIGITS`, or a text, of which `N of T` is N times T.
+/// What the text says that parts make up one after the other: `hex DIGITS`, or a text.
 pub fn answer(alloc: Global, parts: &[&str]) -> Mem<String> {
     let mut bytes = Vec::new(alloc);
-    for part in parts {
-        match part.split_once(' ') {
-            Some(("hex", digits)) => {
-                bytes.extend_from_slice(bytes_of_hex(alloc, digits)?.as_slice())?
-            }
-            _ => bytes.extend_from_slice(bytes_of(alloc, part)?.as_slice())?,
-        }
-    }
+    push_parts(alloc, &mut bytes, parts)?;
     match decode_chunked(alloc, bytes.as_slice()) {
         Ok(decoded) => shown(alloc, &decoded),
-        Err(DecodeFault::NoMemory) => String::from_str(alloc, "NoMemory"),
-        Err(fault) => format!(in alloc; "{fault:?}"),
+        Err(fault) => debugged(alloc, &fault),
     }
+}
+
+fn push_parts(alloc: Global, bytes: &mut Vec<u8>, parts: &[&str]) -> Mem<()> {
+    for part in parts {
+        match part.strip_prefix("hex ") {
+            Some(digits) => bytes.extend_from_slice(bytes_of_hex(alloc, digits)?.as_slice())?,
+            None => bytes.extend_from_slice(bytes_of(alloc, part)?.as_slice())?,
+        }
+    }
+    Ok(())
 }
 
 // The data, or its length and its digest, and the signatures and trailers that there are.
 fn shown(alloc: Global, decoded: &Decoded) -> Mem<String> {
     let mut found = shown_body(alloc, decoded.body.as_slice())?;
+    push_rest(&mut found, decoded)?;
+    on_one_line(alloc, found.as_str())
+}
+
+fn push_rest(found: &mut String, decoded: &Decoded) -> Mem<()> {
     for signature in &decoded.signatures {
-        found.push_str(" | ")?;
-        found.push_str(signature.as_str())?;
+        write!(found, " | {signature}")?;
     }
     for (name, value) in decoded.trailers.iter() {
-        let line = format!(in alloc; " | {name}={value}")?;
-        found.push_str(line.as_str())?;
+        write!(found, " | {name}={value}")?;
     }
-    on_one_line(alloc, found.as_str())
+    Ok(())
 }
 
 fn shown_body(alloc: Global, body: &[u8]) -> Mem<String> {

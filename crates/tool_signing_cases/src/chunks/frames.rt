@@ -1,7 +1,7 @@
 ghost use Rattle.std.specs.Prelude.{◌≤◌, length, IfOk};
 ghost use Rattle.tool_signing_cases.specs.Frames.{IsFrame};
 
-use crate::chunks::parts::{bytes_of, headers_of};
+use crate::chunks::parts::{bytes_of, headers_in};
 use bytes::Bytes;
 use smithy_core::{FrameSource, Mem, Polled};
 use std::alloc::Global;
@@ -101,15 +101,7 @@ fn piece_of(alloc: Global, text: &str) -> Mem<Bytes>
 fn trailers(alloc: Global, pairs: &str) -> Polled
     ensures { IsFrame result }
 {
-    let pairs: Vec<&str> = match pairs
-        .split(',')
-        .filter(|pair| !pair.is_empty())
-        .collect(alloc)
-    {
-        Ok(pairs) => pairs,
-        Err(_) => return Polled::NoMemory,
-    };
-    match headers_of(alloc, pairs.as_slice()) {
+    match headers_in(alloc, pairs) {
         Ok(headers) => Polled::Trailers(headers),
         Err(_) => Polled::NoMemory,
     }

@@ -1,34 +1,10 @@
-//! What faults print, each by its type and its name.
-use aws_auth::{EndpointField, OverrideError, SigV4SigningError};
+//! Errors, each by its name.
+use aws_auth::{EndpointField, SigV4SigningError};
 use sigv4::SigningError;
-use smithy_core::{Mem, Moment};
-use std::alloc::Global;
-use tool_case_lines::unknown;
-
-/// What the fault of a type prints.
-pub fn answer(alloc: Global, words: &[&str]) -> Mem<String> {
-    match words {
-        ["SigV4SigningError", name, field @ ..] => signing_error(alloc, name, field),
-        ["OverrideError", name] => override_error(alloc, name),
-        _ => unknown(alloc),
-    }
-}
-
-fn signing_error(alloc: Global, name: &str, field: &[&str]) -> Mem<String> {
-    let error = error_of(name, field);
-    format!(in alloc; "{error}")
-}
-
-fn override_error(alloc: Global, name: &str) -> Mem<String> {
-    let error = match name {
-        "Refused" => OverrideError::Refused,
-        _ => OverrideError::NoMemory,
-    };
-    format!(in alloc; "{error}")
-}
+use smithy_core::Moment;
 
 /// The error of a name, at a field or of a reason.
-pub fn error_of(name: &str, rest: &[&str]) -> SigV4SigningError {
+pub fn error_of(name: &str, rest: &str) -> SigV4SigningError {
     match name {
         "MissingOperationSigningConfig" => SigV4SigningError::MissingOperationSigningConfig,
         "MissingSigningRegion" => SigV4SigningError::MissingSigningRegion,
@@ -41,21 +17,21 @@ pub fn error_of(name: &str, rest: &[&str]) -> SigV4SigningError {
     }
 }
 
-fn field_of(words: &[&str]) -> EndpointField {
-    match words {
-        ["SigningName"] => EndpointField::SigningName,
-        ["SigningRegion"] => EndpointField::SigningRegion,
-        ["DisableDoubleEncoding"] => EndpointField::DisableDoubleEncoding,
+fn field_of(word: &str) -> EndpointField {
+    match word {
+        "SigningName" => EndpointField::SigningName,
+        "SigningRegion" => EndpointField::SigningRegion,
+        "DisableDoubleEncoding" => EndpointField::DisableDoubleEncoding,
         _ => EndpointField::DisableNormalizePath,
     }
 }
 
-fn reason_of(words: &[&str]) -> SigningError {
-    match words {
-        ["MissingHost"] => SigningError::MissingHost,
-        ["MissingExpires"] => SigningError::MissingExpires,
-        ["InvalidTokenName"] => SigningError::InvalidTokenName,
-        ["MomentOutOfRange"] => SigningError::MomentOutOfRange(Moment::new(253_402_300_800, 0)),
+fn reason_of(word: &str) -> SigningError {
+    match word {
+        "MissingHost" => SigningError::MissingHost,
+        "MissingExpires" => SigningError::MissingExpires,
+        "InvalidTokenName" => SigningError::InvalidTokenName,
+        "MomentOutOfRange" => SigningError::MomentOutOfRange(Moment::new(253_402_300_800, 0)),
         _ => SigningError::InvalidUri,
     }
 }

@@ -1,5 +1,5 @@
 //! What a request is signed by: its config, the endpoint's fields, and what the inputs have of their own.
-use crate::parts::part_text;
+use crate::parts::{part_or_none, part_text};
 use aws_auth::{
     HttpSignatureType, PayloadSigningOverride, SigV4OperationSigningConfig, SigningInputs,
     SigningOptions,
@@ -23,14 +23,27 @@ impl Given {
     /// What `no-config`, `endpoint KEY VALUE`, `input-name N`, `input-region R`, `payload TEXT` and `skew MILLIS` give,
     /// and the words of the config.
     pub fn of(alloc: Global, parts: &[&str]) -> Mem<Given> {
-        Ok(Given {
+        let mut given = Given {
+            config: None,
+            endpoint: None,
+            name: None,
+            region: None,
+            payload: None,
             skew_millis: skew_of(parts),
-            name: name_of(alloc, parts)?,
-            region: region_of(alloc, parts)?,
-            payload: payload_of(alloc, part(parts, "payload"))?,
-            endpoint: endpoint_of(alloc, parts)?,
-            config: given_config(alloc, parts)?,
-        })
+        };
+        given.read(alloc, parts)?;
+        Ok(given)
+    }
+
+    fn read(&mut self, alloc: Global, parts: &[&str]) -> Mem<()> {
+        self.name = part_text(alloc, parts, "input-name")?.map(SigningName::new);
+        self.region = part_text(alloc, parts, "input-region")?.map(Region::new);
+        self.payload = payload_of(alloc, part(parts, "payload"))?;
+        self.endpoint = endpoint_of(alloc, parts)?;
+        if !has_part(parts, "no-config") {
+            self.config = Some(config_of(alloc, parts)?);
+        }
+        Ok(())
     }
 
     /// The inputs.
@@ -46,34 +59,21 @@ impl Given {
     }
 }
 
-fn given_config(alloc: Global, parts: &[&str]) -> Mem<Option<SigV4OperationSigningConfig>> {
-    if has_part(parts, "no-config") {
-        return Ok(None);
-    }
-    Ok(Some(config_of(alloc, parts)?))
-}
-
 /// The config with the region `us-east-1` and the name `service`, or with `no-region` and `no-name`.
 pub fn config_of(alloc: Global, parts: &[&str]) -> Mem<SigV4OperationSigningConfig> {
     Ok(SigV4OperationSigningConfig {
-        region: config_region(alloc, parts)?,
-        name: config_name(alloc, parts)?,
+        region: unless(alloc, parts, "no-region", "us-east-1")?.map(Region::new),
+        name: unless(alloc, parts, "no-name", "service")?.map(SigningName::new),
         signing_options: options_of(alloc, parts)?,
     })
 }
 
-fn config_region(alloc: Global, parts: &[&str]) -> Mem<Option<Region>> {
-    if has_part(parts, "no-region") {
+// The text, unless there is a part of the key.
+fn unless(alloc: Global, parts: &[&str], key: &str, text: &str) -> Mem<Option<String>> {
+    if has_part(parts, key) {
         return Ok(None);
     }
-    Ok(Some(Region::new(String::from_str(alloc, "us-east-1")?)))
-}
-
-fn config_name(alloc: Global, parts: &[&str]) -> Mem<Option<SigningName>> {
-    if has_part(parts, "no-name") {
-        return Ok(None);
-    }
-    Ok(Some(SigningName::new(String::from_str(alloc, "service")?)))
+    Ok(Some(String::from_str(alloc, text)?))
 }
 
 /// The options: `encode-once`, `sha256`, `keep-path`, `omit-token`, `option-payload TEXT`, `query`, `optional` and
@@ -87,8 +87,12 @@ pub fn options_of(alloc: Global, parts: &[&str]) -> Mem<SigningOptions> {
         payload_override: payload_of(alloc, part(parts, "option-payload"))?,
         signature_type: signature_type_of(parts),
         signing_optional: has_part(parts, "optional"),
-        expires_in: expiry_of(parts),
+        expires_in: part_or_none(parts, "expires").parse().ok(),
     })
+}
+
+fn skew_of(parts: &[&str]) -> Option<i64> {
+    Some(number(part(parts, "skew")?))
 }
 
 fn signature_type_of(parts: &[&str]) -> HttpSignatureType {
@@ -99,16 +103,8 @@ fn signature_type_of(parts: &[&str]) -> HttpSignatureType {
     }
 }
 
-fn expiry_of(parts: &[&str]) -> Option<u64> {
-    part(parts, "expires")?.parse().ok()
-}
-
-fn skew_of(parts: &[&str]) -> Option<i64> {
-    Some(number(part(parts, "skew")?))
-}
-
-/// The override of which this is the payload's text, where there is one.
-pub fn payload_of(alloc: Global, text: Option<&str>) -> Mem<Option<PayloadSigningOverride>> {
+// The override of which this is the payload's text, where there is one.
+fn payload_of(alloc: Global, text: Option<&str>) -> Mem<Option<PayloadSigningOverride>> {
     match text {
         Some(text) => Ok(Some(override_of(alloc, text)?)),
         None => Ok(None),
@@ -127,20 +123,6 @@ pub fn override_of(alloc: Global, text: &str) -> Mem<PayloadSigningOverride> {
         }
         digest => PayloadSigningOverride::Precomputed(String::from_str(alloc, digest)?),
     })
-}
-
-fn name_of(alloc: Global, parts: &[&str]) -> Mem<Option<SigningName>> {
-    match part_text(alloc, parts, "input-name")? {
-        Some(name) => Ok(Some(SigningName::new(name))),
-        None => Ok(None),
-    }
-}
-
-fn region_of(alloc: Global, parts: &[&str]) -> Mem<Option<Region>> {
-    match part_text(alloc, parts, "input-region")? {
-        Some(region) => Ok(Some(Region::new(region))),
-        None => Ok(None),
-    }
 }
 
 // The endpoint with the fields of the parts `endpoint KEY VALUE`, where there are some.

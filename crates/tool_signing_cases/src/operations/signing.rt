@@ -1,32 +1,41 @@
 //! Signs requests.
 use crate::operations::inputs::Given;
-use crate::operations::requests::{request_of, request_told};
-use crate::parts::{identity_of, part_text};
+use crate::parts::{debugged, identity_of, part_text, request_at};
 use aws_auth::{
-    OverrideError, SigV4AuthScheme, SigV4OperationSigningConfig, SigV4SessionTokenNameOverride,
-    SigV4SigningError, Signed,
+    OverrideError, SigV4AuthScheme, SigV4MessageSigner, SigV4OperationSigningConfig,
+    SigV4SessionTokenNameOverride, SigV4SigningError, Signed,
 };
 use sigv4::SigningSettings;
 use smithy_core::{HttpRequest, Identity, Mem, Moment};
 use std::alloc::Global;
 use tool_case_lines::{has_part, number, part};
 
-/// The signature and which signers start at it, or the refusal, and then the request as it is after the call.
-pub fn answer(alloc: Global, parts: &[&str]) -> Mem<String> {
-    let mut request = request_of(alloc, parts)?;
-    answer_of(alloc, &mut request, parts)
+/// Of `sign` the signature and which signers start at it, or the refusal, and then the request as it is after the call; of
+/// other calls what is shown of the answer or of a part of it.
+pub fn answer(alloc: Global, call: &str, parts: &[&str]) -> Mem<String> {
+    let target = part(parts, "target").unwrap_or("https://h.example/");
+    let mut request = request_at(alloc, "GET", target, parts)?;
+    answer_of(alloc, call, &mut request, parts)
 }
 
-fn answer_of(alloc: Global, request: &mut HttpRequest, parts: &[&str]) -> Mem<String> {
-    let signed = signed_told(alloc, signed(alloc, request, parts))?;
-    let request = request_told(alloc, request)?;
-    format!(in alloc; "{signed}: {request}")
+fn answer_of(alloc: Global, call: &str, request: &mut HttpRequest, parts: &[&str]) -> Mem<String> {
+    let told = match signed(alloc, request, parts) {
+        Ok(signed) => told(alloc, call, &signed)?,
+        Err(error) => debugged(alloc, &error)?,
+    };
+    if call == "sign" {
+        return with_request(alloc, told.as_str(), request);
+    }
+    Ok(told)
 }
 
-fn signed_told(alloc: Global, signed: Result<Signed, SigV4SigningError>) -> Mem<String> {
-    match signed {
-        Ok(signed) => signature_told(alloc, &signed),
-        Err(error) => format!(in alloc; "{error:?}"),
+fn told(alloc: Global, call: &str, signed: &Signed) -> Mem<String> {
+    match call {
+        "sign" => signature_told(alloc, signed),
+        "debug" => debugged(alloc, signed),
+        "message_signer" => signer_told(alloc, &signed.message_signer.try_clone()?),
+        "chunk_signer" => signer_told(alloc, &signed.chunk_signer.try_clone()?),
+        _ => copy_told(alloc, &signed.try_clone()?),
     }
 }
 
@@ -42,18 +51,28 @@ fn signature_told(alloc: Global, signed: &Signed) -> Mem<String> {
     format!(in alloc; "{signature} {starts}")
 }
 
-/// What `Debug` shows of the answer.
-pub fn debug(alloc: Global, parts: &[&str]) -> Mem<String> {
-    match sign_anew(alloc, parts) {
-        Ok(signed) => format!(in alloc; "{signed:?}"),
-        Err(error) => format!(in alloc; "{error:?}"),
-    }
+// The signature and both signers.
+fn copy_told(alloc: Global, signed: &Signed) -> Mem<String> {
+    let messages = signer_told(alloc, &signed.message_signer)?;
+    let chunks = signer_told(alloc, &signed.chunk_signer)?;
+    let signature = signed.signature.as_str();
+    format!(in alloc; "{signature} {messages} {chunks}")
 }
 
-/// Signs a request that isn't kept.
-pub fn sign_anew(alloc: Global, parts: &[&str]) -> Result<Signed, SigV4SigningError> {
-    let mut request = request_of(alloc, parts)?;
-    signed(alloc, &mut request, parts)
+// For what a signer signs, its last signature and how many keys it derived.
+fn signer_told<S>(alloc: Global, signer: &SigV4MessageSigner<S>) -> Mem<String> {
+    let (signature, derivations) = (signer.running_signature(), signer.derivations());
+    format!(in alloc; "{signer:?} {signature} derived {derivations}")
+}
+
+// With the method and the target, and then the headers in order.
+fn with_request(alloc: Global, signed: &str, request: &HttpRequest) -> Mem<String> {
+    let (method, target) = (request.method.as_str(), request.target.as_str());
+    let mut told = format!(in alloc; "{signed}: {method} {target}")?;
+    for (name, value) in request.headers.iter() {
+        write!(told, " | {name}: {value}")?;
+    }
+    Ok(told)
 }
 
 fn signed(

@@ -7,29 +7,22 @@ use bytes::Bytes;
 use event_io::{Received, Receiver, ResponseFault};
 use smithy_core::{CalmFrames, Mem, RawMessage, SdkError};
 use std::alloc::Global;
-use tool_case_lines::{bytes_of_hex, unknown};
+use tool_case_lines::bytes_of_hex;
 
 /// The answers for a stream that is cut at each place (`places`), or at each pair of places (`pairs`), where all cuts have
 /// the same; and else the first cut that has others.
-pub fn answer(alloc: Global, words: &[&str]) -> Mem<String> {
-    match words {
-        ["places", digits] => at_places(alloc, &bytes_of_hex(alloc, digits)?),
-        ["pairs", digits] => at_pairs(alloc, &bytes_of_hex(alloc, digits)?),
-        _ => unknown(alloc),
+pub fn answer(alloc: Global, kind: &str, digits: &str) -> Mem<String> {
+    let bytes = bytes_of_hex(alloc, digits)?;
+    match kind {
+        "places" => at_cuts(alloc, bytes.as_slice(), 1),
+        _ => at_cuts(alloc, bytes.as_slice(), bytes.len()),
     }
 }
 
-fn at_places(alloc: Global, bytes: &[u8]) -> Mem<String> {
+// The answers for a stream that is cut twice, first at each of so many places.
+fn at_cuts(alloc: Global, bytes: &[u8], places: usize) -> Mem<String> {
     let whole = answers(alloc, bytes, 0, 0)?;
-    match differing(alloc, bytes, 0, whole.as_str())? {
-        Some(place) => format!(in alloc; "not so at {place}"),
-        None => Ok(whole),
-    }
-}
-
-fn at_pairs(alloc: Global, bytes: &[u8]) -> Mem<String> {
-    let whole = answers(alloc, bytes, 0, 0)?;
-    for first in 0..bytes.len() {
+    for first in 0..places {
         if let Some(second) = differing(alloc, bytes, first, whole.as_str())? {
             return format!(in alloc; "not so at {first} and {second}");
         }

@@ -3,26 +3,15 @@ use crate::parts::push;
 use crate::receiving::preprocessing::{beginning, marking, refusing};
 use crate::receiving::shown::{Shown, message_type, received, tried};
 use crate::receiving::sources::source_of;
-use crate::receiving::unmarshalling::{Payloads, Texts};
 use event_io::Receiver;
-use eventstream::{Error, IdentityUnmarshaller, UnmarshallMessage};
+use eventstream::{Error, UnmarshallMessage};
 use smithy_core::{FaultyFrames, Mem, Message};
 use std::alloc::Global;
 use std::fmt;
-use tool_case_lines::{halves, unknown};
+use tool_case_lines::halves;
 
-/// What a receiver answers to the calls among the words, which tell its source too: of `identity` messages as they are, of
-/// `text` their payloads as texts, and of `payload` these in hexadecimal digits.
-pub fn answer(alloc: Global, words: &[&str]) -> Mem<String> {
-    match words {
-        ["identity", words @ ..] => answers(alloc, IdentityUnmarshaller, words),
-        ["text", words @ ..] => answers(alloc, Texts::of(alloc, words)?, words),
-        ["payload", words @ ..] => answers(alloc, Payloads::new(alloc), words),
-        _ => unknown(alloc),
-    }
-}
-
-fn answers<U: UnmarshallMessage>(alloc: Global, unmarshaller: U, words: &[&str]) -> Mem<String>
+/// What a receiver answers to the calls among the words, which tell its source too.
+pub fn answers<U: UnmarshallMessage>(alloc: Global, unmarshaller: U, words: &[&str]) -> Mem<String>
 where
     U::Output: Shown + fmt::Debug + Drop,
     U::Error: fmt::Debug + Drop,
@@ -60,8 +49,13 @@ where
     U::Error: fmt::Debug + Drop,
 {
     match halves(word) {
-        ("recv", _) => push(answers, next(alloc, receiver)),
-        ("initial", kind) => push(answers, initial(alloc, receiver, kind)),
+        ("recv", _) => push(answers, received(alloc, &receiver.recv())),
+        ("initial", kind) => {
+            push(
+                answers,
+                tried(alloc, &receiver.try_recv_initial(message_type(kind))),
+            )
+        }
         ("refusing", kind) => push(answers, initial_by(alloc, receiver, kind, refusing)),
         ("beginning", kind) => push(answers, initial_by(alloc, receiver, kind, beginning)),
         ("marking", kind) => push(answers, initial_by(alloc, receiver, kind, marking)),
@@ -69,29 +63,7 @@ where
     }
 }
 
-fn next<U: UnmarshallMessage>(
-    alloc: Global,
-    receiver: &mut Receiver<FaultyFrames, U>,
-) -> Mem<String>
-where
-    U::Output: Shown + fmt::Debug + Drop,
-    U::Error: fmt::Debug + Drop,
-{
-    received(alloc, &receiver.recv())
-}
-
-fn initial<U: UnmarshallMessage>(
-    alloc: Global,
-    receiver: &mut Receiver<FaultyFrames, U>,
-    kind: &str,
-) -> Mem<String>
-where
-    U::Error: fmt::Debug + Drop,
-{
-    tried(alloc, &receiver.try_recv_initial(message_type(kind)))
-}
-
-// As above, by a preprocessor.
+// The message that begins the stream, by a preprocessor.
 fn initial_by<U: UnmarshallMessage, P>(
     alloc: Global,
     receiver: &mut Receiver<FaultyFrames, U>,

@@ -1,12 +1,11 @@
 //! What answers show.
-use crate::parts::framed;
+use crate::parts::{copy_shown, debugged, framed};
 use bytes::Bytes;
 use event_io::{Drained, InitialMessageType, Received, ReceiverError, ResponseFault, Tried};
 use eventstream::{Error, ErrorKind};
 use smithy_core::{Mem, Message, RawMessage, SdkError};
 use std::alloc::Global;
 use std::fmt;
-use tool_case_lines::unknown;
 
 /// An event that tells what it is.
 pub trait Shown {
@@ -15,7 +14,7 @@ pub trait Shown {
 
 impl Shown for String {
     fn shown(&self, alloc: Global) -> Mem<String> {
-        format!(in alloc; "{self:?}")
+        debugged(alloc, self)
     }
 }
 
@@ -32,7 +31,7 @@ pub fn received<T: Shown + fmt::Debug, E: fmt::Debug>(
 ) -> Mem<String> {
     match answer {
         Ok(Received::Event(event)) => event.shown(alloc),
-        Ok(received) => format!(in alloc; "{received:?}"),
+        Ok(received) => debugged(alloc, received),
         Err(error) => refused(alloc, error),
     }
 }
@@ -47,7 +46,7 @@ pub fn tried<M: fmt::Debug, E: fmt::Debug>(
             let frame = framed(alloc, message)?;
             format!(in alloc; "Initial {frame} {made:?}")
         }
-        Ok(tried) => format!(in alloc; "{tried:?}"),
+        Ok(tried) => debugged(alloc, tried),
         Err(error) => refused(alloc, error),
     }
 }
@@ -58,7 +57,7 @@ pub fn drained<E: fmt::Debug>(
     answer: &Result<Drained, SdkError<E, ResponseFault, RawMessage>>,
 ) -> Mem<String> {
     match answer {
-        Ok(drained) => format!(in alloc; "{drained:?}"),
+        Ok(drained) => debugged(alloc, drained),
         Err(error) => refused(alloc, error),
     }
 }
@@ -77,7 +76,7 @@ fn refused<E: fmt::Debug>(
             let raw = told(alloc, raw)?;
             format!(in alloc; "ServiceError {source:?} {raw}")
         }
-        error => format!(in alloc; "{error:?}"),
+        error => debugged(alloc, error),
     }
 }
 
@@ -97,33 +96,26 @@ fn told(alloc: Global, raw: &RawMessage) -> Mem<String> {
 }
 
 /// What the copy of an answer or a fault shows, and what is printed of a fault.
-pub fn copied(alloc: Global, words: &[&str]) -> Mem<String> {
-    match words {
-        ["Received", text] => copied_received(alloc, text),
-        ["Tried", text] => copied_tried(alloc, text),
-        ["ResponseFault", name] => copied_fault(alloc, &fault_of(name)),
-        _ => unknown(alloc),
+pub fn copied(alloc: Global, kind: &str, text: &str) -> Mem<String> {
+    match kind {
+        "Received" => {
+            let received = Received::Event(String::from_str(alloc, text)?);
+            copy_shown(alloc, received.try_clone())
+        }
+        "Tried" => {
+            let payload = Bytes::copy_from_slice(alloc, text.as_bytes())?;
+            tried_copy(alloc, &Tried::Initial(Message::new(alloc, payload), 7))
+        }
+        _ => {
+            let copy = fault_of(text).try_clone()?;
+            format!(in alloc; "{copy:?}: {copy}")
+        }
     }
-}
-
-fn copied_received(alloc: Global, text: &str) -> Mem<String> {
-    let copy = Received::Event(String::from_str(alloc, text)?).try_clone()?;
-    format!(in alloc; "{copy:?}")
-}
-
-fn copied_tried(alloc: Global, text: &str) -> Mem<String> {
-    let payload = Bytes::copy_from_slice(alloc, text.as_bytes())?;
-    tried_copy(alloc, &Tried::Initial(Message::new(alloc, payload), 7))
 }
 
 fn tried_copy(alloc: Global, answer: &Tried<u8>) -> Mem<String> {
     let copy = answer.try_clone()?;
     tried::<u8, Error>(alloc, &Ok(copy))
-}
-
-fn copied_fault(alloc: Global, fault: &ResponseFault) -> Mem<String> {
-    let copy = fault.try_clone()?;
-    format!(in alloc; "{copy:?}: {copy}")
 }
 
 fn fault_of(name: &str) -> ResponseFault {

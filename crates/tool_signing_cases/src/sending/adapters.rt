@@ -1,8 +1,7 @@
 //! Polls adapters.
-use crate::parts::push;
-use crate::sending::events::{WaitingEvents, first_item, given, initial_items_of, items_of};
+use crate::parts::{debugged, number_of, push, word};
+use crate::sending::events::{WaitingEvents, given, initial_items_of, item_of, items_of};
 use crate::sending::marshalling::Telling;
-use crate::sending::parts::count;
 use crate::sending::signers::{LastSignature, MarkSigner, PlainSigner, bearer, sigv4};
 use event_io::{
     AdapterFault, EventOrInitialMarshaller, EventSource, EventStreamSender, MessageStreamAdapter,
@@ -16,21 +15,14 @@ use tool_case_lines::{number, part, unknown};
 /// What polls of an adapter with the signer of a name answer: of `events` over a source that waits, of `list` over items
 /// in memory, of `initial` over items of which one may be the initial message, and of what the sender of a source or of
 /// `once` an item becomes.
-pub fn answer(alloc: Global, words: &[&str]) -> Mem<String> {
-    match words {
-        ["copy", parts @ ..] => of_copy(alloc, parts),
-        [kind, name, parts @ ..] => of_name(alloc, kind, name, parts),
-        _ => unknown(alloc),
-    }
-}
-
-fn of_name(alloc: Global, kind: &str, name: &str, parts: &[&str]) -> Mem<String> {
-    match name {
-        "no-op" => of_kind(alloc, kind, NoOpSigner, parts),
-        "mark" => of_kind(alloc, kind, MarkSigner::new(alloc), parts),
-        "plain" => of_kind(alloc, kind, PlainSigner::new(alloc), parts),
-        "deferred" => deferred(alloc, kind, parts),
-        "bearer" => of_kind(alloc, kind, bearer(alloc)?, parts),
+pub fn answer(alloc: Global, kind: &str, parts: &[&str]) -> Mem<String> {
+    match (kind, word(parts, 0)) {
+        ("copy", _) => of_copy(alloc, parts),
+        (_, "no-op") => of_kind(alloc, kind, NoOpSigner, parts),
+        (_, "mark") => of_kind(alloc, kind, MarkSigner::new(alloc), parts),
+        (_, "plain") => of_kind(alloc, kind, PlainSigner::new(alloc), parts),
+        (_, "deferred") => deferred(alloc, kind, parts),
+        (_, "bearer") => of_kind(alloc, kind, bearer(alloc)?, parts),
         _ => of_kind(alloc, kind, sigv4(alloc)?, parts),
     }
 }
@@ -114,7 +106,7 @@ fn of_sender<G: SignMessage>(alloc: Global, signer: G, parts: &[&str]) -> Mem<St
 }
 
 fn of_once<G: SignMessage>(alloc: Global, signer: G, parts: &[&str]) -> Mem<String> {
-    let Some(item) = first_item(alloc, parts)? else {
+    let Some(item) = item_of(alloc, word(parts, 1))? else {
         return unknown(alloc);
     };
     let marshaller = Telling::new(alloc);
@@ -129,16 +121,13 @@ fn of_copy(alloc: Global, parts: &[&str]) -> Mem<String> {
     let source = WaitingEvents::of(alloc, parts)?;
     let mut adapter = MessageStreamAdapter::new(alloc, marshaller, marshaller, NoOpSigner, source);
     let mut copy = adapter.try_clone()?;
-    joined(
-        alloc,
-        polls(alloc, &mut adapter, parts),
-        polls(alloc, &mut copy, parts),
-    )
+    let mut answers = polls(alloc, &mut adapter, parts)?;
+    push_copy(&mut answers, polls(alloc, &mut copy, parts))?;
+    Ok(answers)
 }
 
-fn joined(alloc: Global, answers: Mem<String>, of_copy: Mem<String>) -> Mem<String> {
-    let (answers, of_copy) = (answers?, of_copy?);
-    format!(in alloc; "{answers}; {of_copy}")
+fn push_copy(answers: &mut String, of_copy: Mem<String>) -> Mem<()> {
+    write!(answers, "; {}", of_copy?)
 }
 
 // What `polls N` polls answer at the moments of `clock SECONDS ..`, and then the seconds that they took.
@@ -156,34 +145,32 @@ where
     let mut clock = clock_of(alloc, part(parts, "clock").unwrap_or("1440938160"))?;
     let mut moments = Vec::new(alloc);
     let mut answers = String::new(alloc);
-    for _ in 0..count(parts, "polls") {
-        push(
-            &mut answers,
-            told(alloc, adapter.poll_next(&mut clock, &mut moments)),
-        )?;
+    for _ in 0..number_of(parts, "polls", 1) {
+        let next = adapter.poll_next(&mut clock, &mut moments);
+        push(&mut answers, next_told(alloc, next))?;
     }
-    with_moments(answers, moments.as_slice())
+    push_moments(&mut answers, moments.as_slice())?;
+    Ok(answers)
 }
 
 /// The frame of an answer, or its name.
-pub fn told(
+pub fn next_told(
     alloc: Global,
     next: Result<Next, SdkError<AdapterFault, AdapterFault, RawMessage>>,
 ) -> Mem<String> {
     match next {
         Ok(Next::Frame(bytes)) => hex::encode(alloc, bytes.as_slice()),
-        Ok(next) => format!(in alloc; "{next:?}"),
-        Err(error) => format!(in alloc; "{error:?}"),
+        Ok(next) => debugged(alloc, &next),
+        Err(error) => debugged(alloc, &error),
     }
 }
 
-fn with_moments(answers: String, moments: &[Moment]) -> Mem<String> {
-    let mut answers = answers;
+fn push_moments(answers: &mut String, moments: &[Moment]) -> Mem<()> {
     answers.push_str("; at")?;
     for moment in moments {
         write!(answers, " {}", moment.secs())?;
     }
-    Ok(answers)
+    Ok(())
 }
 
 fn clock_of(alloc: Global, word: &str) -> Mem<ListClock> {

@@ -1,4 +1,5 @@
 //! Faults and errors, each by its name.
+use crate::parts::{debugged, printed};
 use event_io::{AdapterFault, MessageStreamError};
 use eventstream::{Error, ErrorKind, SignMessageError};
 use smithy_core::{ErrorMetadata, Mem, Moment, RawMessage, SdkError};
@@ -6,45 +7,33 @@ use std::alloc::{AllocError, Global};
 use tool_case_lines::{halves, number, unknown};
 
 /// What a fault prints, or what is made of it.
-pub fn answer(alloc: Global, call: &str, words: &[&str]) -> Mem<String> {
-    match (call, words) {
-        ("AdapterFault", [name, rest]) => adapter_fault(alloc, &fault_of(alloc, name, rest)?),
-        ("SdkError", [name, rest]) => sdk_error(alloc, fault_of(alloc, name, rest)?),
-        ("SignMessageError", [word]) => sign_error(alloc, &sign_error_of(alloc, word)?),
-        ("SignMessageError from", [word]) => sign_error_from(alloc, word),
-        ("MessageStreamError", [name]) => stream_error(alloc, &stream_error_of(alloc, name)?),
+pub fn answer(alloc: Global, call: &str, word: &str, rest: &str) -> Mem<String> {
+    match call {
+        "AdapterFault" => printed(alloc, &fault_of(alloc, word, rest)?),
+        "SdkError" => debugged(alloc, &sdk_error(fault_of(alloc, word, rest)?)),
+        "SignMessageError" => printed(alloc, &sign_error_of(alloc, word)?),
+        "SignMessageError from" if word == "AllocError" => {
+            debugged(alloc, &SignMessageError::from(AllocError))
+        }
+        "SignMessageError from" => {
+            debugged(alloc, &SignMessageError::from(error_of(alloc, word)?))
+        }
+        "MessageStreamError" => stream_error(alloc, &stream_error_of(alloc, word)?.try_clone()?),
         _ => unknown(alloc),
     }
 }
 
-fn adapter_fault(alloc: Global, fault: &AdapterFault) -> Mem<String> {
-    format!(in alloc; "{fault}")
+fn sdk_error(fault: AdapterFault) -> SdkError<AdapterFault, AdapterFault, RawMessage> {
+    SdkError::from(fault)
 }
 
-fn sdk_error(alloc: Global, fault: AdapterFault) -> Mem<String> {
-    let error: SdkError<AdapterFault, AdapterFault, RawMessage> = SdkError::from(fault);
-    format!(in alloc; "{error:?}")
-}
-
-fn sign_error(alloc: Global, error: &SignMessageError) -> Mem<String> {
-    format!(in alloc; "{error}")
-}
-
-fn sign_error_from(alloc: Global, word: &str) -> Mem<String> {
-    let error = match word {
-        "AllocError" => SignMessageError::from(AllocError),
-        word => SignMessageError::from(error_of(alloc, word)?),
-    };
-    format!(in alloc; "{error:?}")
-}
-
-/// What it prints, what it tells and what it was made of.
-pub fn stream_error(alloc: Global, error: &MessageStreamError) -> Mem<String> {
+// What it prints, what it tells and what it was made of.
+fn stream_error(alloc: Global, error: &MessageStreamError) -> Mem<String> {
     format!(in alloc; "{error} | {:?} | {:?}", error.meta(), error.source())
 }
 
-/// The error of a name, of the code C and the message m.
-pub fn stream_error_of(alloc: Global, name: &str) -> Mem<MessageStreamError> {
+// The error of a name, of the code C and the message m.
+fn stream_error_of(alloc: Global, name: &str) -> Mem<MessageStreamError> {
     let metadata = ErrorMetadata {
         code: Some(String::from_str(alloc, "C")?),
         message: Some(String::from_str(alloc, "m")?),

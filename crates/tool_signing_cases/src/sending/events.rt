@@ -1,8 +1,8 @@
 ghost use Rattle.std.specs.Prelude.{◌≡◌, [], None};
 
-use crate::parts::push;
+use crate::parts::{debugged, push, word};
 use crate::sending::marshalling::event_or_initial;
-use event_io::{EventOrInitial, EventPolled, EventSource, ListEvents};
+use event_io::{EventOrInitial, EventPolled, EventSource, EventStreamSender, ListEvents};
 use smithy_core::Mem;
 use std::alloc::Global;
 use std::collections::VecDeque;
@@ -27,14 +27,6 @@ pub fn item_of(alloc: Global, part: &str) -> Mem<Option<Result<String, String>>>
         ("error", word) => Some(Err(String::from_str(alloc, word)?)),
         _ => None,
     })
-}
-
-/// The item of the first part, where it is one.
-pub fn first_item(alloc: Global, parts: &[&str]) -> Mem<Option<Result<String, String>>> {
-    match parts {
-        [first, ..] => item_of(alloc, first),
-        [] => Ok(None),
-    }
 }
 
 /// The items, where an event `initial` is the initial message.
@@ -96,23 +88,29 @@ impl EventSource for WaitingEvents {
 }
 
 /// What so many polls of a source answer.
-pub fn given<S: EventSource>(alloc: Global, source: &mut S, count: u32) -> Mem<String>
+pub fn given<S: EventSource>(alloc: Global, source: &mut S, count: u64) -> Mem<String>
 where
     S::Item: fmt::Debug + Drop,
     S::Error: fmt::Debug + Drop,
 {
     let mut answers = String::new(alloc);
     for _ in 0..count {
-        push(&mut answers, polled(alloc, source))?;
+        push(&mut answers, debugged(alloc, &source.poll_event()))?;
     }
     Ok(answers)
 }
 
-fn polled<S: EventSource>(alloc: Global, source: &mut S) -> Mem<String>
-where
-    S::Item: fmt::Debug + Drop,
-    S::Error: fmt::Debug + Drop,
-{
-    let polled = source.poll_event();
-    format!(in alloc; "{polled:?}")
+/// What the source of a sender answers to so many polls: of a copy of one that was made from a source, or of one of `once`
+/// an item.
+pub fn sender_of(alloc: Global, kind: &str, parts: &[&str], count: u64) -> Mem<String> {
+    match (kind, item_of(alloc, word(parts, 0))?) {
+        ("once", Some(item)) => {
+            let sender = EventStreamSender::once(alloc, item)?;
+            given(alloc, &mut sender.into_inner(), count)
+        }
+        _ => {
+            let sender = EventStreamSender::from(WaitingEvents::of(alloc, parts)?);
+            given(alloc, &mut sender.try_clone()?.into_inner(), count)
+        }
+    }
 }

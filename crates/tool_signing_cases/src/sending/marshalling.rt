@@ -1,12 +1,12 @@
 //! What events are as messages.
-use crate::parts::{framed, text_header};
+use crate::parts::text_header;
 use crate::sending::errors::error_of;
 use bytes::Bytes;
 use event_io::{EventOrInitial, EventOrInitialMarshaller};
 use eventstream::{Error, IdentityMarshaller, MarshallMessage};
 use smithy_core::{Mem, Message};
 use std::alloc::Global;
-use tool_case_lines::{halves, unknown};
+use tool_case_lines::{halves, with_repeats};
 
 /// Makes messages of the words that tell them.
 #[derive(Clone, Copy)]
@@ -30,19 +30,13 @@ impl MarshallMessage for Telling {
 
 /// The message or the refusal that a word tells.
 pub fn message_of(alloc: Global, word: &str) -> Result<Message, Error> {
-    match halves(word) {
-        ("refused", kind) => Err(error_of(alloc, kind)?),
-        ("text", text) => Ok(with_payload(alloc, text)?),
-        ("value", len) => Ok(with_header(alloc, "h", repeated(alloc, len)?.as_str())?),
-        ("name", len) => Ok(with_header(alloc, repeated(alloc, len)?.as_str(), "v")?),
-        _ => Ok(initial_response(alloc)?),
+    let (kind, text) = halves(word);
+    match kind {
+        "refused" => Err(error_of(alloc, text)?),
+        "text" => Ok(with_payload(alloc, text)?),
+        "initial" => Ok(initial_response(alloc)?),
+        _ => Ok(with_long_header(alloc, kind, text)?),
     }
-}
-
-/// The message that begins a response.
-pub fn initial_response(alloc: Global) -> Mem<Message> {
-    let message = with_header(alloc, ":message-type", "event")?;
-    message.add_header(text_header(alloc, ":event-type", "initial-response")?)
 }
 
 fn with_payload(alloc: Global, text: &str) -> Mem<Message> {
@@ -50,40 +44,35 @@ fn with_payload(alloc: Global, text: &str) -> Mem<Message> {
     Ok(Message::new(alloc, payload))
 }
 
+// The message of a header with a text as its value, or else as its name.
+fn with_long_header(alloc: Global, kind: &str, text: &str) -> Mem<Message> {
+    let text = with_repeats(alloc, text)?;
+    match kind {
+        "value" => with_header(alloc, "h", text.as_str()),
+        _ => with_header(alloc, text.as_str(), "v"),
+    }
+}
+
 fn with_header(alloc: Global, name: &str, value: &str) -> Mem<Message> {
     let message = Message::new(alloc, Bytes::from_static(b""));
     message.add_header(text_header(alloc, name, value)?)
 }
 
-// A text of this length.
-fn repeated(alloc: Global, len: &str) -> Mem<String> {
-    let len: u32 = len.parse().unwrap_or(0);
-    let mut text = String::new(alloc);
-    for _ in 0..len {
-        text.push('a')?;
-    }
-    Ok(text)
+// The message that begins a response.
+fn initial_response(alloc: Global) -> Mem<Message> {
+    let message = with_header(alloc, ":message-type", "event")?;
+    message.add_header(text_header(alloc, ":event-type", "initial-response")?)
 }
 
-/// What a marshaller makes of a word.
-pub fn answer(alloc: Global, words: &[&str]) -> Mem<String> {
-    match words {
-        ["Identity", word] => identity(alloc, word),
-        ["EventOrInitial", word] => passing(alloc, word),
-        _ => unknown(alloc),
+/// What the marshaller of a name, or a copy of it, makes of a word.
+pub fn marshalled(alloc: Global, name: &str, word: &str) -> Result<Message, Error> {
+    match name {
+        "Identity" => IdentityMarshaller.marshall(message_of(alloc, word)?),
+        _ => {
+            let marshaller = EventOrInitialMarshaller::new(Telling::new(alloc)).try_clone()?;
+            marshaller.marshall(event_or_initial(alloc, word)?.try_clone()?)
+        }
     }
-}
-
-fn identity(alloc: Global, word: &str) -> Mem<String> {
-    match message_of(alloc, word) {
-        Ok(message) => told(alloc, IdentityMarshaller.marshall(message)),
-        Err(error) => told(alloc, Err(error)),
-    }
-}
-
-fn passing(alloc: Global, word: &str) -> Mem<String> {
-    let marshaller = EventOrInitialMarshaller::new(Telling::new(alloc));
-    told(alloc, marshaller.marshall(event_or_initial(alloc, word)?))
 }
 
 /// The initial message, or the event of a word.
@@ -92,12 +81,4 @@ pub fn event_or_initial(alloc: Global, word: &str) -> Mem<EventOrInitial<String>
         "initial" => EventOrInitial::InitialMessage(initial_response(alloc)?),
         word => EventOrInitial::Event(String::from_str(alloc, word)?),
     })
-}
-
-/// The frame of a message, or why there is none.
-pub fn told(alloc: Global, message: Result<Message, Error>) -> Mem<String> {
-    match message {
-        Ok(message) => framed(alloc, &message),
-        Err(error) => format!(in alloc; "{error:?}"),
-    }
 }

@@ -1,12 +1,10 @@
 //! Signers, each by its name.
-use crate::parts::identity_of;
+use crate::parts::{identity_of, message_signer};
 use aws_auth::SigV4MessageSigner;
 use bytes::Bytes;
 use eventstream::{DeferredSigner, NoOpSigner, SignMessage, SignMessageError, write_message_to};
 use mac_core::sha256_hex;
-use smithy_core::{
-    Header, HeaderValue, Identity, Mem, Message, Moment, Region, SigningName, StrBytes,
-};
+use smithy_core::{Header, HeaderValue, Identity, Mem, Message, Moment, StrBytes};
 use std::alloc::Global;
 
 /// Puts the frame of a message into a message that is marked as signed.
@@ -75,32 +73,18 @@ fn marked_empty(alloc: Global) -> Result<Message, SignMessageError> {
 
 /// What tells the last signature, where it has one.
 pub trait LastSignature {
-    fn last_signature(&self) -> &str;
-}
-
-impl LastSignature for NoOpSigner {
     fn last_signature(&self) -> &str {
         "none"
     }
 }
 
-impl LastSignature for MarkSigner {
-    fn last_signature(&self) -> &str {
-        "none"
-    }
-}
+impl LastSignature for NoOpSigner {}
 
-impl LastSignature for PlainSigner {
-    fn last_signature(&self) -> &str {
-        "none"
-    }
-}
+impl LastSignature for MarkSigner {}
 
-impl LastSignature for DeferredSigner {
-    fn last_signature(&self) -> &str {
-        "none"
-    }
-}
+impl LastSignature for PlainSigner {}
+
+impl LastSignature for DeferredSigner {}
 
 impl LastSignature for SigV4MessageSigner<()> {
     fn last_signature(&self) -> &str {
@@ -120,14 +104,7 @@ pub fn bearer(alloc: Global) -> Mem<SigV4MessageSigner<()>> {
 
 // The signer that goes on from the SHA-256 of `last message sts`, for `us-east-1` and `testservice`.
 fn sigv4_of(alloc: Global, identity: Identity) -> Mem<SigV4MessageSigner<()>> {
-    let (signature, region, name) = scope_of(alloc)?;
-    let time = Moment::new(1_440_938_160, 0);
-    Ok(SigV4MessageSigner::new(signature, identity, region, name, time, ()))
-}
-
-fn scope_of(alloc: Global) -> Mem<(String, Region, SigningName)> {
     let signature = sha256_hex(alloc, b"last message sts")?;
-    let region = Region::new(String::from_str(alloc, "us-east-1")?);
-    let name = SigningName::new(String::from_str(alloc, "testservice")?);
-    Ok((signature, region, name))
+    let time = Moment::new(1_440_938_160, 0);
+    message_signer(alloc, identity, signature.as_str(), "testservice", time, ())
 }

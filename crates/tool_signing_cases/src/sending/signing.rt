@@ -1,20 +1,20 @@
 //! The calls of signers.
-use crate::parts::{framed, push};
+use crate::parts::{debugged, frame_or_error, push};
 use crate::sending::marshalling::message_of;
 use crate::sending::signers::{LastSignature, MarkSigner, bearer, sigv4};
-use eventstream::{DeferredSigner, NoOpSigner, SignMessage, SignMessageError};
-use smithy_core::{Mem, Message, Moment};
+use eventstream::{DeferredSigner, NoOpSigner, SignMessage};
+use smithy_core::{Mem, Moment};
 use std::alloc::Global;
 use tool_case_lines::{halves, number, unknown};
 
 /// What the steps on the signer of a name answer.
-pub fn answer(alloc: Global, words: &[&str]) -> Mem<String> {
-    match words {
-        ["no-op", steps @ ..] => steps_of(alloc, &mut NoOpSigner, steps),
-        ["mark", steps @ ..] => steps_of(alloc, &mut MarkSigner::new(alloc), steps),
-        ["deferred", steps @ ..] => deferred_steps(alloc, steps),
-        ["bearer", steps @ ..] => steps_of(alloc, &mut bearer(alloc)?, steps),
-        ["sigv4", steps @ ..] => steps_of(alloc, &mut sigv4(alloc)?, steps),
+pub fn answer(alloc: Global, name: &str, steps: &[&str]) -> Mem<String> {
+    match name {
+        "no-op" => steps_of(alloc, &mut NoOpSigner, steps),
+        "mark" => steps_of(alloc, &mut MarkSigner::new(alloc), steps),
+        "deferred" => deferred_steps(alloc, steps),
+        "bearer" => steps_of(alloc, &mut bearer(alloc)?, steps),
+        "sigv4" => steps_of(alloc, &mut sigv4(alloc)?, steps),
         _ => unknown(alloc),
     }
 }
@@ -55,7 +55,10 @@ fn step_of<G: SignMessage + LastSignature>(
     match halves(step) {
         ("signature", _) => String::from_str(alloc, signer.last_signature()),
         ("sign", rest) => sign(alloc, signer, rest),
-        (_, secs) => sign_empty(alloc, signer, secs),
+        (_, secs) => match signer.sign_empty(Moment::new(number(secs), 0)) {
+            Some(signed) => frame_or_error(alloc, signed),
+            None => String::from_str(alloc, "none"),
+        },
     }
 }
 
@@ -63,22 +66,7 @@ fn step_of<G: SignMessage + LastSignature>(
 pub fn sign<G: SignMessage>(alloc: Global, signer: &mut G, rest: &str) -> Mem<String> {
     let (secs, word) = halves(rest);
     match message_of(alloc, word) {
-        Ok(message) => told(alloc, signer.sign(message, Moment::new(number(secs), 0))),
-        Err(error) => format!(in alloc; "{error:?}"),
-    }
-}
-
-fn sign_empty<G: SignMessage>(alloc: Global, signer: &mut G, secs: &str) -> Mem<String> {
-    match signer.sign_empty(Moment::new(number(secs), 0)) {
-        Some(signed) => told(alloc, signed),
-        None => String::from_str(alloc, "none"),
-    }
-}
-
-// The frame of the signed message, or the refusal.
-fn told(alloc: Global, signed: Result<Message, SignMessageError>) -> Mem<String> {
-    match signed {
-        Ok(message) => framed(alloc, &message),
-        Err(error) => format!(in alloc; "{error:?}"),
+        Ok(message) => { frame_or_error(alloc, signer.sign(message, Moment::new(number(secs), 0))) }
+        Err(error) => debugged(alloc, &error),
     }
 }

@@ -1,27 +1,26 @@
-use crate::parts::identity_of;
-use crate::signing::parts::part_or_none;
+//! Parameters and their builders.
+use crate::parts::{debugged, identity_of, part_or_none};
 use crate::signing::requests::{name_of, region_of, time_of};
 use sigv4::v4::{Builder, SigningParams};
 use sigv4::{SigningParams as RequestParams, SigningSettings};
 use smithy_core::{Identity, Mem, Moment};
 use std::alloc::Global;
-use tool_case_lines::{has_part, number, unknown};
+use tool_case_lines::{has_part, number};
 
 /// The answer of a call on parameters.
 pub fn answer(alloc: Global, call: &str, parts: &[&str]) -> Mem<String> {
+    let identity = identity_of(alloc, parts)?;
     match call {
-        "build" => build(alloc, parts),
-        "change" => change(alloc, parts),
-        "whole" => whole(alloc, parts),
-        _ => unknown(alloc),
+        "build" => build(alloc, &identity, parts),
+        "change" => change(alloc, &identity, parts),
+        _ => whole(alloc, &identity, parts),
     }
 }
 
 // What is built of `identity`, `region`, `name`, `time` and `settings`, as far as they are there, or the part that is
 // missing.
-fn build(alloc: Global, parts: &[&str]) -> Mem<String> {
-    let identity = identity_of(alloc, parts)?;
-    match builder_of(&identity, parts).build() {
+fn build(alloc: Global, identity: &Identity, parts: &[&str]) -> Mem<String> {
+    match builder_of(identity, parts).build() {
         Ok(params) => shown_params(alloc, &params),
         Err(missing) => format!(in alloc; "{missing:?}: {missing}"),
     }
@@ -49,11 +48,11 @@ fn shown_params(alloc: Global, params: &SigningParams<'_, i64>) -> Mem<String> {
 
 // Expiry, region, name, second, algorithm and version of a copy of the parameters of a request, which a copy of a
 // builder built, after the settings in them got `expires-in N`.
-fn change(alloc: Global, parts: &[&str]) -> Mem<String> {
-    let identity = identity_of(alloc, parts)?;
-    match SigningSettings::new(alloc) {
-        Ok(settings) => change_copy(alloc, &whole_builder(&identity, settings), parts),
-        Err(fault) => Err(fault),
+fn change(alloc: Global, identity: &Identity, parts: &[&str]) -> Mem<String> {
+    let settings = SigningSettings::new(alloc)?;
+    match whole_builder(identity, settings).try_clone()?.build() {
+        Ok(params) => changed(alloc, RequestParams::from(params), parts),
+        Err(missing) => debugged(alloc, &missing),
     }
 }
 
@@ -69,30 +68,10 @@ fn whole_builder<'a>(
         .settings(settings)
 }
 
-fn change_copy(
-    alloc: Global,
-    builder: &Builder<'_, SigningSettings>,
-    parts: &[&str],
-) -> Mem<String> {
-    match builder.try_clone()?.build() {
-        Ok(params) => with_expiry(
-            alloc,
-            RequestParams::from(params),
-            part_or_none(parts, "expires-in"),
-        ),
-        Err(missing) => format!(in alloc; "{missing:?}"),
-    }
-}
-
-fn with_expiry(alloc: Global, params: RequestParams<'_>, expiry: &str) -> Mem<String> {
+fn changed(alloc: Global, params: RequestParams<'_>, parts: &[&str]) -> Mem<String> {
     let mut params = params;
-    params.settings_mut().expires_in = expiry.parse().ok();
-    shown_copy(alloc, &params)
-}
-
-fn shown_copy(alloc: Global, params: &RequestParams<'_>) -> Mem<String> {
-    let copy = params.try_clone()?;
-    shown_request_params(alloc, &copy)
+    params.settings_mut().expires_in = part_or_none(parts, "expires-in").parse().ok();
+    shown_request_params(alloc, &params.try_clone()?)
 }
 
 fn shown_request_params(alloc: Global, params: &RequestParams<'_>) -> Mem<String> {
@@ -104,12 +83,7 @@ fn shown_request_params(alloc: Global, params: &RequestParams<'_>) -> Mem<String
 
 // The parameters of all parts: who signs, and what they show, under the settings `settings N` and then those of
 // `again N`.
-fn whole(alloc: Global, parts: &[&str]) -> Mem<String> {
-    let identity = identity_of(alloc, parts)?;
-    whole_of(alloc, &identity, parts)
-}
-
-fn whole_of(alloc: Global, identity: &Identity, parts: &[&str]) -> Mem<String> {
+fn whole(alloc: Global, identity: &Identity, parts: &[&str]) -> Mem<String> {
     let (region, name, time) = (region_of(parts), name_of(parts), time_of(parts));
     let settings = number(part_or_none(parts, "settings"));
     let params = SigningParams::new(identity, region, name, time, settings);

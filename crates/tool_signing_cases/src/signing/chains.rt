@@ -3,13 +3,10 @@ use crate::parts::framed;
 use chain_watch::{ChainFault, check_chain};
 use smithy_core::{Mem, Message};
 use std::alloc::Global;
-use tool_case_lines::{bytes_of_hex, unknown};
+use tool_case_lines::bytes_of_hex;
 
 /// How many events a chain has, with their frames, or the first frame that doesn't pass and why.
-pub fn answer(alloc: Global, words: &[&str]) -> Mem<String> {
-    let [seed, secret, name, frames] = words else {
-        return unknown(alloc);
-    };
+pub fn answer(alloc: Global, seed: &str, secret: &str, name: &str, frames: &str) -> Mem<String> {
     let bytes = bytes_of_hex(alloc, frames)?;
     match check_chain(alloc, bytes.as_slice(), seed, secret, "us-east-1", name) {
         Ok(events) => frames_of(alloc, events.as_slice()),
@@ -20,15 +17,9 @@ pub fn answer(alloc: Global, words: &[&str]) -> Mem<String> {
 fn frames_of(alloc: Global, events: &[Message]) -> Mem<String> {
     let mut text = format!(in alloc; "ok {}", events.len())?;
     for event in events {
-        push_frame(alloc, &mut text, event)?;
+        write!(text, " {}", framed(alloc, event)?)?;
     }
     Ok(text)
-}
-
-// Appends the frame of an event in hexadecimal, or why it has none.
-fn push_frame(alloc: Global, text: &mut String, event: &Message) -> Mem<()> {
-    let frame = framed(alloc, event)?;
-    write!(text, " {frame}")
 }
 
 fn told(alloc: Global, fault: ChainFault) -> Mem<String> {

@@ -1,7 +1,7 @@
-use crate::signing::parts::source_of;
-use crate::signing::texts::length;
+use crate::parts::{debugged, word};
+use crate::signing::texts::text_or_length;
 use http_uri::Uri;
-use smithy_core::Mem;
+use smithy_core::{ErrorMetadata, Mem};
 use smithy_http::{
     EndpointPrefix, InvalidEndpointError, ResolveEndpointError, UriFault, apply_endpoint,
 };
@@ -10,50 +10,36 @@ use tool_case_lines::{unknown, with_repeats};
 
 /// The answer of a call on endpoints.
 pub fn answer(alloc: Global, call: &str, words: &[&str]) -> Mem<String> {
-    match call {
-        "endpoint" => endpoint(alloc, words),
-        "endpoint_length" => endpoint_length(alloc, words),
-        "resolve_error" => resolve_error(alloc, words),
+    match (call, words) {
+        ("resolve_error", [message, why]) => resolve_error(alloc, message, why),
+        (_, [target, endpoint, prefix @ ..]) => {
+            endpoint_answer(alloc, call, target, endpoint, word(prefix, 0))
+        }
         _ => unknown(alloc),
     }
 }
 
-// The target at the endpoint, or the fault and then the target, which has stayed.
-fn endpoint(alloc: Global, words: &[&str]) -> Mem<String> {
-    let [target, endpoint, prefix] = words else {
-        return unknown(alloc);
-    };
-    match target_of(alloc, target) {
-        Ok(uri) => moved(alloc, uri, endpoint, prefix),
-        Err(fault) => format!(in alloc; "{fault:?}"),
-    }
-}
-
-fn moved(alloc: Global, uri: Uri, endpoint: &str, prefix: &str) -> Mem<String> {
-    let mut uri = uri;
-    match apply(alloc, &mut uri, endpoint, prefix) {
-        Ok(()) => uri.to_string(alloc),
-        Err(fault) => format!(in alloc; "{fault:?} {uri}"),
-    }
-}
-
-// The length of the target at the endpoint.
-fn endpoint_length(alloc: Global, words: &[&str]) -> Mem<String> {
-    let [target, endpoint] = words else {
-        return unknown(alloc);
-    };
+// The target at the endpoint, or its length, or the fault and then the target, which has stayed.
+fn endpoint_answer(
+    alloc: Global,
+    call: &str,
+    target: &str,
+    endpoint: &str,
+    prefix: &str,
+) -> Mem<String> {
     let target = with_repeats(alloc, target)?;
     match target_of(alloc, target.as_str()) {
-        Ok(uri) => moved_length(alloc, uri, endpoint),
-        Err(fault) => format!(in alloc; "{fault:?}"),
+        Ok(uri) => moved(alloc, call, uri, endpoint, prefix),
+        Err(fault) => debugged(alloc, &fault),
     }
 }
 
-fn moved_length(alloc: Global, uri: Uri, endpoint: &str) -> Mem<String> {
+fn moved(alloc: Global, call: &str, uri: Uri, endpoint: &str, prefix: &str) -> Mem<String> {
     let mut uri = uri;
-    match apply(alloc, &mut uri, endpoint, "") {
-        Ok(()) => length(alloc, uri.to_string(alloc)),
-        Err(fault) => format!(in alloc; "{fault:?}"),
+    match apply(alloc, &mut uri, endpoint, prefix) {
+        Ok(()) => text_or_length(alloc, call, uri.to_string(alloc)?),
+        Err(fault) if call == "endpoint" => format!(in alloc; "{fault:?} {uri}"),
+        Err(fault) => debugged(alloc, &fault),
     }
 }
 
@@ -64,21 +50,10 @@ fn apply(
     prefix: &str,
 ) -> Result<(), InvalidEndpointError> {
     match target_of(alloc, endpoint) {
-        Ok(endpoint) => apply_at(alloc, uri, &endpoint, prefix),
+        Ok(endpoint) if prefix.is_empty() => apply_endpoint(alloc, uri, &endpoint, None),
+        Ok(endpoint) => apply_prefixed(alloc, uri, &endpoint, prefix),
         Err(fault) => Err(InvalidEndpointError::from(fault)),
     }
-}
-
-fn apply_at(
-    alloc: Global,
-    uri: &mut Uri,
-    endpoint: &Uri,
-    prefix: &str,
-) -> Result<(), InvalidEndpointError> {
-    if prefix.is_empty() {
-        return apply_endpoint(alloc, uri, endpoint, None);
-    }
-    apply_prefixed(alloc, uri, endpoint, prefix)
 }
 
 fn apply_prefixed(
@@ -87,8 +62,14 @@ fn apply_prefixed(
     endpoint: &Uri,
     prefix: &str,
 ) -> Result<(), InvalidEndpointError> {
-    let prefix = EndpointPrefix::new(String::from_str(alloc, prefix)?)?;
+    let prefix = prefix_of(alloc, prefix)?;
     apply_endpoint(alloc, uri, endpoint, Some(&prefix))
+}
+
+/// A copy of a prefix.
+pub fn prefix_of(alloc: Global, text: &str) -> Result<EndpointPrefix, InvalidEndpointError> {
+    let prefix = EndpointPrefix::new(String::from_str(alloc, text)?)?;
+    Ok(prefix.try_clone()?)
 }
 
 fn target_of(alloc: Global, text: &str) -> Result<Uri, UriFault> {
@@ -96,10 +77,7 @@ fn target_of(alloc: Global, text: &str) -> Result<Uri, UriFault> {
 }
 
 // What an error from a source prints, the source's message, and whether it has a source without it.
-fn resolve_error(alloc: Global, words: &[&str]) -> Mem<String> {
-    let [message, why] = words else {
-        return unknown(alloc);
-    };
+fn resolve_error(alloc: Global, message: &str, why: &str) -> Mem<String> {
     let source = source_of(alloc, why)?;
     let error = ResolveEndpointError::from_source(String::from_str(alloc, message)?, source);
     with_bare(alloc, error)
@@ -114,4 +92,18 @@ fn with_bare(alloc: Global, error: ResolveEndpointError) -> Mem<String> {
 fn from_told(alloc: Global, error: &ResolveEndpointError) -> Mem<String> {
     let source = error.source();
     format!(in alloc; "{error}, from {source:?}")
+}
+
+/// An error of a message, from a source with this one.
+pub fn error_of(alloc: Global, message: &str, why: &str) -> Mem<ResolveEndpointError> {
+    let source = source_of(alloc, why)?;
+    let error = ResolveEndpointError::message(String::from_str(alloc, message)?);
+    Ok(error.with_source(Some(source)))
+}
+
+fn source_of(alloc: Global, why: &str) -> Mem<ErrorMetadata> {
+    Ok(ErrorMetadata {
+        code: None,
+        message: Some(String::from_str(alloc, why)?),
+    })
 }

@@ -1,55 +1,29 @@
 //! What faults print, each by its type and its name.
+use crate::parts::{printed, printed_of};
 use smithy_core::Mem;
 use smithy_http::{HeaderFault, InvalidEndpointError, MergeFault, UriFault};
 use std::alloc::Global;
-use tool_case_lines::unknown;
 
 /// What the fault of a type prints.
-pub fn answer(alloc: Global, words: &[&str]) -> Mem<String> {
-    match words {
-        [kind, name] => printed(alloc, kind, name),
-        _ => unknown(alloc),
-    }
-}
-
-fn printed(alloc: Global, kind: &str, name: &str) -> Mem<String> {
+pub fn answer(alloc: Global, kind: &str, name: &str) -> Mem<String> {
     match kind {
-        "UriFault" => uri_fault(alloc, name),
-        "HeaderFault" => header_fault(alloc, name),
-        "MergeFault" => merge_fault(alloc, name),
-        "InvalidEndpointError" => endpoint_error(alloc, name),
-        _ => unknown(alloc),
+        "UriFault" => printed_of(alloc, &[UriFault::InvalidUri, UriFault::NoMemory], name),
+        "HeaderFault" => {
+            let (of_name, of_value) = (
+                HeaderFault::InvalidHeaderName,
+                HeaderFault::InvalidHeaderValue,
+            );
+            printed_of(alloc, &[of_name, of_value, HeaderFault::NoMemory], name)
+        }
+        "MergeFault" => {
+            printed_of(
+                alloc,
+                &[MergeFault::MaxSizeReached, MergeFault::NoMemory],
+                name,
+            )
+        }
+        _ => printed(alloc, &endpoint_error_of(alloc, name)?),
     }
-}
-
-fn uri_fault(alloc: Global, name: &str) -> Mem<String> {
-    let fault = match name {
-        "InvalidUri" => UriFault::InvalidUri,
-        _ => UriFault::NoMemory,
-    };
-    format!(in alloc; "{fault}")
-}
-
-fn header_fault(alloc: Global, name: &str) -> Mem<String> {
-    let fault = match name {
-        "InvalidHeaderName" => HeaderFault::InvalidHeaderName,
-        "InvalidHeaderValue" => HeaderFault::InvalidHeaderValue,
-        _ => HeaderFault::NoMemory,
-    };
-    format!(in alloc; "{fault}")
-}
-
-fn merge_fault(alloc: Global, name: &str) -> Mem<String> {
-    let fault = match name {
-        "MaxSizeReached" => MergeFault::MaxSizeReached,
-        _ => MergeFault::NoMemory,
-    };
-    format!(in alloc; "{fault}")
-}
-
-fn endpoint_error(alloc: Global, text: &str) -> Mem<String> {
-    let error = endpoint_error_of(alloc, text)?;
-    format!(in alloc; "{error}")
 }
 
 /// The error `scheme`, `uri` or `memory`, and of another text as an authority.

@@ -1,91 +1,50 @@
 ghost use Rattle.sigv4.specs.EventStream.{IsKeyOf};
 
+use crate::parts::word;
 use crate::signing::moments::moment_of;
-use crate::signing::parts::first;
-use sigv4::normalize_uri_path;
 use sigv4::v4::{
     SigningParams, calculate_signature, credential_scope, generate_signing_key, request_signature,
     signing_key_of,
 };
-use smithy_core::{Mem, civil};
+use smithy_core::{Mem, Moment, civil};
 use std::alloc::Global;
 use tool_case_lines::unknown;
 
-/// The answer of a call on paths, scopes, keys and codes.
+/// The answer of a call on scopes, keys and codes.
 pub fn answer(alloc: Global, call: &str, words: &[&str]) -> Mem<String> {
-    match call {
-        "path" => normalize_uri_path(alloc, first(words)),
-        "stamp" => stamp(alloc, first(words)),
-        "scope" => scope(alloc, words),
-        "key" => key(alloc, words),
-        "code" => code(alloc, words),
-        "request_code" => request_code(alloc, words),
+    match (call, words) {
+        ("stamp" | "scope", [moment, words @ ..]) => {
+            of_moment(alloc, call, "", moment_of(moment), words)
+        }
+        (_, [secret, moment, words @ ..]) => {
+            of_moment(alloc, call, secret, moment_of(moment), words)
+        }
         _ => unknown(alloc),
     }
 }
 
-// Date and time of a moment.
-fn stamp(alloc: Global, moment: &str) -> Mem<String> {
-    match civil(moment_of(moment)) {
-        Some(civil) => civil.stamp_text(alloc),
-        None => outside_years(alloc),
-    }
-}
-
-fn outside_years(alloc: Global) -> Mem<String> {
-    String::from_str(alloc, "outside the years")
-}
-
-fn scope(alloc: Global, words: &[&str]) -> Mem<String> {
-    let [moment, region, name] = words else {
-        return unknown(alloc);
+// Date and time of a moment, or the scope of a region and a name then, the signing key in hexadecimal, the signature of a
+// string to sign under it, or that of a canonical text.
+fn of_moment(alloc: Global, call: &str, secret: &str, time: Moment, words: &[&str]) -> Mem<String> {
+    let Some(civil) = civil(time) else {
+        return String::from_str(alloc, "outside the years");
     };
-    let time = moment_of(moment);
-    match civil(time) {
-        Some(_) => credential_scope(alloc, time, region, name),
-        None => outside_years(alloc),
-    }
-}
-
-// The signing key in hexadecimal.
-fn key(alloc: Global, words: &[&str]) -> Mem<String> {
-    let [secret, moment, region, name] = words else {
-        return unknown(alloc);
-    };
-    let time = moment_of(moment);
-    match civil(time) {
-        Some(_) => {
+    let (region, name, text) = (word(words, 0), word(words, 1), word(words, 2).as_bytes());
+    match call {
+        "stamp" => civil.stamp_text(alloc),
+        "scope" => credential_scope(alloc, time, region, name),
+        "request_code" => request_signature(alloc, text, secret, time, region, name),
+        _ => {
             let key = generate_signing_key(secret, time, region, name);
-            hex::encode(alloc, key.as_slice())
+            under_key(alloc, call, key.as_slice(), text)
         }
-        None => outside_years(alloc),
     }
 }
 
-// The signature of a string to sign under the signing key.
-fn code(alloc: Global, words: &[&str]) -> Mem<String> {
-    let [secret, moment, region, name, text] = words else {
-        return unknown(alloc);
-    };
-    let time = moment_of(moment);
-    match civil(time) {
-        Some(_) => {
-            let key = generate_signing_key(secret, time, region, name);
-            calculate_signature(alloc, key.as_slice(), text.as_bytes())
-        }
-        None => outside_years(alloc),
-    }
-}
-
-// The signature of a canonical text.
-fn request_code(alloc: Global, words: &[&str]) -> Mem<String> {
-    let [secret, moment, region, name, text] = words else {
-        return unknown(alloc);
-    };
-    let time = moment_of(moment);
-    match civil(time) {
-        Some(_) => request_signature(alloc, text.as_bytes(), secret, time, region, name),
-        None => outside_years(alloc),
+fn under_key(alloc: Global, call: &str, key: &[u8], text: &[u8]) -> Mem<String> {
+    match call {
+        "key" => hex::encode(alloc, key),
+        _ => calculate_signature(alloc, key, text),
     }
 }
 

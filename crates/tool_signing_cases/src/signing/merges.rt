@@ -1,52 +1,38 @@
+//! Header maps that are merged.
+use crate::parts::debugged;
 use http_header::{HeaderMap, HeaderName, HeaderValue};
 use smithy_core::Mem;
 use smithy_http::append_merge_header_maps;
 use std::alloc::Global;
-use tool_case_lines::{number, unknown};
+use tool_case_lines::number;
 
-/// The answer of a call on header maps.
-pub fn answer(alloc: Global, call: &str, words: &[&str]) -> Mem<String> {
-    match (call, words) {
-        ("merge", [left, right]) => merge(alloc, left, right),
-        ("merge_into", [count, right]) => merge_into(alloc, count, right),
-        _ => unknown(alloc),
-    }
-}
-
-fn merge(alloc: Global, left: &str, right: &str) -> Mem<String> {
-    match (map_of(alloc, left), map_of(alloc, right)) {
-        (Some(left), Some(right)) => merged(alloc, left, right),
+/// The pairs of two maps, `merge`, or how many names a map of the names `n0`, `n1` and so on then has.
+pub fn answer(alloc: Global, call: &str, left: &str, right: &str) -> Mem<String> {
+    let left = match call {
+        "merge" => map_of(alloc, left),
+        _ => names_to(alloc, number(left)),
+    };
+    match (left, map_of(alloc, right)) {
+        (Some(left), Some(right)) => merged(alloc, call, left, right),
         _ => String::from_str(alloc, "no map"),
     }
 }
 
-fn merged(alloc: Global, left: HeaderMap, right: HeaderMap) -> Mem<String> {
+fn merged(alloc: Global, call: &str, left: HeaderMap, right: HeaderMap) -> Mem<String> {
     match append_merge_header_maps(alloc, left, right) {
-        Ok(map) => pairs(alloc, &map),
-        Err(fault) => format!(in alloc; "{fault:?}"),
+        Ok(map) if call == "merge" => pairs(alloc, &map),
+        Ok(map) => map.keys_len().to_string(alloc),
+        Err(fault) => debugged(alloc, &fault),
     }
 }
 
 fn pairs(alloc: Global, map: &HeaderMap) -> Mem<String> {
     let mut text = String::new(alloc);
     for (name, value) in map.iter() {
-        text.push_str(name.as_str())?;
-        text.push('=')?;
-        text.push_str(value.to_str().unwrap_or("?"))?;
-        text.push(';')?;
+        let (name, value) = (name.as_str(), value.to_str().unwrap_or("?"));
+        write!(text, "{name}={value};")?;
     }
     Ok(text)
-}
-
-// How many names a map of the names `n0`, `n1` and so on has after these are merged into it.
-fn merge_into(alloc: Global, count: &str, right: &str) -> Mem<String> {
-    match (names_to(alloc, number(count)), map_of(alloc, right)) {
-        (Some(left), Some(right)) => match append_merge_header_maps(alloc, left, right) {
-            Ok(map) => map.keys_len().to_string(alloc),
-            Err(fault) => format!(in alloc; "{fault:?}"),
-        },
-        _ => String::from_str(alloc, "no map"),
-    }
 }
 
 // A map of so many names.

@@ -1,6 +1,6 @@
-use crate::parts::{identity_of, text_header};
+//! Signed messages.
+use crate::parts::{identity_of, part_or_none, text_header};
 use crate::signing::keys::key_of;
-use crate::signing::parts::{first, part_or_none};
 use crate::signing::requests::{name_of, region_of, time_of};
 use crate::signing::signatures::refusal;
 use bytes::Bytes;
@@ -13,69 +13,45 @@ use sigv4::event_stream::{
 use sigv4::{SigningError, SigningOutput};
 use smithy_core::{Header, HeaderValue, Identity, Mem, Message};
 use std::alloc::Global;
-use tool_case_lines::{has_part, unknown, with_repeats};
+use tool_case_lines::{has_part, with_repeats};
 
-/// The answer of a call on signed messages.
-pub fn answer(alloc: Global, call: &str, words: &[&str]) -> Mem<String> {
-    match call {
-        "link" => link(alloc, words),
-        "link_headers" => link_headers(alloc, words),
-        "closing" => closing(alloc, words),
-        _ => unknown(alloc),
-    }
+/// The signature of a message over the last one, and the digest of the frame of the signed message (`link`) or its headers
+/// (`link_headers`), or the same of no message, which ends a stream (`closing`).
+pub fn answer(alloc: Global, call: &str, last: &str, parts: &[&str]) -> Mem<String> {
+    let message = message_of(alloc, parts)?;
+    answer_of(alloc, call, &message, last, parts)
 }
 
-// The signature of a message over the last one, and the digest of the frame of the signed message.
-fn link(alloc: Global, words: &[&str]) -> Mem<String> {
-    match signed(alloc, words)? {
+fn answer_of(
+    alloc: Global,
+    call: &str,
+    message: &Message,
+    last: &str,
+    parts: &[&str],
+) -> Mem<String> {
+    let identity = identity_of(alloc, parts)?;
+    match signed(alloc, call, message, last, &identity, parts) {
+        Ok(output) if call == "link_headers" => headers_of(alloc, output.output()),
         Ok(output) => told(alloc, &output),
         Err(error) => refusal(alloc, &error),
     }
 }
 
-// The headers of a signed message.
-fn link_headers(alloc: Global, words: &[&str]) -> Mem<String> {
-    match signed(alloc, words)? {
-        Ok(output) => headers_of(alloc, output.output()),
-        Err(error) => refusal(alloc, &error),
+fn signed(
+    alloc: Global,
+    call: &str,
+    message: &Message,
+    last: &str,
+    identity: &Identity,
+    parts: &[&str],
+) -> Result<SigningOutput<Message>, SigningError> {
+    let params = params_of(identity, parts);
+    match (call, has_part(parts, "with-key")) {
+        ("closing", true) => sign_empty_message_with_key(alloc, last, &params, &key_of(&params)),
+        ("closing", false) => sign_empty_message(alloc, last, &params),
+        (_, true) => sign_message_with_key(alloc, message, last, &params, &key_of(&params)),
+        (_, false) => sign_message(alloc, message, last, &params),
     }
-}
-
-fn signed(alloc: Global, words: &[&str]) -> Mem<Signed> {
-    let message = message_of(alloc, words)?;
-    signed_message(alloc, &message, words)
-}
-
-fn signed_message(alloc: Global, message: &Message, words: &[&str]) -> Mem<Signed> {
-    let identity = identity_of(alloc, words)?;
-    Ok(signed_by(alloc, message, &identity, words))
-}
-
-fn signed_by(alloc: Global, message: &Message, identity: &Identity, words: &[&str]) -> Signed {
-    let params = params_of(identity, words);
-    if has_part(words, "with-key") {
-        return sign_message_with_key(alloc, message, first(words), &params, &key_of(&params));
-    }
-    sign_message(alloc, message, first(words), &params)
-}
-
-type Signed = Result<SigningOutput<Message>, SigningError>;
-
-// Signs no message, which ends a stream.
-fn closing(alloc: Global, words: &[&str]) -> Mem<String> {
-    let identity = identity_of(alloc, words)?;
-    match closed_by(alloc, &identity, words) {
-        Ok(output) => told(alloc, &output),
-        Err(error) => refusal(alloc, &error),
-    }
-}
-
-fn closed_by(alloc: Global, identity: &Identity, words: &[&str]) -> Signed {
-    let params = params_of(identity, words);
-    if has_part(words, "with-key") {
-        return sign_empty_message_with_key(alloc, first(words), &params, &key_of(&params));
-    }
-    sign_empty_message(alloc, first(words), &params)
 }
 
 fn headers_of(alloc: Global, message: &Message) -> Mem<String> {
@@ -87,18 +63,15 @@ fn headers_of(alloc: Global, message: &Message) -> Mem<String> {
 }
 
 fn push_header(alloc: Global, text: &mut String, header: &Header) -> Mem<()> {
-    let value = value_of(alloc, header.value())?;
     let name = header.name().as_str();
-    write!(text, "{name} {value};")
-}
-
-fn value_of(alloc: Global, value: &HeaderValue) -> Mem<String> {
-    match value {
-        HeaderValue::ByteArray(bytes) => hex::encode(alloc, bytes.as_slice()),
-        HeaderValue::Timestamp(time) => {
-            format!(in alloc; "{} {}", time.secs(), time.subsec_nanos())
+    match header.value() {
+        HeaderValue::ByteArray(bytes) => {
+            write!(text, "{name} {};", hex::encode(alloc, bytes.as_slice())?)
         }
-        other => format!(in alloc; "{other:?}"),
+        HeaderValue::Timestamp(time) => {
+            write!(text, "{name} {} {};", time.secs(), time.subsec_nanos())
+        }
+        other => write!(text, "{name} {other:?};"),
     }
 }
 

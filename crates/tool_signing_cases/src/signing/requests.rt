@@ -1,44 +1,18 @@
 //! A request and how it is signed, from the words `METHOD TARGET`, `header NAME: VALUE`, `body TEXT` and so on.
-use crate::parts::part_text;
+use crate::parts::{part_or_none, part_text, request_at, word};
 use crate::signing::moments::moment_of;
-use crate::signing::parts::{first, part_or_none};
-use bytes::Bytes;
 use sigv4::{
     PayloadChecksumKind, PercentEncodingMode, SessionTokenMode, SignableBody, SignableRequest,
     SignatureLocation, SigningError, SigningParams, SigningSettings, UriPathNormalizationMode, v4,
 };
-use smithy_core::{Headers, HttpRequest, Identity, Mem, Moment};
+use smithy_core::{HttpRequest, Identity, Mem, Moment};
 use std::alloc::Global;
-use tool_case_lines::{has_part, part};
+use tool_case_lines::{halves, has_part, part};
 
 /// The request of `METHOD TARGET`, which comes first, its headers and its body.
 pub fn request_of(alloc: Global, words: &[&str]) -> Mem<HttpRequest> {
-    let (method, target) = first(words).split_once(' ').unwrap_or(("", ""));
-    match HttpRequest::new(alloc, method, target) {
-        Ok(request) => with_parts(alloc, request, words),
-        Err(fault) => Err(fault),
-    }
-}
-
-fn with_parts(alloc: Global, request: HttpRequest, words: &[&str]) -> Mem<HttpRequest> {
-    let mut request = request;
-    add_parts(alloc, &mut request, words)?;
-    Ok(request)
-}
-
-fn add_parts(alloc: Global, request: &mut HttpRequest, words: &[&str]) -> Mem<()> {
-    request.body = Bytes::copy_from_slice(alloc, part_or_none(words, "body").as_bytes())?;
-    add_headers(&mut request.headers, words)
-}
-
-fn add_headers(headers: &mut Headers, parts: &[&str]) -> Mem<()> {
-    for part in parts {
-        if let Some(("header", pair)) = part.split_once(' ') {
-            let (name, value) = pair.split_once(": ").unwrap_or((pair, ""));
-            headers.append(name, value)?;
-        }
-    }
-    Ok(())
+    let (method, target) = halves(word(words, 0));
+    request_at(alloc, method, target, words)
 }
 
 /// The settings: `encode-once`, `keep-path`, `payload-header`, `omit-token`, `exclude-none`, `query-form`, `expires-in N` and
@@ -112,8 +86,20 @@ pub fn time_of(parts: &[&str]) -> Moment {
     moment_of(part(parts, "at").unwrap_or("1440938160"))
 }
 
-/// The request with its body as it is signed: `as-it-stands`, or with `payload TEXT` in place of the body's bytes.
+/// A copy of the request with its body as it is signed.
 pub fn signable_of<'a>(
+    alloc: Global,
+    request: &'a HttpRequest,
+    parts: &[&str],
+) -> Result<SignableRequest<'a>, SigningError> {
+    match signable(alloc, request, parts) {
+        Ok(signable) => Ok(signable.try_clone()?),
+        Err(error) => Err(error),
+    }
+}
+
+// The request with its body `as-it-stands`, or with `payload TEXT` in place of the body's bytes.
+fn signable<'a>(
     alloc: Global,
     request: &'a HttpRequest,
     parts: &[&str],
@@ -152,4 +138,23 @@ pub fn payload_of(alloc: Global, text: &str) -> Mem<SignableBody<'static>> {
         "STREAMING-AWS4-HMAC-SHA256-PAYLOAD-TRAILER" => SignableBody::StreamingSignedPayloadTrailer,
         digest => SignableBody::Precomputed(String::from_str(alloc, digest)?),
     })
+}
+
+/// Whether the settings are those for Amazon S3.
+pub fn is_for_s3(alloc: Global, parts: &[&str]) -> Mem<String> {
+    are_equal(
+        alloc,
+        &settings_of(alloc, parts)?,
+        SigningSettings::for_s3(alloc),
+    )
+}
+
+/// Whether settings are equal to others.
+pub fn are_equal(
+    alloc: Global,
+    settings: &SigningSettings,
+    others: Mem<SigningSettings>,
+) -> Mem<String> {
+    let is_equal = others? == *settings;
+    format!(in alloc; "equal: {is_equal}")
 }
