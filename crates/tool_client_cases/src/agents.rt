@@ -10,63 +10,35 @@ use smithy_core::{AppName, Env, Mem};
 use std::alloc::Global;
 use tool_case_lines::{halves, unknown};
 
+// The text of an agent that was given parts: of `with` by the calls that hand it on, of `add` by those that lend it on; and of
+// `copy` that of a copy of one that was handed on.
 pub fn answer(alloc: Global, call: &str, words: &[&str]) -> Mem<String> {
-    match words {
-        [base, parts @ ..] => answer_of(alloc, call, base, parts),
-        [] => unknown(alloc),
-    }
-}
-
-fn answer_of(alloc: Global, call: &str, base: &str, parts: &[&str]) -> Mem<String> {
-    match call {
-        "with" => with(alloc, base, parts),
-        "add" => add(alloc, base, parts),
-        "copy" => copy(alloc, base, parts),
+    match (call, words) {
+        ("with", [base, parts @ ..]) => told(alloc, &agent_with(alloc, base, parts)?),
+        ("copy", [base, parts @ ..]) => told(alloc, &agent_with(alloc, base, parts)?.try_clone()?),
+        ("add", [base, parts @ ..]) => {
+            let mut agent = agent_of(alloc, base)?;
+            add_parts(alloc, &mut agent, parts)?;
+            told(alloc, &agent)
+        }
         _ => unknown(alloc),
     }
 }
 
-// The text of an agent that was given parts by the calls that hand it on.
-fn with(alloc: Global, base: &str, parts: &[&str]) -> Mem<String> {
-    let agent = agent_with(alloc, base, parts)?;
-    told(alloc, &agent)
-}
-
-// The text of one that was given them by the calls that lend it on.
-fn add(alloc: Global, base: &str, parts: &[&str]) -> Mem<String> {
-    let mut agent = agent_of(alloc, base)?;
-    told_with(alloc, &mut agent, parts)
-}
-
-fn told_with(alloc: Global, agent: &mut AwsUserAgent, parts: &[&str]) -> Mem<String> {
+fn add_parts(alloc: Global, agent: &mut AwsUserAgent, parts: &[&str]) -> Mem<()> {
     for part in parts {
         if let Some(part) = part_of(alloc, part) {
             add_part(agent, part)?;
         }
     }
-    told(alloc, agent)
-}
-
-// The text of a copy.
-fn copy(alloc: Global, base: &str, parts: &[&str]) -> Mem<String> {
-    let agent = agent_with(alloc, base, parts)?;
-    told_copy(alloc, &agent)
-}
-
-fn told_copy(alloc: Global, agent: &AwsUserAgent) -> Mem<String> {
-    let copy = agent.try_clone()?;
-    told(alloc, &copy)
+    Ok(())
 }
 
 // What both headers tell.
 fn told(alloc: Global, agent: &AwsUserAgent) -> Mem<String> {
     let header = agent.ua_header()?;
-    with_aws_header(alloc, header.as_str(), agent)
-}
-
-fn with_aws_header(alloc: Global, header: &str, agent: &AwsUserAgent) -> Mem<String> {
     let aws_header = agent.aws_ua_header()?;
-    both(alloc, header, aws_header.as_str())
+    both(alloc, header.as_str(), aws_header.as_str())
 }
 
 // One header, where both are the same.

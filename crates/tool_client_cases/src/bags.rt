@@ -46,40 +46,29 @@ fn put_told(alloc: Global, bag: &mut ConfigBag, kind: &str, value: &str) -> Mem<
 // Adds an entry to its list.
 fn add(alloc: Global, bag: &mut ConfigBag, kind: &str, value: &str) -> Mem<()> {
     match kind {
-        "framework" => add_framework(alloc, bag, value),
-        "smithy" => add_smithy(alloc, bag, value),
-        "aws" => add_aws(alloc, bag, value),
-        "credentials" => add_credentials(alloc, bag, value),
-        _ => Ok(()),
+        "framework" => {
+            if let Ok(framework) = framework_of(alloc, value) {
+                bag.frameworks.push(framework)?;
+            }
+        }
+        "smithy" => {
+            if let Some(feature) = smithy_named(alloc, value)? {
+                bag.smithy_features.push(feature)?;
+            }
+        }
+        "aws" => {
+            if let Some(feature) = aws_named(alloc, value)? {
+                bag.aws_features.push(feature)?;
+            }
+        }
+        "credentials" => {
+            if let Some(feature) = credentials_named(alloc, value)? {
+                bag.credential_features.push(feature)?;
+            }
+        }
+        _ => {}
     }
-}
-
-fn add_framework(alloc: Global, bag: &mut ConfigBag, word: &str) -> Mem<()> {
-    match framework_of(alloc, word) {
-        Ok(framework) => Ok(bag.frameworks.push(framework)?),
-        Err(_) => Ok(()),
-    }
-}
-
-fn add_smithy(alloc: Global, bag: &mut ConfigBag, name: &str) -> Mem<()> {
-    match smithy_named(alloc, name)? {
-        Some(feature) => Ok(bag.smithy_features.push(feature)?),
-        None => Ok(()),
-    }
-}
-
-fn add_aws(alloc: Global, bag: &mut ConfigBag, name: &str) -> Mem<()> {
-    match aws_named(alloc, name)? {
-        Some(feature) => Ok(bag.aws_features.push(feature)?),
-        None => Ok(()),
-    }
-}
-
-fn add_credentials(alloc: Global, bag: &mut ConfigBag, name: &str) -> Mem<()> {
-    match credentials_named(alloc, name)? {
-        Some(feature) => Ok(bag.credential_features.push(feature)?),
-        None => Ok(()),
-    }
+    Ok(())
 }
 
 fn api_named(alloc: Global, value: &str) -> Option<ApiMetadata> {

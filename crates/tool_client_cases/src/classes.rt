@@ -8,45 +8,60 @@ use smithy_core::{ErrorMetadata, Headers, HttpResponse, Mem};
 use std::alloc::Global;
 use tool_case_lines::unknown;
 
-// What a classifier says of an error with a code, `-` for one without, and of the response's delay.
+// What a classifier says of an error with a code, `-` for one without, and of the response's delay: of `own` a copy of the one
+// that a copy of the builder makes of codes with commas between, and of `after` after what another classifier said.
 pub fn answer(alloc: Global, call: &str, words: &[&str]) -> Mem<String> {
-    match call {
-        "error" => classified(alloc, &AwsErrorCodeClassifier::new(), words),
-        "own" => own(alloc, words),
-        "after" => again(alloc, words),
-        "skew" => skew_class(alloc, words),
-        "throttling" => joined(alloc, &THROTTLING_ERRORS),
-        "transient" => joined(alloc, &TRANSIENT_ERRORS),
+    match (call, words) {
+        ("error", [code, headers @ ..]) => {
+            classified(alloc, &AwsErrorCodeClassifier::new(), None, code, headers)
+        }
+        ("own", [codes, code, headers @ ..]) => {
+            classified(alloc, &classifier_of(alloc, codes)?, None, code, headers)
+        }
+        ("after", [previous, code, headers @ ..]) => {
+            let previous = Some(action_of(previous));
+            classified(
+                alloc,
+                &AwsErrorCodeClassifier::new(),
+                previous,
+                code,
+                headers,
+            )
+        }
+        ("skew", [skew, code]) => {
+            let error = error_of(alloc, code)?;
+            told(alloc, action_by_skew(alloc, skew, error.as_ref()))
+        }
+        ("throttling", _) => joined(alloc, &THROTTLING_ERRORS),
+        ("transient", _) => joined(alloc, &TRANSIENT_ERRORS),
         _ => unknown(alloc),
     }
 }
 
-// By a classifier, of an error's code and then the response's headers.
-fn classified(alloc: Global, classifier: &AwsErrorCodeClassifier, words: &[&str]) -> Mem<String> {
-    let [code, headers @ ..] = words else {
-        return unknown(alloc);
-    };
+fn classified(
+    alloc: Global,
+    classifier: &AwsErrorCodeClassifier,
+    previous: Option<RetryAction>,
+    code: &str,
+    headers: &[&str],
+) -> Mem<String> {
     let error = error_of(alloc, code)?;
-    classified_error(alloc, classifier, error.as_ref(), headers)
+    classified_error(alloc, classifier, previous, error.as_ref(), headers)
 }
 
 fn classified_error(
     alloc: Global,
     classifier: &AwsErrorCodeClassifier,
+    previous: Option<RetryAction>,
     error: Option<&ErrorMetadata>,
     headers: &[&str],
 ) -> Mem<String> {
     let response = answered(alloc, headers)?;
-    told(alloc, classifier.classify_retry(response.as_ref(), error))
-}
-
-// By a copy of the classifier that a copy of the builder makes of these codes, with commas between.
-fn own(alloc: Global, words: &[&str]) -> Mem<String> {
-    let [codes, words @ ..] = words else {
-        return unknown(alloc);
+    let action = match previous {
+        Some(previous) => classifier.classify_retry_v2(response.as_ref(), error, &previous),
+        None => classifier.classify_retry(response.as_ref(), error),
     };
-    let classifier = classifier_of(alloc, codes)?;
-    classified(alloc, &classifier, words)
+    told(alloc, action)
 }
 
 fn classifier_of(alloc: Global, codes: &str) -> Mem<AwsErrorCodeClassifier> {
@@ -62,38 +77,7 @@ fn texts_of(alloc: Global, words: &str) -> Mem<Vec<String>> {
     Ok(texts)
 }
 
-// After what another classifier said.
-fn again(alloc: Global, words: &[&str]) -> Mem<String> {
-    let [previous, code, headers @ ..] = words else {
-        return unknown(alloc);
-    };
-    let error = error_of(alloc, code)?;
-    classified_again(alloc, action_of(previous), error.as_ref(), headers)
-}
-
-fn classified_again(
-    alloc: Global,
-    previous: RetryAction,
-    error: Option<&ErrorMetadata>,
-    headers: &[&str],
-) -> Mem<String> {
-    let response = answered(alloc, headers)?;
-    let classifier = AwsErrorCodeClassifier::new();
-    told(
-        alloc,
-        classifier.classify_retry_v2(response.as_ref(), error, &previous),
-    )
-}
-
 // By the skew of a response, which has no headers.
-fn skew_class(alloc: Global, words: &[&str]) -> Mem<String> {
-    let [skew, code] = words else {
-        return unknown(alloc);
-    };
-    let error = error_of(alloc, code)?;
-    told(alloc, action_by_skew(alloc, skew, error.as_ref()))
-}
-
 fn action_by_skew(alloc: Global, skew: &str, error: Option<&ErrorMetadata>) -> RetryAction {
     let response = HttpResponse {
         status: 200,

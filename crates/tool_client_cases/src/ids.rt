@@ -11,50 +11,24 @@ use std::alloc::Global;
 use tool_case_lines::{shown, unknown};
 
 pub fn answer(alloc: Global, call: &str, words: &[&str]) -> Mem<String> {
-    match words {
-        [word] => answer_of(alloc, call, word),
-        [first, second] => answer_of_two(alloc, call, first, second),
-        [seed, stream, count] => random(alloc, call, [whole(seed), whole(stream), whole(count)]),
+    match (call, words) {
+        ("none", [count]) => invoked(alloc, &mut NoInvocationIdGenerator::new(), whole(count)),
+        ("given" | "copy", [ids, count]) => {
+            let generator = PredefinedInvocationIdGenerator::new(ids_of(alloc, ids)?);
+            invoked(alloc, &mut generator.try_clone()?, whole(count))
+        }
+        ("random", [seed, stream, count]) => {
+            invoked(alloc, &mut random(alloc, seed, stream), whole(count))
+        }
+        ("copied", [seed, stream]) => copied_generator(alloc, &mut random(alloc, seed, stream)),
+        ("text", [word]) => copied(alloc, InvocationId::new(text(alloc, word)?)),
+        ("equal", [first, second]) => equal(alloc, first, second),
         _ => unknown(alloc),
     }
 }
 
-fn answer_of(alloc: Global, call: &str, word: &str) -> Mem<String> {
-    match call {
-        "none" => invoked(alloc, &mut NoInvocationIdGenerator::new(), whole(word)),
-        "text" => copied(alloc, InvocationId::new(text(alloc, word)?)),
-        _ => unknown(alloc),
-    }
-}
-
-fn answer_of_two(alloc: Global, call: &str, first: &str, second: &str) -> Mem<String> {
-    match call {
-        "given" => given(alloc, first, whole(second)),
-        "copy" => given_to_copy(alloc, first, whole(second)),
-        "copied" => copied_generator(alloc, whole(first), whole(second)),
-        "equal" => equal(alloc, first, second),
-        _ => unknown(alloc),
-    }
-}
-
-fn random(alloc: Global, call: &str, numbers: [u64; 3]) -> Mem<String> {
-    let [seed, stream, count] = numbers;
-    let mut generator = DefaultInvocationIdGenerator::new(alloc, Pcg32::new(seed, stream));
-    match call {
-        "random" => invoked(alloc, &mut generator, count),
-        _ => unknown(alloc),
-    }
-}
-
-fn given(alloc: Global, ids: &str, count: u64) -> Mem<String> {
-    let mut generator = PredefinedInvocationIdGenerator::new(ids_of(alloc, ids)?);
-    invoked(alloc, &mut generator, count)
-}
-
-fn given_to_copy(alloc: Global, ids: &str, count: u64) -> Mem<String> {
-    let generator = PredefinedInvocationIdGenerator::new(ids_of(alloc, ids)?);
-    let mut copy = generator.try_clone()?;
-    invoked(alloc, &mut copy, count)
+fn random(alloc: Global, seed: &str, stream: &str) -> DefaultInvocationIdGenerator<Pcg32> {
+    DefaultInvocationIdGenerator::new(alloc, Pcg32::new(whole(seed), whole(stream)))
 }
 
 fn whole(word: &str) -> u64 {
@@ -120,20 +94,22 @@ fn equal_copy(alloc: Global, id: &InvocationId) -> Mem<String> {
 }
 
 // The header of an invocation with the generator's first id, and those with the next id of a copy and with its own.
-fn copied_generator(alloc: Global, seed: u64, stream: u64) -> Mem<String> {
-    let mut generator = DefaultInvocationIdGenerator::new(alloc, Pcg32::new(seed, stream));
-    let first = invoked(alloc, &mut generator, 1)?;
-    with_next(alloc, first.as_str(), &mut generator)
-}
-
-fn with_next(
+fn copied_generator(
     alloc: Global,
-    first: &str,
     generator: &mut DefaultInvocationIdGenerator<Pcg32>,
 ) -> Mem<String> {
-    let copy_next = next_of_copy(alloc, generator)?;
-    let next = invoked(alloc, generator, 1)?;
-    format!(in alloc; "{first} | {copy_next} | {next}")
+    let mut told = invoked(alloc, generator, 1)?;
+    push_next(alloc, &mut told, generator)?;
+    Ok(told)
+}
+
+fn push_next(
+    alloc: Global,
+    told: &mut String,
+    generator: &mut DefaultInvocationIdGenerator<Pcg32>,
+) -> Mem<()> {
+    write!(told, " | {}", next_of_copy(alloc, generator)?)?;
+    write!(told, " | {}", invoked(alloc, generator, 1)?)
 }
 
 fn next_of_copy(alloc: Global, generator: &DefaultInvocationIdGenerator<Pcg32>) -> Mem<String> {

@@ -5,18 +5,10 @@ use std::alloc::{AllocError, Global};
 use thiserror::Error;
 use tool_case_lines::unknown;
 
-// What the key `SECTION NAME PROPERTY SUB-PROPERTY` prints, or the fault and what that prints, and the same of a copy.
-pub fn answer(alloc: Global, call: &str, words: &[&str]) -> Mem<String> {
+// What the key `SECTION NAME PROPERTY SUB-PROPERTY` prints, or the fault and what that prints. All come from copies.
+pub fn answer(alloc: Global, words: &[&str]) -> Mem<String> {
     match words {
-        [key] => answer_of(alloc, call, key),
-        _ => unknown(alloc),
-    }
-}
-
-fn answer_of(alloc: Global, call: &str, key: &str) -> Mem<String> {
-    match call {
-        "print" => told(alloc, key_of(alloc, key)),
-        "copy" => told(alloc, copied(alloc, key)),
+        [key] => told(alloc, copied(alloc, key)),
         _ => unknown(alloc),
     }
 }

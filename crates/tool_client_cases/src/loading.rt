@@ -6,30 +6,20 @@ use smithy_core::{CalmDisk, Disk, FaultyDisk, Mem};
 use std::alloc::Global;
 use tool_case_lines::{bytes_of_hex, unknown};
 
+// What loading from a disk gives, or of `fail` from one of which these reads fail.
 pub fn answer(alloc: Global, call: &str, words: &[&str]) -> Mem<String> {
-    match call {
-        "load" => load_calm(alloc, words),
-        "fail" => load_faulty(alloc, words),
+    match (call, words) {
+        ("load", [files, variables, disk]) => {
+            let mut disk = CalmDisk::new(disk_of(alloc, disk)?);
+            loaded(alloc, files, variables, &mut disk)
+        }
+        ("fail", [reads, files, variables, disk]) => {
+            let fails = reads_of(alloc, reads)?;
+            let mut disk = FaultyDisk::new(disk_of(alloc, disk)?, fails);
+            loaded(alloc, files, variables, &mut disk)
+        }
         _ => unknown(alloc),
     }
-}
-
-fn load_calm(alloc: Global, words: &[&str]) -> Mem<String> {
-    let [files, variables, disk] = words else {
-        return unknown(alloc);
-    };
-    let mut disk = CalmDisk::new(disk_of(alloc, disk)?);
-    loaded(alloc, files, variables, &mut disk)
-}
-
-// What loading from a disk gives of which these reads fail.
-fn load_faulty(alloc: Global, words: &[&str]) -> Mem<String> {
-    let [reads, files, variables, disk] = words else {
-        return unknown(alloc);
-    };
-    let fails = reads_of(alloc, reads)?;
-    let mut disk = FaultyDisk::new(disk_of(alloc, disk)?, fails);
-    loaded(alloc, files, variables, &mut disk)
 }
 
 // The files `PATH=TEXT` or `PATH=0xDIGITS`, with blanks between.

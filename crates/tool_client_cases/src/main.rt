@@ -51,7 +51,7 @@ impl Answers for Clients {
 fn answer(alloc: Global, subject: &str, call: &str, words: &[&str]) -> Result<String, AllocError> {
     match subject {
         "profiles" => profiles::answer(alloc, call, words),
-        "keys" => keys::answer(alloc, call, words),
+        "keys" => keys::answer(alloc, words),
         "values" => values::answer(alloc, call, words),
         "files" => loading::answer(alloc, call, words),
         "faults" => faults::answer(alloc, call, words),
@@ -86,7 +86,7 @@ fn bag_answer(
 ) -> Result<String, AllocError> {
     match subject {
         "bags" => sending::answer(alloc, bag, call, words),
-        "traces" => traces::answer(alloc, bag, call, words),
+        "traces" => traces::answer(alloc, bag, words),
         "skews" => skews::answer(alloc, bag, call, words),
         _ => unknown(alloc),
     }

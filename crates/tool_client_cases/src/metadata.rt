@@ -1,8 +1,7 @@
 use crate::parts::{PartFault, additional_of, app_of, config_of, feature_of, framework_of};
 use crate::texts::text;
 use aws_intercept::{
-    AdditionalMetadata, ApiMetadata, BuildMetadata, ConfigMetadata, FeatureMetadata,
-    FrameworkMetadata, OsFamily,
+    AdditionalMetadata, ApiMetadata, BuildMetadata, FeatureMetadata, FrameworkMetadata, OsFamily,
 };
 use smithy_core::Mem;
 use std::alloc::Global;
@@ -10,70 +9,36 @@ use tool_case_lines::{shown, unknown};
 
 // What a copy of the metadata prints, or the refusal.
 pub fn answer(alloc: Global, call: &str, words: &[&str]) -> Mem<String> {
-    match words {
-        [word] => answer_of(alloc, call, word),
-        [word, more @ ..] => answer_of_more(alloc, call, word, more),
-        [] => unknown(alloc),
-    }
-}
-
-fn answer_of(alloc: Global, call: &str, word: &str) -> Mem<String> {
-    match call {
-        "value" => shown(alloc, value_printed(alloc, word)),
-        "framework" => shown(alloc, framework_printed(alloc, word)),
-        "config" => shown(alloc, config_printed(alloc, word)),
-        "app" => shown(alloc, app_told(alloc, word)),
-        "family" => family_of(word).to_string(alloc),
-        "build" => build_told(alloc, word),
-        _ => answer_of_more(alloc, call, word, &[]),
-    }
-}
-
-fn answer_of_more(alloc: Global, call: &str, word: &str, more: &[&str]) -> Mem<String> {
-    match call {
-        "feature" => shown(alloc, feature_printed(alloc, word, more)),
-        "api" => api_printed(alloc, word, more),
+    match (call, words) {
+        ("api", [service, version]) => {
+            api_of(alloc, service, version)?
+                .try_clone()?
+                .to_string(alloc)
+        }
+        ("family", [word]) => family_of(word).to_string(alloc),
+        ("build", [word]) => build_told(alloc, word),
+        (_, [word, more @ ..]) => shown(alloc, part_printed(alloc, call, word, more)),
         _ => unknown(alloc),
     }
 }
 
-fn value_printed(alloc: Global, value: &str) -> Result<String, PartFault> {
-    let value = additional_of(alloc, value)?;
-    Ok(value.try_clone()?.to_string(alloc)?)
-}
-
-fn framework_printed(alloc: Global, word: &str) -> Result<String, PartFault> {
-    let framework = framework_of(alloc, word)?;
-    Ok(framework_copy(alloc, &framework)?)
-}
-
-// What a copy prints, and its name and its version.
-fn framework_copy(alloc: Global, framework: &FrameworkMetadata) -> Mem<String> {
-    let copy = framework.try_clone()?;
-    framework_told(alloc, &copy)
+// Of a framework also its name and its version, and of an app its name.
+fn part_printed(alloc: Global, call: &str, word: &str, more: &[&str]) -> Result<String, PartFault> {
+    Ok(match call {
+        "value" => additional_of(alloc, word)?.try_clone()?.to_string(alloc)?,
+        "config" => config_of(alloc, word)?.try_clone()?.to_string(alloc)?,
+        "framework" => framework_told(alloc, &framework_of(alloc, word)?.try_clone()?)?,
+        "app" => text(alloc, app_of(alloc, word)?.as_str())?,
+        _ => {
+            let feature = feature_with(alloc, feature_of(alloc, word)?, more)?;
+            feature.try_clone()?.to_string(alloc)?
+        }
+    })
 }
 
 fn framework_told(alloc: Global, copy: &FrameworkMetadata) -> Mem<String> {
     let (name, version) = (copy.name(), copy.version().unwrap_or("-"));
     format!(in alloc; "{copy} {name} {version}")
-}
-
-fn config_printed(alloc: Global, word: &str) -> Result<String, PartFault> {
-    let config = config_of(alloc, word)?;
-    Ok(config_copy(alloc, &config)?)
-}
-
-fn config_copy(alloc: Global, config: &ConfigMetadata) -> Mem<String> {
-    config.try_clone()?.to_string(alloc)
-}
-
-fn feature_printed(alloc: Global, word: &str, additional: &[&str]) -> Result<String, PartFault> {
-    let feature = feature_with(alloc, feature_of(alloc, word)?, additional)?;
-    Ok(feature_copy(alloc, &feature)?)
-}
-
-fn feature_copy(alloc: Global, feature: &FeatureMetadata) -> Mem<String> {
-    feature.try_clone()?.to_string(alloc)
 }
 
 fn feature_with(
@@ -98,21 +63,8 @@ fn with_value(
     }
 }
 
-fn app_told(alloc: Global, name: &str) -> Result<String, PartFault> {
-    let name = app_of(alloc, name)?;
-    Ok(text(alloc, name.as_str())?)
-}
-
 pub fn api_of(alloc: Global, service: &str, version: &str) -> Mem<ApiMetadata> {
     Ok(ApiMetadata::new(text(alloc, service)?, text(alloc, version)?))
-}
-
-fn api_printed(alloc: Global, service: &str, version: &[&str]) -> Mem<String> {
-    let [version] = version else {
-        return unknown(alloc);
-    };
-    let api = api_of(alloc, service, version)?;
-    api.try_clone()?.to_string(alloc)
 }
 
 fn family_of(word: &str) -> OsFamily {

@@ -8,27 +8,27 @@ use std::fmt::Debug;
 use tool_case_lines::{halves, unknown};
 
 pub fn answer(alloc: Global, call: &str, words: &[&str]) -> Mem<String> {
-    match words {
-        [name] => answer_of(alloc, call, name),
-        _ => ids(alloc, call, words),
-    }
-}
-
-fn answer_of(alloc: Global, call: &str, name: &str) -> Mem<String> {
-    match call {
-        "smithy" => told(
-            alloc,
-            smithy_named(alloc, name)?.map(SmithySdkFeature::business_metric),
-        ),
-        "aws" => told(
-            alloc,
-            aws_named(alloc, name)?.map(AwsSdkFeature::business_metric),
-        ),
-        "credentials" => told(
-            alloc,
-            credentials_named(alloc, name)?.map(AwsCredentialFeature::business_metric),
-        ),
-        _ => ids(alloc, call, &[name]),
+    match (call, words) {
+        ("smithy", [name]) => {
+            told(
+                alloc,
+                smithy_named(alloc, name)?.map(SmithySdkFeature::business_metric),
+            )
+        }
+        ("aws", [name]) => {
+            told(
+                alloc,
+                aws_named(alloc, name)?.map(AwsSdkFeature::business_metric),
+            )
+        }
+        ("credentials", [name]) => {
+            told(
+                alloc,
+                credentials_named(alloc, name)?.map(AwsCredentialFeature::business_metric),
+            )
+        }
+        ("ids", counts) => ids(alloc, counts),
+        _ => unknown(alloc),
     }
 }
 
@@ -40,10 +40,7 @@ fn told(alloc: Global, metric: Option<BusinessMetric>) -> Mem<String> {
 }
 
 // The ids that an agent tells of the metrics `COUNT NAME`.
-fn ids(alloc: Global, call: &str, counts: &[&str]) -> Mem<String> {
-    if call != "ids" {
-        return unknown(alloc);
-    }
+fn ids(alloc: Global, counts: &[&str]) -> Mem<String> {
     let told = header_with(alloc, counts)?;
     match told.as_str().split_once(" m/") {
         Some((_, ids)) => text(alloc, ids),

@@ -3,7 +3,7 @@ use crate::keys::key_of;
 use crate::sections::{insert_property, property_of, push_profile, push_rest, push_sections};
 use crate::texts::{given, push_visible, text, word_of};
 use env_config::{
-    EnvConfigParseError, EnvConfigSections, EnvConfigValue, ParseFault, Profile, Properties,
+    EnvConfigParseError, EnvConfigSections, EnvConfigValue, File, ParseFault, Profile, Properties,
     PropertiesKey, Property, SelectedProfile, Source, SsoSession,
 };
 use smithy_core::{Env, Mem};
@@ -12,70 +12,66 @@ use std::collections::BTreeMap;
 use tool_case_lines::unknown;
 
 pub fn answer(alloc: Global, call: &str, words: &[&str]) -> Mem<String> {
-    match call {
-        "parse" => parse(alloc, words),
-        "copy" => copy(alloc, words),
-        "select" => select(alloc, words),
-        "choose" => choose(alloc, words),
-        "others" => others(alloc, words),
-        "session" => session(alloc, words),
-        "source" => copied_source(alloc, words),
-        _ => answer_of_values(alloc, call, words),
-    }
-}
-
-fn answer_of_values(alloc: Global, call: &str, words: &[&str]) -> Mem<String> {
-    match words {
-        [word] => answer_of(alloc, call, word),
-        [key, value] => property(alloc, call, key, value),
-        [first, second, third, fourth] => {
-            answer_of_four(alloc, call, [*first, *second, *third, *fourth])
+    match (call, words) {
+        ("parse" | "copy" | "others", [keys, files @ ..]) => {
+            of_files(alloc, call, "default", keys, "", files)
         }
+        ("session", [name, key, files @ ..]) => of_files(alloc, call, "default", key, name, files),
+        ("select", [name, key, files @ ..]) => of_files(alloc, call, name, key, "", files),
+        ("choose", [name, keys, service, files @ ..]) => {
+            let source = source_of(alloc, name, files)?;
+            chosen_of(alloc, &source, keys, given(service))
+        }
+        ("source", [selected, files @ ..]) => {
+            let source = source_of(alloc, selected, files)?;
+            source_told(alloc, &source.try_clone()?)
+        }
+        ("equal", [name, file, other_name, other_file]) => {
+            equal(alloc, name, file, other_name, other_file)
+        }
+        ("profile", [name, key, value, asked]) => profile(alloc, name, key, value, asked),
+        ("property", [key, value]) => {
+            let copy = property_of(alloc, key, value)?.try_clone()?;
+            format!(in alloc; "{}={}", copy.key(), copy.value())
+        }
+        ("none", [key]) => selected(alloc, &EnvConfigSections::new(alloc)?, key),
+        ("file", [word]) => file_told(alloc, &file_of(alloc, word)?.try_clone()?),
         _ => unknown(alloc),
     }
 }
 
-fn answer_of(alloc: Global, call: &str, word: &str) -> Mem<String> {
-    match call {
-        "none" => none(alloc, word),
-        "file" => copied_file(alloc, word),
-        _ => unknown(alloc),
-    }
-}
-
-fn answer_of_four(alloc: Global, call: &str, words: [&str; 4]) -> Mem<String> {
-    match call {
-        "equal" => equal(alloc, words),
-        "profile" => profile(alloc, words),
-        _ => unknown(alloc),
-    }
-}
-
-// The sections of the files, with the keys that are asked for.
-fn parse(alloc: Global, words: &[&str]) -> Mem<String> {
-    let [keys, files @ ..] = words else {
-        return unknown(alloc);
-    };
-    match &sections_of(alloc, "default", files) {
-        Ok(sections) => sections_told(alloc, sections, keys),
+// What the sections of the files answer to a call.
+pub fn of_files(
+    alloc: Global,
+    call: &str,
+    profile: &str,
+    keys: &str,
+    session: &str,
+    files: &[&str],
+) -> Mem<String> {
+    match &sections_of(alloc, profile, files) {
+        Ok(sections) => of_sections(alloc, call, sections, keys, session),
         Err(fault) => fault_told(alloc, fault),
     }
 }
 
-// What a copy of the sections tells of the keys.
-fn copy(alloc: Global, words: &[&str]) -> Mem<String> {
-    let [keys, files @ ..] = words else {
-        return unknown(alloc);
-    };
-    match &sections_of(alloc, "default", files) {
-        Ok(sections) => copied_sections(alloc, sections, keys),
-        Err(fault) => fault_told(alloc, fault),
+// What they, or a copy of them, tell of the keys; what a copy of the others tells, or of the session; the selected profile and
+// the value of its key; or what `Debug` shows of the others.
+fn of_sections(
+    alloc: Global,
+    call: &str,
+    sections: &EnvConfigSections,
+    keys: &str,
+    session: &str,
+) -> Mem<String> {
+    match call {
+        "parse" => sections_told(alloc, sections, keys),
+        "copy" => sections_told(alloc, &sections.try_clone()?, keys),
+        "others" => others_told(alloc, &sections.other_sections().try_clone()?, keys),
+        "session" => copied_session(alloc, sections.sso_session(session), keys),
+        "select" => selected(alloc, sections, keys),
+        _ => format!(in alloc; "{:?}", sections.other_sections()),
     }
-}
-
-fn copied_sections(alloc: Global, sections: &EnvConfigSections, keys: &str) -> Mem<String> {
-    let copy = sections.try_clone()?;
-    sections_told(alloc, &copy, keys)
 }
 
 fn sections_told(alloc: Global, sections: &EnvConfigSections, keys: &str) -> Mem<String> {
@@ -99,26 +95,7 @@ fn line_told(alloc: Global, error: &EnvConfigParseError) -> Mem<String> {
     format!(in alloc; "{path}{gap}line {number}: {message}")
 }
 
-// The selected profile and the value of its key.
-fn select(alloc: Global, words: &[&str]) -> Mem<String> {
-    let [name, key, files @ ..] = words else {
-        return unknown(alloc);
-    };
-    match &sections_of(alloc, name, files) {
-        Ok(sections) => selected(alloc, sections, key),
-        Err(fault) => fault_told(alloc, fault),
-    }
-}
-
 // What is read of the profile for the keys and the service gives of them.
-fn choose(alloc: Global, words: &[&str]) -> Mem<String> {
-    let [name, keys, service, files @ ..] = words else {
-        return unknown(alloc);
-    };
-    let source = source_of(alloc, name, files)?;
-    chosen_of(alloc, &source, keys, given(service))
-}
-
 fn chosen_of(alloc: Global, source: &Source, keys: &str, service: Option<&str>) -> Mem<String> {
     let asked: Vec<&str> = keys.split(' ').collect(alloc)?;
     match &SelectedProfile::parse(alloc, source, asked.as_slice(), service) {
@@ -172,12 +149,6 @@ fn push_value(told: &mut String, key: &str, value: &str) -> Mem<()> {
     push_visible(told, value)
 }
 
-// What sections tell of a key where nothing was parsed.
-fn none(alloc: Global, key: &str) -> Mem<String> {
-    let sections = EnvConfigSections::new(alloc)?;
-    selected(alloc, &sections, key)
-}
-
 fn selected(alloc: Global, sections: &EnvConfigSections, key: &str) -> Mem<String> {
     let (name, value) = (
         sections.selected_profile(),
@@ -187,21 +158,10 @@ fn selected(alloc: Global, sections: &EnvConfigSections, key: &str) -> Mem<Strin
     format!(in alloc; "{name} {key}={value} empty={is_empty}")
 }
 
-// The sub-properties of the keys, in a copy of all of them.
-fn others(alloc: Global, words: &[&str]) -> Mem<String> {
-    let [keys, files @ ..] = words else {
-        return unknown(alloc);
-    };
-    match &sections_of(alloc, "default", files) {
-        Ok(sections) => copied_others(alloc, sections.other_sections(), keys),
-        Err(fault) => fault_told(alloc, fault),
-    }
-}
-
-fn copied_others(alloc: Global, others: &Properties, keys: &str) -> Mem<String> {
-    let copy = others.try_clone()?;
+// The sub-properties of the keys.
+fn others_told(alloc: Global, others: &Properties, keys: &str) -> Mem<String> {
     let mut told = String::new(alloc);
-    push_all_others(alloc, &mut told, &copy, keys)?;
+    push_all_others(alloc, &mut told, others, keys)?;
     Ok(told)
 }
 
@@ -241,8 +201,7 @@ fn push_found(
 }
 
 // Whether two files with a selected profile each give equal sections.
-fn equal(alloc: Global, words: [&str; 4]) -> Mem<String> {
-    let [name, file, other_name, other_file] = words;
+fn equal(alloc: Global, name: &str, file: &str, other_name: &str, other_file: &str) -> Mem<String> {
     match &sections_of(alloc, name, &[file]) {
         Ok(sections) => equal_to(alloc, sections, other_name, other_file),
         Err(fault) => fault_told(alloc, fault),
@@ -257,31 +216,19 @@ fn equal_to(alloc: Global, sections: &EnvConfigSections, name: &str, file: &str)
 }
 
 // A copy of a profile with one property, and the value of the key that is asked for.
-fn profile(alloc: Global, words: [&str; 4]) -> Mem<String> {
-    let [name, key, value, asked] = words;
-    let name = text(alloc, name)?;
-    let profile = Profile::new(name, one_property(alloc, key, value)?);
-    copied_profile(alloc, &profile, asked)
+fn profile(alloc: Global, name: &str, key: &str, value: &str, asked: &str) -> Mem<String> {
+    let properties = one_property(alloc, key, value)?;
+    let profile = Profile::new(text(alloc, name)?, properties);
+    profile_told(alloc, &profile.try_clone()?, asked)
 }
 
-fn copied_profile(alloc: Global, profile: &Profile, asked: &str) -> Mem<String> {
-    let copy = profile.try_clone()?;
+fn profile_told(alloc: Global, profile: &Profile, asked: &str) -> Mem<String> {
     let mut told = String::new(alloc);
-    push_profile(alloc, &mut told, &copy, asked)?;
+    push_profile(alloc, &mut told, profile, asked)?;
     Ok(told)
 }
 
 // The value of a key in a copy of the session.
-fn session(alloc: Global, words: &[&str]) -> Mem<String> {
-    let [name, key, files @ ..] = words else {
-        return unknown(alloc);
-    };
-    match &sections_of(alloc, "default", files) {
-        Ok(sections) => copied_session(alloc, sections.sso_session(name), key),
-        Err(fault) => fault_told(alloc, fault),
-    }
-}
-
 fn copied_session(alloc: Global, session: Option<&SsoSession>, key: &str) -> Mem<String> {
     match session {
         Some(session) => word_of(alloc, session.try_clone()?.get(key)),
@@ -295,29 +242,6 @@ fn one_property(alloc: Global, key: &str, value: &str) -> Mem<BTreeMap<String, P
     Ok(properties)
 }
 
-// A copy of a property.
-fn property(alloc: Global, call: &str, key: &str, value: &str) -> Mem<String> {
-    match call {
-        "property" => copied_property(alloc, &property_of(alloc, key, value)?),
-        _ => unknown(alloc),
-    }
-}
-
-fn copied_property(alloc: Global, property: &Property) -> Mem<String> {
-    let copy = property.try_clone()?;
-    let (key, value) = (copy.key(), copy.value());
-    format!(in alloc; "{key}={value}")
-}
-
-// A copy of these files, with the profile that is selected.
-fn copied_source(alloc: Global, words: &[&str]) -> Mem<String> {
-    let [selected, files @ ..] = words else {
-        return unknown(alloc);
-    };
-    let source = source_of(alloc, selected, files)?;
-    source_told(alloc, &source.try_clone()?)
-}
-
 // The profile and the files of a source, as words give them.
 pub fn source_told(alloc: Global, source: &Source) -> Mem<String> {
     let profile = source.profile.as_str();
@@ -329,10 +253,8 @@ pub fn source_told(alloc: Global, source: &Source) -> Mem<String> {
     Ok(told)
 }
 
-// A copy of the file.
-fn copied_file(alloc: Global, word: &str) -> Mem<String> {
-    let copy = file_of(alloc, word)?.try_clone()?;
+fn file_told(alloc: Global, file: &File) -> Mem<String> {
     let mut told = String::new(alloc);
-    push_file(&mut told, &copy)?;
+    push_file(&mut told, file)?;
     Ok(told)
 }

@@ -6,46 +6,41 @@ use aws_intercept::{
     ConfigBag, InvocationIdInterceptor, RequestInfoInterceptor, UserAgentFault,
     UserAgentInterceptor,
 };
-use smithy_core::{Env, HttpRequest, Mem};
+use smithy_core::{Env, HttpRequest, Mem, Moment};
 use std::alloc::Global;
 use tool_case_lines::{shown, unknown};
 
 // The headers of a request that had none, once an interceptor saw it with a bag of these entries.
 pub fn answer(alloc: Global, bag: &mut ConfigBag, call: &str, words: &[&str]) -> Mem<String> {
-    match call {
-        "agent" => shown(alloc, agent_sent(alloc, bag, words)),
-        "agent_alone" => shown(alloc, agent_signed(alloc, bag, words)),
-        "attempt" => attempt(alloc, bag, words),
-        "id" => id_sent(alloc, bag, words),
-        "copy" => copied(alloc, bag, words),
+    match (call, words) {
+        ("agent" | "agent_alone", entries) => shown(alloc, agent_sent(alloc, bag, call, entries)),
+        ("attempt", [moment, entries @ ..]) => attempt(alloc, bag, moment_of(moment), entries),
+        ("id", entries) => {
+            fill(alloc, bag, entries)?;
+            id_told(alloc, bag)
+        }
+        ("copy", entries) => copied(alloc, bag, entries),
         _ => unknown(alloc),
     }
 }
 
-// Makes the bag's agent where it has none, and sends it.
+// Sends the bag's agent, and of `agent` makes one before where it has none.
 fn agent_sent(
     alloc: Global,
     bag: &mut ConfigBag,
+    call: &str,
     entries: &[&str],
 ) -> Result<String, UserAgentFault> {
     fill(alloc, bag, entries)?;
-    make_agent(alloc, bag)?;
+    if call == "agent" {
+        make_agent(alloc, bag)?;
+    }
     signed(alloc, bag)
 }
 
 fn make_agent(alloc: Global, bag: &mut ConfigBag) -> Result<(), UserAgentFault> {
     let build = build_of(alloc)?;
     UserAgentInterceptor::new().read_after_serialization(&Env::new(alloc), &build, bag)
-}
-
-// Sends the bag's agent.
-fn agent_signed(
-    alloc: Global,
-    bag: &mut ConfigBag,
-    entries: &[&str],
-) -> Result<String, UserAgentFault> {
-    fill(alloc, bag, entries)?;
-    signed(alloc, bag)
 }
 
 fn signed(alloc: Global, bag: &mut ConfigBag) -> Result<String, UserAgentFault> {
@@ -63,20 +58,11 @@ fn signed_told(
 }
 
 // Sends what is told of the attempt at a moment.
-fn attempt(alloc: Global, bag: &mut ConfigBag, words: &[&str]) -> Mem<String> {
-    let [moment, entries @ ..] = words else {
-        return unknown(alloc);
-    };
+fn attempt(alloc: Global, bag: &mut ConfigBag, moment: Moment, entries: &[&str]) -> Mem<String> {
     fill(alloc, bag, entries)?;
-    let (mut request, moment) = (request_of(alloc, &[])?, moment_of(moment));
+    let mut request = request_of(alloc, &[])?;
     let sent = RequestInfoInterceptor::new().modify_before_transmit(&mut request, moment, bag);
     sent_told(alloc, sent, &request)
-}
-
-// Sends the bag's id.
-fn id_sent(alloc: Global, bag: &mut ConfigBag, entries: &[&str]) -> Mem<String> {
-    fill(alloc, bag, entries)?;
-    id_told(alloc, bag)
 }
 
 pub fn id_told(alloc: Global, bag: &mut ConfigBag) -> Mem<String> {
@@ -94,16 +80,11 @@ pub fn sent_told(alloc: Global, sent: Mem<()>, request: &HttpRequest) -> Mem<Str
 // Whether a copy of the bag is the same to the eye, or else the copy.
 fn copied(alloc: Global, bag: &mut ConfigBag, entries: &[&str]) -> Mem<String> {
     fill(alloc, bag, entries)?;
-    let copy = copy_seen(alloc, bag)?;
+    let copy = bag_seen(alloc, &bag.try_clone()?)?;
     if copy == bag_seen(alloc, bag)? {
         return text(alloc, "the same");
     }
     Ok(copy)
-}
-
-fn copy_seen(alloc: Global, bag: &ConfigBag) -> Mem<String> {
-    let copy = bag.try_clone()?;
-    bag_seen(alloc, &copy)
 }
 
 fn bag_seen(alloc: Global, bag: &ConfigBag) -> Mem<String> {

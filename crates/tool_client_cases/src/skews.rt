@@ -9,9 +9,15 @@ use tool_case_lines::unknown;
 
 // The skews, once an interceptor saw an attempt with a bag of these entries.
 pub fn answer(alloc: Global, bag: &mut ConfigBag, call: &str, words: &[&str]) -> Mem<String> {
-    match call {
-        "measure" => measure(alloc, bag, words),
-        "begin" => begin(alloc, bag, words),
+    match (call, words) {
+        ("measure", [entries, sent, received, headers @ ..]) => {
+            fill(alloc, bag, entries)?;
+            measure(alloc, bag, sent, received, headers)
+        }
+        ("begin", [entries, sent]) => {
+            fill(alloc, bag, entries)?;
+            begin(alloc, bag, sent)
+        }
         _ => unknown(alloc),
     }
 }
@@ -26,11 +32,13 @@ fn fill(alloc: Global, bag: &mut ConfigBag, entries: &str) -> Mem<()> {
 
 // The skews of the response and of the bag, and the one that the next operation begins with, once an attempt was sent,
 // where a moment is given, and its answer received.
-fn measure(alloc: Global, bag: &mut ConfigBag, words: &[&str]) -> Mem<String> {
-    let [entries, sent, received, headers @ ..] = words else {
-        return unknown(alloc);
-    };
-    fill(alloc, bag, entries)?;
+fn measure(
+    alloc: Global,
+    bag: &mut ConfigBag,
+    sent: &str,
+    received: &str,
+    headers: &[&str],
+) -> Mem<String> {
     let mut response = response_of(alloc, headers)?;
     let next = measured(alloc, bag, sent, received, &mut response);
     skews_told(alloc, response.skew, bag.attempt_skew, next)
@@ -72,11 +80,7 @@ fn next_skew(alloc: Global, mut interceptor: ServiceClockSkewInterceptor) -> Opt
 }
 
 // The skew of the bag and the second of sending, once an operation began and an attempt was sent.
-fn begin(alloc: Global, bag: &mut ConfigBag, words: &[&str]) -> Mem<String> {
-    let [entries, sent] = words else {
-        return unknown(alloc);
-    };
-    fill(alloc, bag, entries)?;
+fn begin(alloc: Global, bag: &mut ConfigBag, sent: &str) -> Mem<String> {
     let mut interceptor = ServiceClockSkewInterceptor::new();
     interceptor.modify_before_retry_loop(bag);
     send(&mut interceptor, bag, sent);

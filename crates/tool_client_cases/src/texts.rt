@@ -1,6 +1,8 @@
 use percent_encoding::{CONTROLS, utf8_percent_encode};
 use smithy_core::{Env, Mem};
 use std::alloc::Global;
+use std::fmt::{Debug, Display};
+use tool_case_lines::unknown;
 
 pub fn text(alloc: Global, text: &str) -> Mem<String> {
     String::from_str(alloc, text)
@@ -44,4 +46,25 @@ pub fn env_of(alloc: Global, variables: &str) -> Mem<Env> {
         }
     }
     Ok(env)
+}
+
+// What `Debug` shows of a value.
+pub fn debugged<T: Debug>(alloc: Global, value: &T) -> Mem<String> {
+    format!(in alloc; "{value:?}")
+}
+
+// What a value prints.
+pub fn printed<T: Display>(alloc: Global, value: &T) -> Mem<String> {
+    let text = format!(in alloc; "{value}")?;
+    visible(alloc, text.as_str())
+}
+
+// What the one of these prints that `Debug` shows by this name.
+pub fn printed_of<T: Debug + Display>(alloc: Global, all: &[T], name: &str) -> Mem<String> {
+    for one in all {
+        if debugged(alloc, one)?.as_str() == name {
+            return printed(alloc, one);
+        }
+    }
+    unknown(alloc)
 }

@@ -6,37 +6,13 @@ use smithy_core::{Env, Mem};
 use std::alloc::Global;
 use tool_case_lines::unknown;
 
-// The headers of a request, once the interceptor saw it with these values of the two variables.
-pub fn answer(alloc: Global, bag: &mut ConfigBag, call: &str, words: &[&str]) -> Mem<String> {
+// The headers of a request, once a copy of the interceptor saw it with these values of the two variables.
+pub fn answer(alloc: Global, bag: &mut ConfigBag, words: &[&str]) -> Mem<String> {
     let [function, trace, headers @ ..] = words else {
         return unknown(alloc);
     };
     let env = env_of(alloc, function, trace)?;
-    let mut interceptor = RecursionDetectionInterceptor::new(env);
-    answer_by(alloc, &mut interceptor, bag, call, headers)
-}
-
-fn answer_by(
-    alloc: Global,
-    interceptor: &mut RecursionDetectionInterceptor,
-    bag: &mut ConfigBag,
-    call: &str,
-    headers: &[&str],
-) -> Mem<String> {
-    match call {
-        "send" => sent(alloc, interceptor, bag, headers),
-        "copy" => sent_by_copy(alloc, interceptor, bag, headers),
-        _ => unknown(alloc),
-    }
-}
-
-fn sent_by_copy(
-    alloc: Global,
-    interceptor: &RecursionDetectionInterceptor,
-    bag: &mut ConfigBag,
-    headers: &[&str],
-) -> Mem<String> {
-    let mut copy = interceptor.try_clone()?;
+    let mut copy = RecursionDetectionInterceptor::new(env).try_clone()?;
     sent(alloc, &mut copy, bag, headers)
 }
 

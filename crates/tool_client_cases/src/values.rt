@@ -1,6 +1,6 @@
 use crate::files::sections_of;
 use crate::profiles::fault_told;
-use crate::texts::{env_of, given, text};
+use crate::texts::{env_of, given, printed, text};
 use env_config::{
     EnvConfigError, EnvConfigSections, EnvConfigSource, EnvConfigValue, Origin, Os,
     ServiceConfigKey, ValidateFault, get_service_env_config, home_dir,
@@ -11,16 +11,8 @@ use tool_case_lines::unknown;
 
 pub fn answer(alloc: Global, call: &str, words: &[&str]) -> Mem<String> {
     match words {
-        [system, variables] => home(alloc, call, system, variables),
+        [system, variables] => home_of(alloc, os_of(system), &env_of(alloc, variables)?),
         [asked, variables, file] => value(alloc, call, asked, &env_of(alloc, variables)?, file),
-        _ => unknown(alloc),
-    }
-}
-
-fn home(alloc: Global, call: &str, system: &str, variables: &str) -> Mem<String> {
-    let env = env_of(alloc, variables)?;
-    match call {
-        "home" => home_of(alloc, os_of(system), &env),
         _ => unknown(alloc),
     }
 }
@@ -107,14 +99,9 @@ fn load(
     sections: Option<&EnvConfigSections>,
 ) -> Mem<String> {
     match value.load(alloc, env, sections)? {
-        Some((value, source)) => place_copied(alloc, value.as_str(), &source),
+        Some((value, source)) => place_told(alloc, value.as_str(), &source.try_clone()?),
         None => text(alloc, "-"),
     }
-}
-
-fn place_copied(alloc: Global, value: &str, source: &EnvConfigSource) -> Mem<String> {
-    let copy = source.try_clone()?;
-    place_told(alloc, value, &copy)
 }
 
 fn place_told(alloc: Global, value: &str, source: &EnvConfigSource) -> Mem<String> {
@@ -140,13 +127,8 @@ fn checked(
     match answer {
         Ok(Some(length)) => format!(in alloc; "{length}"),
         Ok(None) => text(alloc, "-"),
-        Err(fault) => copy_printed(alloc, &fault),
+        Err(fault) => printed(alloc, &fault.try_clone()?),
     }
-}
-
-pub fn copy_printed(alloc: Global, fault: &ValidateFault<&'static str>) -> Mem<String> {
-    let copy = fault.try_clone()?;
-    format!(in alloc; "{copy}")
 }
 
 // Why the value was refused, and what a copy of the error prints.
