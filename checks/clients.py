@@ -1,14 +1,14 @@
 #!/usr/bin/env python3
-"""Records what clients that people have send to a listener on loopback, and asks the built program of the door's cases who
-signed it, of each request as it came and of one with another path; and of bodies in signed chunks the built program of their
-cases, as they came and with another byte. It runs outside the gate:
+"""Records what clients that people have send to a listener on loopback, and asks the built program of the cases of what
+checks who signed it, of each request as it came and of one with another path; and of bodies in signed chunks what they hold, as
+they came and with another byte. It runs outside the gate:
 
     checks/clients.py [--lines | --chunk-lines]
 
-The programs are crates/tool_door_cases/out/tool_door_cases and crates/tool_chunk_cases/out/tool_chunk_cases. A client that isn't
-installed is skipped, and named; --lines prints the door's case lines, --chunk-lines those of bodies. Clients: curl (--aws-sigv4),
-botocore, awscli, s3cmd, rclone, Ruby's aws-sigv4, the AWS Common Runtime (awscrt), and from Go the AWS SDK and minio's client, by
-Debian's packages golang-go, golang-github-aws-aws-sdk-go-v2-dev and golang-github-minio-minio-go-v7-dev.
+The program is crates/tool_check_cases/out/tool_check_cases. A client that isn't installed is skipped, and named; --lines prints
+the door's case lines, --chunk-lines those of bodies. Clients: curl (--aws-sigv4), botocore, awscli, s3cmd, rclone, Ruby's
+aws-sigv4, the AWS Common Runtime (awscrt), and from Go the AWS SDK and minio's client, by Debian's packages golang-go,
+golang-github-aws-aws-sdk-go-v2-dev and golang-github-minio-minio-go-v7-dev.
 """
 import calendar
 import hashlib
@@ -25,6 +25,7 @@ import time
 import urllib.parse
 
 ROOT = pathlib.Path(__file__).resolve().parent.parent
+PROGRAM = ROOT / "crates/tool_check_cases/out/tool_check_cases"
 KEY, SECRET = "AKIDEXAMPLE", "wJalrXUtnFEMI/K7MDENG+bPxRfiCYEXAMPLEKEY"
 RECORDED = []
 
@@ -201,7 +202,7 @@ def escaped(text):
 def case_line(at, request, name, answer, path=None):
     """The case of a request, with the answer that is wanted of it."""
     method, target, headers, body = request
-    words = [f"{method} {at}{path or target}"] + [f"header {key}: {value}" for key, value in headers]
+    words = ["door", f"{method} {at}{path or target}"] + [f"header {key}: {value}" for key, value in headers]
     words += [f"body {body.hex()}"] * bool(body) + [f"name {name}", f"at {moment(request)}"] + ["for-s3"] * (name == "s3")
     return "\t".join(escaped(word) for word in words) + "\t" + escaped(answer)
 
@@ -246,7 +247,7 @@ def altered(target):
 def chunk_case(request, body, answer):
     """The case of a body in signed chunks, with the answer that is wanted of it."""
     fields = {key.lower(): value for key, value in request[2]}
-    words = [f"seed {carried(request)[4]}", f"secret {SECRET}", f"at {moment(request)}", f"length {fields['x-amz-decoded-content-length']}"]
+    words = ["chunks", f"seed {carried(request)[4]}", f"secret {SECRET}", f"at {moment(request)}", f"length {fields['x-amz-decoded-content-length']}"]
     if "x-amz-trailer" in fields:
         words += ["trailers", f"announced {fields['x-amz-trailer']}"]
     return "\t".join(escaped(word) for word in [*words, f"piece {body.decode()}"]) + "\t" + answer
@@ -278,19 +279,19 @@ def lines_of(at, client):
     return lines, chunks
 
 
-def passes(who, program, lines):
+def passes(who, lines):
     """Whether the built program finds each wanted answer."""
-    told = subprocess.run([ROOT / f"crates/{program}/out/{program}"], input="\n".join([form(program), *lines]) + "\n", capture_output=True, text=True)
+    told = subprocess.run([PROGRAM], input="\n".join([*forms(), *lines]) + "\n", capture_output=True, text=True)
     good = told.returncode == 0 and told.stdout.strip() == f"{len(lines)} cases"
-    print(f"{who}: {len(lines)} cases of {program} {'passed' if good else 'FAILED'}")
+    print(f"{who}: {len(lines)} cases {'passed' if good else 'FAILED'}")
     if not good:
         print(told.stderr, file=sys.stderr)
     return good
 
 
-def form(program):
-    """The line that says which words the program's cases may have."""
-    return next(line for line in (ROOT / f"crates/{program}/stdin").read_text().split("\n") if line.startswith("form\t"))
+def forms():
+    """The lines that say which words the program's cases may have."""
+    return [line for line in (ROOT / "crates/tool_check_cases/stdin").read_text().split("\n") if line.startswith("form\t")]
 
 
 def main():
@@ -304,7 +305,7 @@ def main():
             print("\n".join(lines if "--lines" in sys.argv else chunks))
         elif not lines:
             print(f"{who}: skipped, it isn't installed or sent nothing")
-        elif not all([passes(who, "tool_door_cases", lines), *([passes(who, "tool_chunk_cases", chunks)] if chunks else [])]):
+        elif not passes(who, lines + chunks):
             failed.append(who)
     server.shutdown()
     sys.exit(f"######## CHECK FAILED: another answer to what these send: {', '.join(failed)}" if failed else 0)

@@ -4,7 +4,7 @@ import re
 
 ROOT = pathlib.Path(__file__).resolve().parent.parent
 # The crates that run cases, time the work or show calls: nothing rests on their contracts.
-TOOLS = {"tool_bench", "tool_case_lines", "tool_chunk_cases", "tool_client_cases", "tool_door_cases", "tool_frame_cases", "tool_operation_cases", "tool_presign_cases", "tool_signing_cases", "tool_stream_cases", "tool_uses"}
+TOOLS = {"tool_bench", "tool_case_lines", "tool_check_cases", "tool_client_cases", "tool_frame_cases", "tool_signing_cases", "tool_stream_cases", "tool_uses"}
 HEAD = re.compile(r" *(?:(?:abbrev|unfoldable) pub|pub (?:record|data)) (\S+)")
 CONSTRUCTOR = re.compile(r"  (?:pub )?(\w+) : ")
 IMPORT = re.compile(r"ghost use Rattle\.(\w+)\.specs\.(\w+)\.\{([^}]*)\};")

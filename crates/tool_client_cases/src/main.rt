@@ -1,4 +1,4 @@
-//! Cases of profile files and settings, and of what a client runs around each attempt. Each line of the input is a call,
+//! Cases of profile files and settings, of what a client runs around each attempt, and of operations with their attempts. Each line of the input is a call,
 //! its arguments and the answer that is wanted; the first word names the module that reads the others. `-` stands for
 //! what isn't there.
 #![tactic(auto)]
@@ -16,6 +16,7 @@ mod laws;
 mod loading;
 mod metadata;
 mod metrics;
+mod operations;
 mod parts;
 mod profiles;
 mod sections;
@@ -72,6 +73,7 @@ fn client_answer(
         "agents" => agents::answer(alloc, call, words),
         "ids" => ids::answer(alloc, call, words),
         "classes" => classes::answer(alloc, call, words),
+        "operate" => operations::answer(alloc, call, words),
         _ => bag_answer(alloc, &mut ConfigBag::new(alloc), subject, call, words),
     }
 }

@@ -2,11 +2,17 @@
 ghost use Rattle.std.specs.Prelude.{◌≡◌, ◌≤◌, true};
 ghost use Rattle.operation_run.specs.Again.{most_attempts};
 
-use crate::always::Always;
-use crate::bags::bag_of;
-use crate::given::{clock_of, config_of, env_of, identity_of, ids_of, request_of};
-use crate::replies::replies_of;
-use crate::shown::{outcome_text, with_requests, with_state};
+mod always;
+mod bags;
+mod given;
+mod replies;
+mod shown;
+
+use crate::operations::always::Always;
+use crate::operations::bags::bag_of;
+use crate::operations::given::{clock_of, config_of, env_of, identity_of, ids_of, request_of};
+use crate::operations::replies::replies_of;
+use crate::operations::shown::{outcome_text, with_requests, with_state};
 use aws_auth::SigningInputs;
 use aws_intercept::{ConfigBag, InvocationIdGenerator, NoInvocationIdGenerator};
 use operation_run::{ScriptedTransport, Transport, operate};
@@ -15,9 +21,14 @@ use std::alloc::Global;
 use tool_case_lines::{has_part, on_one_line, unknown};
 
 /// What an operation answers, sends, takes and leaves in its bag.
-pub fn answer(alloc: Global, method: &str, target: &str, parts: &[&str]) -> Mem<String> {
-    let request = request_of(alloc, method, target, parts)?;
-    of_request(alloc, &request, parts)
+pub fn answer(alloc: Global, method: &str, words: &[&str]) -> Mem<String> {
+    match words {
+        [target, parts @ ..] => {
+            let request = request_of(alloc, method, target, parts)?;
+            of_request(alloc, &request, parts)
+        }
+        [] => unknown(alloc),
+    }
 }
 
 fn of_request(alloc: Global, request: &HttpRequest, parts: &[&str]) -> Mem<String> {

@@ -1,29 +1,15 @@
-//! Answers cases on presigned requests that are checked: `stdin` says what each line means.
-#![tactic(auto)]
-
-mod given;
-
-use crate::given::{body_of, request_of, settings_of};
+//! Presigned requests that are checked.
+use crate::given::{body_of, key_id_of, request_of, secret_of, settings_of};
 use presign_check::{PresignFault, check_presigned};
 use sigv4::{SignableBody, SigningSettings};
 use smithy_core::{HttpRequest, Mem, Moment};
 use std::alloc::Global;
-use std::io;
-use std::process::ExitCode;
-use tool_case_lines::{Answers, number, part, run_cases};
+use tool_case_lines::{number, part};
 
-fn main(rt: HostRuntime) -> io::Result<ExitCode> {
-    run_cases(rt, &Checks)
-}
-
-// A request that is checked, by the words of a line.
-struct Checks;
-
-impl Answers for Checks {
-    fn answer(&self, alloc: Global, words: &[&str]) -> Mem<String> {
-        let request = request_of(alloc, words)?;
-        of_request(alloc, &request, words)
-    }
+/// Until when the request of the words is good, or what is wrong with it.
+pub fn answer(alloc: Global, words: &[&str]) -> Mem<String> {
+    let request = request_of(alloc, words)?;
+    of_request(alloc, &request, words)
 }
 
 fn of_request(alloc: Global, request: &HttpRequest, words: &[&str]) -> Mem<String> {
@@ -41,8 +27,7 @@ fn checked(
 ) -> Mem<String> {
     let region = part(words, "region").unwrap_or("us-east-1");
     let name = part(words, "name").unwrap_or("service");
-    let key_id = part(words, "key-id").unwrap_or("AKIDEXAMPLE");
-    let secret = part(words, "secret").unwrap_or("wJalrXUtnFEMI/K7MDENG+bPxRfiCYEXAMPLEKEY");
+    let (key_id, secret) = (key_id_of(words), secret_of(words));
     let now = Moment::new(number(part(words, "at").unwrap_or("1440938160")), 0);
     match check_presigned(
         alloc, request, settings, region, name, body, key_id, secret, now,

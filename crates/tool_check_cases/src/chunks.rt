@@ -1,30 +1,18 @@
-//! Answers cases on bodies in signed chunks: `stdin` says what each line means.
-#![tactic(auto)]
-
+//! Bodies in signed chunks.
 ghost use Rattle.std.specs.Prelude.{◌<◌};
 
 use chunk_watch::{ChunkFault, ChunkLimits, ChunkWatch};
 use mac_core::sha256_hex;
 use smithy_core::{Headers, Mem, Moment};
 use std::alloc::Global;
-use std::io;
-use std::process::ExitCode;
-use tool_case_lines::{Answers, has_part, number, part, run_cases, with_repeats};
+use tool_case_lines::{has_part, number, part, with_repeats};
 
-fn main(rt: HostRuntime) -> io::Result<ExitCode> {
-    run_cases(rt, &Bodies)
-}
-
-// A body in signed chunks, by the words of a line.
-struct Bodies;
-
-impl Answers for Bodies {
-    fn answer(&self, alloc: Global, words: &[&str]) -> Mem<String> {
-        let text = text_of(alloc, words)?;
-        let mut out = Vec::new(alloc);
-        let answer = answer_of(alloc, words, text.as_slice(), &mut out);
-        told(alloc, out.as_slice(), answer)
-    }
+/// How many bytes of the body of the words are handed out, their digest, and how the body ends.
+pub fn answer(alloc: Global, words: &[&str]) -> Mem<String> {
+    let text = text_of(alloc, words)?;
+    let mut out = Vec::new(alloc);
+    let ending = fed(alloc, words, text.as_slice(), &mut out);
+    told(alloc, out.as_slice(), ending)
 }
 
 // The bytes of the words `piece TEXT`, in order.
@@ -40,7 +28,7 @@ fn text_of(alloc: Global, words: &[&str]) -> Mem<Vec<u8>> {
 }
 
 // Feeds the text, cut every so many bytes, and ends it: its trailers.
-fn answer_of(
+fn fed(
     alloc: Global,
     words: &[&str],
     text: &[u8],
@@ -81,9 +69,9 @@ fn size_of_pieces(words: &[&str]) -> usize
 }
 
 // How many bytes were handed out, their digest, and how the body ended.
-fn told(alloc: Global, out: &[u8], answer: Result<Headers, ChunkFault>) -> Mem<String> {
+fn told(alloc: Global, out: &[u8], ending: Result<Headers, ChunkFault>) -> Mem<String> {
     let (count, digest) = (out.len(), sha256_hex(alloc, out)?);
-    match answer {
+    match ending {
         Ok(trailers) => {
             let mut text = format!(in alloc; "{count} bytes {digest} | whole")?;
             for (name, value) in trailers.iter() {

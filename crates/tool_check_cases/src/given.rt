@@ -1,5 +1,6 @@
-//! A request and how its signature is computed again, from the words `METHOD TARGET`, `header NAME: VALUE` and so on.
+//! A request, and how its signature is computed again, from the words `METHOD TARGET`, `header NAME: VALUE` and so on.
 use bytes::Bytes;
+use request_door::KeyList;
 use sigv4::{PercentEncodingMode, SessionTokenMode, SignableBody, SigningSettings};
 use smithy_core::{Headers, HttpRequest, Mem};
 use std::alloc::Global;
@@ -40,6 +41,23 @@ pub fn body_of<'a>(request: &'a HttpRequest, words: &[&str]) -> SignableBody<'a>
     } else {
         SignableBody::Bytes(request.body.as_slice())
     }
+}
+
+/// The keys: one, of the words `key-id ID` and `secret S`.
+pub fn keys_of(alloc: Global, words: &[&str]) -> Mem<KeyList> {
+    let mut keys = KeyList::new(alloc);
+    keys.push(key_id_of(words), secret_of(words))?;
+    Ok(keys)
+}
+
+/// The id of the key: of the word `key-id ID`, or else that of AWS's signing test suite.
+pub fn key_id_of<'a>(words: &[&'a str]) -> &'a str {
+    part(words, "key-id").unwrap_or("AKIDEXAMPLE")
+}
+
+/// The secret: of the word `secret S`, or else that of AWS's signing test suite.
+pub fn secret_of<'a>(words: &[&'a str]) -> &'a str {
+    part(words, "secret").unwrap_or("wJalrXUtnFEMI/K7MDENG+bPxRfiCYEXAMPLEKEY")
 }
 
 /// The settings: `encode-once`, `omit-token` and `token-name N` change the usual ones, and `for-s3` gives those for Amazon S3.

@@ -1,29 +1,15 @@
-//! Answers cases on a service's door: `stdin` says what each line means.
-#![tactic(auto)]
-
-mod given;
-
+//! Requests that come to a service's door.
 use crate::given::{keys_of, request_of, settings_of};
 use request_door::{Admitted, DoorFault, Limits, admit};
 use sigv4::SigningSettings;
 use smithy_core::{HttpRequest, Mem, Moment};
 use std::alloc::Global;
-use std::io;
-use std::process::ExitCode;
-use tool_case_lines::{Answers, number, part, run_cases};
+use tool_case_lines::{number, part};
 
-fn main(rt: HostRuntime) -> io::Result<ExitCode> {
-    run_cases(rt, &Requests)
-}
-
-// A request that comes to the door, by the words of a line.
-struct Requests;
-
-impl Answers for Requests {
-    fn answer(&self, alloc: Global, words: &[&str]) -> Mem<String> {
-        let request = request_of(alloc, words)?;
-        of_request(alloc, &request, words)
-    }
+/// Who signed the request of the words, or the error that it gets.
+pub fn answer(alloc: Global, words: &[&str]) -> Mem<String> {
+    let request = request_of(alloc, words)?;
+    of_request(alloc, &request, words)
 }
 
 fn of_request(alloc: Global, request: &HttpRequest, words: &[&str]) -> Mem<String> {
