@@ -16,7 +16,7 @@ use Rattle.request_door.specs.DoorNames.{PassesNames}
 use Rattle.request_door.specs.DoorPayloads.{ReadsPayload}
 use Rattle.request_door.specs.DoorSignature.{IsSealedSo, SomeSeal}
 use Rattle.request_door.specs.DoorTerms.{DoorTerms, ReadsDoorTerms, TestsTime, door_seal, told_terms}
-use Rattle.request_door.specs.Doors.{AcceptsTarget, AnswersDoor, DoorInput, DoorReading, FindsSecret, HasForm, HasKey, HasNames, HasPayload, HasTarget, HasCarriedTexts, HasTold, IsTimely, TellsRequest, TestsLast}
+use Rattle.request_door.specs.Doors.{AcceptsTarget, AnswersDoor, CarriesTerms, DoorInput, DoorReading, FindsSecret, HasForm, HasKey, HasNames, HasPayload, HasTarget, HasCarriedTexts, HasTold, IsTimely, TellsRequest, TestsLast}
 use Rattle.request_door.specs.declared.admitted.Admitted.{Admitted}
 use Rattle.request_door.specs.declared.carried.Carried.{Carried}
 use Rattle.request_door.specs.declared.fault.DoorFault.{DoorFault}
@@ -85,95 +85,104 @@ module _ (asked : DoorInput) (uri : Uri) (accepted : AcceptsTarget asked.request
         inl (inr (inr (inr (inr (inl (read_so_far uri (texts_carried read) no_terms Unsigned [], left_texts no_terms Unsigned [], first))))))
     refused_terms fault (inr room) = inr room
 
-    module _ (told : Terms) (tells : ReadsDoorTerms asked.region asked.name asked.limits (texts_carried read) (Ok told)) where
-      left_told : (form : DoorPayload) (secret : List ℕ) → HasTold asked (read_so_far uri (texts_carried read) (told_terms told) form secret)
-      left_told form secret = record { texts = left_texts (told_terms told) form secret; good = tells.0; told = tells.1 }
+-- ---- what is left behind the terms
 
-      -- the request carries a seal, and is fit for signing
-      pub sealed_so : IsSealedSo asked.request asked.region asked.name (door_seal (texts_carried read) (told_terms told)) uri
-      sealed_so = record {
-        sealed = sealed_at asked.request asked.region asked.name uri (texts_carried read) (told_terms told) read.place refl accepted.0 reads.1 reads.3 tells.1;
-        spelled = accepted.0;
-        fit = accepted.1;
-      }
+module _ (asked : DoorInput) (read : Carried) (told : Terms) (carries : CarriesTerms asked.request asked.region asked.name asked.limits read told) where
+  abbrev uri : Uri
+  uri = carries.texts.uri
 
-      pub some_seal : SomeSeal asked.request asked.region asked.name
-      some_seal = record { seal = door_seal (texts_carried read) (told_terms told); uri = uri; so = sealed_so }
+  left_told : (form : DoorPayload) (secret : List ℕ) → HasTold asked (read_so_far uri (texts_carried read) (told_terms told) form secret)
+  left_told form secret = record {
+    texts = left_texts asked uri carries.texts.accepted read carries.texts.reads (told_terms told) form secret;
+    good = carries.tells.0;
+    told = carries.tells.1;
+  }
 
-      -- the names aren't as they have to be
-      pub refused_names : (fault : DoorFault)
-          → PassesNames read.place asked.settings.session_token_mode asked.limits asked.request.headers (carried_names read.names.now) (Err fault)
+  -- the request carries a seal, and is fit for signing
+  pub sealed_so : IsSealedSo asked.request asked.region asked.name (door_seal (texts_carried read) (told_terms told)) uri
+  sealed_so = record {
+    sealed = sealed_at asked.request asked.region asked.name uri (texts_carried read) (told_terms told) read.place refl carries.texts.accepted.0 carries.texts.reads.1 carries.texts.reads.3 carries.tells.1;
+    spelled = carries.texts.accepted.0;
+    fit = carries.texts.accepted.1;
+  }
+
+  pub some_seal : SomeSeal asked.request asked.region asked.name
+  some_seal = record { seal = door_seal (texts_carried read) (told_terms told); uri = uri; so = sealed_so }
+
+  -- the names aren't as they have to be
+  pub refused_names : (fault : DoorFault)
+      → PassesNames read.place asked.settings.session_token_mode asked.limits asked.request.headers (carried_names read.names.now) (Err fault)
+      → AnswersDoor asked (Err fault)
+  refused_names fault (inl first) =
+      inl (inr (inr (inr (inr (inr (inl (read_so_far uri (texts_carried read) (told_terms told) Unsigned [], left_told Unsigned [], first)))))))
+  refused_names fault (inr room) = inr room
+
+  module _ (named : PassesNames read.place asked.settings.session_token_mode asked.limits asked.request.headers (carried_names read.names.now) (Ok tt)) where
+    left_names : (form : DoorPayload) (secret : List ℕ) → HasNames asked (read_so_far uri (texts_carried read) (told_terms told) form secret)
+    left_names form secret = record { told = left_told form secret; named = named }
+
+    -- it is too early, or too late
+    pub refused_time : (fault : DoorFault) → TestsTime read.place asked.limits asked.now (told_terms told) (Err fault) → AnswersDoor asked (Err fault)
+    refused_time fault first =
+        inl (inr (inr (inr (inr (inr (inr (inl (read_so_far uri (texts_carried read) (told_terms told) Unsigned [], left_names Unsigned [], first))))))))
+
+    module _ (until : ℤ) (timed : TestsTime read.place asked.limits asked.now (told_terms told) (Ok until)) where
+      left_time : (form : DoorPayload) (secret : List ℕ) → IsTimely asked (read_so_far uri (texts_carried read) (told_terms told) form secret)
+      left_time form secret = record { names = left_names form secret; timed = timed.0 }
+
+      -- the payload's header isn't one
+      pub refused_payload : (fault : DoorFault) → ReadsPayload read.place asked.settings.payload_checksum_kind asked.request.headers (Err fault)
           → AnswersDoor asked (Err fault)
-      refused_names fault (inl first) =
-          inl (inr (inr (inr (inr (inr (inl (read_so_far uri (texts_carried read) (told_terms told) Unsigned [], left_told Unsigned [], first)))))))
-      refused_names fault (inr room) = inr room
+      refused_payload fault first =
+          inl (inr (inr (inr (inr (inr (inr (inr (inl (read_so_far uri (texts_carried read) (told_terms told) Unsigned [], left_time Unsigned [], first)))))))))
 
-      module _ (named : PassesNames read.place asked.settings.session_token_mode asked.limits asked.request.headers (carried_names read.names.now) (Ok tt)) where
-        left_names : (form : DoorPayload) (secret : List ℕ) → HasNames asked (read_so_far uri (texts_carried read) (told_terms told) form secret)
-        left_names form secret = record { told = left_told form secret; named = named }
+      module _ (form : DoorPayload) (shown : ReadsPayload read.place asked.settings.payload_checksum_kind asked.request.headers (Ok form)) where
+        left_payload : (secret : List ℕ) → HasPayload asked (read_so_far uri (texts_carried read) (told_terms told) form secret)
+        left_payload secret = record { timely = left_time form secret; shown = shown.0; form = shown.1 }
 
-        -- it is too early, or too late
-        pub refused_time : (fault : DoorFault) → TestsTime read.place asked.limits asked.now (told_terms told) (Err fault) → AnswersDoor asked (Err fault)
-        refused_time fault first =
-            inl (inr (inr (inr (inr (inr (inr (inl (read_so_far uri (texts_carried read) (told_terms told) Unsigned [], left_names Unsigned [], first))))))))
+        -- the key isn't known
+        pub refused_key : (fault : DoorFault) → FindsSecret (asked.secrets told.key_id.now) (Err fault) → AnswersDoor asked (Err fault)
+        refused_key fault (inl (none, is)) =
+            inl (inr (inr (inr (inr (inr (inr (inr (inr (inl (read_so_far uri (texts_carried read) (told_terms told) form [], left_payload [], none, is))))))))))
+        refused_key fault (inr room) = inr room
 
-        module _ (until : ℤ) (timed : TestsTime read.place asked.limits asked.now (told_terms told) (Ok until)) where
-          left_time : (form : DoorPayload) (secret : List ℕ) → IsTimely asked (read_so_far uri (texts_carried read) (told_terms told) form secret)
-          left_time form secret = record { names = left_names form secret; timed = timed.0 }
+        module _ (secret : String Global) (known : FindsSecret (asked.secrets told.key_id.now) (Ok secret)) where
+          left_key : HasKey asked (read_so_far uri (texts_carried read) (told_terms told) form (string_bytes secret))
+          left_key = record { payload = left_payload (string_bytes secret); known = known }
 
-          -- the payload's header isn't one
-          pub refused_payload : (fault : DoorFault) → ReadsPayload read.place asked.settings.payload_checksum_kind asked.request.headers (Err fault)
-              → AnswersDoor asked (Err fault)
-          refused_payload fault first =
-              inl (inr (inr (inr (inr (inr (inr (inr (inl (read_so_far uri (texts_carried read) (told_terms told) Unsigned [], left_time Unsigned [], first)))))))))
+          abbrev Last : Result (Unit {0}) DoorFault → Type 0
+          Last result =
+              TestsLast asked.request asked.settings asked.body (record { secret = string_bytes secret; region = asked.region; name = asked.name }) form
+              (door_seal (texts_carried read) (told_terms told)) uri result
 
-          module _ (form : DoorPayload) (shown : ReadsPayload read.place asked.settings.payload_checksum_kind asked.request.headers (Ok form)) where
-            left_payload : (secret : List ℕ) → HasPayload asked (read_so_far uri (texts_carried read) (told_terms told) form secret)
-            left_payload secret = record { timely = left_time form secret; shown = shown.0; form = shown.1 }
+          -- the payload or the signature is another one
+          pub refused_last : (fault : DoorFault) → Last (Err fault) → AnswersDoor asked (Err fault)
+          refused_last fault (inl (other, is)) =
+              inl (inr (inr (inr (inr (inr (inr (inr (inr (inr
+              (read_so_far uri (texts_carried read) (told_terms told) form (string_bytes secret), left_key, inl (other, is)))))))))))
+          refused_last fault (inr (inl (same, differs, is))) =
+              inl (inr (inr (inr (inr (inr (inr (inr (inr (inr
+              (read_so_far uri (texts_carried read) (told_terms told) form (string_bytes secret), left_key, inr (same, inl (differs, is))))))))))))
+          refused_last fault (inr (inr room)) = inr room
 
-            -- the key isn't known
-            pub refused_key : (fault : DoorFault) → FindsSecret (asked.secrets told.key_id.now) (Err fault) → AnswersDoor asked (Err fault)
-            refused_key fault (inl (none, is)) =
-                inl (inr (inr (inr (inr (inr (inr (inr (inr (inl (read_so_far uri (texts_carried read) (told_terms told) form [], left_payload [], none, is))))))))))
-            refused_key fault (inr room) = inr room
-
-            module _ (secret : String Global) (known : FindsSecret (asked.secrets told.key_id.now) (Ok secret)) where
-              left_key : HasKey asked (read_so_far uri (texts_carried read) (told_terms told) form (string_bytes secret))
-              left_key = record { payload = left_payload (string_bytes secret); known = known }
-
-              abbrev Last : Result (Unit {0}) DoorFault → Type 0
-              Last result =
-                  TestsLast asked.request asked.settings asked.body (record { secret = string_bytes secret; region = asked.region; name = asked.name }) form
-                  (door_seal (texts_carried read) (told_terms told)) uri result
-
-              -- the payload or the signature is another one
-              pub refused_last : (fault : DoorFault) → Last (Err fault) → AnswersDoor asked (Err fault)
-              refused_last fault (inl (other, is)) =
-                  inl (inr (inr (inr (inr (inr (inr (inr (inr (inr
-                  (read_so_far uri (texts_carried read) (told_terms told) form (string_bytes secret), left_key, inl (other, is)))))))))))
-              refused_last fault (inr (inl (same, differs, is))) =
-                  inl (inr (inr (inr (inr (inr (inr (inr (inr (inr
-                  (read_so_far uri (texts_carried read) (told_terms told) form (string_bytes secret), left_key, inr (same, inl (differs, is))))))))))))
-              refused_last fault (inr (inr room)) = inr room
-
-              -- no test is met
-              pub admits : (admitted : Admitted) → Last (Ok tt) → TellsRequest (texts_carried read) (told_terms told) until form admitted
-                  → AnswersDoor asked (Ok admitted)
-              admits admitted last tells_request = record {
-                reading = read_so_far uri (texts_carried read) (told_terms told) form (string_bytes secret);
-                key = left_key;
-                own = last.1;
-                last = (last.0, (λ differs. differs last.1, tt));
-                told = record {
-                  key_id = tells_request.key_id;
-                  place = tells_request.place;
-                  at = tells_request.at;
-                  until = tells_request.until ∙ timed.1;
-                  names = tells_request.names;
-                  payload = tells_request.payload;
-                  signature = tells_request.signature;
-                };
-              }
+          -- no test is met
+          pub admits : (admitted : Admitted) → Last (Ok tt) → TellsRequest (texts_carried read) (told_terms told) until form admitted
+              → AnswersDoor asked (Ok admitted)
+          admits admitted last tells_request = record {
+            reading = read_so_far uri (texts_carried read) (told_terms told) form (string_bytes secret);
+            key = left_key;
+            own = last.1;
+            last = (last.0, (λ differs. differs last.1, tt));
+            told = record {
+              key_id = tells_request.key_id;
+              place = tells_request.place;
+              at = tells_request.at;
+              until = tells_request.until ∙ timed.1;
+              names = tells_request.names;
+              payload = tells_request.payload;
+              signature = tells_request.signature;
+            };
+          }
 
 -- the target isn't accepted, or headers or host aren't fit
 pub refused_target : (asked : DoorInput) (fault : DoorFault) → AcceptsTarget asked.request (Err fault) → AnswersDoor asked (Err fault)

@@ -8,7 +8,7 @@ use Rattle.smithy_http.specs.QueryWriter.{SpellsNoTarget, SpellsTarget}
 use Rattle.smithy_http.specs.Target.{target_of}
 use Rattle.eventstream.specs.Key.{Signer}
 use Rattle.sigv4.specs.Query.{Pair, decoded}
-use Rattle.sigv4.specs.Settings.{Settings}
+use Rattle.sigv4.specs.Settings.{Settings, settings_of}
 use Rattle.request_check.specs.Recomputed.{carried_names, recomputed, unfit_sent}
 use Rattle.request_check.specs.Sealed.{SealParts}
 use Rattle.request_door.specs.DoorCarried.{CarriesAt, DoorTexts, IsInForm, MeetsCarried, MeetsDoorForm, ReadsCarried, form_tests, tests_of, texts_carried}
@@ -19,6 +19,7 @@ use Rattle.request_door.specs.DoorSignature.{seal_signature}
 use Rattle.request_door.specs.DoorTerms.{DoorTerms, MeetsTerm, MeetsTime, ReadsDoorTerms, TellsTerms, door_seal, good_until, term_tests, time_tests}
 use Rattle.request_door.specs.declared.admitted.Admitted.{Admitted}
 use Rattle.request_door.specs.declared.carried.Carried.{Carried}
+use Rattle.request_door.specs.declared.door.Asked.{Asked}
 use Rattle.request_door.specs.declared.fault.DoorFault.{DoorFault}
 use Rattle.request_door.specs.declared.fault.DoorFault.TheVariants.{InvalidTarget, InvalidHeader, UnknownKey, OtherPayload, Mismatch, NoMemory}
 use Rattle.request_door.specs.declared.limits.Limits.{Limits}
@@ -35,6 +36,19 @@ pub record DoorInput : Type 0 where
   pub secrets : List ℕ → Option (List ℕ)
   pub now : Instant
   pub limits : Limits
+
+-- what is asked, of what is handed to the door and the secret of each key's id
+abbrev pub door_input : (List ℕ → Option (List ℕ)) → Asked → DoorInput
+door_input secrets asked = record {
+  request = asked.request.now;
+  body = asked.body.now;
+  settings = settings_of asked.settings.now;
+  region = asked.region.now;
+  name = asked.name.now;
+  secrets = secrets;
+  now = asked.now;
+  limits = asked.limits.now;
+}
 
 -- what is read of a request: its target, the texts of its signature, what these tell, the form of its payload, and the secret of its key
 pub record DoorReading : Type 0 where

@@ -8,7 +8,7 @@ ghost use Rattle.request_check.specs.Sealed.{SealParts};
 ghost use Rattle.request_door.specs.DoorCarried.{texts_carried};
 ghost use Rattle.request_door.specs.DoorSignature.{IsSealedSo, SomeSeal};
 ghost use Rattle.request_door.specs.DoorTerms.{told_terms};
-ghost use Rattle.request_door.specs.Doors.{AcceptsTarget, AnswersDoor, CarriesTerms, CarriesTexts, FindsSecret, HasPairs, TellsRequest, TestsLast};
+ghost use Rattle.request_door.specs.Doors.{AcceptsTarget, AnswersDoor, CarriesTerms, CarriesTexts, FindsSecret, HasPairs, TellsRequest, TestsLast, door_input};
 
 use crate::admitted::Admitted;
 use crate::carried::{Carried, read_carried};
@@ -26,6 +26,18 @@ use sigv4::{SignableBody, SigningSettings};
 use smithy_core::{Headers, HttpRequest, Mem, Moment};
 use smithy_http::read_target;
 use std::alloc::Global;
+
+/// What a request is held against: its body, and what the service knows.
+#[derive(Clone, Copy)]
+pub(crate) struct Asked<'a> {
+    request: &'a HttpRequest,
+    body: &'a [u8],
+    settings: &'a SigningSettings,
+    region: &'a str,
+    name: &'a str,
+    now: Moment,
+    limits: &'a Limits,
+}
 
 /// A service's door: who signed a request that passes each of its tests at a moment, and else exactly the first test
 /// that is met (`specs/Doors.antt`).
@@ -92,41 +104,30 @@ pub fn admit<K: Keys>(
 {
     let uri = accepted_target(alloc, request)?;
     let pairs = query_pairs(alloc, &uri)?;
-    let pairs = pairs.as_slice();
-    admit_pairs(
-        alloc, request, pairs, body, settings, region, name, keys, now, limits,
-    )
+    let asked = Asked {
+        request,
+        body,
+        settings,
+        region,
+        name,
+        now,
+        limits,
+    };
+    admit_pairs(alloc, &asked, keys, pairs.as_slice())
 }
 
 // The answer for a request whose target is accepted and has these pairs in its query.
-fn admit_pairs<'a, K: Keys>(
+fn admit_pairs<K: Keys>(
     alloc: Global,
-    request: &'a HttpRequest,
-    pairs: &'a [(String, String)],
-    body: &[u8],
-    settings: &SigningSettings,
-    region: &str,
-    name: &str,
+    asked: &Asked<'_>,
     keys: &K,
-    now: Moment,
-    limits: &Limits,
+    pairs: &[(String, String)],
 ) -> Result<Admitted, DoorFault>
-    requires { HasPairs request.now (text_pairs pairs.now) }
-    ensures { AnswersDoor (record {
-      request = request.now;
-      body = body.now;
-      settings = settings_of settings.now;
-      region = region.now;
-      name = name.now;
-      secrets = K.secrets keys.now;
-      now = now;
-      limits = limits.now;
-    }) result }
+    requires { HasPairs asked.now.request.now (text_pairs pairs.now) }
+    ensures { AnswersDoor (door_input (K.secrets keys.now) asked.entry.now) result }
 {
-    match read_carried(&request.headers, pairs) {
-        Ok(texts) => admit_texts(
-            alloc, request, &texts, body, settings, region, name, keys, now, limits,
-        ),
+    match read_carried(&asked.request.headers, pairs) {
+        Ok(texts) => admit_texts(alloc, asked, keys, &texts),
         Err(fault) => Err(fault),
     }
 }
@@ -134,32 +135,15 @@ fn admit_pairs<'a, K: Keys>(
 // The answer for a request that carries these texts.
 fn admit_texts<K: Keys>(
     alloc: Global,
-    request: &HttpRequest,
-    texts: &Carried<'_>,
-    body: &[u8],
-    settings: &SigningSettings,
-    region: &str,
-    name: &str,
+    asked: &Asked<'_>,
     keys: &K,
-    now: Moment,
-    limits: &Limits,
+    texts: &Carried<'_>,
 ) -> Result<Admitted, DoorFault>
-    requires { CarriesTexts request.now texts.now }
-    ensures { AnswersDoor (record {
-      request = request.now;
-      body = body.now;
-      settings = settings_of settings.now;
-      region = region.now;
-      name = name.now;
-      secrets = K.secrets keys.now;
-      now = now;
-      limits = limits.now;
-    }) result }
+    requires { CarriesTexts asked.now.request.now texts.now }
+    ensures { AnswersDoor (door_input (K.secrets keys.now) asked.entry.now) result }
 {
-    match read_terms(alloc, texts, region, name, limits) {
-        Ok(terms) => admit_terms(
-            alloc, request, texts, &terms, body, settings, region, name, keys, now, limits,
-        ),
+    match read_terms(alloc, texts, asked.region, asked.name, asked.limits) {
+        Ok(terms) => admit_terms(alloc, asked, keys, texts, &terms),
         Err(fault) => Err(fault),
     }
 }
@@ -167,36 +151,22 @@ fn admit_texts<K: Keys>(
 // The answer for a request whose texts say these terms.
 fn admit_terms<K: Keys>(
     alloc: Global,
-    request: &HttpRequest,
+    asked: &Asked<'_>,
+    keys: &K,
     texts: &Carried<'_>,
     terms: &Terms<'_>,
-    body: &[u8],
-    settings: &SigningSettings,
-    region: &str,
-    name: &str,
-    keys: &K,
-    now: Moment,
-    limits: &Limits,
 ) -> Result<Admitted, DoorFault>
-    requires { CarriesTerms request.now region.now name.now limits.now texts.now terms.now }
-    ensures { AnswersDoor (record {
-      request = request.now;
-      body = body.now;
-      settings = settings_of settings.now;
-      region = region.now;
-      name = name.now;
-      secrets = K.secrets keys.now;
-      now = now;
-      limits = limits.now;
-    }) result }
+    requires { CarriesTerms asked.now.request.now asked.now.region.now asked.now.name.now asked.now.limits.now texts.now terms.now }
+    ensures { AnswersDoor (door_input (K.secrets keys.now) asked.entry.now) result }
 {
+    let (headers, settings) = (&asked.request.headers, asked.settings);
     let (place, mode) = (texts.place, settings.session_token_mode);
-    test_names(alloc, &request.headers, place, mode, limits, texts.names)?;
-    let until = timely_until(place, limits, now, terms)?;
-    let form = read_payload(place, settings.payload_checksum_kind, &request.headers)?;
+    test_names(alloc, headers, place, mode, asked.limits, texts.names)?;
+    let until = timely_until(place, asked.limits, asked.now, terms)?;
+    let form = read_payload(place, settings.payload_checksum_kind, headers)?;
     let secret = known_secret(alloc, keys, terms.key_id)?;
     let secret = secret.as_str();
-    test_last(alloc, request, body, settings, region, name, form, secret)?;
+    test_last(alloc, asked, form, secret)?;
     let admitted = told(alloc, texts, terms, until, form)?;
     Ok(admitted)
 }
@@ -236,22 +206,27 @@ fn known_secret<K: Keys>(alloc: Global, keys: &K, key_id: &str) -> Result<String
 // The tests under the secret: that the body is the one that was signed, and that the signature is the request's own.
 fn test_last(
     alloc: Global,
-    request: &HttpRequest,
-    body: &[u8],
-    settings: &SigningSettings,
-    region: &str,
-    name: &str,
+    asked: &Asked<'_>,
     form: DoorPayload,
     secret: &str,
 ) -> Result<(), DoorFault>
-    requires { SomeSeal request.now region.now name.now }
-    ensures { (seal : SealParts) (uri : Target) → IsSealedSo request.now region.now name.now seal uri
-        → TestsLast request.now (settings_of settings.now) body.now
-        (record { secret = secret.now; region = region.now; name = name.now }) form seal uri result }
+    requires { SomeSeal asked.now.request.now asked.now.region.now asked.now.name.now }
+    ensures { (seal : SealParts) (uri : Target) → IsSealedSo asked.entry.now.request.now asked.entry.now.region.now asked.entry.now.name.now seal uri
+        → TestsLast asked.entry.now.request.now (settings_of asked.entry.now.settings.now) asked.entry.now.body.now
+        (record { secret = secret.now; region = asked.entry.now.region.now; name = asked.entry.now.name.now }) form seal uri result }
 {
-    let payload = signed_payload(alloc, shown_payload(&request.headers), form, body)?;
+    let (request, settings) = (asked.request, asked.settings);
+    let payload = signed_payload(alloc, shown_payload(&request.headers), form, asked.body)?;
     let payload = SignableBody::Precomputed(payload);
-    test_signature(alloc, request, settings, region, name, &payload, secret)
+    test_signature(
+        alloc,
+        request,
+        settings,
+        asked.region,
+        asked.name,
+        &payload,
+        secret,
+    )
 }
 
 // What is answered for an admitted request.
