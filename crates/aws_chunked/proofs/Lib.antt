@@ -21,6 +21,7 @@ mod RunLemmas
 mod SealedLawLemmas
 mod SignLemmas
 mod SignatureLemmas
+pub mod SoundBodyLemmas
 mod SoundLemmas
 mod StepLemmas
 mod StopLemmas

@@ -11,5 +11,6 @@ pub mod Passing
 pub mod Reading
 pub mod Rests
 pub mod Signing
+pub mod SoundBody
 pub mod TailRests
 pub mod Text

@@ -1,26 +1,19 @@
 -- An upload in signed chunks, in the words of `aws_chunked`: what announces it, what is signed, and the text that is sent.
-use Rattle.std.specs.Prelude.{◌≡◌, ◌⊎◌, ◌≤◌, ℕ, ◌&&◌, true, List, [], ◌∷◌, length, nat_lt, if◌then◌else◌, IsTrue, Option, Some, None, option_map, Result, Ok, Err, String, string_bytes}
+use Rattle.std.specs.Prelude.{◌≡◌, ◌⊎◌, ◌≤◌, ℕ, ◌&&◌, true, List, length, nat_lt, if◌then◌else◌, Option, Some, None, option_map, Result, Ok, Err, string_bytes}
 use Rattle.std.specs.Global.{Vec}
-use Rattle.std.specs.List.{AllByRecursion, flat_map}
+use Rattle.std.specs.List.{flat_map}
 use Rattle.std.specs.Option.{option_or}
-use Rattle.smithy_core.specs.Civil.{is_in_years}
 use Rattle.smithy_core.specs.Moment.{Instant}
-use Rattle.smithy_core.specs.declared.outside.frame_part.FramePart.{FramePart}
-use Rattle.smithy_core.specs.declared.outside.frame_source.FrameSource as FrameSource
 use Rattle.smithy_core.specs.declared.request.HttpRequest.{HttpRequest}
 use Rattle.smithy_http.specs.Target.{Target}
 use Rattle.eventstream.specs.Key.{Signer}
-use Rattle.sigv4.specs.Query.{Pair}
 use Rattle.sigv4.specs.Refusal.{unfit_headers}
 use Rattle.sigv4.specs.Request.{Case}
-use Rattle.sigv4.specs.declared.chunk_signer.SignChunk as SignChunk
 use Rattle.sigv4.specs.declared.error.SigningError.{SigningError}
 use Rattle.aws_chunked.specs.Announcement.{announced_headers, announced_payload, options_for, unannounced}
-use Rattle.aws_chunked.specs.Body.{Trailer, actual_length, body_source, options_in, parts_due, total_of}
-use Rattle.aws_chunked.specs.Due.{due, signed_chunked_text}
-use Rattle.aws_chunked.specs.Options.{Options, counted, declared_length}
-use Rattle.aws_chunked.specs.Text.{Part, chunk, tail}
-use Rattle.aws_chunked.specs.declared.body.AwsChunkedBody.{AwsChunkedBody}
+use Rattle.aws_chunked.specs.Body.{Trailer}
+use Rattle.aws_chunked.specs.Due.{signed_chunked_text}
+use Rattle.aws_chunked.specs.Options.{Options}
 use Rattle.aws_signing.specs.SigningBy.{IsSignedRequestBy, RefusesBy, SigningState, signer_case, signer_kept}
 use Rattle.aws_signing.specs.SigningFaults.{of_signing}
 use Rattle.aws_signing.specs.declared.fault.AwsSigningError.{AwsSigningError}
@@ -114,37 +107,3 @@ SignsUpload case at old who content trailers new (Ok pieces) =
     × (joined_pieces pieces.items ≡ signed_chunked_text who at signature old.options.chunk_size content trailers))
     × (string_bytes new.request.method ≡ string_bytes old.request.method) × (new.request.body ≡ old.request.body)
 SignsUpload case at old who content trailers new (Err error) = RefusesBy case at (string_bytes old.request.target) error
-
--- the text, where it is told
-abbrev pub told_text : Option (List ℕ) → List ℕ
-told_text None = []
-told_text (Some text) = text
-
--- a chunk of data, or the end with these trailers
-abbrev pub EndsWith : List Trailer → Part → Type 0
-EndsWith trailers (chunk bytes) = Unit {0}
-EndsWith trailers (tail last) = last ≡ trailers
-
--- a signed body in memory, of data and trailers of the declared lengths: it has no fault
-pub record IsSoundUpload {F G : Type 0} (source : FrameSource.Ghosts F) (signer : SignChunk.Ghosts G) (body : AwsChunkedBody F G) : Type 0 where
-  pub text : List ℕ
-  pub text_is : due source signer body ≡ Some text
-  pub trailers : List Trailer
-  pub signed : (options_in body).is_signed ≡ true
-  pub declared : counted (actual_length true trailers) ≡ counted (declared_length (options_in body).trailer_lengths)
-  pub short : (options_in body).stream_length ≤ 4294967295
-  pub total : total_of source body ≡ Some (options_in body).stream_length
-  pub parts : List Part
-  pub parts_are : parts_due source body ≡ Some parts
-  pub with_trailers : AllByRecursion (EndsWith trailers) parts
-  pub frames : List FramePart
-  pub frames_are : source.left (body_source body) ≡ Some frames
-  pub few : length frames ≤ 2
-
--- the text of a sound body that is still to be answered
-abbrev pub upload_left : {F G : Type 0} → FrameSource.Ghosts F → SignChunk.Ghosts G → AwsChunkedBody F G → List ℕ
-upload_left source signer body = told_text (due source signer body)
-
--- the body is sound, and its text is this
-abbrev pub IsUploadOf : {F G : Type 0} → FrameSource.Ghosts F → SignChunk.Ghosts G → List ℕ → AwsChunkedBody F G → Type 0
-IsUploadOf source signer text body = IsSoundUpload source signer body × (upload_left source signer body ≡ text)

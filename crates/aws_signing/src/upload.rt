@@ -6,10 +6,11 @@ ghost use Rattle.smithy_core.specs.Moment.{Instant};
 ghost use Rattle.eventstream.specs.Key.{Signer as Who};
 ghost use Rattle.sigv4.specs.ChunkTold.{signs_over, unsigned_chunk_at};
 ghost use Rattle.aws_chunked.specs.Body.{IsBodyClosed};
+ghost use Rattle.aws_chunked.specs.SoundBody.{IsSoundBody, IsSoundBodyOf, text_left};
 ghost use Rattle.aws_chunked.specs.Due.{signed_chunked_text};
 ghost use Rattle.aws_auth.specs.ChunkSigner.{chunk_told};
 ghost use Rattle.aws_signing.specs.SigningBy.{signer_kept};
-ghost use Rattle.aws_signing.specs.Upload.{AnnouncesUpload, IsFitBody, IsFitUpload, IsSoundUpload, IsUploadOf, SignsUpload, TestsUpload, Uploads, announced_case, joined_pieces, unfit_sizes, upload_left};
+ghost use Rattle.aws_signing.specs.Upload.{AnnouncesUpload, IsFitBody, IsFitUpload, SignsUpload, TestsUpload, Uploads, announced_case, joined_pieces, unfit_sizes};
 
 use crate::fault::AwsSigningError;
 use crate::signer::Signer;
@@ -159,7 +160,7 @@ fn upload_of(
 ) -> Mem<Upload>
     requires { IsFitBody options content trailers }
     ensures { (before : List ℕ) (who : Who) (t : Instant) → chunk_told signer ≡ signs_over before who t → IsTrue (is_in_years t)
-        → IfOk result (IsUploadOf ⟦<CalmFrames as FrameSource>⟧ ⟦<SigV4MessageSigner<SigningSettings> as SignChunk>⟧
+        → IfOk result (IsSoundBodyOf ⟦<CalmFrames as FrameSource>⟧ ⟦<SigV4MessageSigner<SigningSettings> as SignChunk>⟧
         (signed_chunked_text who t before options.chunk_size content trailers)) }
 {
     let source = CalmFrames::new(upload_frames(alloc, content, trailers)?);
@@ -180,8 +181,8 @@ fn upload_frames(alloc: Global, content: Bytes, trailers: Headers) -> Mem<Vec<Fr
 
 // All pieces of an upload.
 fn all_pieces(alloc: Global, mut body: Upload) -> Mem<Vec<Bytes>>
-    requires { IsSoundUpload ⟦<CalmFrames as FrameSource>⟧ ⟦<SigV4MessageSigner<SigningSettings> as SignChunk>⟧ body }
-    ensures { IfOk result (λ pieces. joined_pieces pieces.items ≡ upload_left ⟦<CalmFrames as FrameSource>⟧ ⟦<SigV4MessageSigner<SigningSettings> as SignChunk>⟧ body) }
+    requires { IsSoundBody ⟦<CalmFrames as FrameSource>⟧ ⟦<SigV4MessageSigner<SigningSettings> as SignChunk>⟧ body }
+    ensures { IfOk result (λ pieces. joined_pieces pieces.items ≡ text_left ⟦<CalmFrames as FrameSource>⟧ ⟦<SigV4MessageSigner<SigningSettings> as SignChunk>⟧ body) }
 {
     let mut pieces = Vec::new(alloc);
     'polls: while !body.is_end_stream() {
@@ -192,10 +193,10 @@ fn all_pieces(alloc: Global, mut body: Upload) -> Mem<Vec<Bytes>>
 
 // The next piece of an upload that isn't over: one in memory neither waits nor has a fault.
 fn next_piece(body: &mut Upload) -> Mem<Bytes>
-    requires sound { IsSoundUpload ⟦<CalmFrames as FrameSource>⟧ ⟦<SigV4MessageSigner<SigningSettings> as SignChunk>⟧ body.old }
+    requires sound { IsSoundBody ⟦<CalmFrames as FrameSource>⟧ ⟦<SigV4MessageSigner<SigningSettings> as SignChunk>⟧ body.old }
     requires going { IsBodyClosed body.old → ⊥ }
-    ensures { IfOk result (λ piece. IsSoundUpload ⟦<CalmFrames as FrameSource>⟧ ⟦<SigV4MessageSigner<SigningSettings> as SignChunk>⟧ body.new
-        × (upload_left ⟦<CalmFrames as FrameSource>⟧ ⟦<SigV4MessageSigner<SigningSettings> as SignChunk>⟧ body.old ≡ piece ++ upload_left ⟦<CalmFrames as FrameSource>⟧ ⟦<SigV4MessageSigner<SigningSettings> as SignChunk>⟧ body.new) × (0 < length piece)) }
+    ensures { IfOk result (λ piece. IsSoundBody ⟦<CalmFrames as FrameSource>⟧ ⟦<SigV4MessageSigner<SigningSettings> as SignChunk>⟧ body.new
+        × (text_left ⟦<CalmFrames as FrameSource>⟧ ⟦<SigV4MessageSigner<SigningSettings> as SignChunk>⟧ body.old ≡ piece ++ text_left ⟦<CalmFrames as FrameSource>⟧ ⟦<SigV4MessageSigner<SigningSettings> as SignChunk>⟧ body.new) × (0 < length piece)) }
 {
     match body.poll_frame() {
         Ok(ChunkNext::Frame(piece)) => Ok(piece),

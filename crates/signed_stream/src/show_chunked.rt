@@ -4,8 +4,9 @@ ghost use Rattle.smithy_core.specs.FrameSource.{AreShort};
 ghost use Rattle.smithy_core.specs.declared.outside.frame_part.FramePart.TheVariants as frame;
 ghost use Rattle.aws_chunked.specs.Body.{IsBodyClosed, lines_length};
 ghost use Rattle.aws_chunked.specs.Options.{declared_length};
+ghost use Rattle.aws_chunked.specs.SoundBody.{IsSoundBody, IsSoundBodyOf, text_left};
 ghost use Rattle.signed_stream.specs.Counts.{CountsFault};
-ghost use Rattle.signed_stream.specs.ChunkJob.{IsBodyOf, IsSoundBody, chunk_plan, shown_chunks, text_left};
+ghost use Rattle.signed_stream.specs.ChunkJob.{chunk_plan, shown_chunks};
 ghost use Rattle.signed_stream.specs.ChunkWords.{chunk_wanted};
 ghost use Rattle.signed_stream.specs.Halt.{Sends};
 ghost use Rattle.signed_stream.specs.Plan.{GoesAsPlanned, most_input};
@@ -83,6 +84,7 @@ fn next_bytes(body: &mut Chunks) -> Mem<Bytes>
         Ok(ChunkNext::NotYet) => unreachable!(),
         Ok(ChunkNext::OutOfTurns) => unreachable!(),
         Ok(ChunkNext::End) => unreachable!(),
+        Err(AwsChunkedBodyError::FailedToSign { .. }) => unreachable!(),
         Err(_) => unreachable!(),
     }
 }
@@ -90,7 +92,7 @@ fn next_bytes(body: &mut Chunks) -> Mem<Bytes>
 // The body of the bytes and the trailers, in chunks of the size that the words ask for.
 fn body_of(alloc: Global, words: ChunkWords, bytes: Vec<u8>) -> Mem<Chunks>
     requires { length bytes.items ≤ most_input }
-    ensures { IfOk result (IsBodyOf ⟦<CalmFrames as FrameSource>⟧ ⟦<SigV4MessageSigner<SigningSettings> as SignChunk>⟧ (shown_chunks (chunk_wanted words) bytes.items)) }
+    ensures { IfOk result (IsSoundBodyOf ⟦<CalmFrames as FrameSource>⟧ ⟦<SigV4MessageSigner<SigningSettings> as SignChunk>⟧ (shown_chunks (chunk_wanted words) bytes.items)) }
 {
     let lengths = lengths_of(alloc, &words.trailers)?;
     let options = AwsChunkedBodyOptions::new(bytes.len() as u64, lengths);

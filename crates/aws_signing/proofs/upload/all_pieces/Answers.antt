@@ -2,7 +2,7 @@ use Rattle.std.proofs.Common.{List, ℕ, ◌++◌, ap, sym, ◌∙◌, append-ni
 use Rattle.smithy_core.specs.contracts.outside.frame_source.CalmFramesFrameSource.TheImpl as calm
 use Rattle.aws_auth.specs.contracts.chunk_signer.SigV4MessageSignerSigningSettingsSignChunk.TheImpl as sealing
 use Rattle.aws_signing.specs.Upload.{joined_pieces}
-use Rattle.aws_signing.proofs.UploadLemmas.{closed_left}
+use Rattle.aws_chunked.proofs.SoundBodyLemmas.{closed_left}
 use Rattle.aws_signing.proofs.upload.all_pieces.Goals as goal
 
 pub returns : goal.returns

@@ -1,6 +1,6 @@
 use Rattle.smithy_core.specs.contracts.outside.frame_source.CalmFramesFrameSource.TheImpl as calm
 use Rattle.aws_auth.specs.contracts.chunk_signer.SigV4MessageSignerSigningSettingsSignChunk.TheImpl as sealing
-use Rattle.aws_signing.proofs.UploadLemmas.{signs_all, sound_next}
+use Rattle.aws_chunked.proofs.SoundBodyLemmas.{signs_all, sound_next}
 use Rattle.aws_signing.proofs.upload.next_piece.Goals as goal
 
 pub returns-in-Ok-Frame : goal.returns-in-Ok-Frame

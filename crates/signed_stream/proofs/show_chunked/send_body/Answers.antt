@@ -3,7 +3,8 @@ use Rattle.std.proofs.lemmas.Result.{err_from_is_err_and}
 use Rattle.smithy_core.proofs.GainLemmas.{gains_whole}
 use Rattle.smithy_core.specs.contracts.outside.frame_source.CalmFramesFrameSource.TheImpl as calm
 use Rattle.aws_auth.specs.contracts.chunk_signer.SigV4MessageSignerSigningSettingsSignChunk.TheImpl as sealing
-use Rattle.signed_stream.proofs.ChunkLemmas.{bytes_gained, bytes_halted, closed_left}
+use Rattle.aws_chunked.proofs.SoundBodyLemmas.{closed_left}
+use Rattle.signed_stream.proofs.ChunkLemmas.{bytes_gained, bytes_halted}
 use Rattle.signed_stream.proofs.show_chunked.send_body.Goals as goal
 
 pub returns-in_err-write_text-clause-sends : goal.returns-in_err-write_text-clause-sends

@@ -2,7 +2,7 @@ use Rattle.std.proofs.Common.{◌≡◌, length}
 use Rattle.smithy_core.specs.Outside.{GainsRest}
 use Rattle.smithy_core.specs.contracts.outside.frame_source.CalmFramesFrameSource.TheImpl as calm
 use Rattle.aws_auth.specs.contracts.chunk_signer.SigV4MessageSignerSigningSettingsSignChunk.TheImpl as sealing
-use Rattle.signed_stream.specs.ChunkJob.{IsSoundBody, text_left}
+use Rattle.aws_chunked.specs.SoundBody.{IsSoundBody, text_left}
 use Rattle.signed_stream.proofs.show_chunked.send_body.Given as goal
 
 -- the text that is left of the body is what the output hasn't gained yet
