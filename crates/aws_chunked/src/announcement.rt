@@ -205,9 +205,9 @@ fn insert_names(alloc: Global, headers: &mut Headers, trailers: &Headers) -> Mem
     Ok(())
 }
 
-// The names of the trailers in order, with `,` between.
+/// The names of the trailers in order, with `,` between, as the header `x-amz-trailer` has them.
 #[tactic(auto, using(crate::proofs::AnnouncementLemmas::names_joined, crate::proofs::AnnouncementLemmas::name_more))]
-fn joined_names(alloc: Global, trailers: &Headers) -> Mem<String>
+pub fn joined_names(alloc: Global, trailers: &Headers) -> Mem<String>
     ensures { IfOk result (λ names. string_bytes names ≡ trailer_names trailers.now) }
 {
     let mut names = String::new(alloc);

@@ -11,6 +11,7 @@ mod trailer_lines;
 mod trailers;
 
 use crate::decode::chunks::{Chunks, read_chunks};
+pub use crate::decode::expecting::begins_with;
 use crate::decode::fault::PartFault;
 use crate::decode::trailers::read_trailers;
 use crate::text::shared;

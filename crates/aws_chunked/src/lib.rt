@@ -19,6 +19,7 @@ mod error;
 mod laws;
 mod made_text;
 mod options;
+pub mod parts;
 mod phase;
 mod piece_engine;
 mod poll_data;

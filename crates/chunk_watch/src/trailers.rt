@@ -1,12 +1,11 @@
 //! The end of a body with trailers.
-ghost use Rattle.std.specs.Prelude.{◌≡◌, ◌++◌, ◌∷◌, IfOk, OnOk, option_copied, string_bytes};
-ghost use Rattle.aws_chunked.specs.Announcement.{next_trailer_name, trailer_names};
-ghost use Rattle.aws_chunked.specs.Rests.{begins_with};
+ghost use Rattle.std.specs.Prelude.{◌≡◌, ◌++◌, ◌∷◌, IfOk, OnOk, option_copied};
 ghost use Rattle.chunk_watch.specs.EndRead.{ReadsEitherEnd, ReadsEnd, TakesEnd, empty_line};
 ghost use Rattle.chunk_watch.specs.Trailers.{JudgesTrailers, are_announced, is_loose, plain_after, plain_lines};
 
 use crate::fault::ChunkFault;
 use crate::signing::ChunkSigner;
+use aws_chunked::parts::{begins_with, joined_names};
 use aws_chunked::{DecodeFault, Decoded, decode_chunked};
 use mac_core::constant_time_eq;
 use smithy_core::{Headers, Mem};
@@ -90,16 +89,6 @@ fn is_loose(before: u8, byte: u8, others: &[u8]) -> bool
     byte == b'\n' && before != b'\r' && begins_with(others, b'\r')
 }
 
-// Whether this byte stands first.
-fn begins_with(bytes: &[u8], byte: u8) -> bool
-    ensures { result ≡ begins_with byte bytes.now }
-{
-    match bytes.first() {
-        Some(first) => *first == byte,
-        None => false,
-    }
-}
-
 // Reads the end of a body with trailers as it is: the trailers, and their signature.
 #[tactic(auto, using(crate::proofs::EndReadLemmas::reads_text))]
 fn read_end(alloc: Global, bytes: &[u8]) -> Result<(Headers, String), ChunkFault>
@@ -146,28 +135,4 @@ fn are_announced(alloc: Global, announced: Option<&str>, trailers: &Headers) -> 
         None => Ok(true),
         Some(names) => Ok(names == joined_names(alloc, trailers)?.as_str()),
     }
-}
-
-// The names of trailers in order, with `,` between.
-#[tactic(auto, using(crate::proofs::NameLemmas::names_joined, crate::proofs::NameLemmas::name_more))]
-fn joined_names(alloc: Global, trailers: &Headers) -> Mem<String>
-    ensures { IfOk result (λ names. string_bytes names ≡ trailer_names trailers.now) }
-{
-    let mut names = String::new(alloc);
-    let mut is_first = true;
-    for (name, _) in trailers.iter() {
-        push_name(&mut names, is_first, name)?;
-        is_first = false;
-    }
-    Ok(names)
-}
-
-// Appends a name, behind `,` where it isn't the first.
-fn push_name(names: &mut String, is_first: bool, name: &str) -> Mem<()>
-    ensures { OnOk result (string_bytes names.new ≡ string_bytes names.old ++ next_trailer_name is_first name.now) }
-{
-    if !is_first {
-        names.push_str(",")?;
-    }
-    names.push_str(name)
 }

@@ -18,8 +18,8 @@ pub(crate) fn expect<'a>(bytes: &'a [u8], wanted: &[u8]) -> Result<&'a [u8], Par
     Ok(rest)
 }
 
-// Whether this byte stands first.
-pub(crate) fn begins_with(bytes: &[u8], byte: u8) -> bool
+/// Whether this byte stands first.
+pub fn begins_with(bytes: &[u8], byte: u8) -> bool
     ensures { result ≡ begins_with byte bytes.now }
 {
     match bytes.first() {

@@ -1,0 +1,4 @@
+//! What the calls of this crate read and write on their way, for who reads a body in chunks part by part.
+
+pub use crate::announcement::joined_names;
+pub use crate::decode::begins_with;
