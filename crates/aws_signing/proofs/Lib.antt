@@ -1,4 +1,6 @@
 pub mod AwsSettingsLemmas
+pub mod EventFramesLemmas
 pub mod PresigningLemmas
 pub mod SigningByLemmas
 pub mod UploadLemmas
+pub mod WatchedLemmas

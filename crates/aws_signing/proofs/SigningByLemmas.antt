@@ -162,44 +162,64 @@ pub filled : (text : List ℕ) (fault : AwsSigningError) → (text ≡ [] → �
 filled [] fault some = absurd (some refl)
 filled (byte ∷ bytes) fault some = refl
 
--- the case by the parameters of a signer that keeps the key of the moment
-case_kept : (by : SigningState) (request : HttpRequest) (payload : Option (List ℕ)) (seconds : Option ℕ) (at : Instant) (params : V4Params SigningSettings)
-    (holder : HeldKey) → holder ≡ key_kept by.holder at → key_id_of (v4_identity params) ≡ holder.key_id → token_of (v4_identity params) ≡ holder.token
-    → signer_of params ≡ holder.kept.signer → v4_time params ≡ at → settings_of (v4_settings params) ≡ in_form by.settings seconds
-    → text_case request payload (V4 params) ≡ signer_case by (string_bytes request.method) request.headers (given_payload payload request.body) seconds at
-case_kept by request payload seconds at params holder kept key_id token signer time settings =
+-- the case of a signer is the same once it keeps the key of the moment
+case_stays : (by : SigningState) (holder : HeldKey) (method : List ℕ) (headers : List Pair) (payload : List ℕ) (seconds : Option ℕ) (at : Instant)
+    → holder ≡ key_kept by.holder at
+    → signer_case (record by { holder = holder }) method headers payload seconds at ≡ signer_case by method headers payload seconds at
+case_stays by holder method headers payload seconds at kept =
     let stays = holder_stays by.holder at in
-    case_by by request payload seconds at params (key_id ∙ ap (λ (held : HeldKey). held.key_id) kept ∙ stays.0)
-    (token ∙ ap (λ (held : HeldKey). held.token) kept ∙ stays.1) (signer ∙ ap (λ (held : HeldKey). held.kept.signer) kept ∙ stays.2) time settings
+    let key_id : holder.key_id ≡ by.holder.key_id = ap (λ (held : HeldKey). held.key_id) kept ∙ stays.0 in
+    let token : holder.token ≡ by.holder.token = ap (λ (held : HeldKey). held.token) kept ∙ stays.1 in
+    let signer : holder.kept.signer ≡ by.holder.kept.signer = ap (λ (held : HeldKey). held.kept.signer) kept ∙ stays.2 in
+    λ i target. record {
+      method = method;
+      target = target;
+      headers = headers;
+      payload = payload;
+      settings = in_form by.settings seconds;
+      key_id = key_id i;
+      token = token i;
+      signer = signer i;
+      at = at;
+    }
+
+-- a signer that keeps the key of the moment refuses what the signer does
+pub refused_by : (by : SigningState) (holder : HeldKey) (request : HttpRequest) (payload : Option (List ℕ)) (seconds : Option ℕ) (at : Instant)
+    → holder ≡ key_kept by.holder at → unsigned_chunk_at at ≡ None → (error : SigningError)
+    → SignsText (string_bytes request.target)
+    (signer_case (record by { holder = holder }) (string_bytes request.method) request.headers (given_payload payload request.body) seconds at) (Err error)
+    → RefusesBy (signer_case by (string_bytes request.method) request.headers (given_payload payload request.body) seconds at) at (string_bytes request.target) error
+refused_by by holder request payload seconds at kept years error signs =
+    let P : (Target → Case) → Type 0 = λ case. SignsText (string_bytes request.target) case (Err error) in
+    let same = case_stays by holder (string_bytes request.method) request.headers (given_payload payload request.body) seconds at kept in
+    inr (years, subst P same signs)
 
 -- what a signer's signature adds isn't put into a request
-pub not_put_in_by : (by : SigningState) (request : HttpRequest) (payload : Option (List ℕ)) (seconds : Option ℕ) (at : Instant) (params : V4Params SigningSettings)
-    (holder : HeldKey) → holder ≡ key_kept by.holder at → key_id_of (v4_identity params) ≡ holder.key_id → token_of (v4_identity params) ≡ holder.token
-    → signer_of params ≡ holder.kept.signer → v4_time params ≡ at → settings_of (v4_settings params) ≡ in_form by.settings seconds
-    → unsigned_chunk_at at ≡ None → (output : SigningOutput SigningInstructions)
-    → SignsText (string_bytes request.target) (text_case request payload (V4 params)) (Ok output) → (new : List ℕ) (error : SigningError)
-    → AppliesParams output.output.params (string_bytes request.target) new (Err error)
+pub not_put_in_by : (by : SigningState) (holder : HeldKey) (request : HttpRequest) (payload : Option (List ℕ)) (seconds : Option ℕ) (at : Instant)
+    → holder ≡ key_kept by.holder at → unsigned_chunk_at at ≡ None → (output : SigningOutput SigningInstructions)
+    → SignsText (string_bytes request.target)
+    (signer_case (record by { holder = holder }) (string_bytes request.method) request.headers (given_payload payload request.body) seconds at) (Ok output)
+    → (new : List ℕ) (error : SigningError) → AppliesParams output.output.params (string_bytes request.target) new (Err error)
     → RefusesBy (signer_case by (string_bytes request.method) request.headers (given_payload payload request.body) seconds at) at (string_bytes request.target) error
-not_put_in_by by request payload seconds at params holder kept key_id token signer time settings years output signs new error applies =
+not_put_in_by by holder request payload seconds at kept years output signs new error applies =
     let own = signer_case by (string_bytes request.method) request.headers (given_payload payload request.body) seconds at in
-    let same = case_kept by request payload seconds at params holder kept key_id token signer time settings in
+    let same = case_stays by holder (string_bytes request.method) request.headers (given_payload payload request.body) seconds at kept in
     let P : (Target → Case) → Type 0 = λ case. SignsText (string_bytes request.target) case (Ok output) in
     let signed = subst P same signs in
     inr (years, not_put_in own (λ target. refl) (string_bytes request.target) new signed.0 output.output.params error signed.1 signed.2 signed.3.params applies)
 
 -- what a signer's signature adds is put into a request
-pub put_in_by : (by : SigningState) (request new : HttpRequest) (payload : Option (List ℕ)) (seconds : Option ℕ) (at : Instant) (params : V4Params SigningSettings)
-    (holder : HeldKey) → holder ≡ key_kept by.holder at → key_id_of (v4_identity params) ≡ holder.key_id → token_of (v4_identity params) ≡ holder.token
-    → signer_of params ≡ holder.kept.signer → v4_time params ≡ at → settings_of (v4_settings params) ≡ in_form by.settings seconds
-    → unsigned_chunk_at at ≡ None → (output : SigningOutput SigningInstructions)
-    → SignsText (string_bytes request.target) (text_case request payload (V4 params)) (Ok output)
+pub put_in_by : (by : SigningState) (holder : HeldKey) (request new : HttpRequest) (payload : Option (List ℕ)) (seconds : Option ℕ) (at : Instant)
+    → holder ≡ key_kept by.holder at → unsigned_chunk_at at ≡ None → (output : SigningOutput SigningInstructions)
+    → SignsText (string_bytes request.target)
+    (signer_case (record by { holder = holder }) (string_bytes request.method) request.headers (given_payload payload request.body) seconds at) (Ok output)
     → new.headers ≡ with_instructions request.headers output.output.headers
     → AppliesParams output.output.params (string_bytes request.target) (string_bytes new.target) (Ok tt)
     → IsSignedRequestBy (signer_case by (string_bytes request.method) request.headers (given_payload payload request.body) seconds at) at (string_bytes request.target) new
     (string_bytes output.signature)
-put_in_by by request new payload seconds at params holder kept key_id token signer time settings years output signs headers applies =
+put_in_by by holder request new payload seconds at kept years output signs headers applies =
     let own = signer_case by (string_bytes request.method) request.headers (given_payload payload request.body) seconds at in
-    let same = case_kept by request payload seconds at params holder kept key_id token signer time settings in
+    let same = case_stays by holder (string_bytes request.method) request.headers (given_payload payload request.body) seconds at kept in
     let P : (Target → Case) → Type 0 = λ case. SignsText (string_bytes request.target) case (Ok output) in
     let signed = subst P same signs in
     put_in own (λ target. refl) at request new signed.0 output.output (string_bytes output.signature) years refl signed.1 signed.2 signed.3.headers signed.3.params

@@ -1,10 +1,11 @@
 -- What a stream of signed events is, and what framing an event promises: the frames are links of the chain of `eventstream/specs/Link.antt`.
-use Rattle.std.specs.Prelude.{◌≡◌, ◌⊎◌, ℕ, List, [], Option, Some, None, option_map, Result, Ok, Err}
+use Rattle.std.specs.Prelude.{◌≡◌, ◌⊎◌, ℕ, suc, List, [], ◌∷◌, ◌++◌, length, replicate, Option, Some, None, option_map, Result, Ok, Err}
+use Rattle.std.specs.Global.{Vec}
 use Rattle.std.specs.Option.{option_or}
 use Rattle.smithy_core.specs.Message.{Parts}
 use Rattle.smithy_core.specs.Moment.{Instant}
 use Rattle.eventstream.specs.Frame.{frame, unframed}
-use Rattle.eventstream.specs.Link.{link_message, link_signature}
+use Rattle.eventstream.specs.Link.{chain, link_message, link_signature}
 use Rattle.eventstream.specs.declared.error.ErrorKind.{ErrorKind}
 use Rattle.event_io.specs.Adapter.{FramesMessage}
 use Rattle.sigv4.specs.ChunkTold.{unsigned_chunk_at}
@@ -15,6 +16,7 @@ use Rattle.aws_signing.specs.KeyHolder.{HeldKey, key_kept}
 use Rattle.aws_signing.specs.SigningBy.{SigningState}
 use Rattle.aws_signing.specs.SigningFaults.{of_signing}
 use Rattle.aws_signing.specs.declared.fault.AwsSigningError.{AwsSigningError}
+use Rattle.aws_signing.specs.declared.fault.AwsSigningError.TheVariants as faults
 
 -- who signs, with the key that is kept, and the last signature
 pub record EventsState : Type 0 where
@@ -61,7 +63,28 @@ ClosesEvents events at (Ok framed) = FramesLink None events [] at (Ok framed) (a
 ClosesEvents events at (Err fault) =
     (error : SigningError) × FramesLink None events [] at (Err error) (events_kept events at) × (fault ≡ of_signing error)
 
+-- why messages and the end have no frames, each signed at a moment over the signature before it: the first reason
+abbrev pub stream_refusal : EventsState → List Parts → Instant → Option SigningError
+stream_refusal events [] at = frame_refusal None events [] at
+stream_refusal events (message ∷ messages) at =
+    option_or (frame_refusal (unframed message) events (frame message) at) (stream_refusal (after_link events (frame message) at) messages at)
+
+-- the chain of messages that are all signed at a moment, and of the end
+abbrev pub stream_frames : EventsState → List Parts → Instant → List (List ℕ)
+stream_frames events messages at = chain events.holder.kept.signer messages (replicate (suc (length messages)) at) events.signature
+
+-- its frames, or why there are none, or memory ran out
+abbrev pub FramesAll : EventsState → List Parts → Instant → Result (Vec (List ℕ)) AwsSigningError → Type 0
+FramesAll events messages at (Ok frames) = (stream_refusal events messages at ≡ None) × (frames.items ≡ stream_frames events messages at)
+FramesAll events messages at (Err fault) =
+    ((error : SigningError) × (stream_refusal events messages at ≡ Some error) × (fault ≡ of_signing error)) ⊎ (fault ≡ faults.NoMemory)
+
 -- ## On the way
+
+-- of all messages the first have these frames, and what follows them is what the rest gives
+pub record IsChainedSoFar (start now : EventsState) (all rest : List Parts) (at : Instant) (frames : List (List ℕ)) : Type 0 where
+  pub refusal : stream_refusal start all at ≡ stream_refusal now rest at
+  pub chained : stream_frames start all at ≡ frames ++ stream_frames now rest at
 
 -- the frame of a signed message, or why it has none, as an error of signing, or memory ran out
 abbrev pub FramesSigned : Parts → Result (List ℕ) SigningError → Type 0

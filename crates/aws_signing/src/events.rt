@@ -2,7 +2,7 @@ ghost use Rattle.std.specs.Prelude.{◌≡◌, [], None, IfOk};
 ghost use Rattle.eventstream.specs.Frame.{frame, unframed};
 ghost use Rattle.event_io.specs.Adapter.{FramesMessage};
 ghost use Rattle.sigv4.specs.Output.{output_signature, signed_output};
-ghost use Rattle.aws_signing.specs.EventFrames.{ClosesEvents, FramesEvent, FramesLink, GoesOnBy, begun_events};
+ghost use Rattle.aws_signing.specs.EventFrames.{ClosesEvents, FramesAll, FramesEvent, FramesLink, GoesOnBy, begun_events};
 
 use crate::fault::AwsSigningError;
 use crate::key_holder::KeyHolder;
@@ -86,6 +86,34 @@ impl SignedEvents {
         ensures { ClosesEvents self at result }
     {
         Ok(self.frame_end(at)?)
+    }
+
+    /// All frames of a stream whose messages are at hand: one for each, and the one that ends the stream, all signed at a moment,
+    /// and each over the signature before it. They are to be sent in order.
+    ///
+    /// ```rust
+    /// for frame in signer.events(signature.as_str())?.all_frames(&messages, clock.now())? {
+    ///     send(frame)?;
+    /// }
+    /// ```
+    ///
+    /// # Errors
+    ///
+    /// Those of [`SignedEvents::frame`] for the first message that has one.
+    #[tactic(auto, using(crate::proofs::EventFramesLemmas::frames))]
+    pub fn all_frames(
+        mut self,
+        messages: &[Message],
+        at: Moment,
+    ) -> Result<Vec<Bytes>, AwsSigningError>
+        ensures { FramesAll self messages.now at result }
+    {
+        let mut frames = Vec::new(self.holder.allocator());
+        for message in messages {
+            frames.push(self.frame(message, at)?)?;
+        }
+        frames.push(self.close(at)?)?;
+        Ok(frames)
     }
 
     // The frame of a message, signed over the last signature.

@@ -7,6 +7,9 @@ use sigv4::SigningError;
 use std::alloc::{AllocError, AllocFailed};
 use std::fmt;
 
+/// What a call of this crate answers that may fail.
+pub type Result<T> = std::result::Result<T, AwsSigningError>;
+
 /// Why a call of this crate doesn't do what was asked. [`Debug`] and [`Display`](fmt::Display) print no secret and no signature.
 #[derive(Debug, Drop)]
 pub enum AwsSigningError {

@@ -6,10 +6,14 @@ ghost use Rattle.aws_auth.specs.ChunkSigner.{chunk_told};
 ghost use Rattle.sigv4.specs.Params.{signer_of, v4_identity, v4_settings, v4_time};
 ghost use Rattle.sigv4.specs.Request.{key_id_of, token_of};
 ghost use Rattle.chain_watch.specs.Watch.{new_watch};
+ghost use Rattle.sigv4.specs.Settings.{settings_of};
 ghost use Rattle.aws_signing.specs.KeyHolder.{held_key, key_kept};
+ghost use Rattle.aws_signing.specs.Service.{own_service};
 
+use crate::service::Service;
 use aws_auth::SigV4MessageSigner;
 use chain_watch::ChainWatch;
+use request_door::KeyList;
 use sigv4::{KeptKey, SigningError, SigningSettings, v4};
 use smithy_core::{Credentials, Identity, Mem, Moment, Region, SigningName, is_in_years};
 use std::alloc::Global;
@@ -97,6 +101,32 @@ impl KeyHolder {
             return Err(SigningError::MomentOutOfRange(at));
         }
         Ok(self.kept.key(at))
+    }
+
+    /// The service that knows this key alone, and takes requests which are signed by these settings.
+    pub(crate) fn service(&self, settings: SigningSettings) -> Mem<Service<KeyList>>
+        ensures { IfOk result (λ service. service ≡ own_service self.now (settings_of settings)) }
+    {
+        let alloc = self.allocator();
+        let mut keys = KeyList::new(alloc);
+        keys.push(self.key_id(), self.identity.secret())?;
+        Service::of(
+            alloc,
+            self.region.as_str(),
+            self.name.as_str(),
+            settings,
+            keys,
+        )
+    }
+
+    // The key's id.
+    fn key_id(&self) -> &str
+        ensures { result.now ≡ self.now.key_id }
+    {
+        match &self.identity {
+            Identity::Credentials(credentials) => credentials.access_key_id(),
+            Identity::Token(_) => unreachable!(),
+        }
     }
 
     /// What checks the chain of events from the signature of a request on.

@@ -21,7 +21,7 @@ mod upload;
 mod watched;
 
 pub use crate::events::SignedEvents;
-pub use crate::fault::AwsSigningError;
+pub use crate::fault::{AwsSigningError, Result};
 pub use crate::received_events::{ReceivedEvents, ReceivedMessages, received};
 pub use crate::service::Service;
 pub use crate::settings::AwsSettings;
@@ -37,3 +37,4 @@ pub use smithy_core::{
     Clock, Credentials, Disk, Env, FixedClock, Header, HeaderValue, Headers, HostDisk, HttpRequest,
     Message, Moment, StrBytes, SystemClock,
 };
+pub use std::alloc::Global;

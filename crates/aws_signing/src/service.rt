@@ -1,9 +1,10 @@
 ghost use Rattle.std.specs.Prelude.{◌≡◌, codes, IfOk, string_bytes};
 ghost use Rattle.sigv4.specs.Settings.{default_settings, s3_settings, settings_of};
 ghost use Rattle.request_door.specs.Doors.{AnswersDoor};
-ghost use Rattle.aws_signing.specs.Service.{asked_at, service_of, with_limits};
+ghost use Rattle.aws_signing.specs.Service.{asked_at, own_service, service_of, with_limits};
 
-use request_door::{Admitted, DoorFault, Keys, Limits, admit};
+use crate::signer::Signer;
+use request_door::{Admitted, DoorFault, KeyList, Keys, Limits, admit};
 use sigv4::SigningSettings;
 use smithy_core::{HttpRequest, Mem, Moment};
 use std::alloc::Global;
@@ -45,18 +46,32 @@ impl<K> Model for Service<K> {
     } };
 }
 
+impl Signer {
+    /// The service to which this signer's requests go, with the limits of AWS, which knows this signer's key alone: it shows what
+    /// a service makes of a request.
+    ///
+    /// ```rust
+    /// let url = signer.presign("GET", "https://bucket.s3.amazonaws.com/key", 900, clock.now())?;
+    /// let request = HttpRequest::new(alloc, "GET", url.as_str())?;
+    /// let admitted = signer.service()?.admit(&request, clock.now())?;
+    /// ```
+    ///
+    /// # Errors
+    ///
+    /// Memory ran out.
+    pub fn service(&self) -> Mem<Service<KeyList>>
+        ensures { IfOk result (λ service. service ≡ own_service self.now.holder self.now.settings) }
+    {
+        self.holder.service(self.settings.try_clone()?)
+    }
+}
+
 impl<K: Drop> Service<K> {
     /// A service of a region and a name, with the limits of AWS.
     pub fn new(alloc: Global, region: &str, name: &str, keys: K) -> Mem<Service<K>>
         ensures { IfOk result (λ service. service ≡ service_of region.now name.now default_settings keys) }
     {
-        Ok(Service {
-            region: String::from_str(alloc, region)?,
-            name: String::from_str(alloc, name)?,
-            settings: SigningSettings::new(alloc)?,
-            keys,
-            limits: Limits::new(),
-        })
+        Service::of(alloc, region, name, SigningSettings::new(alloc)?, keys)
     }
 
     /// A service that takes requests as Amazon S3 does: paths are escaped once and stay as they are, and in a presigned URL the
@@ -64,10 +79,23 @@ impl<K: Drop> Service<K> {
     pub fn for_s3(alloc: Global, region: &str, keys: K) -> Mem<Service<K>>
         ensures { IfOk result (λ service. service ≡ service_of region.now (codes "s3") s3_settings keys) }
     {
+        Service::of(alloc, region, "s3", SigningSettings::for_s3(alloc)?, keys)
+    }
+
+    /// A service that takes requests which are signed by these settings, with the limits of AWS.
+    pub(crate) fn of(
+        alloc: Global,
+        region: &str,
+        name: &str,
+        settings: SigningSettings,
+        keys: K,
+    ) -> Mem<Service<K>>
+        ensures { IfOk result (λ service. service ≡ service_of region.now name.now (settings_of settings) keys) }
+    {
         Ok(Service {
             region: String::from_str(alloc, region)?,
-            name: String::from_str(alloc, "s3")?,
-            settings: SigningSettings::for_s3(alloc)?,
+            name: String::from_str(alloc, name)?,
+            settings,
             keys,
             limits: Limits::new(),
         })

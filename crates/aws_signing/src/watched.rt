@@ -1,6 +1,7 @@
 ghost use Rattle.std.specs.Prelude.{◌≡◌, IfOk};
+ghost use Rattle.std.specs.List.{flat_map};
 ghost use Rattle.chain_watch.specs.Watch.{new_watch};
-ghost use Rattle.aws_signing.specs.Watched.{EndsWatched, FeedsWatched};
+ghost use Rattle.aws_signing.specs.Watched.{ChecksEvents, EndsWatched, FeedsWatched};
 
 use crate::fault::AwsSigningError;
 use crate::signer::Signer;
@@ -52,6 +53,36 @@ impl Signer {
         Ok(WatchedEvents {
             watch: self.holder.watch(signature)?,
         })
+    }
+
+    /// The events of a whole stream that goes on from the signature of a request, each of which was signed as [`Signer::watch`]
+    /// says. None is answered before all signatures were computed again, and the stream was seen to end.
+    ///
+    /// ```rust
+    /// for event in signer.check_events(signature.as_str(), &pieces)? {
+    ///     act_on(event)?;
+    /// }
+    /// ```
+    ///
+    /// # Errors
+    ///
+    /// [`AwsSigningError::Chain`] with the first test that a frame fails, or where the stream ends before its closing frame;
+    /// [`AwsSigningError::StreamTooLong`] where it has 18,446,744,073,709,551,616 bytes or more.
+    #[tactic(auto, using(crate::proofs::WatchedLemmas::checks))]
+    pub fn check_events(
+        &self,
+        signature: &str,
+        pieces: &[Bytes],
+    ) -> Result<Vec<Message>, AwsSigningError>
+        ensures { ChecksEvents self.now.holder.kept.signer signature.now (flat_map (λ piece. piece) pieces.now) result }
+    {
+        let mut watch = self.watch(signature)?;
+        let mut events = Vec::new(self.holder.allocator());
+        for piece in pieces {
+            watch.feed(piece.clone()?, &mut events)?;
+        }
+        watch.finish(&mut events)?;
+        Ok(events)
     }
 }
 

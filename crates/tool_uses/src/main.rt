@@ -82,7 +82,7 @@ fn push_first(alloc: Global, text: &mut String, at: Moment) -> anyhow::Result<()
     let request = first_steps::signed(alloc, &mut signer, at)?;
     push_request(text, &request)?;
     let url = first_steps::presigned(&mut signer, at)?;
-    let key_id = first_steps::signed_by(alloc, &settings.credentials, url.as_str(), at)?;
+    let key_id = first_steps::signed_by(alloc, &signer, url.as_str(), at)?;
     write!(text, "{url}\nby {key_id}\n\n")?;
     push_upload(alloc, text, &mut signer, at)?;
     push_three_events(alloc, text, &signer, at)
@@ -95,10 +95,7 @@ fn push_upload(
     signer: &mut Signer,
     at: Moment,
 ) -> anyhow::Result<()> {
-    let target = "https://s3.amazonaws.com/examplebucket/chunkObject.txt";
-    let mut request = HttpRequest::new(alloc, "PUT", target)?;
-    let content = Bytes::from_vec(vec![in alloc; b'a'; 66_560]?)?;
-    let pieces = first_steps::uploaded(alloc, signer, &mut request, content, at)?;
+    let (request, pieces) = first_steps::upload(alloc, signer, at)?;
     push_request(text, &request)?;
     for piece in pieces {
         push_piece(alloc, text, piece.as_slice())?;
@@ -126,8 +123,7 @@ fn push_three_events(
 ) -> anyhow::Result<()> {
     let seed = signed_events::SEED;
     let frames = first_steps::frames(alloc, signer, seed, at)?;
-    let messages = first_steps::count_messages(alloc, frames.clone()?)?;
-    let events = first_steps::count_events(alloc, signer, seed, frames)?;
+    let (messages, events) = first_steps::counts(alloc, signer, seed, frames)?;
     write!(text, "{messages} messages, {events} events\n\n")?;
     Ok(())
 }

@@ -1,11 +1,17 @@
-use Rattle.std.proofs.Common.{ap, ◌∙◌, refl, inr}
 use Rattle.std.proofs.lemmas.Result.{err_from_is_err_and}
 use Rattle.std.specs.Prelude.{option_copied, string_bytes}
 use Rattle.sigv4.specs.Settings.{settings_of}
-use Rattle.aws_signing.specs.KeyHolder.{HeldKey}
-use Rattle.aws_signing.specs.SigningBy.{SigningState, given_payload, signer_case, text_case}
-use Rattle.aws_signing.proofs.SigningByLemmas.{not_put_in_by, put_in_by}
+use Rattle.aws_signing.specs.SigningBy.{SigningState}
+use Rattle.aws_signing.proofs.SigningByLemmas.{not_put_in_by, put_in_by, refused_by}
 use Rattle.aws_signing.proofs.signer.Signer.sign_case.Goals as goal
+
+pub returns-in_err-output-clause-signs : goal.returns-in_err-output-clause-signs
+returns-in_err-output-clause-signs c =
+    let exit = err_from_is_err_and c.from_residual-in_err-output.result c.from_residual-in_err-output.ensures.1 in
+    let by : SigningState = record { holder = c.self.inside.holder; settings = settings_of c.self.inside.settings } in
+    rw (exit.1, exit.2, ← c.self.view_is)
+    (refused_by by c.key_at.new.self c.args.request.now (option_copied c.args.payload) c.args.seconds c.args.at c.key_at.ensures.kept c.in_ok-key.ensures.key.0 _
+    c.in_err-output.ensures.output)
 
 pub returns-in_err-apply_to_request-clause-signs : goal.returns-in_err-apply_to_request-clause-signs
 returns-in_err-apply_to_request-clause-signs c =
@@ -13,17 +19,13 @@ returns-in_err-apply_to_request-clause-signs c =
     let by : SigningState = record { holder = c.self.inside.holder; settings = settings_of c.self.inside.settings } in
     let made = rw c.into_parts-instructions.ensures at c.in_err-apply_to_request.ensures.target in
     rw (exit.1, exit.2, ← c.self.view_is)
-    (not_put_in_by by c.args.request.now (option_copied c.args.payload) c.args.seconds c.args.at c.params.result c.key_at.new.self
-    c.key_at.ensures.kept c.params.ensures.key_id c.params.ensures.token c.params.ensures.signer c.params.ensures.time
-    (ap settings_of c.params.ensures.settings ∙ c.in_ok-settings.ensures) c.in_ok-key.ensures.key.0 c.in_ok-output.output c.in_ok-output.ensures
-    (string_bytes c.apply_to_request.new.request.target) _ made)
+    (not_put_in_by by c.key_at.new.self c.args.request.now (option_copied c.args.payload) c.args.seconds c.args.at c.key_at.ensures.kept c.in_ok-key.ensures.key.0
+    c.in_ok-output.output c.in_ok-output.ensures.output (string_bytes c.apply_to_request.new.request.target) _ made)
 
 pub returns-clause-signs : goal.returns-clause-signs
 returns-clause-signs c =
     let by : SigningState = record { holder = c.self.inside.holder; settings = settings_of c.self.inside.settings } in
     let made = rw c.into_parts-instructions.ensures at c.in_ok-apply_to_request.ensures in
     rw (c.into_parts-instructions.ensures, ← c.self.view_is)
-    (put_in_by by c.args.request.now c.apply_to_request.new.request (option_copied c.args.payload) c.args.seconds c.args.at c.params.result c.key_at.new.self
-    c.key_at.ensures.kept c.params.ensures.key_id c.params.ensures.token c.params.ensures.signer c.params.ensures.time
-    (ap settings_of c.params.ensures.settings ∙ c.in_ok-settings.ensures) c.in_ok-key.ensures.key.0 c.in_ok-output.output c.in_ok-output.ensures
-    made.headers made.target)
+    (put_in_by by c.key_at.new.self c.args.request.now c.apply_to_request.new.request (option_copied c.args.payload) c.args.seconds c.args.at c.key_at.ensures.kept
+    c.in_ok-key.ensures.key.0 c.in_ok-output.output c.in_ok-output.ensures.output made.headers made.target)
