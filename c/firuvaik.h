@@ -41,6 +41,45 @@ typedef struct firuvaik_signer {
     firuvaik_text service; /* as s3 */
 } firuvaik_signer;
 
+/* A key that a service knows. */
+typedef struct firuvaik_key {
+    firuvaik_text id;
+    firuvaik_text secret;
+} firuvaik_key;
+
+/* A service to which signed requests come. */
+typedef struct firuvaik_service {
+    firuvaik_text region;
+    firuvaik_text name;       /* as s3 */
+    unsigned int flags;       /* FIRUVAIK_S3, or a sum of its three flags and FIRUVAIK_UNSIGNED_TOKEN */
+    unsigned int skew;        /* by how many seconds a date in headers may differ from the service's own; AWS has 900 */
+    unsigned int expiry;      /* for how many seconds a presigned target may be good; AWS has 604800 */
+    const firuvaik_key *keys; /* of keys of one id the first counts */
+    size_t key_count;
+} firuvaik_service;
+
+/* What a service learns of a request that it lets in. */
+typedef struct firuvaik_admission {
+    size_t key;           /* the index of the key that signed it, counted from 0 */
+    long at;              /* the second at which it was signed */
+    long until;           /* the first second in which it isn't good any more */
+    unsigned int place;   /* where its signature stands: 0 in headers, FIRUVAIK_QUERY in the query */
+    unsigned int payload; /* what was signed of its payload: one of the four below */
+} firuvaik_admission;
+
+#define FIRUVAIK_SIGNED_BODY 0u     /* its digest, which is that of the body that came */
+#define FIRUVAIK_UNSIGNED_BODY 1u   /* nothing of it */
+#define FIRUVAIK_UNSIGNED_CHUNKS 2u /* nothing of it: the body is in unsigned chunks, with trailers */
+#define FIRUVAIK_SIGNED_CHUNKS 3u   /* each chunk or frame after the one before it, from the request's signature on */
+
+/* The parts of a signature: the place of FIRUVAIK_MISSING_PART and FIRUVAIK_REPEATED_PART. */
+#define FIRUVAIK_ALGORITHM_PART 1u
+#define FIRUVAIK_CREDENTIAL_PART 2u
+#define FIRUVAIK_DATE_PART 3u /* or the header x-amz-date */
+#define FIRUVAIK_EXPIRES_PART 4u
+#define FIRUVAIK_NAMES_PART 5u     /* the names of the signed headers */
+#define FIRUVAIK_SIGNATURE_PART 6u /* or the header authorization */
+
 /* A header of a message. The kind of its value is one of FIRUVAIK_TRUE and those below it. */
 typedef struct firuvaik_event_header {
     firuvaik_text name;
@@ -111,7 +150,7 @@ typedef struct firuvaik_settings {
 /* How a call went. */
 typedef struct firuvaik_answer {
     unsigned int status;
-    size_t place;  /* the place of the header at fault, counted from 1, or else 0 */
+    size_t place;  /* the place of the header at fault, counted from 1, or of a part or a line, where the status says so, or else 0 */
     size_t length; /* how many bytes were written, or with FIRUVAIK_ROOM how many are wanted */
 } firuvaik_answer;
 
@@ -153,6 +192,32 @@ typedef struct firuvaik_answer {
 #define FIRUVAIK_BAD_FRAME_DATE 52u      /* its date is no whole second in the years 0 to 9999 */
 #define FIRUVAIK_BAD_EVENT 53u           /* its payload is neither empty nor an event's frame */
 #define FIRUVAIK_OTHER_SIGNATURE 54u     /* it has another signature than the one that it carries */
+#define FIRUVAIK_UNFIT_HEADER 60u        /* a header or the host of a request that came isn't fit for signing */
+#define FIRUVAIK_BOTH_FORMS 61u          /* it has an authorization header, and a parameter of a signature too */
+#define FIRUVAIK_NO_FORM 62u             /* it has neither */
+#define FIRUVAIK_MISSING_PART 63u        /* this part of its signature is missing; the place is one of FIRUVAIK_ALGORITHM_PART and those below it */
+#define FIRUVAIK_REPEATED_PART 64u       /* this part is there more than once */
+#define FIRUVAIK_OTHER_ALGORITHM 65u     /* its signature is of another algorithm than AWS4-HMAC-SHA256 */
+#define FIRUVAIK_MALFORMED 66u           /* its authorization header or its signature isn't in its form */
+#define FIRUVAIK_BAD_DATE 67u            /* its date is no moment */
+#define FIRUVAIK_BAD_CREDENTIAL 68u      /* its credential doesn't end with /aws4_request */
+#define FIRUVAIK_OTHER_SERVICE 69u       /* the credential isn't for this service */
+#define FIRUVAIK_OTHER_REGION 70u        /* the credential isn't for this region */
+#define FIRUVAIK_OTHER_DAY 71u           /* the credential isn't of the date's day */
+#define FIRUVAIK_BAD_EXPIRY 72u          /* its expiry is no number of 64 bits */
+#define FIRUVAIK_LONG_EXPIRY 73u         /* its expiry is over the service's */
+#define FIRUVAIK_TOO_MANY_NAMES 74u      /* it has more than 100 signed headers */
+#define FIRUVAIK_BAD_NAMES 75u           /* their names aren't in lower case, sorted and without repeats */
+#define FIRUVAIK_ABSENT_HEADER 76u       /* a signed header isn't there */
+#define FIRUVAIK_UNSIGNED_HOST 77u       /* the host isn't signed */
+#define FIRUVAIK_UNSIGNED_HEADER 78u     /* a header x-amz-.. isn't signed */
+#define FIRUVAIK_TOO_EARLY 79u           /* it comes too early */
+#define FIRUVAIK_TOO_LATE 80u            /* it comes too late */
+#define FIRUVAIK_REPEATED_PAYLOAD 81u    /* it has more than one header x-amz-content-sha256 */
+#define FIRUVAIK_BAD_PAYLOAD 82u         /* that header is neither a digest nor a word that there is */
+#define FIRUVAIK_UNKNOWN_KEY 83u         /* no key has its id */
+#define FIRUVAIK_OTHER_PAYLOAD 84u       /* that header isn't the digest of the body */
+#define FIRUVAIK_MISMATCH 85u            /* it has another signature than the one that it carries */
 
 /* Signs a request at a moment, in seconds since 1970-01-01T00:00:00Z.
 
@@ -170,6 +235,21 @@ typedef struct firuvaik_answer {
    bytes. */
 firuvaik_answer firuvaik_sign(const firuvaik_signer *signer, const firuvaik_request *request, const firuvaik_settings *settings,
                               long seconds, char *signature, char *out, size_t out_room);
+
+/* Says who signed a request that came, in its headers or in its query, where a service lets it in at a moment, in seconds since
+   1970-01-01T00:00:00Z. The request is given as it came, with all its headers and its own body; a body in signed chunks, of
+   FIRUVAIK_SIGNED_CHUNKS, may be left out.
+
+   The text that is written are the names of the signed headers, with ";" between: no other header is signed. signature has room for 64
+   characters, and gets the request's, from which firuvaik_check_frame goes on. What a key may do, whether the session token is the
+   key's, and whether a payload that isn't signed is taken, the caller decides.
+
+   FIRUVAIK_DONE, FIRUVAIK_ROOM, FIRUVAIK_NO_MEMORY, and else the first of these: FIRUVAIK_UNKNOWN_FLAGS, FIRUVAIK_NOT_TEXT,
+   FIRUVAIK_BAD_TARGET, and those from FIRUVAIK_UNFIT_HEADER to FIRUVAIK_MISMATCH in their order, but that for each part in order
+   FIRUVAIK_MISSING_PART comes before FIRUVAIK_REPEATED_PART. A request that was signed with these flags, this region and name and
+   one of the keys is let in within its time. */
+firuvaik_answer firuvaik_admit(const firuvaik_service *service, const firuvaik_request *request, long seconds,
+                               firuvaik_admission *admission, char *signature, char *names, size_t names_room);
 
 /* Writes the signing key of the secret, the day of a moment, the region and the service to key, which has room for 32 bytes. Key id
    and token aren't read. It takes no memory.

@@ -44,7 +44,7 @@ if has nm "the names"; then
 fi
 if has cc "the callers in C"; then
   strict="-std=c89 -pedantic -Wall -Wextra -Werror -g -Ic"
-  for source in c/examples/sign.c c/examples/stream.c c/examples/watch.c c/tests/hostile.c; do
+  for source in c/examples/sign.c c/examples/stream.c c/examples/watch.c c/examples/door.c c/tests/hostile.c; do
     name=$(basename "$source" .c)
     # shellcheck disable=SC2086
     tries "$source" cc $strict "$source" "$out/libfiruvaik.a" -o "$folder/$name"
@@ -55,6 +55,8 @@ if has cc "the callers in C"; then
   finds watch.c '^hello world$' "$folder/watch" < "$folder/frames"
   head -c 100 "$folder/frames" | "$folder/watch" > /dev/null 2>&1 && { echo "checks/c.sh: watch.c takes a stream that breaks off"; failed=1; }
   tr w v < "$folder/frames" | "$folder/watch" > /dev/null 2>&1 && { echo "checks/c.sh: watch.c takes another event"; failed=1; }
+  finds door.c '^let in: key 1, until 1440939060, signed: host$' "$folder/door"
+  finds door.c '^refused: the request has another signature' "$folder/door"
   tries hostile.c "$folder/hostile"
   # shellcheck disable=SC2086
   tries "the header in C++" cc -x c++ -Wall -Wextra -Werror -Ic -fsyntax-only c/examples/sign.c

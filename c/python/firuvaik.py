@@ -12,19 +12,27 @@ import time
 import uuid
 
 __all__ = [
-    "Byte", "Error", "Int", "Long", "Message", "Short", "Signer", "Stream", "Timestamp", "Upload", "Watch", "event", "frame",
-    "frame_length", "presign", "read_frame", "sign", "sign_text", "signing_key", "version",
+    "Admitted", "Byte", "Error", "Int", "Long", "Message", "Service", "Short", "Signer", "Stream", "Timestamp", "Upload", "Watch", "check",
+    "event", "frame", "frame_length", "presign", "read_frame", "sign", "sign_text", "signing_key", "version",
 ]
 
 _QUERY, _SINGLE_ENCODE, _KEEP_PATH, _SHA256_HEADER, _UNSIGNED_TOKEN, _PAYLOAD_TEXT, _EXCLUDED = (1 << n for n in range(7))
 _DONE, _ROOM, _NO_MEMORY, _MORE = 0, 1, 2, 30
+_PARTS = ("algorithm", "credential", "date", "expiry", "signed headers", "signature")
+
+
+def _place(status, place):
+    """What stands at a place."""
+    return _PARTS[place - 1] if status in (63, 64) else f"header {place}"
+
 
 class Error(ValueError):
-    """What was asked for isn't possible. `status` is the number of c/firuvaik.h, `place` that of the header at fault, or 0."""
+    """What was asked for isn't possible. `status` is the number of c/firuvaik.h, `place` that of the header or the part of a
+    signature at fault, or 0."""
 
     def __init__(self, status, place):
         meaning = _written(lambda out, room: _lib.firuvaik_status_text(status, out, room), 100).decode()
-        super().__init__(f"{meaning}: header {place}" if place else meaning)
+        super().__init__(f"{meaning}: {_place(status, place)}" if place else meaning)
         self.status = status
         self.place = place
 
@@ -80,6 +88,32 @@ class _Settings(ctypes.Structure):
     ]
 
 
+class _Key(ctypes.Structure):
+    _fields_ = [("id", _Text), ("secret", _Text)]
+
+
+class _Service(ctypes.Structure):
+    _fields_ = [
+        ("region", _Text),
+        ("name", _Text),
+        ("flags", ctypes.c_uint),
+        ("skew", ctypes.c_uint),
+        ("expiry", ctypes.c_uint),
+        ("keys", ctypes.POINTER(_Key)),
+        ("key_count", ctypes.c_size_t),
+    ]
+
+
+class _Admission(ctypes.Structure):
+    _fields_ = [
+        ("key", ctypes.c_size_t),
+        ("at", ctypes.c_long),
+        ("until", ctypes.c_long),
+        ("place", ctypes.c_uint),
+        ("payload", ctypes.c_uint),
+    ]
+
+
 class _Answer(ctypes.Structure):
     _fields_ = [("status", ctypes.c_uint), ("place", ctypes.c_size_t), ("length", ctypes.c_size_t)]
 
@@ -97,6 +131,8 @@ _BYTES = (ctypes.c_char_p, ctypes.c_size_t)
 _LINK = (ctypes.POINTER(_Signer), ctypes.c_long)
 for _name, _types in {
     "sign": (ctypes.POINTER(_Signer), ctypes.POINTER(_Request), ctypes.POINTER(_Settings), ctypes.c_long, ctypes.c_char_p, *_BYTES),
+    "admit": (
+        ctypes.POINTER(_Service), ctypes.POINTER(_Request), ctypes.c_long, ctypes.POINTER(_Admission), ctypes.c_char_p, *_BYTES),
     "signing_key": (*_LINK, ctypes.c_char_p),
     "signature": (ctypes.c_char_p, *_BYTES, ctypes.c_char_p),
     "event": (ctypes.POINTER(_Field), ctypes.c_size_t, *_BYTES, *_BYTES),
@@ -205,6 +241,61 @@ def presign(signer, method, target, headers=(), body=b"", *, expires_in, at=None
     payload = "UNSIGNED-PAYLOAD" if s3 and payload is None else payload
     flags = _flags(s3, unsigned_token) | _QUERY
     return _signed(signer, method, target, headers, body, at, flags, expires_in, payload, token_name, excluded)[0]
+
+
+@dataclasses.dataclass(frozen=True)
+class Service:
+    """A service to which signed requests come: its region, its name, and the secret of each key's id, as a dict. It shows no key.
+
+    `s3` takes requests as Amazon S3 does; with `unsigned_token` a session token may have been added after signing; the date in headers
+    may differ by `skew` seconds from the service's own, and a presigned target may be good for `expiry` seconds.
+    """
+
+    region: str
+    name: str
+    keys: dict = dataclasses.field(repr=False)
+    s3: bool = False
+    unsigned_token: bool = False
+    skew: int = 900
+    expiry: int = 604800
+
+
+@dataclasses.dataclass(frozen=True)
+class Admitted:
+    """A request that a service lets in: the id of the key that signed it, the second of signing and the first second in which it isn't
+    good any more, whether it is presigned, the names of the signed headers, what was signed of its payload ("body", "nothing", "unsigned
+    chunks" or "signed chunks"), and its signature, from which a Watch goes on."""
+
+    key_id: str
+    at: int
+    until: int
+    presigned: bool
+    names: list
+    payload: str
+    signature: str
+
+
+_PAYLOADS = ("body", "nothing", "unsigned chunks", "signed chunks")
+
+
+def check(service, method, target, headers, body=b"", *, at=None):
+    """Who signed a request that came to a service, as Admitted.
+
+    The request is given as it came: with all its headers, a mapping or an iterable of pairs, and its own body. `at` is the service's
+    own moment: a second, a datetime, or None for now. Raises Error with the first test of the service that the request doesn't pass.
+    What a key may do, and whether a payload that isn't signed is taken, the caller decides.
+    """
+    ids, fields = list(service.keys), _fields(headers)
+    keys = (_Key * len(ids))(*(_Key(_text(key_id), _text(secret)) for key_id, secret in service.keys.items()))
+    if not all(0 <= seconds < 1 << 32 for seconds in (service.skew, service.expiry)):
+        raise ValueError("skew and expiry are numbers of 32 bits")
+    flags = _flags(service.s3, service.unsigned_token)
+    lent = _Service(_text(service.region), _text(service.name), flags, service.skew, service.expiry, keys, len(ids))
+    request = _Request(_text(method), _text(target), fields, len(fields), _text(body))
+    seconds, told, signature = _seconds(at), _Admission(), ctypes.create_string_buffer(64)
+    names = _written(lambda out, room: _lib.firuvaik_admit(lent, request, seconds, told, signature, out, room), 256)
+    return Admitted(ids[told.key], told.at, told.until, told.place == 1, names.decode().split(";"), _PAYLOADS[told.payload],
+                    signature.raw.decode())
 
 
 def signing_key(signer, at=None):

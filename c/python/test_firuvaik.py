@@ -148,6 +148,62 @@ class Refused(unittest.TestCase):
         self.assertNotIn(SECRET, repr(SIGNER))
 
 
+class AtTheDoor(unittest.TestCase):
+    """A service lets in what is signed for it, and nothing else."""
+
+    SERVICE = firuvaik.Service("us-east-1", "service", {"AKIDOTHER": "secret", KEY_ID: SECRET})
+    VANILLA = {
+        "Host": "example.amazonaws.com",
+        "X-Amz-Date": "20150830T123600Z",
+        "Authorization": f"AWS4-HMAC-SHA256 Credential={KEY_ID}/20150830/us-east-1/service/aws4_request, SignedHeaders=host;x-amz-date, "
+                         "Signature=5fa00fa31553b73ebf1942676e86291e8372ff2a2260956d9b8aae1d763fbf31",
+    }
+
+    def refusal(self, *arguments, **options):
+        with self.assertRaises(firuvaik.Error) as caught:
+            firuvaik.check(*arguments, **options)
+        return caught.exception.status, caught.exception.place
+
+    def test_vanilla(self):
+        # AWS's test suite for Signature Version 4, get-vanilla.
+        told = firuvaik.check(self.SERVICE, "GET", "/", self.VANILLA, at=NOW)
+        self.assertEqual(told, firuvaik.Admitted(
+            KEY_ID, 1440938160, 1440939061, False, ["host", "x-amz-date"], "body", self.VANILLA["Authorization"][-64:]))
+
+    def test_refusals(self):
+        late = NOW + datetime.timedelta(seconds=901)
+        self.assertEqual(self.refusal(self.SERVICE, "GET", "/", self.VANILLA, at=late), (80, 0))
+        self.assertEqual(self.refusal(self.SERVICE, "GET", "/", self.VANILLA, b"a", at=NOW), (85, 0))
+        self.assertEqual(self.refusal(self.SERVICE, "GET", "/", {**self.VANILLA, "x-amz-meta-a": "b"}, at=NOW), (78, 0))
+        self.assertEqual(self.refusal(self.SERVICE, "GET", "/", {"Host": "h"}, at=NOW), (62, 0))
+        self.assertEqual(self.refusal(firuvaik.Service("us-east-1", "service", {}), "GET", "/", self.VANILLA, at=NOW), (83, 0))
+        self.assertEqual(self.refusal(self.SERVICE, "GET", "/?X-Amz-Algorithm=AWS4-HMAC-SHA256", {"Host": "h"}, at=NOW), (63, 2))
+        self.assertEqual(str(firuvaik.Error(63, 2)), "a part of the signature is missing: credential")
+
+    def test_no_secret_is_shown(self):
+        self.assertNotIn(SECRET, repr(self.SERVICE))
+
+    def test_own_presigned(self):
+        service = firuvaik.Service("us-east-1", "s3", {KEY_ID: SECRET}, s3=True)
+        signer = firuvaik.Signer(KEY_ID, SECRET, "us-east-1", "s3")
+        target = firuvaik.presign(signer, "GET", "/a//b", {"Host": "h"}, expires_in=60, at=NOW, s3=True)
+        told = firuvaik.check(service, "GET", target, {"Host": "h"}, at=1440938219)
+        self.assertEqual((told.key_id, told.until, told.presigned, told.payload), (KEY_ID, 1440938220, True, "nothing"))
+        self.assertEqual(self.refusal(service, "GET", target, {"Host": "h"}, at=1440938220), (80, 0))
+        self.assertEqual(self.refusal(service, "GET", target.replace("/b", "/c"), {"Host": "h"}, at=NOW), (85, 0))
+
+    def test_stream(self):
+        service = firuvaik.Service("us-east-1", "service", {KEY_ID: SECRET})
+        added, signature = firuvaik.sign(
+            SIGNER, "POST", "/", {"Host": "h", "x-amz-content-sha256": "STREAMING-AWS4-HMAC-SHA256-EVENTS"}, at=NOW,
+            payload="STREAMING-AWS4-HMAC-SHA256-EVENTS")
+        headers = {"Host": "h", "x-amz-content-sha256": "STREAMING-AWS4-HMAC-SHA256-EVENTS", **added}
+        told = firuvaik.check(service, "POST", "/", headers, at=NOW)
+        self.assertEqual((told.payload, told.signature), ("signed chunks", signature))
+        frame = firuvaik.Stream(SIGNER, signature).next_frame(EVENT, NOW)
+        self.assertEqual(firuvaik.Watch(SIGNER, told.signature).check(frame), EVENT)
+
+
 class Streams(unittest.TestCase):
     def test_event(self):
         # The test vectors of the event stream encoding, payload_no_headers.
@@ -290,6 +346,23 @@ class AsBotocore(unittest.TestCase):
             wanted = by_botocore(botocore.auth.S3SigV4Auth, signer, method, target, dict(headers), body, at)
             found, _ = firuvaik.sign(signer, method, target, headers, body, at=at, s3=True)
             self.assertEqual(found["authorization"], wanted.headers["Authorization"], target)
+
+    def test_at_the_door(self):
+        for signer, method, target, headers, body, at in self.requests():
+            for kind, s3 in ((botocore.auth.SigV4Auth, False), (botocore.auth.S3SigV4Auth, True), (botocore.auth.SigV4QueryAuth, False)):
+                body = b"" if kind is botocore.auth.SigV4QueryAuth else body
+                came = by_botocore(kind, signer, method, target, dict(headers), body, at)
+                place = urllib.parse.urlsplit(came.url)
+                path = (place.path or "/") + (f"?{place.query}" if place.query else "")
+                fields = {"Host": place.netloc, **came.headers}
+                service = firuvaik.Service(signer.region, signer.service, {KEY_ID: SECRET}, s3=s3)
+                told = firuvaik.check(service, method, path, fields, body, at=at)
+                self.assertEqual((told.key_id, told.at, told.presigned), (KEY_ID, int(at.timestamp()), "Authorization" not in came.headers))
+                self.assertIn("host", told.names)
+                for spoiled in ((method, path, fields, body + b"a"), (method + "a", path, fields, body), (method, path, {**fields, "Host": "g"}, body)):
+                    with self.assertRaises(firuvaik.Error) as caught:
+                        firuvaik.check(service, *spoiled, at=at)
+                    self.assertIn(caught.exception.status, (84, 85))
 
     def test_presigned_for_s3(self):
         for signer, _, target, _, _, at in self.requests():

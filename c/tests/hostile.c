@@ -350,6 +350,122 @@ static void chunks(void)
     want(firuvaik_version(before, 64).length == strlen(FIRUVAIK_VERSION) && memcmp(before, FIRUVAIK_VERSION, strlen(FIRUVAIK_VERSION)) == 0, "the version is another one");
 }
 
+static firuvaik_service service;
+static firuvaik_key keys[2];
+static firuvaik_field fields[3];
+static firuvaik_admission admission;
+
+/* The door for get-vanilla of AWS's test suite for Signature Version 4. */
+static void door(void)
+{
+    plain();
+    memset(&service, 0, sizeof service);
+    memset(&admission, '-', sizeof admission);
+    keys[0].id = text("AKIDOTHER");
+    keys[0].secret = text("");
+    keys[1].id = text("AKIDEXAMPLE");
+    keys[1].secret = signer.secret;
+    service.region = signer.region;
+    service.name = signer.service;
+    service.keys = keys;
+    service.key_count = 2;
+    fields[0].name = text("HOST");
+    fields[0].value = text("example.amazonaws.com");
+    fields[1].name = text("X-Amz-Date");
+    fields[1].value = text("20150830T123600Z");
+    fields[2].name = text("Authorization");
+    fields[2].value = text("AWS4-HMAC-SHA256 Credential=AKIDEXAMPLE/20150830/us-east-1/service/aws4_request, SignedHeaders=host;x-amz-date, "
+        "Signature=5fa00fa31553b73ebf1942676e86291e8372ff2a2260956d9b8aae1d763fbf31");
+    request.target = text("/");
+    request.headers = fields;
+    request.header_count = 3;
+}
+
+static firuvaik_answer ask(long seconds, char *room, size_t length)
+{
+    return firuvaik_admit(&service, &request, seconds, &admission, signature, room, length);
+}
+
+/* A refusal at the door with this status and place, after which nothing is written. */
+static void shuts(unsigned int status, size_t place, long seconds, const char *what)
+{
+    char room[100];
+    firuvaik_answer answer;
+    memset(room, '-', sizeof room);
+    answer = ask(seconds, room, sizeof room);
+    want(answer.status == status && answer.place == place && answer.length == 0, what);
+    want(is_untouched(room, sizeof room) && is_untouched(signature, 64) && is_untouched((char *)&admission, sizeof admission), what);
+    door();
+}
+
+static void every_door(void)
+{
+    size_t length;
+    unsigned int i;
+    door();
+    for (length = 0; length <= 20; length++) {
+        char *room = room_of(length);
+        firuvaik_answer answer = ask(1440938160, room, length);
+        want(answer.length == 15 && answer.place == 0, "the names have another length");
+        if (length < 15)
+            want(answer.status == FIRUVAIK_ROOM && is_untouched(room, length) && is_untouched(signature, 64)
+                && is_untouched((char *)&admission, sizeof admission), "a small room is written");
+        else
+            want(answer.status == FIRUVAIK_DONE && memcmp(room, "host;x-amz-date", 15) == 0 && is_untouched(room + 15, length - 15)
+                && memcmp(signature, "5fa00fa3", 8) == 0 && admission.key == 1 && admission.at == 1440938160 && admission.until == 1440938161
+                && admission.place == 0 && admission.payload == FIRUVAIK_SIGNED_BODY, "the request isn't let in");
+        free(room);
+    }
+    door();
+    shuts(FIRUVAIK_TOO_EARLY, 0, LONG_MIN, "the least moment isn't too early");
+    shuts(FIRUVAIK_TOO_LATE, 0, LONG_MAX, "the greatest moment isn't too late");
+    shuts(FIRUVAIK_TOO_LATE, 0, 1440938161, "a second more isn't too late");
+    service.skew = UINT_MAX;
+    want(ask(1440938160 + (long)UINT_MAX, NULL, 0).status == FIRUVAIK_ROOM, "the greatest skew is refused");
+    for (i = 0; i < 32; i++) {
+        door();
+        service.flags = 1u << i;
+        if (i == 0 || i > 4)
+            shuts(FIRUVAIK_UNKNOWN_FLAGS, 0, 1440938160, "a service has no such flag");
+        else
+            want(ask(1440938160, NULL, 0).status == FIRUVAIK_ROOM, "a service has this flag");
+    }
+    door();
+    service.region = text("\xc3");
+    shuts(FIRUVAIK_NOT_TEXT, 0, 0, "the region isn't UTF-8");
+    service.name = text("\xc3");
+    shuts(FIRUVAIK_NOT_TEXT, 0, 0, "the service's name isn't UTF-8");
+    keys[0].id = text("\xc3");
+    shuts(FIRUVAIK_NOT_TEXT, 0, 0, "a key's id isn't UTF-8");
+    keys[1].secret = text("\xc3");
+    shuts(FIRUVAIK_NOT_TEXT, 0, 0, "a key's secret isn't UTF-8");
+    fields[1].value = text("\xc3");
+    shuts(FIRUVAIK_NOT_TEXT, 0, 0, "a header isn't UTF-8");
+    request.method = text("\xc3");
+    shuts(FIRUVAIK_NOT_TEXT, 0, 0, "the method isn't UTF-8");
+    request.target = text("/\xc3");
+    shuts(FIRUVAIK_NOT_TEXT, 0, 0, "the target isn't UTF-8");
+    keys[1].secret = text("another");
+    shuts(FIRUVAIK_MISMATCH, 0, 1440938160, "another secret is let in");
+    request.body = text("body");
+    shuts(FIRUVAIK_MISMATCH, 0, 1440938160, "another body is let in");
+    fields[2].value.length -= 1;
+    shuts(FIRUVAIK_MALFORMED, 0, 1440938160, "a signature of 63 digits is let in");
+    service.keys = NULL;
+    service.key_count = 0;
+    shuts(FIRUVAIK_UNKNOWN_KEY, 0, 1440938160, "no key lets in");
+    request.header_count = 2;
+    shuts(FIRUVAIK_NO_FORM, 0, 1440938160, "no signature is let in");
+    fields[1].name = text("date");
+    shuts(FIRUVAIK_MISSING_PART, FIRUVAIK_DATE_PART, 1440938160, "no date is let in");
+    request.headers = NULL;
+    request.header_count = 0;
+    shuts(FIRUVAIK_UNFIT_HEADER, 0, 1440938160, "no host is let in");
+    memset(&service, 0, sizeof service);
+    memset(&request, 0, sizeof request);
+    shuts(FIRUVAIK_BAD_TARGET, 0, 0, "a service and a request of nothing");
+}
+
 int main(void)
 {
     plain();
@@ -364,5 +480,6 @@ int main(void)
     kinds();
     checked();
     chunks();
+    every_door();
     return failed;
 }

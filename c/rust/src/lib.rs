@@ -93,6 +93,33 @@ mod sys {
     }
 
     #[repr(C)]
+    pub struct Key<'a> {
+        pub id: Text<'a>,
+        pub secret: Text<'a>,
+    }
+
+    #[repr(C)]
+    pub struct Service<'a> {
+        pub region: Text<'a>,
+        pub name: Text<'a>,
+        pub flags: c_uint,
+        pub skew: c_uint,
+        pub expiry: c_uint,
+        pub keys: *const Key<'a>,
+        pub key_count: usize,
+    }
+
+    #[repr(C)]
+    #[derive(Clone, Copy, Default)]
+    pub struct Admission {
+        pub key: usize,
+        pub at: c_long,
+        pub until: c_long,
+        pub place: c_uint,
+        pub payload: c_uint,
+    }
+
+    #[repr(C)]
     pub struct Answer {
         pub status: c_uint,
         pub place: usize,
@@ -108,6 +135,16 @@ mod sys {
             signature: *mut c_char,
             out: *mut c_char,
             out_room: usize,
+        ) -> Answer;
+
+        pub fn firuvaik_admit(
+            service: *const Service<'_>,
+            request: *const Request<'_>,
+            seconds: c_long,
+            admission: *mut Admission,
+            signature: *mut c_char,
+            names: *mut c_char,
+            names_room: usize,
         ) -> Answer;
 
         pub fn firuvaik_event(
@@ -248,7 +285,7 @@ impl Settings<'_> {
     }
 }
 
-/// Why nothing is made: the status of `c/firuvaik.h`, and the place of the header at fault, or 0.
+/// Why nothing is made: the status of `c/firuvaik.h`, and the place of the header or the part of a signature at fault, or 0.
 #[derive(Clone, Copy, Debug, PartialEq, Eq)]
 pub struct Error {
     /// The status.
@@ -262,9 +299,10 @@ impl fmt::Display for Error {
         let text = written(100, |out| unsafe { sys::firuvaik_status_text(self.status, out.as_mut_ptr().cast(), out.len()) })
             .unwrap_or_default();
         f.write_str(&String::from_utf8_lossy(&text))?;
-        match self.place {
-            0 => Ok(()),
-            place => write!(f, ": header {place}"),
+        match (self.status, self.place) {
+            (_, 0) => Ok(()),
+            (63 | 64, part) => write!(f, ": part {part}"),
+            (_, place) => write!(f, ": header {place}"),
         }
     }
 }
@@ -295,6 +333,16 @@ fn lent<'a>(signer: &Signer<'a>) -> sys::Signer<'a> {
         token: text(signer.token),
         region: text(signer.region),
         service: text(signer.service),
+    }
+}
+
+fn asked<'a>(request: &Request<'a>, fields: &[sys::Field<'a>], body: &'a [u8]) -> sys::Request<'a> {
+    sys::Request {
+        method: text(request.method),
+        target: text(request.target),
+        headers: fields.as_ptr(),
+        header_count: fields.len(),
+        body: sys::Text::new(body),
     }
 }
 
@@ -332,13 +380,7 @@ pub fn sign(signer: &Signer<'_>, request: &Request<'_>, settings: &Settings<'_>,
     let excluded: Vec<_> = settings.excluded.unwrap_or(&[]).iter().map(|name| text(name)).collect();
     let body = settings.payload.map_or(request.body, str::as_bytes);
     let signer = lent(signer);
-    let asked = sys::Request {
-        method: text(request.method),
-        target: text(request.target),
-        headers: fields.as_ptr(),
-        header_count: fields.len(),
-        body: sys::Text::new(body),
-    };
+    let asked = asked(request, &fields, body);
     let how = sys::Settings {
         flags: settings.flags(),
         expires_in: settings.presigned_for.unwrap_or(0),
@@ -352,6 +394,91 @@ pub fn sign(signer: &Signer<'_>, request: &Request<'_>, settings: &Settings<'_>,
     })?;
     let text = String::from_utf8(out).expect("what is made of texts is a text");
     Ok(Signed { text, signature })
+}
+
+/// A service to which signed requests come.
+#[derive(Clone, Copy)]
+pub struct Service<'a> {
+    /// The region.
+    pub region: &'a str,
+    /// The service's name.
+    pub name: &'a str,
+    /// The keys that it knows, each with its id and its secret.
+    pub keys: &'a [(&'a str, &'a str)],
+    /// It takes requests as Amazon S3 does.
+    pub s3: bool,
+    /// A session token may have been added after signing.
+    pub unsigned_token: bool,
+    /// By how many seconds the date of a signature in headers may differ from the service's own; AWS has 900.
+    pub skew: u32,
+    /// For how many seconds a presigned target may be good; AWS has 604,800.
+    pub expiry: u32,
+}
+
+/// What was signed of a request's payload.
+#[derive(Clone, Copy, Debug, PartialEq, Eq)]
+pub enum Payload {
+    /// The digest of the body, which is that of the body that came.
+    Body,
+    /// Nothing of it.
+    Unsigned,
+    /// Nothing of it: the body is in unsigned chunks.
+    UnsignedChunks,
+    /// Each chunk or frame after the one before it, from the request's signature on.
+    SignedChunks,
+}
+
+/// A request that a service lets in.
+#[derive(Clone, Debug, PartialEq, Eq)]
+pub struct Admitted<'a> {
+    /// The id of the key that signed it.
+    pub key_id: &'a str,
+    /// The second at which it was signed.
+    pub at: i64,
+    /// The first second in which it isn't good any more.
+    pub until: i64,
+    /// Whether it is presigned.
+    pub presigned: bool,
+    /// The names of the signed headers, with `;` between.
+    pub names: String,
+    /// What was signed of its payload.
+    pub payload: Payload,
+    /// Its signature, from which a [`Watch`] goes on.
+    pub signature: [u8; 64],
+}
+
+/// Who signed a request that came to a service, with all its headers and its own body, at a moment.
+///
+/// # Errors
+///
+/// The first test that the request doesn't pass, as `c/firuvaik.h` has them.
+pub fn admit<'a>(service: &Service<'a>, request: &Request<'_>, seconds: i64) -> Result<Admitted<'a>, Error> {
+    let fields: Vec<_> = request.headers.iter().map(|(name, value)| field(name, value)).collect();
+    let keys: Vec<_> = service.keys.iter().map(|(id, secret)| sys::Key { id: text(id), secret: text(secret) }).collect();
+    let asked = asked(request, &fields, request.body);
+    let lent = sys::Service {
+        region: text(service.region),
+        name: text(service.name),
+        flags: Settings { s3: service.s3, unsigned_token: service.unsigned_token, ..Settings::default() }.flags(),
+        skew: service.skew,
+        expiry: service.expiry,
+        keys: keys.as_ptr(),
+        key_count: keys.len(),
+    };
+    let (mut told, mut signature) = (sys::Admission::default(), [0; 64]);
+    let names = written(256, |out| unsafe {
+        let room = out.len();
+        sys::firuvaik_admit(&lent, &asked, seconds, &mut told, signature.as_mut_ptr().cast(), out.as_mut_ptr().cast(), room)
+    })?;
+    Ok(Admitted {
+        key_id: service.keys[told.key].0,
+        at: told.at,
+        until: told.until,
+        presigned: told.place == 1,
+        names: String::from_utf8(names).expect("what is read of texts is a text"),
+        payload: [Payload::Body, Payload::Unsigned, Payload::UnsignedChunks, Payload::SignedChunks][told.payload as usize],
+        signature,
+    })
 }
 
 /// The signing key of a signer for the day of a moment.

@@ -1,7 +1,7 @@
 //! Signatures that AWS published, and what a caller meets.
 use firuvaik::{
-    event, frame, frame_length, read_frame, sign, sign_text, signing_key, version, Error, Request, Settings, Signer, Stream,
-    Upload, Value, Watch,
+    admit, event, frame, frame_length, read_frame, sign, sign_text, signing_key, version, Error, Payload, Request, Service, Settings,
+    Signer, Stream, Upload, Value, Watch,
 };
 
 const NOW: i64 = 1_440_938_160;
@@ -131,4 +131,29 @@ fn watch() {
     let last = stream.next_frame(b"", NOW).expect("there is a frame");
     assert_eq!(watch.check(&last), Ok(&b""[..]));
     assert_eq!(watch.signature(), stream.signature());
+}
+
+/// AWS's test suite for Signature Version 4, get-vanilla, at the service's door.
+#[test]
+fn door() {
+    let service = Service {
+        region: "us-east-1",
+        name: "service",
+        keys: &[("AKIDOTHER", "secret"), (SIGNER.key_id, SIGNER.secret)],
+        s3: false,
+        unsigned_token: false,
+        skew: 900,
+        expiry: 604_800,
+    };
+    let authorization = "AWS4-HMAC-SHA256 Credential=AKIDEXAMPLE/20150830/us-east-1/service/aws4_request, \
+                         SignedHeaders=host;x-amz-date, \
+                         Signature=5fa00fa31553b73ebf1942676e86291e8372ff2a2260956d9b8aae1d763fbf31";
+    let headers = [("Host", "example.amazonaws.com"), ("X-Amz-Date", "20150830T123600Z"), ("Authorization", authorization)];
+    let request = Request { target: "/", headers: &headers, ..GET };
+    let told = admit(&service, &request, NOW).expect("it is let in");
+    assert_eq!((told.key_id, told.at, told.until, told.presigned), ("AKIDEXAMPLE", NOW, NOW + 901, false));
+    assert_eq!((told.names.as_str(), told.payload), ("host;x-amz-date", Payload::Body));
+    assert!(authorization.as_bytes().ends_with(&told.signature));
+    assert_eq!(admit(&service, &Request { method: "PUT", ..request }, NOW), Err(Error { status: 85, place: 0 }));
+    assert_eq!(admit(&service, &Request { headers: &headers[..2], ..request }, NOW), Err(Error { status: 62, place: 0 }));
 }

@@ -1,3 +1,4 @@
+mod DoorLemmas
 mod FrameLemmas
 mod LinkLemmas
 mod SignLemmas

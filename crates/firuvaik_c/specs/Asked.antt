@@ -10,7 +10,7 @@ use Rattle.smithy_core.specs.Moment.{Instant}
 use Rattle.smithy_core.specs.TextPairs.{lower}
 use Rattle.smithy_http.specs.Target.{Target}
 use Rattle.sigv4.specs.Request.{Case}
-use Rattle.sigv4.specs.Settings.{Settings as SigningSettings, default_exclusions}
+use Rattle.sigv4.specs.Settings.{Settings as SigningSettings, default_exclusions, default_settings}
 use Rattle.sigv4.specs.declared.modes.PercentEncodingMode.TheVariants.{Double, Single}
 use Rattle.sigv4.specs.declared.modes.UriPathNormalizationMode.TheVariants.{Enabled, Disabled}
 use Rattle.sigv4.specs.declared.settings.PayloadChecksumKind.TheVariants.{NoHeader, XAmzSha256}
@@ -56,6 +56,15 @@ lent_settings settings = record {
   uri_path_normalization_mode = (if has_flag settings.flags 4 then Disabled else Enabled);
   session_token_mode = (if has_flag settings.flags 16 then Exclude else Include);
   session_token_name_override = given_text settings.token_name.now;
+}
+
+-- the settings of a service with these flags: of the others it has the usual ones
+abbrev pub service_settings : ℕ → SigningSettings
+service_settings flags = record default_settings {
+  percent_encoding_mode = (if has_flag flags 2 then Single else Double);
+  payload_checksum_kind = (if has_flag flags 8 then XAmzSha256 else NoHeader);
+  uri_path_normalization_mode = (if has_flag flags 4 then Disabled else Enabled);
+  session_token_mode = (if has_flag flags 16 then Exclude else Include);
 }
 
 -- the payload's text: the one that is given, or else the digest of the body

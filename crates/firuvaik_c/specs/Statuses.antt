@@ -48,9 +48,41 @@ frame_status n =
     else if n == 54 then codes "the frame has another signature than the one that it carries"
     else codes "there is no such status"
 
+-- the statuses of a service's door
+abbrev pub door_status : ℕ → List ℕ
+door_status n =
+    if n == 60 then codes "a header or the host isn't fit for signing"
+    else if n == 61 then codes "a signature in headers and in the query"
+    else if n == 62 then codes "no signature"
+    else if n == 63 then codes "a part of the signature is missing"
+    else if n == 64 then codes "a part of the signature is repeated"
+    else if n == 65 then codes "another algorithm"
+    else if n == 66 then codes "a malformed signature"
+    else if n == 67 then codes "the date is no date"
+    else if n == 68 then codes "a malformed credential"
+    else if n == 69 then codes "a credential for another service"
+    else if n == 70 then codes "a credential for another region"
+    else if n == 71 then codes "a credential of another day"
+    else if n == 72 then codes "the expiry is no number"
+    else if n == 73 then codes "an expiry over the limit"
+    else if n == 74 then codes "too many signed headers"
+    else if n == 75 then codes "the names of the signed headers aren't in order"
+    else if n == 76 then codes "a signed header isn't there"
+    else if n == 77 then codes "the host isn't signed"
+    else if n == 78 then codes "a header that has to be signed isn't"
+    else if n == 79 then codes "too early"
+    else if n == 80 then codes "too late"
+    else if n == 81 then codes "x-amz-content-sha256 is repeated"
+    else if n == 82 then codes "x-amz-content-sha256 is neither a digest nor a known word"
+    else if n == 83 then codes "the key isn't known"
+    else if n == 84 then codes "the body has another digest than the one that is shown"
+    else if n == 85 then codes "the request has another signature than the one that it carries"
+    else codes "there is no such status"
+
 -- what a status means
 abbrev pub status_text : ℕ → List ℕ
 status_text n =
     if nat_le n 19 then request_status n
     else if nat_le 20 n && nat_le n 59 then frame_status n
+    else if nat_le 60 n && nat_le n 89 then door_status n
     else codes "there is no such status"

@@ -4,7 +4,7 @@ ghost use Rattle.smithy_core.specs.Identity.{IsCredentials, access_key_id, secre
 ghost use Rattle.sigv4.specs.Body.{payload_text};
 ghost use Rattle.sigv4.specs.Request.{key_id_of, token_of};
 ghost use Rattle.sigv4.specs.Settings.{default_exclusions, settings_of};
-ghost use Rattle.firuvaik_c.specs.Asked.{asked_exclusions, asked_expiry, lent_payload, lent_settings, given_text, has_flag, is_text_keys, is_text_payload, is_text_settings};
+ghost use Rattle.firuvaik_c.specs.Asked.{asked_exclusions, asked_expiry, lent_payload, lent_settings, given_text, has_flag, is_text_keys, is_text_payload, is_text_settings, service_settings};
 ghost use Rattle.firuvaik_c.specs.Faults.{no_memory, not_text};
 
 use crate::fault::Fault;
@@ -136,6 +136,39 @@ fn exclusions_of(alloc: Global, flags: u32, names: Vec<String>) -> Mem<Option<Ve
         return Ok(Some(names));
     }
     Ok(SigningSettings::new(alloc)?.excluded_headers)
+}
+
+/// The settings of a service with these flags.
+pub(crate) fn service_settings(alloc: Global, flags: u32) -> Mem<SigningSettings>
+    ensures { IfOk result (λ settings. settings_of settings ≡ service_settings flags) }
+{
+    Ok(SigningSettings {
+        percent_encoding_mode: by_flag(
+            flags,
+            SINGLE_ENCODE,
+            PercentEncodingMode::Single,
+            PercentEncodingMode::Double,
+        ),
+        payload_checksum_kind: by_flag(
+            flags,
+            SHA256_HEADER,
+            PayloadChecksumKind::XAmzSha256,
+            PayloadChecksumKind::NoHeader,
+        ),
+        uri_path_normalization_mode: by_flag(
+            flags,
+            KEEP_PATH,
+            UriPathNormalizationMode::Disabled,
+            UriPathNormalizationMode::Enabled,
+        ),
+        session_token_mode: by_flag(
+            flags,
+            UNSIGNED_TOKEN,
+            SessionTokenMode::Exclude,
+            SessionTokenMode::Include,
+        ),
+        ..SigningSettings::new(alloc)?
+    })
 }
 
 // The credentials of these texts.

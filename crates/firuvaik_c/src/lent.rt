@@ -77,6 +77,34 @@ pub struct Settings<'a> {
     pub excluded: &'a [Text<'a>],
 }
 
+/// A key that a service knows.
+#[repr(C)]
+#[derive(Clone, Copy)]
+pub struct Key<'a> {
+    /// The access key id.
+    pub id: &'a [u8],
+    /// The secret access key.
+    pub secret: &'a [u8],
+}
+
+/// A service to which signed requests come.
+#[repr(C)]
+#[derive(Clone, Copy)]
+pub struct Service<'a> {
+    /// The region.
+    pub region: &'a [u8],
+    /// The service's name.
+    pub name: &'a [u8],
+    /// The sum of some of the flags `SINGLE_ENCODE`, `KEEP_PATH`, `SHA256_HEADER` and `UNSIGNED_TOKEN`.
+    pub flags: u32,
+    /// By how many seconds the date of a signature in headers may differ from the service's own, in either direction.
+    pub skew: u32,
+    /// For how many seconds a presigned target may be good.
+    pub expiry: u32,
+    /// The keys that it knows. Of keys of one id the first counts.
+    pub keys: &'a [Key<'a>],
+}
+
 /// The signature goes into the target's query.
 pub(crate) const QUERY: u32 = 1;
 /// The path is escaped once.

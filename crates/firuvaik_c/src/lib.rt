@@ -10,6 +10,7 @@
 mod answer;
 mod asked;
 mod chunks;
+mod door;
 mod events;
 mod fault;
 mod frames;
@@ -24,11 +25,12 @@ mod watch;
 
 pub use crate::answer::{Answer, Made};
 pub use crate::chunks::{firuvaik_next_chunk, firuvaik_trailers};
+pub use crate::door::{Admission, firuvaik_admit};
 pub use crate::events::firuvaik_next_frame;
 pub use crate::fault::Fault;
 pub use crate::frames::{FrameParts, HeaderPlace, firuvaik_frame_length, firuvaik_read_frame};
 pub use crate::key::{firuvaik_signature, firuvaik_signing_key};
-pub use crate::lent::{EventHeader, Field, Request, Settings, Signer, Text};
+pub use crate::lent::{EventHeader, Field, Key, Request, Service, Settings, Signer, Text};
 pub use crate::message::{firuvaik_event, firuvaik_frame};
 pub use crate::sign::firuvaik_sign;
 pub use crate::status::{firuvaik_status_text, firuvaik_version};

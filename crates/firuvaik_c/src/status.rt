@@ -1,7 +1,7 @@
 //! What the statuses mean, and the version.
 ghost use Rattle.std.specs.Prelude.{◌≡◌, Ok, codes};
 ghost use Rattle.firuvaik_c.specs.Answers.{Lends};
-ghost use Rattle.firuvaik_c.specs.Statuses.{frame_status, request_status, status_text};
+ghost use Rattle.firuvaik_c.specs.Statuses.{door_status, frame_status, request_status, status_text};
 
 use crate::answer::{Answer, lend};
 
@@ -27,6 +27,7 @@ fn status_text(status: u32) -> &'static str
     match status {
         0..=19 => request_status(status),
         20..=59 => frame_status(status),
+        60..=89 => door_status(status),
         _ => "there is no such status",
     }
 }
@@ -82,6 +83,41 @@ fn frame_status(status: u32) -> &'static str
         52 => "the frame's date is no whole second in the years 0 to 9999",
         53 => "the frame's payload is neither empty nor an event's frame",
         54 => "the frame has another signature than the one that it carries",
+        _ => "there is no such status",
+    }
+}
+
+// The statuses of a service's door.
+fn door_status(status: u32) -> &'static str
+    ensures { result.now ≡ door_status status }
+{
+    match status {
+        60 => "a header or the host isn't fit for signing",
+        61 => "a signature in headers and in the query",
+        62 => "no signature",
+        63 => "a part of the signature is missing",
+        64 => "a part of the signature is repeated",
+        65 => "another algorithm",
+        66 => "a malformed signature",
+        67 => "the date is no date",
+        68 => "a malformed credential",
+        69 => "a credential for another service",
+        70 => "a credential for another region",
+        71 => "a credential of another day",
+        72 => "the expiry is no number",
+        73 => "an expiry over the limit",
+        74 => "too many signed headers",
+        75 => "the names of the signed headers aren't in order",
+        76 => "a signed header isn't there",
+        77 => "the host isn't signed",
+        78 => "a header that has to be signed isn't",
+        79 => "too early",
+        80 => "too late",
+        81 => "x-amz-content-sha256 is repeated",
+        82 => "x-amz-content-sha256 is neither a digest nor a known word",
+        83 => "the key isn't known",
+        84 => "the body has another digest than the one that is shown",
+        85 => "the request has another signature than the one that it carries",
         _ => "there is no such status",
     }
 }
