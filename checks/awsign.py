@@ -1,8 +1,11 @@
 #!/usr/bin/env python3
 """Tasks from the shell with the built program `awsign`: it signs, curl sends, and a listener on loopback asks botocore what the
-signature has to be and keeps the objects; and it verifies what it signed, and what botocore presigned. For each task that goes wrong there
-is a line; the status is then 1. Without botocore or curl it checks nothing. AWSIGN_BIG is how many bytes the big file has."""
+signature has to be and keeps the objects; of a body in chunks the listener computes every signature again; and it verifies what it signed,
+and what botocore presigned. For each task that goes wrong there is a line; the status is then 1. Without botocore or curl it checks nothing.
+AWSIGN_BIG is how many bytes the big file has."""
+import base64
 import hashlib
+import hmac
 import http.server
 import os
 import shutil
@@ -12,6 +15,7 @@ import sys
 import tempfile
 import threading
 import urllib.parse
+import zlib
 
 PROGRAM = os.environ.get("AWSIGN") or os.path.join(
     os.path.dirname(os.path.abspath(__file__)), "..", "crates", "awsign", "out", "awsign")
@@ -51,6 +55,48 @@ def expected(handler, token):
     return auth.signature(auth.string_to_sign(request, canonical), request), signature
 
 
+def unchunked(headers, body, before):
+    """The data of a body in chunks behind a request of this signature, where its signatures, lengths, trailers and checksums are right."""
+    signed = headers["x-amz-content-sha256"].startswith("STREAMING-AWS4-")
+    date, scope = headers["x-amz-date"], headers["authorization"].split("Credential=")[1].split(",")[0].split("/", 1)[1]
+    key = b"AWS4" + SECRET.encode()
+    for part in scope.split("/"):
+        key = hmac.digest(key, part.encode(), "sha256")
+
+    def own(*lines):
+        return hmac.digest(key, "\n".join([lines[0], date, scope, before, *lines[1:]]).encode(), "sha256").hex()
+
+    data, count = b"", 1
+    while count:
+        line, body = body.split(b"\r\n", 1)
+        size, mark, carried = line.decode().partition(";chunk-signature=")
+        count = int(size, 16)
+        piece, body = body[:count], body[count:]
+        if signed:
+            before = own("AWS4-HMAC-SHA256-PAYLOAD", hashlib.sha256(b"").hexdigest(), hashlib.sha256(piece).hexdigest())
+        if (carried != before) if signed else mark:
+            return None
+        data += piece
+        if count and body[:2] != b"\r\n":
+            return None
+        body = body[2:] if count else body
+    pairs = [line.split(":", 1) for line in body.decode().split("\r\n") if line]
+    trailers = dict(pairs)
+    carried = trailers.pop("x-amz-trailer-signature", None)
+    if signed and trailers:
+        lines = "".join(f"{name}:{value}\n" for name, value in sorted(trailers.items()))
+        if carried != own("AWS4-HMAC-SHA256-TRAILER", hashlib.sha256(lines.encode()).hexdigest()):
+            return None
+    elif carried:
+        return None
+    sums = {"x-amz-checksum-crc32": zlib.crc32(data).to_bytes(4, "big"), "x-amz-checksum-sha256": hashlib.sha256(data).digest()}
+    right = all(base64.b64encode(value).decode() == trailers.get(name, base64.b64encode(value).decode()) for name, value in sums.items())
+    told = headers.get("x-amz-trailer", "").split(",") if trailers else []
+    kind = ("STREAMING-AWS4-HMAC-SHA256-PAYLOAD" + ("-TRAILER" if trailers else "")) if signed else "STREAMING-UNSIGNED-PAYLOAD-TRAILER"
+    announced = headers["x-amz-decoded-content-length"] == str(len(data)) and headers["x-amz-content-sha256"] == kind
+    return data if right and announced and told == list(trailers) and body.endswith(b"\r\n") and headers["content-encoding"] == "aws-chunked" else None
+
+
 class Server(http.server.ThreadingHTTPServer):
     """Says nothing of a client that ends the connection first, as curl may."""
 
@@ -83,6 +129,9 @@ class Listener(http.server.BaseHTTPRequestHandler):
         wanted, carried = expected(self, Listener.token)
         payload = self.headers.get("x-amz-content-sha256")
         good = wanted == carried and payload in (None, "UNSIGNED-PAYLOAD", digest.hexdigest())
+        if wanted == carried and payload and payload.startswith("STREAMING-"):
+            data = unchunked(self.headers, bytes(kept), carried)
+            good, kept = data is not None, data or b""
         path = self.path.partition("?")[0]
         body, status = b"", 403
         if good and self.command == "PUT":
@@ -145,6 +194,34 @@ def heads(at, port):
     says("a named service", "awsign sign GET https://iam.amazonaws.com/ --service sts --as headers 2>&1", 0, "/sts/aws4_request")
     for host in ("example.com", "us-east-1.amazonaws.com", "amazonaws.com", "iam.amazonaws.com.example.com", "u@iam.amazonaws.com"):
         says(f"no service of {host}", f"awsign sign GET https://{host}/", 1, "", "no service")
+
+
+def chunked(at, at_body):
+    """Uploads in chunks, and ones that are altered behind the signed request."""
+    curl = "curl -sS -K - -w '%{http_code}'"
+    for task, words in (("unsigned", ""), ("unsigned, with a checksum", "--checksum sha256"), ("signed", "--signed"),
+                        ("signed, with a checksum", "--signed --checksum crc32"), ("signed, small", "--signed --size 8192 --checksum sha256"),
+                        ("signed, with trailers", "--signed --trailer 'X-Amz-Meta-B: b c' --checksum crc32 --trailer 'x-amz-meta-a: a'")):
+        shell(f"chunks, {task}", f"awsign chunk PUT {at}/b/chunks --s3 --data small --out body {words} | {curl}", "200")
+        shell(f"chunks, {task}: again", f"awsign sign GET {at}/b/chunks --s3 | curl -sS -K - | sha256sum | cut -c1-64", at_body + "\n")
+        shell(f"chunks, {task}: none", f"awsign chunk PUT {at}/b/chunks --s3 --data /dev/null --out body {words} | {curl}", "200")
+    shell("chunks of the input", f"awsign chunk PUT {at}/b/piped --s3 --data - --out body --signed < word | {curl}", "200")
+    shell("chunks of the input again", f"awsign sign GET {at}/b/piped --s3 | curl -sS -K -", "hello")
+    sent = f"awsign chunk PUT {at}/b/altered --s3 --data word --out body --signed --checksum crc32"
+    for task, edit in (("data", "s/hello/hallo/"), ("a chunk's signature", "s/^5;chunk-signature=./5;chunk-signature=x/"),
+                       ("the last signature", "s/^0;chunk-signature=./0;chunk-signature=x/"), ("a trailer", "s/^x-amz-checksum-crc32:./x-amz-checksum-crc32:x/"),
+                       ("the trailers' signature", "s/^x-amz-trailer-signature:./x-amz-trailer-signature:x/")):
+        shell(f"chunks with another {task}", f"{sent} > head; LC_ALL=C sed -i '{edit}' body; cat head | {curl}", "403")
+    shell("chunks behind another head", f"{sent} > head; {sent} --at 1440938160 > other; cat head | {curl}", "403")
+    says("a refused upload", f"awsign chunk PUT {at}/b/x --s3 --data word --out kept --trailer 'x y: z'", 1, "", "awsign: a trailer can't be sent")
+    says("an upload without a key", f"env -u AWS_ACCESS_KEY_ID awsign chunk PUT {at}/b/x --s3 --data word --out kept", 1, "", "awsign: no key")
+    shell("a file that a refused upload leaves", "cat kept", "kept")
+    says("an upload of no file", f"awsign chunk PUT {at}/b/x --s3 --data nowhere --out body", 3, "", "could not read the file that --data names")
+    says("an upload to a full device", f"awsign chunk PUT {at}/b/x --s3 --data word --out /dev/full", 3, "", "could not write the file that --out names")
+    says("an upload's head to a full device", f"awsign chunk PUT {at}/b/x --s3 --data word --out body > /dev/full", 3, "", "awsign: the output failed")
+    for task, words in (("no file", "--data word"), ("no data", "--out body"), ("size 0", "--data word --out body --size 0"), ("another checksum", "--data word --out body --checksum md5"),
+                        ("a payload", "--data word --out body --unsigned")):
+        says(f"an upload with {task}", f"awsign chunk PUT {at}/b/x --s3 {words}", 2, "", "awsign: ")
 
 
 def verified(at):
@@ -228,6 +305,7 @@ def tasks(at, at_body):
     shell("an altered body", f"awsign sign PUT {at}/b/small --s3 --data word | sed 's,\"word\",\"small\",' | {curl}", "403")
     heads(at, int(at.rsplit(":", 1)[1]))
     verified(at)
+    chunked(at, at_body)
     Listener.token = TOKEN
     shell("a session token", f"awsign sign GET {at}/b/a%20b --s3 | curl -sS -K -", "hello", AWS_SESSION_TOKEN=TOKEN)
     shell("a token in a URL", f"curl -sS \"$(awsign presign GET {at}/b/a%20b --s3 --expires 600)\"", "hello", AWS_SESSION_TOKEN=TOKEN)
@@ -250,7 +328,7 @@ def main():
         os.symlink(program, "bin/awsign")
         os.environ["PATH"] = folder + "/bin:" + os.environ["PATH"]
         small = bytes(range(256)) * 11719
-        for name, data in (("small", small), ("word", b"hello")):
+        for name, data in (("small", small), ("word", b"hello"), ("kept", b"kept")):
             with open(name, "wb") as it:
                 it.write(data)
         server = Server(("127.0.0.1", 0), Listener)

@@ -2,7 +2,7 @@
 _awsign() {
   local word=${COMP_WORDS[COMP_CWORD]} before=${COMP_WORDS[COMP_CWORD - 1]} words
   case $before in
-    --data | --config | --credentials)
+    --data | --out | --config | --credentials)
       mapfile -t COMPREPLY < <(compgen -f -- "$word")
       return
       ;;
@@ -10,11 +10,15 @@ _awsign() {
       mapfile -t COMPREPLY < <(compgen -W 'curl headers json http url' -- "$word")
       return
       ;;
-    sign | presign | verify)
+    --checksum)
+      mapfile -t COMPREPLY < <(compgen -W 'crc32 sha256' -- "$word")
+      return
+      ;;
+    sign | presign | verify | chunk)
       mapfile -t COMPREPLY < <(compgen -W 'GET PUT POST HEAD DELETE PATCH' -- "$word")
       return
       ;;
-    -H | --payload-hash | --payload-text | --expires | --service | --region | --profile | --at)
+    -H | --payload-hash | --payload-text | --expires | --service | --region | --profile | --at | --size | --trailer)
       COMPREPLY=()
       return
       ;;
@@ -22,12 +26,13 @@ _awsign() {
   words='-H --service --s3 --region --profile --config --credentials --at'
   case ${COMP_WORDS[1]} in
     sign | presign) words="$words --data --payload-hash --payload-text --unsigned --as" ;;
+    chunk) words="$words --data --out --signed --size --checksum --trailer --as" ;;
   esac
   case ${COMP_WORDS[1]} in
     presign) words="$words --expires --long" ;;
   esac
   if ((COMP_CWORD == 1)); then
-    words='sign presign verify --help --version'
+    words='sign presign verify chunk --help --version'
   fi
   mapfile -t COMPREPLY < <(compgen -W "$words" -- "$word")
 }

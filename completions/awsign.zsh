@@ -13,7 +13,8 @@ _awsign() {
     '--at[the moment]:seconds:'
   )
   if ((CURRENT == 2)); then
-    _values command 'sign[prints a signed request]' 'presign[prints a presigned URL]' 'verify[says who signed a request]' --help --version
+    _values command 'sign[prints a signed request]' 'presign[prints a presigned URL]' 'verify[says who signed a request]' \
+      'chunk[writes a body in chunks]' --help --version
     return
   fi
   if [[ $words[2] == (sign|presign) ]]; then
@@ -22,6 +23,17 @@ _awsign() {
       '--payload-hash[the SHA-256 of the body]:digits:'
       '--payload-text[a text in place of the digest]:text:'
       '--unsigned[the body is not signed]'
+      '--as[the form]:form:(curl headers json http url)'
+    )
+  fi
+  if [[ $words[2] == chunk ]]; then
+    options+=(
+      '--data[the data]:file:_files'
+      '--out[the file of the body]:file:_files'
+      '--signed[signed chunks]'
+      '--size[the bytes of a chunk]:bytes:'
+      '--checksum[a checksum as a trailer]:checksum:(crc32 sha256)'
+      '*--trailer[a trailer]:trailer:'
       '--as[the form]:form:(curl headers json http url)'
     )
   fi

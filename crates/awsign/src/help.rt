@@ -5,6 +5,8 @@ awsign sign METHOD URL [OPTION]..      prints the signed request
 awsign presign METHOD URL --expires SECONDS [OPTION]..   prints a presigned URL
 awsign verify METHOD URL [OPTION]..    says who presigned the URL
 awsign verify [OPTION]..               says who signed the request in the input
+awsign chunk METHOD URL --data FILE --out BODY [OPTION]..   writes the body in
+                                       chunks, and prints the request
 
   -H 'name: value'     a header, any number
   --profile NAME, --region NAME
@@ -22,6 +24,15 @@ sign and presign:
                        head as it goes over the wire) or url
   --long               presign: an expiry of over 604800 seconds
 
+chunk:
+  --data FILE          the data, up to 4 GiB; - is standard input
+  --out BODY           the file that gets the body
+  --signed             signed chunks
+  --size N             bytes of a chunk, not 65536
+  --checksum NAME      crc32 or sha256 of the data, as a trailer
+  --trailer 'name: value'              a trailer, any number
+  --as FORM
+
 Key and region come from the options, then the variables AWS_ACCESS_KEY_ID,
 AWS_SECRET_ACCESS_KEY, AWS_SESSION_TOKEN, AWS_REGION and AWS_DEFAULT_REGION,
 then the profile. An empty variable counts as unset, and with --profile those
@@ -30,6 +41,8 @@ of the key don't count.
   awsign sign PUT https://bucket.s3.amazonaws.com/key --data FILE | curl -K -
   awsign presign GET https://bucket.s3.amazonaws.com/key --expires 600
   awsign verify --s3 < REQUEST
+  awsign chunk PUT https://bucket.s3.amazonaws.com/key --data FILE --out BODY \
+    --signed --checksum crc32 | curl -K -
 
 Exit status: 0, 1 nothing is signed or the request isn't good, 2 bad word, 3 a
 file, the input, the output or memory failed

@@ -1,9 +1,10 @@
-//! The program: makes the real objects, hands them to `run_signing` or `run_verify`, and ends with the number of its status.
+//! The program: makes the real objects, hands them to `run_signing`, `run_verify` or `make_upload`, and ends with the number of its status.
 #![tactic(auto)]
 
 mod help;
 
 use crate::help::text_asked;
+use awsign_chunk::{ChunkStatus, ChunkedUpload, make_upload, say_chunk, write_upload};
 use awsign_run::{Status, run_signing, say, tell_service, url_host, write_text};
 use awsign_verify::{run_verify, say_verify};
 use awsign_words::{Asked, AskedCommand, VerifyAsked, read_command};
@@ -34,6 +35,11 @@ fn answer(rt: &HostRuntime, words: &[String], env: &Env) -> u8 {
     match read_command(rt.alloc(), words) {
         Ok(AskedCommand::Signing(asked)) => said(rt, words, &sign(rt, &asked, env)),
         Ok(AskedCommand::Verifying(asked)) => verify(rt, &asked, env),
+        Ok(AskedCommand::Chunking(asked)) => {
+            let status = chunk(rt, &asked, env);
+            say_chunk(rt.alloc(), words, &status, &mut StdSink::new(rt.stderr()));
+            status.code()
+        }
         Err(fault) => said(rt, words, &Status::from(fault)),
     }
 }
@@ -77,6 +83,45 @@ fn sign_over<S: ByteSource>(
         &mut clock,
         &mut out,
     )
+}
+
+// Opens the data that an option names, and writes it in chunks.
+fn chunk(rt: &HostRuntime, asked: &Asked<'_>, env: &Env) -> ChunkStatus {
+    let mut err = StdSink::new(rt.stderr());
+    tell_service(rt.alloc(), &asked.options, url_host(asked.url), &mut err);
+    match asked.options.get("--data") {
+        None | Some("-") => chunk_over(rt, asked, env, &mut StdSource::new(rt.reader())),
+        Some(path) => match File::open(rt, path) {
+            Ok(file) => chunk_over(rt, asked, env, &mut StdSource::new(file)),
+            Err(_) => ChunkStatus::Ended(Status::DataFault),
+        },
+    }
+}
+
+// Writes the data of a source in chunks.
+fn chunk_over<S: ByteSource>(
+    rt: &HostRuntime,
+    asked: &Asked<'_>,
+    env: &Env,
+    data: &mut S,
+) -> ChunkStatus {
+    let mut disk = HostDisk::new(rt.alloc(), rt);
+    let mut clock = SystemClock::new(rt);
+    match make_upload(rt.alloc(), asked, env, data, &mut disk, &mut clock) {
+        Ok(upload) => write_out(rt, &upload, asked.options.get("--out").unwrap_or("")),
+        Err(status) => status,
+    }
+}
+
+// Writes an upload: its body to the file at a path, and its head to the output.
+fn write_out(rt: &HostRuntime, upload: &ChunkedUpload, path: &str) -> ChunkStatus {
+    match File::create(rt, path) {
+        Ok(file) => {
+            let mut body = StdSink::new(file);
+            write_upload(upload, &mut body, &mut StdSink::new(rt.stdout()))
+        }
+        Err(_) => ChunkStatus::FileFault,
+    }
 }
 
 // Verifies a request, says how that ended, and answers its number.

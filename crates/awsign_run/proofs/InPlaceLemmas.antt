@@ -1,6 +1,7 @@
 -- A request that is signed in place, for what its target spells.
 use Rattle.std.proofs.Common.{◌≡◌, ℕ, ◌⊎◌, true, false, inl, inr, List, Option, Some, None, refl, sym, ap, subst, ◌∙◌}
-use Rattle.std.specs.Prelude.{OnOk, Result, Ok, Err, string_bytes}
+use Rattle.std.specs.Prelude.{OnOk, Result, Ok, Err, String, string_bytes}
+use Rattle.std.specs.declared.alloc.Global.{Global}
 use Rattle.http_uri.specs.declared.uri.Uri.{Uri}
 use Rattle.smithy_core.specs.declared.identity.Identity.{Identity}
 use Rattle.smithy_core.specs.declared.request.HttpRequest.{HttpRequest}
@@ -13,7 +14,7 @@ use Rattle.sigv4.specs.Query.{Pair}
 use Rattle.sigv4.specs.Refusal.{request_refusal, unfit_signed_target}
 use Rattle.sigv4.specs.Request.{Case, request_case}
 use Rattle.sigv4.specs.RequestSigning.{SignsCase}
-use Rattle.sigv4.specs.Signed.{instructions, parameters, signed_headers, signed_target}
+use Rattle.sigv4.specs.Signed.{instructions, parameters, signature_of, signed_headers, signed_target}
 use Rattle.sigv4.specs.declared.error.SigningError.{SigningError}
 use Rattle.sigv4.specs.declared.error.SigningError.TheVariants.{InvalidUri, NoMemory}
 use Rattle.sigv4.specs.declared.request.SignableRequest.{SignableRequest}
@@ -65,20 +66,20 @@ target_made : (request : HttpRequest) (payload : List ℕ) (params : SigningPara
 unfolding signed_target
 target_made request payload (V4 params) target made is = rw is refl
 
--- what a target spelled, where the request is signed
-abbrev pub with_uri : Uri → Result (Unit {0}) SigningError → Result Uri SigningError
-with_uri uri (Ok _) = Ok uri
-with_uri uri (Err error) = Err error
+-- what a target spelled and the signature, where the request is signed
+abbrev pub with_made : Uri → String Global → Result (Unit {0}) SigningError → Result (Uri × String Global) SigningError
+with_made uri signature (Ok _) = Ok (uri, signature)
+with_made uri signature (Err error) = Err error
 
 -- what a signature adds is put into the request, or its target takes no more
-pub applied : (request new : HttpRequest) (payload : List ℕ) (params : SigningParams) (identity : Identity) (uri : Uri) (made : Instructions) (result : Result (Unit {0}) SigningError)
+pub applied : (request new : HttpRequest) (payload : List ℕ) (params : SigningParams) (identity : Identity) (uri : Uri) (made : Instructions) (signature : String Global) (result : Result (Unit {0}) SigningError)
     → let case = in_place_case request payload params in let c = case (target_of uri) in
     SpellsTarget (string_bytes request.target) uri → request_refusal identity c ≡ None → made.headers ≡ instructions c → made.params ≡ parameters c
-    → string_bytes new.method ≡ string_bytes request.method
+    → string_bytes signature ≡ signature_of c → string_bytes new.method ≡ string_bytes request.method
     → OnOk result (new.headers ≡ with_instructions request.headers made.headers)
     → AppliesTo made.params (target_of uri) (string_bytes request.target) (string_bytes new.target) result
-    → SignsInPlace identity case request new (with_uri uri result)
-applied request new payload params identity uri made (Ok _) spells fit headers_are params_are method headers applies =
+    → SignsInPlace identity case request new (with_made uri signature result)
+applied request new payload params identity uri made signature (Ok _) spells fit headers_are params_are signed method headers applies =
     let target = target_of uri in
     let passed = taken (in_place_case request payload params target) target made.params (case_target request payload params target) params_are applies.0 in (
       spells,
@@ -87,21 +88,22 @@ applied request new payload params identity uri made (Ok _) spells fit headers_a
         method = method;
         target = applies.1 ∙ target_made request payload params target made params_are;
         headers = headers ∙ headers_made request payload params target made headers_are;
+        signed = signed;
       },
     )
-applied request new payload params identity uri made (Err error) spells fit headers_are params_are method headers (inl over) =
+applied request new payload params identity uri made signature (Err error) spells fit headers_are params_are signed method headers (inl over) =
     let target = target_of uri in
     let refusal = not_taken (in_place_case request payload params target) target made.params (case_target request payload params target) params_are over.0 in
     inl (inl (uri, spells, rw (fit, refusal, over.1) refl))
-applied request new payload params identity uri made (Err error) spells fit headers_are params_are method headers (inr memory) = inr memory
+applied request new payload params identity uri made signature (Err error) spells fit headers_are params_are signed method headers (inr memory) = inr memory
 
 -- the same for a case that is that of the request
 pub applied_case : (request new : HttpRequest) (payload : List ℕ) (params : SigningParams) (identity : Identity) (c : Case) (uri : Uri) (made : Instructions)
-    (result : Result (Unit {0}) SigningError) → c ≡ in_place_case request payload params (target_of uri)
+    (signature : String Global) (result : Result (Unit {0}) SigningError) → c ≡ in_place_case request payload params (target_of uri)
     → SpellsTarget (string_bytes request.target) uri → request_refusal identity c ≡ None → made.headers ≡ instructions c → made.params ≡ parameters c
-    → string_bytes new.method ≡ string_bytes request.method → OnOk result (new.headers ≡ with_instructions request.headers made.headers)
+    → string_bytes signature ≡ signature_of c → string_bytes new.method ≡ string_bytes request.method → OnOk result (new.headers ≡ with_instructions request.headers made.headers)
     → AppliesTo made.params (target_of uri) (string_bytes request.target) (string_bytes new.target) result
-    → SignsInPlace identity (in_place_case request payload params) request new (with_uri uri result)
-applied_case request new payload params identity c uri made result same spells fit headers_are params_are method headers applies =
+    → SignsInPlace identity (in_place_case request payload params) request new (with_made uri signature result)
+applied_case request new payload params identity c uri made signature result same spells fit headers_are params_are signed method headers applies =
     let IsFit : Case → Type 0 = λ c. request_refusal identity c ≡ None in
-    applied request new payload params identity uri made result spells (subst IsFit same fit) (headers_are ∙ ap instructions same) (params_are ∙ ap parameters same) method headers applies
+    applied request new payload params identity uri made signature result spells (subst IsFit same fit) (headers_are ∙ ap instructions same) (params_are ∙ ap parameters same) (signed ∙ ap signature_of same) method headers applies

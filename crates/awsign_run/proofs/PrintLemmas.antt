@@ -1,13 +1,14 @@
 -- The signed request of words, as it is printed.
-use Rattle.std.proofs.Common.{◌≡◌, ℕ, true, false, inl, inr, List, Option, refl, ◌∙◌, ap}
+use Rattle.std.proofs.Common.{◌≡◌, ℕ, true, false, inl, inr, List, Option, codes, refl, ◌∙◌, ap}
 use Rattle.std.specs.Prelude.{Result, Ok, Err, string_bytes}
 use Rattle.std.specs.Global.{Vec}
 use Rattle.smithy_core.specs.Moment.{Instant}
+use Rattle.smithy_core.specs.TextPairs.{last_value}
 use Rattle.smithy_http.specs.Target.{Target}
 use Rattle.sigv4.specs.Request.{Case}
 use Rattle.env_config.specs.Sections.{FileText, sections}
 use Rattle.awsign_run.specs.Chosen.{IsFaultOf, Profile, SignRefusal, SignsFor, chosen_signer, profile_name, profile_of}
-use Rattle.awsign_run.specs.Signing.{GivesPrinted, PrintsFor, PrintsSigned, SignsAsked, SignsPrinted, is_long}
+use Rattle.awsign_run.specs.Signing.{IsPrinted, PrintsFor, PrintsSigned, SignsAsked, SignsPrinted, is_long}
 use Rattle.awsign_words.specs.Words.{SignWanted}
 use Rattle.awsign_run.specs.Guess.{url_host}
 use Rattle.awsign_run.specs.declared.signing.SignedRequest.{SignedRequest}
@@ -42,8 +43,7 @@ pub by_profile : (sign_wanted : SignWanted) (env : List (List ℕ × List ℕ)) 
 by_profile sign_wanted env files digest at profile result short is prints = rw (short, is) prints
 
 -- a signed request is printed
-pub request_printed : (sign_wanted : SignWanted) (case : Target → Case) (signed : SignedRequest) (result : Result (Vec ℕ) Fault) → SignsAsked sign_wanted case (Ok signed)
-    → GivesPrinted sign_wanted signed result → SignsPrinted sign_wanted case result
-request_printed sign_wanted case signed (Ok text) signs printed =
+pub request_printed : (sign_wanted : SignWanted) (case : Target → Case) (signed : SignedRequest) (text : Vec ℕ) → SignsAsked sign_wanted case (Ok signed)
+    → IsPrinted sign_wanted signed (last_value sign_wanted.options (codes "--data")) text.items → SignsPrinted sign_wanted case (Ok text)
+request_printed sign_wanted case signed text signs printed =
     (signed.uri, signs.0, signs.1, rw (← signs.2, ← signs.3, ← signs.4) printed)
-request_printed sign_wanted case signed (Err fault) signs printed = inr printed

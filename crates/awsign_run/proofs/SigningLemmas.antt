@@ -1,8 +1,8 @@
 -- The signed request of words.
 use Rattle.std.proofs.Common.{◌≡◌, ℕ, ◌⊎◌, Bool, true, false, inl, inr, List, Option, Some, None, refl, sym, ap, ap₂, subst, ◌∙◌}
-use Rattle.std.specs.Prelude.{Result, Ok, Err, string_bytes}
+use Rattle.std.specs.Prelude.{Result, Ok, Err, String, string_bytes}
 use Rattle.std.specs.Borrow.{Bor}
-use Rattle.std.specs.Global.{Vec}
+use Rattle.std.specs.declared.alloc.Global.{Global}
 use Rattle.http_uri.specs.declared.uri.Uri.{Uri}
 use Rattle.smithy_core.specs.Moment.{Instant}
 use Rattle.smithy_core.specs.declared.identity.Credentials.{Credentials as Keys}
@@ -36,8 +36,8 @@ told SignedNoMemory = inr refl
 told error = inl refl
 
 -- the signed request, or the fault of the error
-abbrev pub signed_or : HttpRequest → Result Uri SigningError → Result SignedRequest Fault
-signed_or new (Ok uri) = Ok (record { request = new; uri = uri })
+abbrev pub signed_or : HttpRequest → Result (Uri × String Global) SigningError → Result SignedRequest Fault
+signed_or new (Ok made) = Ok (record { request = new; uri = made.0; signature = made.1 })
 signed_or new (Err error) = Err (signing_fault error)
 
 -- the case of the words is that of the request and its parameters
@@ -55,7 +55,7 @@ refusal_same identity credentials c other who same = ap₂ in_place_refusal who 
 module _ (sign_wanted : SignWanted) (signer : Signer) (payload : List ℕ) (at : Instant) (request new : HttpRequest) (settings : SigningSettings) (identity : Bor Identity) (region name : Bor (List ℕ))
     (params : V4Params SigningSettings) where
   -- a request that is signed in place is the signed request of the words, or it is why it isn't signed
-  pub in_place : (result : Result Uri SigningError) → params ≡ params_of identity region name at settings → IsAsked sign_wanted request
+  pub in_place : (result : Result (Uri × String Global) SigningError) → params ≡ params_of identity region name at settings → IsAsked sign_wanted request
       → settings_of settings ≡ asked_settings sign_wanted (is_s3 sign_wanted.options (string_bytes signer.service))
       → identity.now ≡ OfCredentials signer.credentials → region.now ≡ string_bytes signer.region → name.now ≡ string_bytes signer.service
       → SignsInPlace (identity_of (V4 params)) (in_place_case request payload (V4 params)) request new result
@@ -72,13 +72,13 @@ module _ (sign_wanted : SignWanted) (signer : Signer) (payload : List ℕ) (at :
       refusal : (uri : Uri) → in_place_refusal (identity_of by_params) (in_place_case request payload by_params (target_of uri)) ≡ asked_refusal (asked_case sign_wanted (signs_for_of signer) payload at (target_of uri))
       refusal uri = refusal_same identity.now signer.credentials _ _ who (same (target_of uri))
 
-      by_result : (result : Result Uri SigningError) → SignsInPlace (identity_of by_params) (in_place_case request payload by_params) request new result
+      by_result : (result : Result (Uri × String Global) SigningError) → SignsInPlace (identity_of by_params) (in_place_case request payload by_params) request new result
           → SignsAsked sign_wanted (asked_case sign_wanted (signs_for_of signer) payload at) (signed_or new result)
-      by_result (Ok uri) signs =
+      by_result (Ok (uri, signature)) signs =
           let spells : SpellsTarget sign_wanted.url uri = rw asked.target at signs.0 in
-          let Made : Case → Type 0 = λ c. HasSigned c request new in
+          let Made : Case → Type 0 = λ c. HasSigned c request new (string_bytes signature) in
           let made = subst Made (same (target_of uri)) signs.2 in
-          (spells, sym (refusal uri) ∙ signs.1, made.method ∙ asked.method, rw asked.target at made.target, made.headers)
+          (spells, sym (refusal uri) ∙ signs.1, made.method ∙ asked.method, rw asked.target at made.target, made.headers, made.signed)
       by_result (Err error) (inl (inl refused)) =
           let uri = refused.0 in
           let spells : SpellsTarget sign_wanted.url uri = rw asked.target at refused.1 in

@@ -19,7 +19,7 @@ use Rattle.sigv4.specs.Host.{host_text}
 use Rattle.sigv4.specs.Refusal.{unfit, unfit_signed_target}
 use Rattle.sigv4.specs.Request.{Case}
 use Rattle.sigv4.specs.Settings.{Settings, default_settings, s3_settings}
-use Rattle.sigv4.specs.Signed.{signed_headers, signed_target}
+use Rattle.sigv4.specs.Signed.{signature_of, signed_headers, signed_target}
 use Rattle.sigv4.specs.declared.error.SigningError.{SigningError}
 use Rattle.sigv4.specs.declared.error.SigningError.TheVariants.{InvalidUri, MomentOutOfRange}
 use Rattle.sigv4.specs.declared.settings.SignatureLocation.TheVariants.{QueryParams}
@@ -141,11 +141,11 @@ SignsAsked sign_wanted case (Ok signed) =
     × (string_bytes signed.request.method ≡ sign_wanted.method)
     × (string_bytes signed.request.target ≡ signed_target (case (target_of signed.uri)) sign_wanted.url)
     × (signed.request.headers ≡ signed_headers (case (target_of signed.uri)))
+    × (string_bytes signed.signature ≡ signature_of (case (target_of signed.uri)))
 SignsAsked sign_wanted case (Err fault) = SignsPrinted sign_wanted case (Err fault)
 
--- the text of a request in the form that is asked for, or memory ran out
-abbrev pub GivesPrinted : SignWanted → SignedRequest → Result (Vec ℕ) Fault → Type 0
-GivesPrinted sign_wanted signed (Ok text) =
-    text.items ≡ text_in_form (asked_form sign_wanted) (string_bytes signed.request.method) (string_bytes signed.request.target) signed.request.headers
-    (host_text (target_of signed.uri)) (last_value sign_wanted.options (codes "--data"))
-GivesPrinted sign_wanted signed (Err fault) = fault ≡ NoMemory
+-- the text of a signed request in the form that is asked for, with this file as its body
+abbrev pub IsPrinted : SignWanted → SignedRequest → Option (List ℕ) → List ℕ → Type 0
+IsPrinted sign_wanted signed file text =
+    text ≡ text_in_form (asked_form sign_wanted) (string_bytes signed.request.method) (string_bytes signed.request.target) signed.request.headers
+    (host_text (target_of signed.uri)) file

@@ -1,11 +1,14 @@
 //! Who signs, and for which region and service.
-ghost use Rattle.std.specs.Prelude.{◌≡◌, Ok, option_copied, option_map, string_bytes};
+ghost use Rattle.std.specs.Prelude.{◌≡◌, Ok, map, option_copied, option_map, string_bytes};
 ghost use Rattle.std.specs.Option.{option_or};
-ghost use Rattle.awsign_run.specs.Chosen.{GivesSignerKey, GivesSigner, chosen_key, signer_region, chosen_service, chosen_signer, filled, key_behind, key_in, signer_key, profile_name, refusal_of, signs_for, profile_values, variable, variable_key};
+ghost use Rattle.env_config.specs.Sections.{sections};
+ghost use Rattle.env_config.specs.Source.{file_of};
+ghost use Rattle.awsign_run.specs.Chosen.{GivesSignerKey, GivesSigner, chosen_key, signer_region, chosen_service, chosen_signer, filled, key_behind, key_in, signer_by, signer_key, profile_name, profile_of, refusal_of, signs_for, profile_values, variable, variable_key};
 
 use crate::fault::Fault;
 use crate::guess::guessed_service;
-use crate::profile::ProfileValues;
+use crate::profile::{ProfileValues, read_profile};
+use env_config::Source;
 use job_text::copied;
 use smithy_core::{Credentials, Env, Mem};
 use std::alloc::Global;
@@ -19,6 +22,26 @@ pub struct Signer {
     pub region: String,
     /// The service's signing name.
     pub service: String,
+}
+
+/// Who signs for a host, by options, variables and the source's profile.
+///
+/// # Errors
+///
+/// Those of [`read_profile`], and then those of [`choose_signer`].
+pub fn signer_for(
+    alloc: Global,
+    options: &Env,
+    host: &str,
+    env: &Env,
+    source: &Source,
+) -> Result<Signer, Fault>
+    ensures { GivesSigner (signer_by options.now host.now env.now (profile_of (sections (map file_of source.now.files.items)) (string_bytes source.now.profile))) result }
+{
+    match read_profile(alloc, source) {
+        Ok(profile) => choose_signer(alloc, options, host, env, &profile),
+        Err(fault) => Err(fault),
+    }
 }
 
 /// Who signs for a host, by options, variables and a profile, in this order; an empty variable counts as unset. The service is the one that

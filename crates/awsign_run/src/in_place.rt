@@ -9,7 +9,7 @@ use sigv4::{SignableBody, SignableRequest, SigningError, SigningParams, sign_req
 use smithy_core::HttpRequest;
 use std::alloc::Global;
 
-/// Signs a request in place, over a payload, and answers what its target spelled.
+/// Signs a request in place, over a payload, and answers what its target spelled, and the signature.
 ///
 /// # Errors
 ///
@@ -19,7 +19,7 @@ pub fn sign_in_place(
     request: &mut HttpRequest,
     payload: SignableBody<'_>,
     params: &SigningParams<'_>,
-) -> Result<Uri, SigningError>
+) -> Result<(Uri, String), SigningError>
     ensures { SignsInPlace (identity_of params.now) (in_place_case request.old (payload_text payload.entry) params.now) request.old request.new result }
 {
     let signable = SignableRequest::new(
@@ -31,9 +31,9 @@ pub fn sign_in_place(
     )?;
     let output = sign_request(alloc, &signable, params)?;
     let uri = signable.into_uri();
-    let (instructions, _) = output.into_parts();
+    let (instructions, signature) = output.into_parts();
     match instructions.apply_to_parsed(request, &uri) {
-        Ok(()) => Ok(uri),
+        Ok(()) => Ok((uri, signature)),
         Err(error) => Err(error),
     }
 }

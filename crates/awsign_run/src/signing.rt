@@ -4,7 +4,7 @@ ghost use Rattle.env_config.specs.Source.{file_of};
 ghost use Rattle.sigv4.specs.Settings.{settings_of};
 ghost use Rattle.awsign_run.specs.Chosen.{chosen_signer, profile_name, signs_for_of, profile_values};
 ghost use Rattle.awsign_run.specs.Guess.{url_host};
-ghost use Rattle.awsign_run.specs.Signing.{GivesPrinted, IsAsked, PrintsFor, PrintsSigned, SignsAsked, SignsPrinted, asked_case, asked_form, asked_payload, asked_settings, expiry, is_long, is_s3, default_payload, usual_settings};
+ghost use Rattle.awsign_run.specs.Signing.{IsAsked, IsPrinted, PrintsFor, PrintsSigned, SignsAsked, SignsPrinted, asked_case, asked_form, asked_payload, asked_settings, expiry, is_long, is_s3, default_payload, usual_settings};
 ghost use Rattle.awsign_words.specs.Words.{sign_wanted};
 
 use crate::chosen::{Signer, choose_signer};
@@ -23,11 +23,15 @@ use sigv4::{SignableBody, SignatureLocation, SigningParams, SigningSettings, v4}
 use smithy_core::{Env, HttpRequest, Identity, Mem, Moment};
 use std::alloc::Global;
 
-/// A signed request, and what its target spelled before.
+/// A signed request.
 #[derive(Drop)]
-pub(crate) struct SignedRequest {
-    pub(crate) request: HttpRequest,
-    pub(crate) uri: Uri,
+pub struct SignedRequest {
+    /// The request.
+    pub request: HttpRequest,
+    /// What its target spelled before.
+    pub uri: Uri,
+    /// The signature.
+    pub signature: String,
 }
 
 /// The most seconds for which a service takes a presigned URL.
@@ -107,22 +111,30 @@ fn print_over(
     ensures { SignsPrinted (sign_wanted asked.now) (asked_case (sign_wanted asked.now) (signs_for_of signer) (string_bytes payload) at) result }
 {
     match signed_request(alloc, asked, signer, payload, at) {
-        Ok(signed) => print_request(alloc, asked, &signed),
+        Ok(signed) => Ok(printed_request(alloc, asked, &signed, asked.options.get("--data"))?),
         Err(fault) => Err(fault),
     }
 }
 
-// A signed request, as it is printed.
-fn print_request(alloc: Global, asked: &Asked<'_>, signed: &SignedRequest) -> Result<Vec<u8>, Fault>
-    ensures { GivesPrinted (sign_wanted asked.now) signed.now result }
+/// A signed request in the form that words ask for, with the file at a path as its body.
+pub fn printed_request(
+    alloc: Global,
+    asked: &Asked<'_>,
+    signed: &SignedRequest,
+    file: Option<&str>,
+) -> Mem<Vec<u8>>
+    ensures { IfOk result (λ text. IsPrinted (sign_wanted asked.now) signed.now (option_copied file.entry) text.items) }
 {
-    let file = asked.options.get("--data");
     let host = host_text(&signed.uri);
-    Ok(text_of(alloc, form_of(asked), &signed.request, host, file)?)
+    text_of(alloc, form_of(asked), &signed.request, host, file)
 }
 
-// The request, signed over the payload of this text.
-fn signed_request(
+/// The request that words ask for, signed by somebody over the payload of this text, at a moment.
+///
+/// # Errors
+///
+/// [`Fault::Signing`] with the first test that the request fails.
+pub fn signed_request(
     alloc: Global,
     asked: &Asked<'_>,
     signer: Signer,
@@ -161,7 +173,11 @@ fn sign_as(
         SignableBody::Precomputed(payload),
         &params,
     ) {
-        Ok(uri) => Ok(SignedRequest { request, uri }),
+        Ok((uri, signature)) => Ok(SignedRequest {
+            request,
+            uri,
+            signature,
+        }),
         Err(error) => Err(Fault::from(error)),
     }
 }

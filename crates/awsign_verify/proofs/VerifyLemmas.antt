@@ -7,7 +7,7 @@ use Rattle.request_door.specs.Doors.{AnswersDoor}
 use Rattle.request_door.specs.declared.fault.DoorFault.{DoorFault}
 use Rattle.request_door.specs.declared.fault.DoorFault.TheVariants as door
 use Rattle.awsign_words.specs.Words.{OptionValues}
-use Rattle.awsign_run.specs.Chosen.{IsFaultOf, Profile, SignRefusal, SignsFor, refusal_of, signer_by}
+use Rattle.awsign_run.specs.Chosen.{IsFaultOf, SignRefusal, SignsFor, refusal_of}
 use Rattle.awsign_run.specs.declared.fault.Fault.{Fault}
 use Rattle.awsign_run.specs.declared.fault.Fault.TheVariants as run
 use Rattle.awsign_verify.specs.Verify.{Judges, JudgesFor, door_verify_fault, signer_verify_fault, verify_input}
@@ -34,9 +34,3 @@ module _ (options : OptionValues) (request : HttpRequest) (body : List ℕ) (at 
   pub signer_lacks : (planned : Result SignsFor SignRefusal) (fault : Fault) → IsFaultOf planned fault → JudgesFor options planned request body at (Err (signer_verify_fault fault))
   signer_lacks planned fault (inl is) = rw is (refused fault)
   signer_lacks planned fault (inr is) = rw is (out_of_memory planned)
-
--- nobody is chosen without a profile
-pub profile_lacks : (options : OptionValues) (host : List ℕ) (env : List (List ℕ × List ℕ)) (profile : Result Profile SignRefusal) (fault : Fault) → IsFaultOf profile fault
-    → IsFaultOf (signer_by options host env profile) fault
-profile_lacks options host env profile fault (inl is) = rw is (inl refl)
-profile_lacks options host env profile fault (inr is) = inr is

@@ -2,19 +2,15 @@
 ghost use Rattle.std.specs.Prelude.{◌≡◌, [], ◌∷◌, IfOk, map};
 ghost use Rattle.std.specs.String.{string_bytes};
 ghost use Rattle.smithy_core.specs.Given.{Gives};
-ghost use Rattle.env_config.specs.Sections.{sections};
 ghost use Rattle.env_config.specs.Source.{file_of};
 ghost use Rattle.request_door.specs.Doors.{AnswersDoor};
-ghost use Rattle.awsign_run.specs.Chosen.{GivesSigner, profile_name, profile_of, signer_by, signs_for_of};
+ghost use Rattle.awsign_run.specs.Chosen.{profile_name, signs_for_of};
 ghost use Rattle.awsign_run.specs.Run.{TakesAskedMoment, asked_moment};
 ghost use Rattle.awsign_verify.specs.Verify.{Judges, JudgesBy, JudgesFor, request_host, verify_input, verify_signer};
 
 use crate::fault::VerifyFault;
 use crate::told::verified_text;
-use awsign_run::{
-    Fault, Signer, choose_signer, is_s3, moment_asked, moment_of, read_profile, url_host,
-    usual_settings,
-};
+use awsign_run::{Signer, is_s3, moment_asked, moment_of, signer_for, url_host, usual_settings};
 use env_config::Source;
 use request_door::{Admitted, DoorFault, KeyList, Limits, admit};
 use smithy_core::{Clock, Env, HttpRequest, Mem, Moment};
@@ -61,22 +57,6 @@ fn judge_at(
     match signer_for(alloc, options, host, env, source) {
         Ok(signer) => judge_for(alloc, options, &signer, request, body, at),
         Err(fault) => Err(VerifyFault::from(fault)),
-    }
-}
-
-// Whose key, region and service are chosen for a host.
-fn signer_for(
-    alloc: Global,
-    options: &Env,
-    host: &str,
-    env: &Env,
-    source: &Source,
-) -> Result<Signer, Fault>
-    ensures { GivesSigner (signer_by options.now host.now env.now (profile_of (sections (map file_of source.now.files.items)) (string_bytes source.now.profile))) result }
-{
-    match read_profile(alloc, source) {
-        Ok(profile) => choose_signer(alloc, options, host, env, &profile),
-        Err(fault) => Err(fault),
     }
 }
 

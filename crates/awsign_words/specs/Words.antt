@@ -4,6 +4,7 @@ use Rattle.std.specs.Int.{w64}
 use Rattle.std.specs.List.{list_all}
 use Rattle.http_header.specs.Token.{is_token_byte}
 use Rattle.smithy_core.specs.TextPairs.{last_value, lower}
+use Rattle.job_text.specs.ChunkSize.{spelled_size}
 use Rattle.job_text.specs.Lines.{header_of_line, texts_of_pair}
 use Rattle.job_text.specs.Numbers.{natural_below, number}
 use Rattle.job_text.specs.Pieces.{after_pieces, taken_from}
@@ -12,10 +13,12 @@ use Rattle.job_text.specs.declared.words.WordsFault.TheVariants.{BadWord, NoMemo
 use Rattle.awsign_text.specs.declared.forms.Form.{Form}
 use Rattle.awsign_text.specs.declared.forms.Form.TheVariants.{Curl, Headers, Json, Http, Url}
 use Rattle.awsign_words.specs.declared.command.Command.{Command}
-use Rattle.awsign_words.specs.declared.command.Command.TheVariants.{Sign, Presign, Verify}
+use Rattle.awsign_words.specs.declared.command.Command.TheVariants.{Sign, Presign, Verify, Chunk}
 use Rattle.awsign_words.specs.declared.words.Asked.{Asked}
 use Rattle.awsign_words.specs.declared.words.AskedCommand.{AskedCommand}
-use Rattle.awsign_words.specs.declared.words.AskedCommand.TheVariants.{Signing, Verifying}
+use Rattle.awsign_words.specs.declared.words.AskedCommand.TheVariants.{Signing, Verifying, Chunking}
+use Rattle.awsign_words.specs.declared.words.Checksum.{Checksum}
+use Rattle.awsign_words.specs.declared.words.Checksum.TheVariants.{Crc32, Sha256}
 use Rattle.awsign_words.specs.declared.words.GivenWords.{GivenWords}
 use Rattle.awsign_words.specs.declared.words.VerifyAsked.{VerifyAsked}
 
@@ -23,11 +26,12 @@ use Rattle.awsign_words.specs.declared.words.VerifyAsked.{VerifyAsked}
 abbrev pub OptionValues : Type 0
 OptionValues = List (List ℕ × List ℕ)
 
--- what the words of `sign` and `presign` ask for: whether to presign, the values of options, headers, the method and the URL
+-- what the words of `sign`, `presign` and `chunk` ask for: whether to presign, the values of options, headers, trailers, the method and the URL
 pub record SignWanted : Type 0 where
   pub presigns : Bool
   pub options : OptionValues
   pub headers : List (List ℕ × List ℕ)
+  pub trailers : List (List ℕ × List ℕ)
   pub method : List ℕ
   pub url : List ℕ
 
@@ -41,33 +45,44 @@ pub record VerifyWanted : Type 0 where
 pub data CommandWanted : Type 0 where
   signs : SignWanted → CommandWanted
   verifies : VerifyWanted → CommandWanted
+  chunks : SignWanted → CommandWanted
 
 -- what the words so far gave, and the option that waits for its value
 pub record Given : Type 0 where
   pub command : Command
   pub options : OptionValues
   pub headers : List (List ℕ × List ℕ)
+  pub trailers : List (List ℕ × List ℕ)
   pub method : Option (List ℕ)
   pub url : Option (List ℕ)
   pub awaited : Option (List ℕ)
 
 -- no words yet
 abbrev pub no_words : Command → Given
-no_words command = record { command = command; options = []; headers = []; method = None; url = None; awaited = None }
+no_words command = record { command = command; options = []; headers = []; trailers = []; method = None; url = None; awaited = None }
 
 -- ## Options
 
--- the command prints a signed request
+-- the command prints a signed request, and does no more
 abbrev pub prints : Command → Bool
 prints Sign = true
 prints Presign = true
 prints Verify = false
+prints Chunk = false
 
 -- the command prints a presigned URL
 abbrev pub is_presign : Command → Bool
 is_presign Sign = false
 is_presign Presign = true
 is_presign Verify = false
+is_presign Chunk = false
+
+-- the command writes a body in chunks
+abbrev pub is_chunk : Command → Bool
+is_chunk Sign = false
+is_chunk Presign = false
+is_chunk Verify = false
+is_chunk Chunk = true
 
 -- an option that says who signs, for what, or when
 abbrev pub is_signing_option : List ℕ → Bool
@@ -83,19 +98,33 @@ is_payload_option word = bytes_eq word (codes "--data") || bytes_eq word (codes 
 abbrev pub is_printing_option : List ℕ → Bool
 is_printing_option word = bytes_eq word (codes "--as") || is_payload_option word
 
+-- an option that says which data goes in chunks, where to, and how
+abbrev pub is_chunk_option : List ℕ → Bool
+is_chunk_option word =
+    bytes_eq word (codes "--data") || bytes_eq word (codes "--out") || bytes_eq word (codes "--as") || bytes_eq word (codes "--size")
+    || bytes_eq word (codes "--checksum") || bytes_eq word (codes "--trailer")
+
 -- an option whose value is the next word; only a presigned URL has an expiry
 abbrev pub takes_value : Command → List ℕ → Bool
 takes_value command word =
     is_signing_option word || (prints command && is_printing_option word) || (is_presign command && bytes_eq word (codes "--expires"))
+    || (is_chunk command && is_chunk_option word)
 
 -- an option without a value
 abbrev pub is_flag : Command → List ℕ → Bool
 is_flag command word =
     bytes_eq word (codes "--s3") || (prints command && bytes_eq word (codes "--unsigned")) || (is_presign command && bytes_eq word (codes "--long"))
+    || (is_chunk command && bytes_eq word (codes "--signed"))
 
 -- the option stood
 abbrev pub has : OptionValues → List ℕ → Bool
 has options word = is_some (last_value options word)
+
+-- an option that the command needs didn't stand: a presigned URL has an expiry, and a body in chunks has data and a file
+abbrev pub lacks_option : Command → OptionValues → Bool
+lacks_option command options =
+    (is_presign command && not (has options (codes "--expires")))
+    || (is_chunk command && not (has options (codes "--data") && has options (codes "--out")))
 
 -- one of the options that give the payload stood
 abbrev pub has_payload : OptionValues → Bool
@@ -120,12 +149,18 @@ form_named word =
     else if bytes_eq word (codes "url") then Some Url
     else None
 
+-- the checksum that a word names
+abbrev pub checksum_named : List ℕ → Option Checksum
+checksum_named word = if bytes_eq word (codes "crc32") then Some Crc32 else if bytes_eq word (codes "sha256") then Some Sha256 else None
+
 -- whether the value fits its option: a moment is a number of seconds, an expiry a number of seconds too
 abbrev pub is_fit : List ℕ → List ℕ → Bool
 is_fit option value =
     if bytes_eq option (codes "--at") then is_some (number w64 value)
     else if bytes_eq option (codes "--expires") then is_some (natural_below 18446744073709551616 value)
     else if bytes_eq option (codes "--as") then is_some (form_named value)
+    else if bytes_eq option (codes "--size") then is_some (spelled_size value)
+    else if bytes_eq option (codes "--checksum") then is_some (checksum_named value)
     else true
 
 -- ## Words
@@ -135,10 +170,16 @@ abbrev pub take_header : Given → Option (List ℕ × List ℕ) → Option Give
 take_header given None = None
 take_header given (Some header) = Some (record given { headers = given.headers ++ (lower header.0, header.1) ∷ []; awaited = None })
 
+-- a trailer, `name: value`; its name goes in lower case
+abbrev pub take_trailer : Given → Option (List ℕ × List ℕ) → Option Given
+take_trailer given None = None
+take_trailer given (Some trailer) = Some (record given { trailers = given.trailers ++ (lower trailer.0, trailer.1) ∷ []; awaited = None })
+
 -- the value of an option
 unfoldable pub take_value : Given → List ℕ → List ℕ → Option Given
 take_value given option value =
     if bytes_eq option (codes "-H") then take_header given (header_of_line value)
+    else if bytes_eq option (codes "--trailer") then take_trailer given (header_of_line value)
     else if is_fit option value then Some (record given { options = given.options ++ (option, value) ∷ []; awaited = None })
     else None
 
@@ -177,15 +218,15 @@ given_word given word = take_sign_word given given.awaited word
 -- the words are over: what is asked for, or the place behind the last word where one is missing
 abbrev pub sign_wanted_of : ℕ → Given → Option (List ℕ) → Option (List ℕ) → Option (List ℕ) → Result SignWanted ℕ
 sign_wanted_of place given None (Some method) (Some url) =
-    Ok (record { presigns = is_presign given.command; options = given.options; headers = given.headers; method = method; url = url })
+    Ok (record { presigns = is_presign given.command; options = given.options; headers = given.headers; trailers = given.trailers; method = method; url = url })
 sign_wanted_of place given None (Some method) None = Err place
 sign_wanted_of place given None None url = Err place
 sign_wanted_of place given (Some option) method url = Err place
 
--- what all words of `sign` and `presign` ask for; a presigned URL has to have an expiry
+-- what all words of `sign`, `presign` and `chunk` ask for, where no option lacks
 abbrev pub all_words : ℕ → Given → Result SignWanted ℕ
 all_words place given =
-    if is_presign given.command && not (has given.options (codes "--expires")) then Err place
+    if lacks_option given.command given.options then Err place
     else sign_wanted_of place given given.awaited given.method given.url
 
 -- what this method and this URL ask to verify
@@ -203,7 +244,7 @@ verify_words_of place given (Some option) method url = Err place
 abbrev pub all_verify_words : ℕ → Given → Result VerifyWanted ℕ
 all_verify_words place given = verify_words_of place given given.awaited given.method given.url
 
--- what the words behind `sign` and `presign` ask for, or the place of the first bad one
+-- what the words behind `sign`, `presign` and `chunk` ask for, or the place of the first bad one
 unfoldable pub words_behind : Command → List (List ℕ) → Result SignWanted ℕ
 words_behind command words = after_pieces all_words (taken_from given_word 2 (no_words command) words)
 
@@ -221,6 +262,11 @@ abbrev pub to_verify : Result VerifyWanted ℕ → Result CommandWanted ℕ
 to_verify (Ok wanted) = Ok (verifies wanted)
 to_verify (Err place) = Err place
 
+-- to write in chunks what is asked
+abbrev pub to_chunk : Result SignWanted ℕ → Result CommandWanted ℕ
+to_chunk (Ok wanted) = Ok (chunks wanted)
+to_chunk (Err place) = Err place
+
 -- what the words ask for: a command, and what stands behind it
 abbrev pub command_words : List (List ℕ) → Result CommandWanted ℕ
 command_words [] = Err 1
@@ -228,6 +274,7 @@ command_words (word ∷ words) =
     if bytes_eq word (codes "sign") then to_sign (words_behind Sign words)
     else if bytes_eq word (codes "presign") then to_sign (words_behind Presign words)
     else if bytes_eq word (codes "verify") then to_verify (verify_words words)
+    else if bytes_eq word (codes "chunk") then to_chunk (words_behind Chunk words)
     else Err 1
 
 -- ## Answers
@@ -238,6 +285,7 @@ given_words given = record {
   command = given.command;
   options = given.options;
   headers = given.headers;
+  trailers = given.trailers;
   method = option_copied given.method;
   url = option_copied given.url;
   awaited = option_copied given.awaited;
@@ -245,7 +293,14 @@ given_words given = record {
 
 -- what contracts see of what is asked
 abbrev pub sign_wanted : Asked → SignWanted
-sign_wanted asked = record { presigns = asked.presigns; options = asked.options; headers = asked.headers; method = asked.method.now; url = asked.url.now }
+sign_wanted asked = record {
+  presigns = asked.presigns;
+  options = asked.options;
+  headers = asked.headers;
+  trailers = asked.trailers;
+  method = asked.method.now;
+  url = asked.url.now;
+}
 
 -- this is what is asked, or the word at this place is bad; or memory ran out
 abbrev pub ReadsAsked : Result SignWanted ℕ → Result Asked WordsFault → Type 0
@@ -267,6 +322,7 @@ ReadsVerify read (Err NoMemory) = Unit {0}
 abbrev pub command_wanted : AskedCommand → CommandWanted
 command_wanted (Signing asked) = signs (sign_wanted asked)
 command_wanted (Verifying asked) = verifies (verify_wanted asked)
+command_wanted (Chunking asked) = chunks (sign_wanted asked)
 
 -- this is what words ask for, or the word at this place is bad; or memory ran out
 abbrev pub ReadsCommand : Result CommandWanted ℕ → Result AskedCommand WordsFault → Type 0

@@ -1,6 +1,6 @@
 //! The commands of the tool.
 ghost use Rattle.std.specs.Prelude.{◌≡◌};
-ghost use Rattle.awsign_words.specs.Words.{is_presign, prints};
+ghost use Rattle.awsign_words.specs.Words.{is_chunk, is_presign, prints};
 
 /// A command of the tool.
 #[derive(Clone, Copy, Debug, PartialEq, Eq)]
@@ -11,16 +11,18 @@ pub enum Command {
     Presign,
     /// To say who signed a request.
     Verify,
+    /// To print a signed request, and to write its body in chunks.
+    Chunk,
 }
 
 impl Command {
-    /// Whether it prints a signed request.
+    /// Whether it prints a signed request, and does no more.
     pub fn prints(self) -> bool
         ensures { result ≡ prints self }
     {
         match self {
             Command::Sign | Command::Presign => true,
-            Command::Verify => false,
+            Command::Verify | Command::Chunk => false,
         }
     }
 
@@ -30,7 +32,17 @@ impl Command {
     {
         match self {
             Command::Presign => true,
-            Command::Sign | Command::Verify => false,
+            Command::Sign | Command::Verify | Command::Chunk => false,
+        }
+    }
+
+    /// Whether it writes a body in chunks.
+    pub fn is_chunk(self) -> bool
+        ensures { result ≡ is_chunk self }
+    {
+        match self {
+            Command::Chunk => true,
+            Command::Sign | Command::Presign | Command::Verify => false,
         }
     }
 }

@@ -9,5 +9,6 @@ mod words;
 
 pub use crate::command::Command;
 pub use crate::words::{
-    Asked, AskedCommand, GivenWords, VerifyAsked, form_named, is_method, read_command,
+    Asked, AskedCommand, Checksum, GivenWords, VerifyAsked, checksum_named, form_named, is_method,
+    read_command,
 };

@@ -4,13 +4,13 @@ ghost use Rattle.std.specs.List.{list_all};
 ghost use Rattle.std.specs.String.{string_bytes};
 ghost use Rattle.http_header.specs.Token.{is_token_byte};
 ghost use Rattle.job_text.specs.Words.{TakesWord};
-ghost use Rattle.awsign_words.specs.Words.{ReadsAsked, ReadsCommand, ReadsVerify, all_verify_words, all_words, command_words, form_named, given_words, has, has_payload, is_fit, is_flag, is_method, is_payload, is_payload_option, is_printing_option, is_signing_option, is_spent, minus, no_words, take_header, take_operand, take_other, take_value, takes_value, to_sign, to_verify, verify_words, words_behind};
+ghost use Rattle.awsign_words.specs.Words.{ReadsAsked, ReadsCommand, ReadsVerify, all_verify_words, all_words, checksum_named, command_words, form_named, given_words, has, has_payload, is_chunk_option, is_fit, is_flag, is_method, is_payload, is_payload_option, is_printing_option, is_signing_option, is_spent, lacks_option, minus, no_words, take_header, take_operand, take_other, take_trailer, take_value, takes_value, to_chunk, to_sign, to_verify, verify_words, words_behind};
 ghost use Rattle.job_text.specs.Lines.{header_of_line};
 
 use crate::command::Command;
 use awsign_text::Form;
 use http_header::is_token_char;
-use job_text::{TakeWord, WordsFault, cut_pair, parse_i64, parse_u64, take_words};
+use job_text::{ChunkSize, TakeWord, WordsFault, cut_pair, parse_i64, parse_u64, take_words};
 use smithy_core::{Env, Headers};
 use std::alloc::Global;
 
@@ -21,6 +21,17 @@ pub enum AskedCommand<'a> {
     Signing(Asked<'a>),
     /// To say who signed a request.
     Verifying(VerifyAsked<'a>),
+    /// To print a signed request, and to write its body in chunks.
+    Chunking(Asked<'a>),
+}
+
+/// A checksum of data, which goes behind it as a trailer.
+#[derive(Clone, Copy, Debug, PartialEq, Eq)]
+pub enum Checksum {
+    /// CRC-32.
+    Crc32,
+    /// SHA-256.
+    Sha256,
 }
 
 /// What the words of `verify` ask for.
@@ -34,7 +45,7 @@ pub struct VerifyAsked<'a> {
     pub named: Option<(&'a str, &'a str)>,
 }
 
-/// What the words of `sign` and `presign` ask for.
+/// What the words of `sign`, `presign` and `chunk` ask for.
 #[derive(Drop)]
 pub struct Asked<'a> {
     /// Whether a URL is presigned, and not a request signed.
@@ -43,6 +54,8 @@ pub struct Asked<'a> {
     pub options: Env,
     /// The headers in order.
     pub headers: Headers,
+    /// The trailers in order, which only `chunk` has.
+    pub trailers: Headers,
     /// The method.
     pub method: &'a str,
     /// The URL.
@@ -55,6 +68,7 @@ pub struct GivenWords<'a> {
     command: Command,
     options: Env,
     headers: Headers,
+    trailers: Headers,
     method: Option<&'a str>,
     url: Option<&'a str>,
     awaited: Option<&'a str>,
@@ -69,6 +83,7 @@ impl<'a> GivenWords<'a> {
             command,
             options: Env::new(alloc),
             headers: Headers::new(alloc),
+            trailers: Headers::new(alloc),
             method: None,
             url: None,
             awaited: None,
@@ -84,6 +99,9 @@ impl<'a> GivenWords<'a> {
         if option == "-H" {
             return self.take_header(place, value);
         }
+        if option == "--trailer" {
+            return self.take_trailer(place, value);
+        }
         if !is_fit(option, value) {
             return Err(WordsFault::BadWord(place));
         }
@@ -98,6 +116,16 @@ impl<'a> GivenWords<'a> {
     {
         let (name, value) = cut_pair(value).ok_or(WordsFault::BadWord(place))?;
         self.headers.append(name, value)?;
+        Ok(())
+    }
+
+    // Takes a trailer at a place.
+    fn take_trailer(&mut self, place: usize, value: &str) -> Result<(), WordsFault>
+        requires { self.old.awaited ≡ None }
+        ensures { TakesWord (take_trailer (given_words self.old) (header_of_line value.now)) place (given_words self.new) result }
+    {
+        let (name, value) = cut_pair(value).ok_or(WordsFault::BadWord(place))?;
+        self.trailers.append(name, value)?;
         Ok(())
     }
 
@@ -147,7 +175,7 @@ impl<'a> GivenWords<'a> {
         ensures { ReadsAsked (all_words place (given_words self.entry)) result }
     {
         let presigns = self.command.is_presign();
-        if presigns && !has(&self.options, "--expires") {
+        if lacks_option(self.command, &self.options) {
             return Err(WordsFault::BadWord(place));
         }
         match (self.awaited, self.method, self.url) {
@@ -155,6 +183,7 @@ impl<'a> GivenWords<'a> {
                 presigns,
                 options: self.options,
                 headers: self.headers,
+                trailers: self.trailers,
                 method,
                 url,
             }),
@@ -203,6 +232,14 @@ fn has(options: &Env, word: &str) -> bool
     options.get(word).is_some()
 }
 
+// Whether an option that the command needs didn't stand.
+fn lacks_option(command: Command, options: &Env) -> bool
+    ensures { result ≡ lacks_option command options.now }
+{
+    (command.is_presign() && !has(options, "--expires"))
+        || (command.is_chunk() && !(has(options, "--data") && has(options, "--out")))
+}
+
 // Whether the option can't stand any more.
 fn is_spent(options: &Env, word: &str) -> bool
     ensures { result ≡ is_spent options.now word.now }
@@ -249,12 +286,24 @@ fn is_printing_option(word: &str) -> bool
     word == "--as" || is_payload_option(word)
 }
 
+fn is_chunk_option(word: &str) -> bool
+    ensures { result ≡ is_chunk_option word.now }
+{
+    word == "--data"
+        || word == "--out"
+        || word == "--as"
+        || word == "--size"
+        || word == "--checksum"
+        || word == "--trailer"
+}
+
 fn takes_value(command: Command, word: &str) -> bool
     ensures { result ≡ takes_value command word.now }
 {
     is_signing_option(word)
         || (command.prints() && is_printing_option(word))
         || (command.is_presign() && word == "--expires")
+        || (command.is_chunk() && is_chunk_option(word))
 }
 
 fn is_flag(command: Command, word: &str) -> bool
@@ -263,6 +312,7 @@ fn is_flag(command: Command, word: &str) -> bool
     word == "--s3"
         || (command.prints() && word == "--unsigned")
         || (command.is_presign() && word == "--long")
+        || (command.is_chunk() && word == "--signed")
 }
 
 fn begins_with_minus(word: &str) -> bool
@@ -295,6 +345,8 @@ fn is_fit(option: &str, value: &str) -> bool
         "--at" => parse_i64(value).is_some(),
         "--expires" => parse_u64(value).is_some(),
         "--as" => form_named(value).is_some(),
+        "--size" => ChunkSize::parse(value).is_some(),
+        "--checksum" => checksum_named(value).is_some(),
         _ => true,
     }
 }
@@ -309,6 +361,17 @@ pub fn form_named(word: &str) -> Option<Form>
         "json" => Some(Form::Json),
         "http" => Some(Form::Http),
         "url" => Some(Form::Url),
+        _ => None,
+    }
+}
+
+/// The checksum that a word names.
+pub fn checksum_named(word: &str) -> Option<Checksum>
+    ensures { result ≡ checksum_named word.now }
+{
+    match word {
+        "crc32" => Some(Checksum::Crc32),
+        "sha256" => Some(Checksum::Sha256),
         _ => None,
     }
 }
@@ -328,6 +391,7 @@ pub fn read_command<'a>(alloc: Global, words: &'a [String]) -> Result<AskedComma
         "sign" => read_signing(alloc, Command::Sign, rest),
         "presign" => read_signing(alloc, Command::Presign, rest),
         "verify" => read_verifying(alloc, rest),
+        "chunk" => read_chunking(alloc, rest),
         _ => Err(WordsFault::BadWord(1)),
     }
 }
@@ -342,6 +406,16 @@ fn read_signing<'a>(
 {
     match read_behind(alloc, command, words) {
         Ok(asked) => Ok(AskedCommand::Signing(asked)),
+        Err(fault) => Err(fault),
+    }
+}
+
+// What the words behind `chunk` ask for.
+fn read_chunking<'a>(alloc: Global, words: &'a [String]) -> Result<AskedCommand<'a>, WordsFault>
+    ensures { ReadsCommand (to_chunk (words_behind Command.Chunk (map string_bytes words.now))) result }
+{
+    match read_behind(alloc, Command::Chunk, words) {
+        Ok(asked) => Ok(AskedCommand::Chunking(asked)),
         Err(fault) => Err(fault),
     }
 }

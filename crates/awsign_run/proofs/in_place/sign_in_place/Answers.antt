@@ -33,9 +33,9 @@ returns-in-Ok c =
     let same = case_made c.args.request.now (payload_text c.args.payload) params signable made.0 made.2 (ap payload_text made.3) in
     let signs = c.in_ok-output.ensures in
     let is = c.into_uri-uri.ensures in
-    rw is
+    rw (is, c.into_parts-instructions.ensures)
     (applied_case c.args.request.now c.apply_to_parsed.new.request (payload_text c.args.payload) params (identity_of params) (request_case signable params) signable.uri
-    c.in_ok-output.output.output (Ok tt) same made.1 signs.0 signs.1.headers signs.1.params (ap string_bytes c.in-Ok.ensures.method)
+    c.in_ok-output.output.output c.in_ok-output.output.signature (Ok tt) same made.1 signs.0 signs.1.headers signs.1.params signs.1.signature (ap string_bytes c.in-Ok.ensures.method)
     (rw c.into_parts-instructions.ensures at c.in-Ok.ensures.headers) (rw (c.into_parts-instructions.ensures, is) at c.in-Ok.ensures.target))
 
 pub returns-in-Err : goal.returns-in-Err
@@ -46,5 +46,5 @@ returns-in-Err c =
     let same = case_made c.args.request.now (payload_text c.args.payload) params signable made.0 made.2 (ap payload_text made.3) in
     let signs = c.in_ok-output.ensures in
     applied_case c.args.request.now c.apply_to_parsed.new.request (payload_text c.args.payload) params (identity_of params) (request_case signable params) signable.uri
-    c.in_ok-output.output.output (Err c.in-Err.error) same made.1 signs.0 signs.1.headers signs.1.params (ap string_bytes c.in-Err.ensures.method)
+    c.in_ok-output.output.output c.in_ok-output.output.signature (Err c.in-Err.error) same made.1 signs.0 signs.1.headers signs.1.params signs.1.signature (ap string_bytes c.in-Err.ensures.method)
     tt (rw (c.into_parts-instructions.ensures, c.into_uri-uri.ensures) at c.in-Err.ensures.target)

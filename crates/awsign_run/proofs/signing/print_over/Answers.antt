@@ -5,8 +5,8 @@ use Rattle.awsign_run.specs.Signing.{asked_case}
 use Rattle.awsign_words.specs.Words.{sign_wanted}
 use Rattle.awsign_run.proofs.signing.print_over.Goals as goal
 
-pub returns-in-Ok : goal.returns-in-Ok
-returns-in-Ok c =
+pub returns-in_ok-printed_request-in-Ok : goal.returns-in_ok-printed_request-in-Ok
+returns-in_ok-printed_request-in-Ok c =
     let asks = sign_wanted c.args.asked.now in
-    request_printed asks (asked_case asks (signs_for_of c.args.signer) (string_bytes c.args.payload) c.args.at) c.in-Ok.signed c.print_request.result
-    c.in-Ok.ensures c.print_request.ensures
+    request_printed asks (asked_case asks (signs_for_of c.args.signer) (string_bytes c.args.payload) c.args.at) c.in-Ok.signed c.in_ok-printed_request-in-Ok.field-0
+    c.in-Ok.ensures (rw c.get.ensures at c.in_ok-printed_request-in-Ok.ensures)

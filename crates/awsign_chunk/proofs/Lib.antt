@@ -1,0 +1,3 @@
+pub mod ChunkRunLemmas
+pub mod SentLemmas
+pub mod SoundLemmas

@@ -1,0 +1,10 @@
+use Rattle.std.proofs.Common.{List, ℕ, ◌++◌, ap, sym, ◌∙◌, append-nil}
+use Rattle.smithy_core.specs.contracts.outside.frame_source.CalmFramesFrameSource.TheImpl as calm
+use Rattle.aws_auth.specs.contracts.chunk_signer.SigV4MessageSignerSigningSettingsSignChunk.TheImpl as sealing
+use Rattle.aws_chunked.proofs.SoundBodyLemmas.{closed_left}
+use Rattle.awsign_chunk.proofs.body.all_text.Goals as goal
+
+pub returns : goal.returns
+returns c =
+    let none = closed_left calm.ghosts sealing.ghosts c.polls.body (c.is_end_stream.ensures.0 c.polls-test.false) in
+    sym (append-nil c.polls.text.items) ∙ ap (λ (left : List ℕ). c.polls.text.items ++ left) (sym none) ∙ c.polls.invariant.whole

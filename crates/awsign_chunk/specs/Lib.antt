@@ -1,0 +1,3 @@
+pub mod ChunkRun
+pub mod ChunkSaying
+pub mod Sent
