@@ -14,6 +14,7 @@ mod NewLemmas
 mod PassLemmas
 mod PassedLengthLemmas
 mod PieceLemmas
+mod PiecesDueLemmas
 mod PlaceLemmas
 mod PullLemmas
 mod ReadLemmas

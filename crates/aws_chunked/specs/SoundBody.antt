@@ -1,5 +1,5 @@
 -- A body in memory, signed or not: it gives its text, and has no fault.
-use Rattle.std.specs.Prelude.{◌≡◌, ℕ, ◌≤◌, List, [], length, Option, None, Some}
+use Rattle.std.specs.Prelude.{◌≡◌, ℕ, ◌≤◌, ◌<◌, List, [], ◌++◌, length, Option, None, Some}
 use Rattle.std.specs.List.{AllByRecursion}
 use Rattle.smithy_core.specs.declared.outside.frame_part.FramePart.{FramePart}
 use Rattle.smithy_core.specs.declared.outside.frame_source.FrameSource as FrameSource
@@ -42,3 +42,8 @@ text_left source signer body = text_or_none (due source signer body)
 -- the body is sound, and its text is this
 abbrev pub IsSoundBodyOf : {F G : Type 0} → FrameSource.Ghosts F → SignChunk.Ghosts G → List ℕ → AwsChunkedBody F G → Type 0
 IsSoundBodyOf source signer text body = IsSoundBody source signer body × (text_left source signer body ≡ text)
+
+-- a sound body gave these bytes, some of them: they come first in the text that was left, and the rest of it is left now
+abbrev pub GivesText : {F G : Type 0} → FrameSource.Ghosts F → SignChunk.Ghosts G → AwsChunkedBody F G → AwsChunkedBody F G → List ℕ → Type 0
+GivesText source signer old new bytes =
+    IsSoundBody source signer new × (text_left source signer old ≡ bytes ++ text_left source signer new) × (0 < length bytes)

@@ -25,6 +25,7 @@ mod piece_engine;
 mod poll_data;
 mod poll_frame;
 mod signing;
+mod sound;
 mod stop;
 mod text;
 mod trailers;

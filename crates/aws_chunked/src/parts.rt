@@ -1,4 +1,6 @@
-//! What the calls of this crate read and write on their way, for who reads a body in chunks part by part.
+//! What the calls of this crate read and write on their way, for who reads a body in chunks part by part, and who has the whole body
+//! in memory.
 
 pub use crate::announcement::joined_names;
 pub use crate::decode::begins_with;
+pub use crate::sound::next_in_memory;

@@ -1,5 +1,5 @@
 use Rattle.std.proofs.Common.{refl}
-use Rattle.aws_chunked.proofs.PassLemmas.{empty_chunk_is}
+use Rattle.aws_chunked.proofs.PiecesDueLemmas.{empty_chunk_is}
 use Rattle.aws_chunked.proofs.piece_engine.PieceEngine.make_empty_chunk.Goals as goal
 
 pub returns : goal.returns
