@@ -5,6 +5,7 @@ docs/CALLING.md: each function that it shows is so in crates/tool_uses/src.
 crates/*/specs: each definition that clauses of public functions, or docs/CLAIMS.md, cite has a comment of its own, directly above
 it, which no other definition has.
 README.md: each file, and each name beside it, of the table of claims is in the crate's src.
+README.md: its example is the source that it names, without the comments of its items.
 The pages that speak of this repository alone: each word that is a name by its form is in the sources.
 Every page: each link with its heading, and each path that begins with a folder of the repository, leads to something.
 docs/CALLING.md: "Conditions" lists each public function that has a condition, and no other.
@@ -177,6 +178,15 @@ def readme_faults():
                 yield f"README.md: {crates} has no {name}"
 
 
+def example_faults():
+    """Where the example of README.md isn't the source that it names, without the comments of its items."""
+    page = (ROOT / "README.md").read_text()
+    file, shown = re.search(r"`(crates/tool_uses/src/\w+\.rt)`, which the gate proves and runs:\n\n((?: {4}.*\n|\n)+)", page).groups()
+    source = [line for line in (ROOT / file).read_text().split("\n") if not line.startswith("//")]
+    if "\n".join(source).strip() != re.sub(r"^ {4}", "", shown, flags=re.M).strip():
+        yield f"README.md: its example isn't {file}"
+
+
 def headings(page):
     """The anchors of a page's headings."""
     for heading in re.findall(r"(?m)^#+ (.*)$", page.read_text()):
@@ -222,6 +232,7 @@ faults = [
     *name_faults(),
     *sdk_faults(),
     *readme_faults(),
+    *example_faults(),
     *path_faults(),
     *length_faults(),
 ]

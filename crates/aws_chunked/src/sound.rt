@@ -3,7 +3,7 @@ ghost use Rattle.std.specs.Prelude.{◌≡◌, ◌≤◌, ◌∷◌, [], length,
 ghost use Rattle.smithy_core.specs.FrameSource.{AreShort};
 ghost use Rattle.smithy_core.specs.declared.outside.frame_part.FramePart.TheVariants as frame;
 ghost use Rattle.aws_chunked.specs.Body.{IsBodyClosed};
-ghost use Rattle.aws_chunked.specs.SoundBody.{GivesText, IsSoundBody};
+ghost use Rattle.aws_chunked.specs.SoundBody.{GivesNextText, IsSoundBody};
 
 use crate::body::{AwsChunkedBody, ChunkNext};
 use crate::error::AwsChunkedBodyError;
@@ -36,7 +36,7 @@ pub fn frames_in_memory(alloc: Global, content: Bytes, trailers: Headers) -> Mem
 pub fn next_in_memory<G: SignChunk>(body: &mut AwsChunkedBody<CalmFrames, G>) -> Mem<Bytes>
     requires sound { IsSoundBody ⟦<CalmFrames as FrameSource>⟧ G.SignChunk body.old }
     requires going { IsBodyClosed body.old → ⊥ }
-    ensures text { IfOk result (GivesText ⟦<CalmFrames as FrameSource>⟧ G.SignChunk body.old body.new) }
+    ensures text { IfOk result (GivesNextText ⟦<CalmFrames as FrameSource>⟧ G.SignChunk body.old body.new) }
     ensures closed { OnErr result (IsBodyClosed body.new) }
 {
     match body.poll_frame() {

@@ -1,7 +1,7 @@
 -- Where there is no profile or no key there are no settings.
 use Rattle.std.proofs.Common.{◌≡◌, ℕ, Bool, List, Option, refl}
 use Rattle.std.specs.Prelude.{Result, Ok, Err}
-use Rattle.aws_settings.specs.Choice.{IsLackOf, Key, Lack, Profile, Settings, settings_by, settings_with}
+use Rattle.aws_settings.specs.Choice.{IsLackOf, ChosenKey, Lack, Profile, ChosenSettings, choice_by, settings_of_parts}
 use Rattle.aws_settings.specs.declared.fault.SettingsFault.{SettingsFault}
 use Rattle.aws_settings.specs.declared.fault.SettingsFault.TheVariants as fault
 
@@ -14,9 +14,9 @@ lack_stays planned whole fault.MissingSecret stays is = stays _ is
 lack_stays planned whole (fault.MissingRegion profile) stays is = stays _ is
 lack_stays planned whole fault.NoMemory stays is = tt
 
-pub no_settings : (name : List ℕ) (planned : Result Key Lack) (region : Option (List ℕ)) (fault : SettingsFault) → IsLackOf planned fault → IsLackOf (settings_with name planned region) fault
-no_settings name planned region fault is = lack_stays planned (settings_with name planned region) fault (λ lack lacks. rw lacks refl) is
+pub no_settings : (name : List ℕ) (planned : Result ChosenKey Lack) (region : Option (List ℕ)) (fault : SettingsFault) → IsLackOf planned fault → IsLackOf (settings_of_parts name planned region) fault
+no_settings name planned region fault is = lack_stays planned (settings_of_parts name planned region) fault (λ lack lacks. rw lacks refl) is
 
 pub nothing_without : (names_profile : Bool) (region : Option (List ℕ)) (env : List (List ℕ × List ℕ)) (profile : Result Profile Lack) (fault : SettingsFault) → IsLackOf profile fault
-    → IsLackOf (settings_by names_profile region env profile) fault
-nothing_without names_profile region env profile fault is = lack_stays profile (settings_by names_profile region env profile) fault (λ lack lacks. rw lacks refl) is
+    → IsLackOf (choice_by names_profile region env profile) fault
+nothing_without names_profile region env profile fault is = lack_stays profile (choice_by names_profile region env profile) fault (λ lack lacks. rw lacks refl) is

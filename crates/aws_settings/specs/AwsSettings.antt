@@ -9,14 +9,14 @@ use Rattle.env_config.specs.Source.{file_of}
 use Rattle.env_config.specs.declared.source.EnvConfigFileKind.{EnvConfigFileKind}
 use Rattle.env_config.specs.declared.source.EnvConfigFileKind.TheVariants.{Config, Credentials}
 use Rattle.env_config.specs.declared.source.Source.{Source}
-use Rattle.aws_settings.specs.Choice.{GivesSettings, Lack, Settings, profile_name, profile_of, settings_by}
+use Rattle.aws_settings.specs.Choice.{GivesChosen, Lack, ChosenSettings, profile_name, profile_of, choice_by}
 use Rattle.aws_settings.specs.declared.fault.SettingsFault.{SettingsFault}
 use Rattle.aws_settings.specs.declared.fault.SettingsFault.TheVariants.{NoMemory}
 use Rattle.aws_settings.specs.declared.settings.AwsSettings.{AwsSettings}
 
 -- what texts of files give, for the profile that the variables select
-abbrev pub settings_given : List FileText → List (List ℕ × List ℕ) → Result Settings Lack
-settings_given files env = settings_by false None env (profile_of (sections files) (profile_name None env))
+abbrev pub settings_given : List FileText → List (List ℕ × List ℕ) → Result ChosenSettings Lack
+settings_given files env = choice_by false None env (profile_of (sections files) (profile_name None env))
 
 -- the text of a file that lies nowhere
 abbrev pub lone_text : EnvConfigFileKind → List ℕ → FileText
@@ -35,7 +35,7 @@ module _ {D : Type 0} (answers : D → List ℕ → Result (Vec ℕ) DiskError �
   abbrev pub ReadsSettings : List (List ℕ × List ℕ) → D → D → Result AwsSettings SettingsFault → Type 0
   ReadsSettings env before now result =
       (result ≡ Err NoMemory)
-      ⊎ ((texts : List FileText) × Loaded answers faults files env default_places before now texts × GivesSettings (settings_given texts env) result)
+      ⊎ ((texts : List FileText) × Loaded answers faults files env default_places before now texts × GivesChosen (settings_given texts env) result)
 
   -- the texts of the default files, and the selected profile; or memory ran out
   abbrev pub LoadsDefaults : List (List ℕ × List ℕ) → D → D → Source → Type 0

@@ -75,69 +75,69 @@ abbrev pub profile_name : Option (List ℕ) → List (List ℕ × List ℕ) → 
 profile_name named env = unwrap_or (option_or named (variable env (codes "AWS_PROFILE"))) (codes "default")
 
 -- the region: the caller's, that of the variables `AWS_REGION` and `AWS_DEFAULT_REGION`, or the profile's
-abbrev pub chosen_region : Option (List ℕ) → List (List ℕ × List ℕ) → Profile → Option (List ℕ)
-chosen_region region env profile =
+abbrev pub region_by : Option (List ℕ) → List (List ℕ × List ℕ) → Profile → Option (List ℕ)
+region_by region env profile =
     option_or (option_or (option_or region (variable env (codes "AWS_REGION"))) (variable env (codes "AWS_DEFAULT_REGION"))) (filled profile.region)
 
 -- a key: its id, its secret, and the token where there is one
-pub record Key : Type 0 where
+pub record ChosenKey : Type 0 where
   pub id : List ℕ
   pub secret : List ℕ
   pub token : Option (List ℕ)
 
 -- the key of these parts, where the two that it takes are there
-abbrev pub key_of : Option (List ℕ) → Option (List ℕ) → Option (List ℕ) → Option Key
-key_of (Some id) (Some secret) token = Some (record { id = id; secret = secret; token = token })
-key_of (Some id) None token = None
-key_of None secret token = None
+abbrev pub key_with : Option (List ℕ) → Option (List ℕ) → Option (List ℕ) → Option ChosenKey
+key_with (Some id) (Some secret) token = Some (record { id = id; secret = secret; token = token })
+key_with (Some id) None token = None
+key_with None secret token = None
 
 -- the key, or why there is none
-abbrev pub key_or : Lack → Option Key → Result Key Lack
+abbrev pub key_or : Lack → Option ChosenKey → Result ChosenKey Lack
 key_or lack (Some key) = Ok key
 key_or lack None = Err lack
 
 -- the key of the variables, whose id this is
-abbrev pub variables_key : List ℕ → List (List ℕ × List ℕ) → Result Key Lack
-variables_key id env = key_or no_secret (key_of (Some id) (variable env (codes "AWS_SECRET_ACCESS_KEY")) (variable env (codes "AWS_SESSION_TOKEN")))
+abbrev pub variables_key : List ℕ → List (List ℕ × List ℕ) → Result ChosenKey Lack
+variables_key id env = key_or no_secret (key_with (Some id) (variable env (codes "AWS_SECRET_ACCESS_KEY")) (variable env (codes "AWS_SESSION_TOKEN")))
 
 -- the key of a profile
-abbrev pub profile_key : Profile → Result Key Lack
-profile_key profile = key_or (no_key profile.name) (key_of (filled profile.key_id) (filled profile.secret) (filled profile.token))
+abbrev pub profile_key : Profile → Result ChosenKey Lack
+profile_key profile = key_or (no_key profile.name) (key_with (filled profile.key_id) (filled profile.secret) (filled profile.token))
 
 -- the variable of the key id, which counts unless the caller named the profile
 abbrev pub variable_key : Bool → List (List ℕ × List ℕ) → Option (List ℕ)
 variable_key names_profile env = if names_profile then None else variable env (codes "AWS_ACCESS_KEY_ID")
 
 -- the key whose id is this variable's, and else that of the profile
-abbrev pub key_behind : List (List ℕ × List ℕ) → Profile → Option (List ℕ) → Result Key Lack
+abbrev pub key_behind : List (List ℕ × List ℕ) → Profile → Option (List ℕ) → Result ChosenKey Lack
 key_behind env profile (Some id) = variables_key id env
 key_behind env profile None = profile_key profile
 
 -- the key: that of the variables, or that of the profile
-abbrev pub chosen_key : Bool → List (List ℕ × List ℕ) → Profile → Result Key Lack
+abbrev pub chosen_key : Bool → List (List ℕ × List ℕ) → Profile → Result ChosenKey Lack
 chosen_key names_profile env profile = key_behind env profile (variable_key names_profile env)
 
 -- ## The settings
 
 -- what there is to sign with
-pub record Settings : Type 0 where
-  pub key : Key
+pub record ChosenSettings : Type 0 where
+  pub key : ChosenKey
   pub region : List ℕ
 
 -- the settings where both are there; the key is missed first
-abbrev pub settings_with : List ℕ → Result Key Lack → Option (List ℕ) → Result Settings Lack
-settings_with name (Err lack) region = Err lack
-settings_with name (Ok key) None = Err (no_region name)
-settings_with name (Ok key) (Some region) = Ok (record { key = key; region = region })
+abbrev pub settings_of_parts : List ℕ → Result ChosenKey Lack → Option (List ℕ) → Result ChosenSettings Lack
+settings_of_parts name (Err lack) region = Err lack
+settings_of_parts name (Ok key) None = Err (no_region name)
+settings_of_parts name (Ok key) (Some region) = Ok (record { key = key; region = region })
 
 -- the settings by whether the caller named the profile, by the caller's region, by variables and by a profile
-unfoldable pub chosen_settings : Bool → Option (List ℕ) → List (List ℕ × List ℕ) → Profile → Result Settings Lack
-chosen_settings names_profile region env profile = settings_with profile.name (chosen_key names_profile env profile) (chosen_region region env profile)
+unfoldable pub chosen_settings : Bool → Option (List ℕ) → List (List ℕ × List ℕ) → Profile → Result ChosenSettings Lack
+chosen_settings names_profile region env profile = settings_of_parts profile.name (chosen_key names_profile env profile) (region_by region env profile)
 
 -- the same where the profile is still to be read
-abbrev pub settings_by : Bool → Option (List ℕ) → List (List ℕ × List ℕ) → Result Profile Lack → Result Settings Lack
-settings_by names_profile region env (Ok profile) = chosen_settings names_profile region env profile
-settings_by names_profile region env (Err lack) = Err lack
+abbrev pub choice_by : Bool → Option (List ℕ) → List (List ℕ × List ℕ) → Result Profile Lack → Result ChosenSettings Lack
+choice_by names_profile region env (Ok profile) = chosen_settings names_profile region env profile
+choice_by names_profile region env (Err lack) = Err lack
 
 -- ## Answers
 
@@ -154,12 +154,12 @@ abbrev pub IsLackOf : {A : Type 0} → Result A Lack → SettingsFault → Type 
 IsLackOf planned fault = IfSome (lack_in fault) (λ lack. planned ≡ Err lack)
 
 -- what contracts see of a key
-abbrev pub key_in : Credentials → Key
+abbrev pub key_in : Credentials → ChosenKey
 key_in credentials = record { id = access_key_id credentials; secret = secret_access_key credentials; token = session_token credentials }
 
 -- what contracts see of settings
-abbrev pub settings_in : AwsSettings → Settings
-settings_in settings = record { key = key_in settings.credentials; region = string_bytes settings.region }
+abbrev pub settings_seen : AwsSettings → ChosenSettings
+settings_seen settings = record { key = key_in settings.credentials; region = string_bytes settings.region }
 
 -- these are the values of the profile, or this is why there are none
 abbrev pub GivesProfile : Result Profile Lack → Result ProfileValues SettingsFault → Type 0
@@ -167,11 +167,11 @@ GivesProfile planned (Ok values) = planned ≡ Ok (profile_values values)
 GivesProfile planned (Err fault) = IsLackOf planned fault
 
 -- this is the key, or why there is none
-abbrev pub GivesKey : Result Key Lack → Result Credentials SettingsFault → Type 0
-GivesKey planned (Ok credentials) = planned ≡ Ok (key_in credentials)
-GivesKey planned (Err fault) = IsLackOf planned fault
+abbrev pub GivesChosenKey : Result ChosenKey Lack → Result Credentials SettingsFault → Type 0
+GivesChosenKey planned (Ok credentials) = planned ≡ Ok (key_in credentials)
+GivesChosenKey planned (Err fault) = IsLackOf planned fault
 
 -- these are the settings, or this is why there are none
-abbrev pub GivesSettings : Result Settings Lack → Result AwsSettings SettingsFault → Type 0
-GivesSettings planned (Ok settings) = planned ≡ Ok (settings_in settings)
-GivesSettings planned (Err fault) = IsLackOf planned fault
+abbrev pub GivesChosen : Result ChosenSettings Lack → Result AwsSettings SettingsFault → Type 0
+GivesChosen planned (Ok settings) = planned ≡ Ok (settings_seen settings)
+GivesChosen planned (Err fault) = IsLackOf planned fault

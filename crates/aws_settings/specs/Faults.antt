@@ -12,11 +12,11 @@ parse_fault (Parse error) = Profile error
 parse_fault ParsedNoMemory = NoMemory
 
 -- what a fault is printed as
-abbrev pub settings_fault_text : SettingsFault → List ℕ
-settings_fault_text (Profile error) = parse_error_text error
-settings_fault_text (MissingKey profile) =
+abbrev pub settings_lack_text : SettingsFault → List ℕ
+settings_lack_text (Profile error) = parse_error_text error
+settings_lack_text (MissingKey profile) =
     codes "there is no key: AWS_ACCESS_KEY_ID isn't set, and the profile '" ++ (string_bytes profile ++ codes "' has no aws_access_key_id or no aws_secret_access_key")
-settings_fault_text MissingSecret = codes "AWS_ACCESS_KEY_ID is set and AWS_SECRET_ACCESS_KEY isn't"
-settings_fault_text (MissingRegion profile) =
+settings_lack_text MissingSecret = codes "AWS_ACCESS_KEY_ID is set and AWS_SECRET_ACCESS_KEY isn't"
+settings_lack_text (MissingRegion profile) =
     codes "there is no region: AWS_REGION and AWS_DEFAULT_REGION aren't set, and the profile '" ++ (string_bytes profile ++ codes "' has none")
-settings_fault_text NoMemory = codes "no memory"
+settings_lack_text NoMemory = codes "no memory"

@@ -3,7 +3,7 @@ ghost use Rattle.std.specs.Prelude.{◌≡◌, IfOk, map, option_copied, option_
 ghost use Rattle.std.specs.Option.{option_or};
 ghost use Rattle.env_config.specs.Sections.{sections};
 ghost use Rattle.env_config.specs.Source.{file_of};
-ghost use Rattle.aws_settings.specs.Choice.{GivesKey, GivesSettings, chosen_key, chosen_region, chosen_settings, filled, key_in, key_of, profile_key, profile_name, profile_of, profile_values, settings_by, variable, variable_key, variables_key};
+ghost use Rattle.aws_settings.specs.Choice.{GivesChosenKey, GivesChosen, chosen_key, region_by, chosen_settings, filled, key_in, key_with, profile_key, profile_name, profile_of, profile_values, choice_by, variable, variable_key, variables_key};
 
 use crate::fault::SettingsFault;
 use crate::profile::{ProfileValues, read_profile};
@@ -33,7 +33,7 @@ pub fn settings_of(
     env: &Env,
     source: &Source,
 ) -> Result<AwsSettings, SettingsFault>
-    ensures { GivesSettings (settings_by names_profile (option_copied region.entry) env.now (profile_of (sections (map file_of source.now.files.items)) (string_bytes source.now.profile))) result }
+    ensures { GivesChosen (choice_by names_profile (option_copied region.entry) env.now (profile_of (sections (map file_of source.now.files.items)) (string_bytes source.now.profile))) result }
 {
     match read_profile(alloc, source) {
         Ok(profile) => choose_settings(alloc, names_profile, region, env, &profile),
@@ -56,7 +56,7 @@ pub fn choose_settings(
     env: &Env,
     profile: &ProfileValues,
 ) -> Result<AwsSettings, SettingsFault>
-    ensures { GivesSettings (chosen_settings names_profile (option_copied region.entry) env.now (profile_values profile.now)) result }
+    ensures { GivesChosen (chosen_settings names_profile (option_copied region.entry) env.now (profile_values profile.now)) result }
 {
     match choose_key(alloc, names_profile, env, profile) {
         Ok(credentials) => match region_of(region, env, profile) {
@@ -80,7 +80,7 @@ fn choose_key(
     env: &Env,
     profile: &ProfileValues,
 ) -> Result<Credentials, SettingsFault>
-    ensures { GivesKey (chosen_key names_profile env.now (profile_values profile.now)) result }
+    ensures { GivesChosenKey (chosen_key names_profile env.now (profile_values profile.now)) result }
 {
     match variable_key(names_profile, env) {
         Some(key_id) => key_of_variables(alloc, key_id, env),
@@ -90,7 +90,7 @@ fn choose_key(
 
 // The key of the variables, whose id this is.
 fn key_of_variables(alloc: Global, key_id: &str, env: &Env) -> Result<Credentials, SettingsFault>
-    ensures { GivesKey (variables_key key_id.now env.now) result }
+    ensures { GivesChosenKey (variables_key key_id.now env.now) result }
 {
     let secret = variable(env, "AWS_SECRET_ACCESS_KEY");
     let token = variable(env, "AWS_SESSION_TOKEN");
@@ -102,7 +102,7 @@ fn key_of_variables(alloc: Global, key_id: &str, env: &Env) -> Result<Credential
 
 // The key of a profile.
 fn key_of_profile(alloc: Global, profile: &ProfileValues) -> Result<Credentials, SettingsFault>
-    ensures { GivesKey (profile_key (profile_values profile.now)) result }
+    ensures { GivesChosenKey (profile_key (profile_values profile.now)) result }
 {
     let key_id = filled_text(&profile.key_id);
     let secret = filled_text(&profile.secret);
@@ -119,7 +119,7 @@ fn key_of(
     secret: Option<&str>,
     token: Option<&str>,
 ) -> Mem<Option<Credentials>>
-    ensures { IfOk result (λ key. option_map key_in key ≡ key_of (option_copied key_id.entry) (option_copied secret.entry) (option_copied token.entry)) }
+    ensures { IfOk result (λ key. option_map key_in key ≡ key_with (option_copied key_id.entry) (option_copied secret.entry) (option_copied token.entry)) }
 {
     match (key_id, secret) {
         (Some(key_id), Some(secret)) => Ok(Some(Credentials::new(
@@ -148,7 +148,7 @@ fn region_of<'a>(
     env: &'a Env,
     profile: &'a ProfileValues,
 ) -> Option<&'a str>
-    ensures { option_copied result ≡ chosen_region (option_copied region.entry) env.now (profile_values profile.now) }
+    ensures { option_copied result ≡ region_by (option_copied region.entry) env.now (profile_values profile.now) }
 {
     let set = either(region, variable(env, "AWS_REGION"));
     let usual = either(set, variable(env, "AWS_DEFAULT_REGION"));

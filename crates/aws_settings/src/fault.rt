@@ -20,9 +20,9 @@ pub enum SettingsFault {
 
 impl fmt::Display for SettingsFault {
     ghost use Rattle.std.specs.Prelude.{Some};
-    ghost use Rattle.aws_settings.specs.Faults.{settings_fault_text};
+    ghost use Rattle.aws_settings.specs.Faults.{settings_lack_text};
 
-    ghost output = { λ fault. Some (settings_fault_text fault) };
+    ghost output = { λ fault. Some (settings_lack_text fault) };
 
     fn fmt<W: fmt::Write>(&self, f: &mut fmt::Formatter<W>) -> fmt::Result {
         match self {

@@ -2,7 +2,7 @@
 ghost use Rattle.std.specs.Prelude.{◌≡◌, ◌≤◌, IfOk, None, map, string_bytes};
 ghost use Rattle.env_config.specs.Source.{file_of};
 ghost use Rattle.aws_settings.specs.AwsSettings.{LoadsDefaults, ReadsSettings, lone_text, lone_texts, settings_given};
-ghost use Rattle.aws_settings.specs.Choice.{GivesSettings, profile_name};
+ghost use Rattle.aws_settings.specs.Choice.{GivesChosen, profile_name};
 
 use crate::choice::{profile_name, settings_of};
 use crate::fault::SettingsFault;
@@ -67,7 +67,7 @@ impl AwsSettings {
         config: &str,
         credentials: &str,
     ) -> Result<AwsSettings, SettingsFault>
-        ensures { GivesSettings (settings_given (lone_texts config.now credentials.now) env.now) result }
+        ensures { GivesChosen (settings_given (lone_texts config.now credentials.now) env.now) result }
     {
         let source = source_of(alloc, env, config, credentials)?;
         settings_of(alloc, false, None, env, &source)

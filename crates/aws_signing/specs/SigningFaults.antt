@@ -14,7 +14,7 @@ use Rattle.chain_watch.specs.declared.chain_fault.ChainFault.TheVariants as chai
 use Rattle.aws_chunked.specs.Announcement.{announce_fault_text}
 use Rattle.aws_chunked.specs.declared.announcement.AnnounceFault.{AnnounceFault}
 use Rattle.aws_chunked.specs.declared.announcement.AnnounceFault.TheVariants as announcing
-use Rattle.aws_settings.specs.Faults.{settings_fault_text}
+use Rattle.aws_settings.specs.Faults.{settings_lack_text}
 use Rattle.aws_settings.specs.declared.fault.SettingsFault.{SettingsFault}
 use Rattle.aws_settings.specs.declared.fault.SettingsFault.TheVariants as settings
 use Rattle.request_door.specs.DoorFaults.{door_fault_text}
@@ -65,7 +65,7 @@ signing_fault_text EmptyRegion = codes "the region is empty"
 signing_fault_text EmptyName = codes "the service's name is empty"
 signing_fault_text (InvalidExpiry seconds) = codes "a URL is good for 1 to 604800 seconds, not for " ++ decimal seconds
 signing_fault_text AlreadyPresigned = codes "the URL is presigned already"
-signing_fault_text (Settings fault) = settings_fault_text fault
+signing_fault_text (Settings fault) = settings_lack_text fault
 signing_fault_text (InvalidChunkSize size) = codes "a chunk has 1 to 4294967295 bytes, not " ++ decimal size
 signing_fault_text DataTooLong = codes "the data is too long"
 signing_fault_text (Unannounced fault) = announce_fault_text fault

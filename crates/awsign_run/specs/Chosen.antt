@@ -2,7 +2,7 @@
 use Rattle.std.specs.Prelude.{◌≡◌, ◌⊎◌, ℕ, if◌then◌else◌, List, codes, Option, Some, None, unwrap_or, option_map, Result, Ok, Err, string_bytes}
 use Rattle.std.specs.Option.{option_or}
 use Rattle.smithy_core.specs.TextPairs.{last_value}
-use Rattle.aws_settings.specs.Choice.{Key, Lack, Profile, Settings as Given, key_in, lack_in, profile_name, settings_by}
+use Rattle.aws_settings.specs.Choice.{ChosenKey, Lack, Profile, ChosenSettings, key_in, lack_in, profile_name, choice_by}
 use Rattle.sigv4.specs.declared.error.SigningError.{SigningError}
 use Rattle.awsign_words.specs.Words.{OptionValues, has}
 use Rattle.awsign_run.specs.Guess.{guessed_service}
@@ -50,7 +50,7 @@ chosen_service options host =
 
 -- who signs, for which region and service
 pub record SignsFor : Type 0 where
-  pub key : Key
+  pub key : ChosenKey
   pub region : List ℕ
   pub service : List ℕ
 
@@ -60,7 +60,7 @@ as_refused (Ok settings) = Ok settings
 as_refused (Err lack) = Err (lacking lack)
 
 -- who signs, where all is there; the settings are missed first, and then the service
-abbrev pub signs_for : Result Given SignRefusal → Option (List ℕ) → Result SignsFor SignRefusal
+abbrev pub signs_for : Result ChosenSettings SignRefusal → Option (List ℕ) → Result SignsFor SignRefusal
 signs_for (Err refusal) service = Err refusal
 signs_for (Ok settings) None = Err missing_service
 signs_for (Ok settings) (Some service) = Ok (record { key = settings.key; region = settings.region; service = service })
@@ -68,7 +68,7 @@ signs_for (Ok settings) (Some service) = Ok (record { key = settings.key; region
 -- who signs for a host, by these options, variables and profile
 abbrev pub signer_by : OptionValues → List ℕ → List (List ℕ × List ℕ) → Result Profile Lack → Result SignsFor SignRefusal
 signer_by options host env profile =
-    signs_for (as_refused (settings_by (has options (codes "--profile")) (last_value options (codes "--region")) env profile)) (chosen_service options host)
+    signs_for (as_refused (choice_by (has options (codes "--profile")) (last_value options (codes "--region")) env profile)) (chosen_service options host)
 
 -- what contracts see of who signs
 abbrev pub signs_for_of : Signer → SignsFor

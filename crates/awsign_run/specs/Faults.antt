@@ -7,9 +7,9 @@ use Rattle.awsign_run.specs.declared.fault.Fault.{Fault}
 use Rattle.awsign_run.specs.declared.fault.Fault.TheVariants.{Settings, Signing, NoMemory}
 
 -- the fault where there are no settings
-abbrev pub settings_fault : SettingsFault → Fault
-settings_fault SetNoMemory = NoMemory
-settings_fault fault = Settings fault
+abbrev pub lacking_fault : SettingsFault → Fault
+lacking_fault SetNoMemory = NoMemory
+lacking_fault fault = Settings fault
 
 -- the fault of a request that isn't signed
 abbrev pub signing_fault : SigningError → Fault

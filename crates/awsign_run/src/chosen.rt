@@ -3,7 +3,7 @@ ghost use Rattle.std.specs.Prelude.{◌≡◌, Ok, map, option_copied, string_by
 ghost use Rattle.std.specs.Option.{option_or};
 ghost use Rattle.env_config.specs.Sections.{sections};
 ghost use Rattle.env_config.specs.Source.{file_of};
-ghost use Rattle.aws_settings.specs.Choice.{profile_of, settings_in};
+ghost use Rattle.aws_settings.specs.Choice.{profile_of, settings_seen};
 ghost use Rattle.awsign_run.specs.Chosen.{GivesSigner, chosen_service, signer_by, signs_for};
 
 use crate::fault::Fault;
@@ -48,7 +48,7 @@ pub fn signer_for(
 
 // The signer with these settings, where there is a service.
 fn signer_of(alloc: Global, settings: AwsSettings, service: Option<&str>) -> Result<Signer, Fault>
-    ensures { GivesSigner (signs_for (Ok (settings_in settings)) (option_copied service.entry)) result }
+    ensures { GivesSigner (signs_for (Ok (settings_seen settings)) (option_copied service.entry)) result }
 {
     match service {
         Some(service) => Ok(Signer {

@@ -31,9 +31,9 @@ impl From<AllocError> for Fault {
 
 impl From<SettingsFault> for Fault {
     ghost use Rattle.std.specs.Prelude.{◌≡◌};
-    ghost use Rattle.awsign_run.specs.Faults.{settings_fault};
+    ghost use Rattle.awsign_run.specs.Faults.{lacking_fault};
 
-    ghost from_gives = { λ inner fault. fault ≡ settings_fault inner };
+    ghost from_gives = { λ inner fault. fault ≡ lacking_fault inner };
 
     fn from(inner: SettingsFault) -> Fault {
         match inner {

@@ -20,7 +20,7 @@ use Rattle.request_door.specs.declared.limits.Limits.{Limits}
 use Rattle.request_door.specs.declared.payload.DoorPayload.{DoorPayload}
 use Rattle.request_door.specs.declared.payload.DoorPayload.TheVariants.{Digest, Unsigned, UnsignedChunks, SignedChunks}
 use Rattle.awsign_words.specs.Words.{OptionValues}
-use Rattle.aws_settings.specs.Choice.{Key, profile_of}
+use Rattle.aws_settings.specs.Choice.{ChosenKey, profile_of}
 use Rattle.awsign_run.specs.Chosen.{SignRefusal, SignsFor, asked_profile, refusal_of, signer_by}
 use Rattle.awsign_run.specs.Guess.{url_host}
 use Rattle.awsign_run.specs.Signing.{is_s3, usual_settings}
@@ -36,7 +36,7 @@ abbrev pub verify_limits : Limits
 verify_limits = record { skew = 900; expiry = 604800; names = 100 }
 
 -- the keys that are known: the one that options, variables or the profile give
-abbrev pub known_secrets : Key → List ℕ → Option (List ℕ)
+abbrev pub known_secrets : ChosenKey → List ℕ → Option (List ℕ)
 known_secrets key key_id = first_value ((key.id, key.secret) ∷ []) key_id
 
 -- the request at a service's door, with this body and at this moment; the service is the signer's, and so is the one key that it knows

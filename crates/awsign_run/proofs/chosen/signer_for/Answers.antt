@@ -3,7 +3,7 @@ use Rattle.std.specs.Prelude.{string_bytes}
 use Rattle.smithy_core.specs.TextPairs.{last_value}
 use Rattle.env_config.specs.Sections.{sections}
 use Rattle.env_config.specs.Source.{file_of}
-use Rattle.aws_settings.specs.Choice.{profile_of, settings_by}
+use Rattle.aws_settings.specs.Choice.{profile_of, choice_by}
 use Rattle.awsign_run.specs.Chosen.{chosen_service}
 use Rattle.awsign_run.proofs.ChosenLemmas.{nobody_without}
 use Rattle.awsign_words.specs.Words.{has}
@@ -14,5 +14,5 @@ returns-in-Err c =
     let options = c.args.options.now in
     let profile = profile_of (sections (map file_of c.args.source.now.files.items)) (string_bytes c.args.source.now.profile) in
     rw c.from.ensures
-    (nobody_without (settings_by (has options (codes "--profile")) (last_value options (codes "--region")) c.args.env.now profile)
+    (nobody_without (choice_by (has options (codes "--profile")) (last_value options (codes "--region")) c.args.env.now profile)
     (chosen_service options c.args.host.now) c.in-Err.fault c.in-Err.ensures)
