@@ -1,5 +1,5 @@
 -- What the variables and the profile files of a process give to sign with.
-use Rattle.std.specs.Prelude.{◌≡◌, ◌⊎◌, ℕ, false, List, [], ◌∷◌, map, string_bytes, Option, None, Result, Err}
+use Rattle.std.specs.Prelude.{◌≡◌, ◌⊎◌, ℕ, false, List, [], ◌∷◌, codes, map, string_bytes, Option, None, Some, Result, Err}
 use Rattle.std.specs.Global.{Vec}
 use Rattle.smithy_core.specs.declared.outside.disk.DiskError.{DiskError}
 use Rattle.env_config.specs.Files.{Place, Usual}
@@ -18,13 +18,13 @@ use Rattle.aws_settings.specs.declared.settings.AwsSettings.{AwsSettings}
 abbrev pub settings_given : List FileText → List (List ℕ × List ℕ) → Result ChosenSettings Lack
 settings_given files env = choice_by false None env (profile_of (sections files) (profile_name None env))
 
--- the text of a file that lies nowhere
-abbrev pub lone_text : EnvConfigFileKind → List ℕ → FileText
-lone_text kind contents = record { kind = kind; path = None; contents = contents }
+-- a text in a file's place: a fault in it names it so
+abbrev pub named_text : EnvConfigFileKind → List ℕ → List ℕ → FileText
+named_text kind name contents = record { kind = kind; path = Some name; contents = contents }
 
 -- the texts in place of the two default files
-abbrev pub lone_texts : List ℕ → List ℕ → List FileText
-lone_texts config credentials = lone_text Config config ∷ lone_text Credentials credentials ∷ []
+abbrev pub named_texts : List ℕ → List ℕ → List FileText
+named_texts config credentials = named_text Config (codes "the config text") config ∷ named_text Credentials (codes "the credentials text") credentials ∷ []
 
 -- the default files
 abbrev pub default_places : List Place

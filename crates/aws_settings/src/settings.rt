@@ -1,7 +1,7 @@
 //! The settings of a process.
 ghost use Rattle.std.specs.Prelude.{◌≡◌, ◌≤◌, IfOk, None, map, string_bytes};
 ghost use Rattle.env_config.specs.Source.{file_of};
-ghost use Rattle.aws_settings.specs.AwsSettings.{LoadsDefaults, ReadsSettings, lone_text, lone_texts, settings_given};
+ghost use Rattle.aws_settings.specs.AwsSettings.{LoadsDefaults, ReadsSettings, named_text, named_texts, settings_given};
 ghost use Rattle.aws_settings.specs.Choice.{GivesChosen, profile_name};
 
 use crate::choice::{profile_name, settings_of};
@@ -67,7 +67,7 @@ impl AwsSettings {
         config: &str,
         credentials: &str,
     ) -> Result<AwsSettings, SettingsFault>
-        ensures { GivesChosen (settings_given (lone_texts config.now credentials.now) env.now) result }
+        ensures { GivesChosen (settings_given (named_texts config.now credentials.now) env.now) result }
     {
         let source = source_of(alloc, env, config, credentials)?;
         settings_of(alloc, false, None, env, &source)
@@ -93,12 +93,17 @@ fn default_source<D: Disk>(alloc: Global, env: &Env, disk: &mut D) -> Mem<Source
 
 // The texts in place of the default files, and the profile that the variables select.
 fn source_of(alloc: Global, env: &Env, config: &str, credentials: &str) -> Mem<Source>
-    ensures files { IfOk result (λ source. map file_of source.files.items ≡ lone_texts config.now credentials.now) }
+    ensures files { IfOk result (λ source. map file_of source.files.items ≡ named_texts config.now credentials.now) }
     ensures profile { IfOk result (λ source. string_bytes source.profile ≡ profile_name None env.now) }
 {
     let mut files = Vec::new(alloc);
-    files.push(lone_text(alloc, EnvConfigFileKind::Config, config)?)?;
-    files.push(lone_text(alloc, EnvConfigFileKind::Credentials, credentials)?)?;
+    files.push(named_text(alloc, EnvConfigFileKind::Config, "the config text", config)?)?;
+    files.push(named_text(
+        alloc,
+        EnvConfigFileKind::Credentials,
+        "the credentials text",
+        credentials,
+    )?)?;
     Ok(Source {
         files,
         profile: usual_profile(alloc, env)?,
@@ -112,13 +117,13 @@ fn usual_profile(alloc: Global, env: &Env) -> Mem<String>
     String::from_str(alloc, profile_name(None, env))
 }
 
-// The text of a file that lies nowhere.
-fn lone_text(alloc: Global, kind: EnvConfigFileKind, text: &str) -> Mem<File>
-    ensures { IfOk result (λ file. file_of file ≡ lone_text kind text.now) }
+// A text in a file's place: a fault in it names it so.
+fn named_text(alloc: Global, kind: EnvConfigFileKind, name: &str, text: &str) -> Mem<File>
+    ensures { IfOk result (λ file. file_of file ≡ named_text kind name.now text.now) }
 {
     Ok(File {
         kind,
-        path: None,
+        path: Some(String::from_str(alloc, name)?),
         contents: String::from_str(alloc, text)?,
     })
 }
