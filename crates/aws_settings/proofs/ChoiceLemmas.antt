@@ -1,7 +1,7 @@
 -- Where there is no profile or no key there are no settings.
 use Rattle.std.proofs.Common.{◌≡◌, ℕ, Bool, List, Option, refl}
-use Rattle.std.specs.Prelude.{Result, Ok, Err}
-use Rattle.aws_settings.specs.Choice.{IsLackOf, ChosenKey, Lack, Profile, ChosenSettings, choice_by, settings_of_parts}
+use Rattle.std.specs.Prelude.{Result, Err}
+use Rattle.aws_settings.specs.Choice.{IsLackOf, ChosenKey, Lack, Profile, choice_by, settings_of_parts}
 use Rattle.aws_settings.specs.declared.fault.SettingsFault.{SettingsFault}
 use Rattle.aws_settings.specs.declared.fault.SettingsFault.TheVariants as fault
 

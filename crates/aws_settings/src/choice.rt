@@ -1,9 +1,9 @@
 //! Which key and region count.
-ghost use Rattle.std.specs.Prelude.{◌≡◌, IfOk, map, option_copied, option_map, string_bytes};
+ghost use Rattle.std.specs.Prelude.{◌≡◌, IfOk, Ok, map, option_copied, option_map, string_bytes};
 ghost use Rattle.std.specs.Option.{option_or};
 ghost use Rattle.env_config.specs.Sections.{sections};
 ghost use Rattle.env_config.specs.Source.{file_of};
-ghost use Rattle.aws_settings.specs.Choice.{GivesChosenKey, GivesChosen, chosen_key, region_by, chosen_settings, filled, key_in, key_with, profile_key, profile_name, profile_of, profile_values, choice_by, variable, variable_key, variables_key};
+ghost use Rattle.aws_settings.specs.Choice.{GivesChosenKey, GivesChosen, chosen_key, region_by, chosen_settings, filled, key_in, key_with, profile_key, profile_name, profile_of, profile_values, choice_by, settings_of_parts, variable, variable_key, variables_key};
 
 use crate::fault::SettingsFault;
 use crate::profile::{ProfileValues, read_profile};
@@ -59,17 +59,29 @@ pub fn choose_settings(
     ensures { GivesChosen (chosen_settings names_profile (option_copied region.entry) env.now (profile_values profile.now)) result }
 {
     match choose_key(alloc, names_profile, env, profile) {
-        Ok(credentials) => match region_of(region, env, profile) {
-            Some(region) => Ok(AwsSettings {
-                region: String::from_str(alloc, region)?,
-                credentials,
-            }),
-            None => Err(SettingsFault::MissingRegion(String::from_str(
-                alloc,
-                profile.name.as_str(),
-            )?)),
-        },
+        Ok(credentials) => {
+            let region = region_of(region, env, profile);
+            settings_with(alloc, credentials, region, profile.name.as_str())
+        }
         Err(fault) => Err(fault),
+    }
+}
+
+// The settings with this key, where there is a region.
+fn settings_with(
+    alloc: Global,
+    credentials: Credentials,
+    region: Option<&str>,
+    profile: &str,
+) -> Result<AwsSettings, SettingsFault>
+    ensures { GivesChosen (settings_of_parts profile.now (Ok (key_in credentials)) (option_copied region.entry)) result }
+{
+    match region {
+        Some(region) => Ok(AwsSettings {
+            region: String::from_str(alloc, region)?,
+            credentials,
+        }),
+        None => Err(SettingsFault::MissingRegion(String::from_str(alloc, profile)?)),
     }
 }
 

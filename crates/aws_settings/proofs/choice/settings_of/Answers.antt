@@ -11,5 +11,5 @@ returns-in-Ok c = rw c.in-Ok.ensures c.choose_settings.ensures
 
 pub returns-in-Err : goal.returns-in-Err
 returns-in-Err c =
-    nothing_without c.args.names_profile (option_copied c.args.region.entry) c.args.env.now
+    nothing_without c.args.names_profile (option_copied c.args.region) c.args.env.now
     (profile_of (sections (map file_of c.args.source.now.files.items)) (string_bytes c.args.source.now.profile)) c.in-Err.fault c.in-Err.ensures

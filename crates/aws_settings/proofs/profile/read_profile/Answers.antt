@@ -7,7 +7,7 @@ use Rattle.aws_settings.proofs.profile.read_profile.Goals as goal
 
 pub returns-in-Ok : goal.returns-in-Ok
 returns-in-Ok c =
-    rw (profile_read (sections (map file_of c.args.source.now.files.items)) (string_bytes c.args.source.now.profile) c.in-Ok.profile c.in-Ok.ensures)
+    rw (profile_read (sections (map file_of c.args.source.now.files.items)) (string_bytes c.args.source.now.profile) c.in-Ok.profile c.in-Ok.ensures, ← c.as_str.ensures.value)
     c.given_values.ensures
 
 pub returns-in-Err : goal.returns-in-Err
