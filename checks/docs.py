@@ -11,7 +11,7 @@ Every page: each link with its heading, and each path that begins with a folder 
 docs/CALLING.md: "Conditions" lists each public function that has a condition, and no other.
 docs/CLAIMS.md: each name in round brackets is that of a clause, a definition or a part of one, or a function.
 docs/FROM_THE_SDK.md: each name beside a crate here is one that this crate hands out.
-docs/ARCHITECTURE.md: each definition, function, wrong body and case of "From a rule to its files" is where the page says.
+docs/RULES.md: each definition, function, wrong body and case is where the page says.
 The pages together have fewer than MOST_WORDS words, as `wc -w` counts them.
 """
 import collections
@@ -22,9 +22,9 @@ import sys
 from definitions import ROOT, cited_names, conditional_names, exported_names, meanings
 
 PAGES = [*ROOT.glob("*.md"), *ROOT.glob("docs/*"), *ROOT.glob("bench/*.md")]
-# So many can be read in two hours; a man page is read by who uses its program, and the list of calls, which a script makes, is looked up.
+# So many can be read in two hours; a man page is read by who uses its program, and the lists of calls and of rules are looked up.
 MOST_WORDS = 25_000
-LOOKED_UP = ROOT / "docs/CALLS.md"
+LOOKED_UP = [ROOT / "docs/CALLS.md", ROOT / "docs/RULES.md"]
 # What a copy shares with what it was made of: the same sentence holds for each.
 COPIES = re.compile(r"IsSame\w+|Is\w+Copy|IsCopied")
 # The pages whose names are this repository's; the others tell of the SDK for Rust, or of keys and variables that nothing reads.
@@ -98,13 +98,12 @@ def cited_places(cell):
 
 def map_faults():
     """Where the map of rules cites what isn't there: a definition, a function, a wrong body or a case."""
-    page = (ROOT / "docs/ARCHITECTURE.md").read_text()
+    table = (ROOT / "docs/RULES.md").read_text()
     known = {(f"{crate}/specs/{subject}.antt", name) for crate, subject, name in meanings()}
-    table = page.split("## From a rule to its files\n")[1].split("\n## ")[0]
     for row in rows_of(table, "rule"):
         cells = row.strip("| ").split(" | ")
         if len(cells) != 5:
-            yield f"docs/ARCHITECTURE.md: a row of the map has {len(cells)} columns and not 5: {cells[0]}"
+            yield f"docs/RULES.md: a row of the map has {len(cells)} columns and not 5: {cells[0]}"
             continue
         rule, definitions, code, wrong_bodies, cases = cells
         stands = [
@@ -116,10 +115,10 @@ def map_faults():
         for cell, is_there in stands:
             places = list(cited_places(cell))
             if not places and (cell is not wrong_bodies or cell != "none"):
-                yield f"docs/ARCHITECTURE.md: {rule}: a column cites nothing: {cell}"
+                yield f"docs/RULES.md: {rule}: a column cites nothing: {cell}"
             for place, name in places:
                 if not place or not is_there(place, name):
-                    yield f"docs/ARCHITECTURE.md: {rule}: {place} has no {name}"
+                    yield f"docs/RULES.md: {rule}: {place} has no {name}"
 
 
 def has_case(file, text):
@@ -212,7 +211,7 @@ def path_faults():
 
 def length_faults():
     """Where the pages are too long to be read."""
-    words = sum(len(page.read_text().split()) for page in PAGES if page.suffix == ".md" and page != LOOKED_UP)
+    words = sum(len(page.read_text().split()) for page in PAGES if page.suffix == ".md" and page not in LOOKED_UP)
     if words >= MOST_WORDS:
         yield f"the pages have {words} words, and may have fewer than {MOST_WORDS}"
 
