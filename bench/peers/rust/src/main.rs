@@ -39,7 +39,11 @@ fn moment_of(number: usize) -> SystemTime {
     SystemTime::UNIX_EPOCH + Duration::from_secs(1_440_938_160 + number as u64)
 }
 
-fn params_at<S: Default>(identity: &Identity, number: usize, settings: S) -> v4::SigningParams<'_, S> {
+fn params_at<S: Default>(
+    identity: &Identity,
+    number: usize,
+    settings: S,
+) -> v4::SigningParams<'_, S> {
     v4::SigningParams::builder()
         .identity(identity)
         .region("us-east-1")
@@ -52,7 +56,11 @@ fn params_at<S: Default>(identity: &Identity, number: usize, settings: S) -> v4:
 
 fn requests(digest: &mut Digest, count: usize, presigned: bool) {
     let identity = identity();
-    let headers = if presigned { &HEADERS[..0] } else { &HEADERS[..] };
+    let headers = if presigned {
+        &HEADERS[..0]
+    } else {
+        &HEADERS[..]
+    };
     for number in 0..count {
         let mut settings = SigningSettings::default();
         if presigned {
