@@ -12,7 +12,7 @@ WORKS = {
     "events": ("stream: events of 100 bytes", "events", "an event"),
     "bytes": ("stream: the bytes of one event", "bytes", "a byte"),
     "headers": ("stream: the headers of a request", "headers", "a header"),
-    "pieces": ("watch: the pieces of a long frame", "pieces", "a piece"),
+    "pieces": ("watch: pieces of a long frame", "pieces", "a piece"),
 }
 WIDTH, HEIGHT = 400, 300
 LEFT, RIGHT, TOP, BOTTOM = 78, 28, 58, 50
