@@ -7,7 +7,13 @@ _awsign() {
       return
       ;;
     --as)
-      mapfile -t COMPREPLY < <(compgen -W 'curl headers json http url' -- "$word")
+      words='curl headers json http url'
+      [[ ${COMP_WORDS[1]} == events ]] && words='lines json'
+      mapfile -t COMPREPLY < <(compgen -W "$words" -- "$word")
+      return
+      ;;
+    events)
+      mapfile -t COMPREPLY < <(compgen -W 'decode encode verify' -- "$word")
       return
       ;;
     --checksum)
@@ -15,10 +21,12 @@ _awsign() {
       return
       ;;
     sign | presign | verify | chunk)
-      mapfile -t COMPREPLY < <(compgen -W 'GET PUT POST HEAD DELETE PATCH' -- "$word")
-      return
+      if ((COMP_CWORD == 2)); then
+        mapfile -t COMPREPLY < <(compgen -W 'GET PUT POST HEAD DELETE PATCH' -- "$word")
+        return
+      fi
       ;;
-    -H | --payload-hash | --payload-text | --expires | --service | --region | --profile | --at | --size | --trailer)
+    -H | --payload-hash | --payload-text | --expires | --service | --region | --profile | --at | --size | --trailer | --seed)
       COMPREPLY=()
       return
       ;;
@@ -31,8 +39,13 @@ _awsign() {
   case ${COMP_WORDS[1]} in
     presign) words="$words --expires --long" ;;
   esac
+  case ${COMP_WORDS[1]}-${COMP_WORDS[2]} in
+    events-decode) words='--raw --hex --as' ;;
+    events-encode) words='--raw --hex' ;;
+    events-verify) words='--raw --hex --as --seed --profile --region --service --config --credentials' ;;
+  esac
   if ((COMP_CWORD == 1)); then
-    words='sign presign verify chunk --help --version'
+    words='sign presign verify chunk events --help --version'
   fi
   mapfile -t COMPREPLY < <(compgen -W "$words" -- "$word")
 }

@@ -1,13 +1,17 @@
-//! The program: makes the real objects, hands them to `run_signing`, `run_verify` or `make_upload`, and ends with the number of its status.
+//! The program: makes the real objects, hands them to `run_signing`, `run_verify`, `make_upload` or a call of `awsign_events`, and ends with
+//! the number of its status.
 #![tactic(auto)]
 
 mod help;
 
 use crate::help::text_asked;
 use awsign_chunk::{ChunkStatus, ChunkedUpload, make_upload, say_chunk, write_upload};
+use awsign_events::{
+    EventsStatus, check_events, decode_events, encode_events, read_hex, say_events,
+};
 use awsign_run::{Status, run_signing, say, tell_service, url_host, write_text};
 use awsign_verify::{run_verify, say_verify};
-use awsign_words::{Asked, AskedCommand, VerifyAsked, read_command};
+use awsign_words::{Asked, AskedCommand, EventsAction, EventsAsked, VerifyAsked, read_command};
 use program_start::{StartFault, words_and_env};
 use smithy_core::{ByteSource, CalmSource, Env, HostDisk, StdSink, StdSource, SystemClock};
 use std::fs::File;
@@ -38,6 +42,11 @@ fn answer(rt: &HostRuntime, words: &[String], env: &Env) -> u8 {
         Ok(AskedCommand::Chunking(asked)) => {
             let status = chunk(rt, &asked, env);
             say_chunk(rt.alloc(), words, &status, &mut StdSink::new(rt.stderr()));
+            status.code()
+        }
+        Ok(AskedCommand::Streaming(asked)) => {
+            let status = stream(rt, &asked, env);
+            say_events(rt.alloc(), &status, &mut StdSink::new(rt.stderr()));
             status.code()
         }
         Err(fault) => said(rt, words, &Status::from(fault)),
@@ -141,4 +150,36 @@ fn verify(rt: &HostRuntime, asked: &VerifyAsked<'_>, env: &Env) -> u8 {
     );
     say_verify(rt.alloc(), &status, &mut StdSink::new(rt.stderr()));
     status.code()
+}
+
+// Prints, writes or checks the events of the input.
+fn stream(rt: &HostRuntime, asked: &EventsAsked, env: &Env) -> EventsStatus {
+    let mut input = StdSource::new(rt.reader());
+    let is_hex = asked.options.get("--hex").is_some();
+    if asked.action == EventsAction::Encode {
+        let mut out = StdSink::new(rt.stdout());
+        return encode_events(rt.alloc(), is_hex, &mut input, &mut out);
+    }
+    if !is_hex {
+        return show_events(rt, asked, env, &mut input);
+    }
+    match read_hex(rt.alloc(), &mut input) {
+        Ok(frames) => show_events(rt, asked, env, &mut CalmSource::new(frames)),
+        Err(status) => status,
+    }
+}
+
+// Prints or checks the events of frames.
+fn show_events<S: ByteSource>(
+    rt: &HostRuntime,
+    asked: &EventsAsked,
+    env: &Env,
+    frames: &mut S,
+) -> EventsStatus {
+    let mut out = StdSink::new(rt.stdout());
+    if asked.action == EventsAction::Decode {
+        return decode_events(rt.alloc(), asked.form(), frames, &mut out);
+    }
+    let mut disk = HostDisk::new(rt.alloc(), rt);
+    check_events(rt.alloc(), asked, env, frames, &mut disk, &mut out)
 }

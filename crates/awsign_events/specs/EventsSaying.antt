@@ -1,0 +1,45 @@
+-- What is said of how a run of `awsign events` ended, and its number.
+use Rattle.std.specs.Prelude.{◌≡◌, ◌⊎◌, ℕ, List, ◌++◌, codes, Option, string_bytes}
+use Rattle.std.specs.Fmt.{decimal}
+use Rattle.eventstream.specs.Error.{error_kind, error_kind_text}
+use Rattle.chain_watch.specs.ChainFault.{chain_fault_text}
+use Rattle.awsign_run.specs.Saying.{GainsSome, fault_reason, tool_line}
+use Rattle.awsign_events.specs.declared.status.EventsStatus.{EventsStatus}
+use Rattle.awsign_events.specs.declared.status.EventsStatus.TheVariants.{Done, WrongFrame, CutShort, Unspelled, BadLine, Unframed, BadChain, Refused, CouldNotReadFile, InputFault, TooLarge, OutputFault, NoMemory}
+
+-- the number that the process of `events` ends with
+abbrev pub events_code : EventsStatus → ℕ
+events_code Done = 0
+events_code (WrongFrame place error) = 1
+events_code (CutShort place) = 1
+events_code (Unspelled place) = 1
+events_code (BadLine place) = 1
+events_code (Unframed place error) = 1
+events_code (BadChain fault) = 1
+events_code (Refused fault) = 1
+events_code (CouldNotReadFile path) = 3
+events_code InputFault = 3
+events_code TooLarge = 3
+events_code OutputFault = 3
+events_code NoMemory = 3
+
+-- why a run isn't done
+abbrev pub events_reason : EventsStatus → List ℕ
+events_reason Done = codes ""
+events_reason (WrongFrame place error) = codes "frame " ++ (decimal place ++ (codes ": " ++ error_kind_text (error_kind error)))
+events_reason (CutShort place) = codes "frame " ++ (decimal place ++ codes ": the input ends within it")
+events_reason (Unspelled place) = codes "frame " ++ (decimal place ++ codes ": lines can't spell one of its headers; --as json can")
+events_reason (BadLine place) = codes "line " ++ (decimal place ++ codes " of the input isn't understood")
+events_reason (Unframed place error) = codes "event " ++ (decimal place ++ (codes ": " ++ error_kind_text (error_kind error)))
+events_reason (BadChain fault) = codes "the chain isn't good: " ++ chain_fault_text fault
+events_reason (Refused fault) = fault_reason fault
+events_reason (CouldNotReadFile path) = codes "could not read the profile file " ++ string_bytes path
+events_reason InputFault = codes "could not read standard input"
+events_reason TooLarge = codes "the input has over 67108864 bytes"
+events_reason OutputFault = codes "the output failed"
+events_reason NoMemory = codes "no memory"
+
+-- what was said: nothing where all was written, and else the line, or that memory ran out
+abbrev pub SaysEvents : EventsStatus → Option (List ℕ) → Option (List ℕ) → Type 0
+SaysEvents Done before now = now ≡ before
+SaysEvents status before now = GainsSome before now (tool_line (events_reason status)) ⊎ GainsSome before now (tool_line (codes "no memory"))

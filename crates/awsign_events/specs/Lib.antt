@@ -1,0 +1,7 @@
+pub mod CheckEvents
+pub mod Decode
+pub mod Encode
+pub mod EventText
+pub mod EventsSaying
+pub mod EventsStatus
+pub mod HexInput

@@ -1,0 +1,147 @@
+-- The words behind `awsign events`: what is done, and then options, each at most once.
+use Rattle.std.specs.Prelude.{◌≡◌, ℕ, Bool, true, false, not, ◌&&◌, ◌||◌, if◌then◌else◌, List, [], ◌∷◌, ◌++◌, codes, bytes_eq, Option, Some, None, is_some, option_and_then, option_copied, unwrap_or, Result, Ok, Err}
+use Rattle.smithy_core.specs.TextPairs.{last_value}
+use Rattle.sigv4.specs.Signature.{is_signature}
+use Rattle.job_text.specs.Pieces.{after_pieces, taken_from}
+use Rattle.job_text.specs.declared.words.WordsFault.{WordsFault}
+use Rattle.job_text.specs.declared.words.WordsFault.TheVariants.{BadWord, NoMemory}
+use Rattle.awsign_words.specs.declared.events.EventForm.{EventForm}
+use Rattle.awsign_words.specs.declared.events.EventForm.TheVariants.{Lines, JsonLines}
+use Rattle.awsign_words.specs.declared.events.EventsAction.{EventsAction}
+use Rattle.awsign_words.specs.declared.events.EventsAction.TheVariants.{Decode, Encode, Check}
+use Rattle.awsign_words.specs.declared.events.EventsAsked.{EventsAsked}
+use Rattle.awsign_words.specs.declared.events.GivenEvents.{GivenEvents}
+
+-- what is done, and the values of options by their words, in order
+pub record EventsWanted : Type 0 where
+  pub action : EventsAction
+  pub options : List (List ℕ × List ℕ)
+
+-- what the words so far gave, and the option that waits for its value
+pub record EventsGiven : Type 0 where
+  pub action : EventsAction
+  pub options : List (List ℕ × List ℕ)
+  pub awaited : Option (List ℕ)
+
+-- no options yet
+abbrev pub no_event_words : EventsAction → EventsGiven
+no_event_words action = record { action = action; options = []; awaited = None }
+
+-- ## Options
+
+-- events are printed
+abbrev pub prints_events : EventsAction → Bool
+prints_events Decode = true
+prints_events Encode = false
+prints_events Check = true
+
+-- a chain of signed frames is checked
+abbrev pub is_chain_check : EventsAction → Bool
+is_chain_check Decode = false
+is_chain_check Encode = false
+is_chain_check Check = true
+
+-- the option stood
+abbrev pub has_stood : List (List ℕ × List ℕ) → List ℕ → Bool
+has_stood options word = is_some (last_value options word)
+
+-- an option without a value: whether frames are bytes or lines of hexadecimal
+abbrev pub is_event_flag : List ℕ → Bool
+is_event_flag word = bytes_eq word (codes "--raw") || bytes_eq word (codes "--hex")
+
+-- the option can't stand any more
+abbrev pub is_event_spent : List (List ℕ × List ℕ) → List ℕ → Bool
+is_event_spent options word = has_stood options word || (is_event_flag word && (has_stood options (codes "--raw") || has_stood options (codes "--hex")))
+
+-- an option that says who signed the chain, and over which signature its first frame
+abbrev pub is_chain_option : List ℕ → Bool
+is_chain_option word =
+    bytes_eq word (codes "--seed") || bytes_eq word (codes "--profile") || bytes_eq word (codes "--region") || bytes_eq word (codes "--service")
+    || bytes_eq word (codes "--config") || bytes_eq word (codes "--credentials")
+
+-- an option whose value is the next word
+abbrev pub takes_event_value : EventsAction → List ℕ → Bool
+takes_event_value action word = (prints_events action && bytes_eq word (codes "--as")) || (is_chain_check action && is_chain_option word)
+
+-- the form of events that a word names
+abbrev pub event_form_named : List ℕ → Option EventForm
+event_form_named word = if bytes_eq word (codes "lines") then Some Lines else if bytes_eq word (codes "json") then Some JsonLines else None
+
+-- the form that options ask for, or else lines
+abbrev pub asked_event_form : List (List ℕ × List ℕ) → EventForm
+asked_event_form options = unwrap_or (option_and_then event_form_named (last_value options (codes "--as"))) Lines
+
+-- whether the value fits its option
+abbrev pub is_event_fit : List ℕ → List ℕ → Bool
+is_event_fit option value =
+    if bytes_eq option (codes "--as") then is_some (event_form_named value)
+    else if bytes_eq option (codes "--seed") then is_signature value
+    else true
+
+-- ## Words
+
+-- the value of an option
+abbrev pub take_event_value : EventsGiven → List ℕ → List ℕ → Option EventsGiven
+take_event_value given option value =
+    if is_event_fit option value then Some (record given { options = given.options ++ (option, value) ∷ []; awaited = None }) else None
+
+-- an option
+abbrev pub take_event_option : EventsGiven → List ℕ → Option EventsGiven
+take_event_option given word =
+    if is_event_spent given.options word then None
+    else if takes_event_value given.action word then Some (record given { awaited = Some word })
+    else if is_event_flag word then Some (record given { options = given.options ++ (word, []) ∷ [] })
+    else None
+
+-- a word, behind an option that waits or doesn't
+abbrev pub take_event_word : EventsGiven → Option (List ℕ) → List ℕ → Option EventsGiven
+take_event_word given None word = take_event_option given word
+take_event_word given (Some option) word = take_event_value (record given { awaited = None }) option word
+
+-- a word
+abbrev pub event_word : EventsGiven → List ℕ → Option EventsGiven
+event_word given word = take_event_word given given.awaited word
+
+-- the words are over: no option waits, and a chain that is checked has its seed
+abbrev pub all_event_words : ℕ → EventsGiven → Result EventsWanted ℕ
+all_event_words place given =
+    if is_some given.awaited || (is_chain_check given.action && not (has_stood given.options (codes "--seed"))) then Err place
+    else Ok (record { action = given.action; options = given.options })
+
+-- what a word names is done
+abbrev pub action_named : List ℕ → Option EventsAction
+action_named word =
+    if bytes_eq word (codes "decode") then Some Decode
+    else if bytes_eq word (codes "encode") then Some Encode
+    else if bytes_eq word (codes "verify") then Some Check
+    else None
+
+-- what the words behind what is done ask for, or the place of the first bad one
+unfoldable pub event_words_behind : EventsAction → List (List ℕ) → Result EventsWanted ℕ
+event_words_behind action words = after_pieces all_event_words (taken_from event_word 3 (no_event_words action) words)
+
+-- goes on, where the word names what is done
+abbrev pub action_words : List (List ℕ) → Option EventsAction → Result EventsWanted ℕ
+action_words words (Some action) = event_words_behind action words
+action_words words None = Err 2
+
+-- what the words behind `events` ask for, or the place of the first bad one
+unfoldable pub events_words : List (List ℕ) → Result EventsWanted ℕ
+events_words [] = Err 2
+events_words (word ∷ words) = action_words words (action_named word)
+
+-- ## Answers
+
+-- what contracts see of what the words gave
+abbrev pub given_events : GivenEvents → EventsGiven
+given_events given = record { action = given.action; options = given.options; awaited = option_copied given.awaited }
+
+-- what contracts see of what is asked
+abbrev pub events_wanted : EventsAsked → EventsWanted
+events_wanted asked = record { action = asked.action; options = asked.options }
+
+-- this is what is asked, or the word at this place is bad; or memory ran out
+abbrev pub ReadsEventsAsked : Result EventsWanted ℕ → Result EventsAsked WordsFault → Type 0
+ReadsEventsAsked read (Ok asked) = read ≡ Ok (events_wanted asked)
+ReadsEventsAsked read (Err (BadWord place)) = read ≡ Err place
+ReadsEventsAsked read (Err NoMemory) = Unit {0}
