@@ -300,21 +300,6 @@ def framed(headers, payload):
     return frame
 
 
-def chained(seed, events):
-    """A chain of signed frames over a seed, each event's frame signed in a second of its own, and the closing one."""
-    signed, before, key = b"", seed, b"AWS4" + SECRET.encode()
-    for part in ("20150830", REGION, "transcribe", "aws4_request"):
-        key = hmac.digest(key, part.encode(), "sha256")
-    for count, event in enumerate([*events, b""]):
-        date = b"\x05:date\x08" + struct.pack(">q", (1440938160 + count) * 1000)
-        lines = ["AWS4-HMAC-SHA256-PAYLOAD", f"20150830T1236{count:02}Z", f"20150830/{REGION}/transcribe/aws4_request", before,
-                 hashlib.sha256(date).hexdigest(), hashlib.sha256(event).hexdigest()]
-        code = hmac.digest(key, "\n".join(lines).encode(), "sha256")
-        signed += framed([(b":chunk-signature", 6, b"\x00\x20" + code), (b":date", 8, date[-8:])], event)
-        before = code.hex()
-    return signed
-
-
 def events():
     """What `awsign events` prints of frames that botocore reads, and what it writes."""
     from botocore.eventstream import EventStreamBuffer
@@ -361,39 +346,13 @@ def events():
     says("odd digits of a frame", "(head -1 digits; echo 0) | awsign events decode --hex", 1, "", "awsign: line 2 of the input")
     says("events to a full device", "awsign events decode < frames > /dev/full", 3, "", "awsign: the output failed")
     says("events of a folder", "awsign events decode < .", 3, "", "awsign: could not read standard input")
-    for words in ("events", "events print", "events decode --raw --hex", "events encode --as json", "events decode --as curl", "events verify", "events verify --seed x", "events decode --seed"):
+    for words in ("events", "events print", "events decode --raw --hex", "events encode --as json", "events decode --as curl", "events decode --as", "events encode --seed x"):
         says(words, f"awsign {words} < frames", 2, "", "awsign: ")
-    chains(whole, lines, framed([], b"other"))
     reader = subprocess.run(["awsign", "events", "encode"], input=kept["job"], capture_output=True, timeout=60).stdout
     buffer = EventStreamBuffer()
     buffer.add_data(reader)
     if [message.payload for message in buffer] != [b"hello", b""]:
         failed.append(f"botocore reads other messages of {reader!r}")
-
-
-def chains(whole, lines, other):
-    """What `awsign events verify` prints of chains of signed frames."""
-    seed = "01" * 32
-    chain = chained(seed, [whole, other, whole])
-    cut = len(chained(seed, [whole])) - len(chained(seed, []))
-    kept = {"chain": chain, "forged": chain[:cut] + chained(seed, [other]), "open": chained(seed, [whole, other])[:-len(chained(seed, []))],
-            "empty": chained(seed, []), "behind": chain + other}
-    for name, data in kept.items():
-        with open(name, "wb") as it:
-            it.write(data)
-    check, two = f"awsign events verify --seed {seed} --service transcribe", "event\npayload 6f74686572\n"
-    says("a chain", f"{check} < chain", 0, lines + two + lines)
-    says("a chain in hexadecimal", f"xxd -p chain | {check} --hex --as lines", 0, lines + two + lines)
-    says("a chain without events", f"{check} < empty", 0)
-    says("a forged frame", f"{check} < forged", 1, lines, "awsign: the chain isn't good: frame 2 carries another signature than its own")
-    says("an open chain", f"{check} < open", 1, lines + two, "awsign: the chain isn't good: frame 3 is missing: the chain has no closing frame")
-    says("bytes behind a chain", f"{check} < behind", 1, lines + two + lines, "awsign: the chain isn't good: frame 5 follows the closing frame")
-    says("another seed", f"awsign events verify --seed {'02' * 32} --service transcribe < chain", 1, "", "frame 1 carries another signature")
-    says("a chain of another service", f"{check}x < chain", 1, "", "frame 1 carries another signature")
-    says("a chain of another secret", f"AWS_SECRET_ACCESS_KEY=x {check} < chain", 1, "", "frame 1 carries another signature")
-    says("a chain without a key", f"env -u AWS_ACCESS_KEY_ID {check} < chain", 1, "", "awsign: no key")
-    says("a chain without a service", f"awsign events verify --seed {seed} < chain", 1, "", "awsign: no service")
-    says("a chain and a file that isn't there", f"{check} --config nowhere < chain", 3, "", "could not read the profile file nowhere")
 
 
 def tasks(at, at_body):

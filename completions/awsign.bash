@@ -13,7 +13,7 @@ _awsign() {
       return
       ;;
     events)
-      mapfile -t COMPREPLY < <(compgen -W 'decode encode verify' -- "$word")
+      mapfile -t COMPREPLY < <(compgen -W 'decode encode' -- "$word")
       return
       ;;
     --checksum)
@@ -21,12 +21,10 @@ _awsign() {
       return
       ;;
     sign | presign | verify | chunk)
-      if ((COMP_CWORD == 2)); then
-        mapfile -t COMPREPLY < <(compgen -W 'GET PUT POST HEAD DELETE PATCH' -- "$word")
-        return
-      fi
+      mapfile -t COMPREPLY < <(compgen -W 'GET PUT POST HEAD DELETE PATCH' -- "$word")
+      return
       ;;
-    -H | --payload-hash | --payload-text | --expires | --service | --region | --profile | --at | --size | --trailer | --seed)
+    -H | --payload-hash | --payload-text | --expires | --service | --region | --profile | --at | --size | --trailer)
       COMPREPLY=()
       return
       ;;
@@ -42,7 +40,6 @@ _awsign() {
   case ${COMP_WORDS[1]}-${COMP_WORDS[2]} in
     events-decode) words='--raw --hex --as' ;;
     events-encode) words='--raw --hex' ;;
-    events-verify) words='--raw --hex --as --seed --profile --region --service --config --credentials' ;;
   esac
   if ((COMP_CWORD == 1)); then
     words='sign presign verify chunk events --help --version'

@@ -9,8 +9,6 @@ awsign chunk METHOD URL --data FILE --out BODY [OPTION]..   writes the body in
                                        chunks, and prints the request
 awsign events decode [OPTION]..        prints the events of event stream frames
 awsign events encode [OPTION]..        writes the frames of printed events
-awsign events verify --seed SIGNATURE [OPTION]..   prints the events of a chain
-                                       of signed frames, each once it is checked
 
   -H 'name: value'     a header, any number
   --profile NAME, --region NAME
@@ -37,12 +35,10 @@ chunk:
   --trailer 'name: value'              a trailer, any number
   --as FORM
 
-events (decode and verify read frames from standard input, encode lines):
+events (decode reads frames from standard input, encode lines):
   --hex                frames are lines of hexadecimal, not bytes (--raw)
-  --as FORM            decode, verify: lines (event, h NAME TYPE VALUE, payload
-                       HEX), or json (an object a line)
-  --seed SIGNATURE     verify: the one that the first frame is signed over
-  --profile, --region, --service, --config, --credentials    verify
+  --as FORM            decode: lines (event, h NAME TYPE VALUE, payload HEX), or
+                       json (an object a line)
 
 Key and region come from the options, then the variables AWS_ACCESS_KEY_ID,
 AWS_SECRET_ACCESS_KEY, AWS_SESSION_TOKEN, AWS_REGION and AWS_DEFAULT_REGION,

@@ -6,9 +6,7 @@ mod help;
 
 use crate::help::text_asked;
 use awsign_chunk::{ChunkStatus, ChunkedUpload, make_upload, say_chunk, write_upload};
-use awsign_events::{
-    EventsStatus, check_events, decode_events, encode_events, read_hex, say_events,
-};
+use awsign_events::{EventsStatus, decode_events, encode_events, read_hex, say_events};
 use awsign_run::{Status, run_signing, say, tell_service, url_host, write_text};
 use awsign_verify::{run_verify, say_verify};
 use awsign_words::{Asked, AskedCommand, EventsAction, EventsAsked, VerifyAsked, read_command};
@@ -45,7 +43,7 @@ fn answer(rt: &HostRuntime, words: &[String], env: &Env) -> u8 {
             status.code()
         }
         Ok(AskedCommand::Streaming(asked)) => {
-            let status = stream(rt, &asked, env);
+            let status = stream(rt, &asked);
             say_events(rt.alloc(), &status, &mut StdSink::new(rt.stderr()));
             status.code()
         }
@@ -152,34 +150,22 @@ fn verify(rt: &HostRuntime, asked: &VerifyAsked<'_>, env: &Env) -> u8 {
     status.code()
 }
 
-// Prints, writes or checks the events of the input.
-fn stream(rt: &HostRuntime, asked: &EventsAsked, env: &Env) -> EventsStatus {
+// Prints the events of the input, or writes their frames.
+fn stream(rt: &HostRuntime, asked: &EventsAsked) -> EventsStatus {
     let mut input = StdSource::new(rt.reader());
-    let is_hex = asked.options.get("--hex").is_some();
-    if asked.action == EventsAction::Encode {
-        let mut out = StdSink::new(rt.stdout());
-        return encode_events(rt.alloc(), is_hex, &mut input, &mut out);
-    }
-    if !is_hex {
-        return show_events(rt, asked, env, &mut input);
-    }
-    match read_hex(rt.alloc(), &mut input) {
-        Ok(frames) => show_events(rt, asked, env, &mut CalmSource::new(frames)),
-        Err(status) => status,
-    }
-}
-
-// Prints or checks the events of frames.
-fn show_events<S: ByteSource>(
-    rt: &HostRuntime,
-    asked: &EventsAsked,
-    env: &Env,
-    frames: &mut S,
-) -> EventsStatus {
     let mut out = StdSink::new(rt.stdout());
-    if asked.action == EventsAction::Decode {
-        return decode_events(rt.alloc(), asked.form(), frames, &mut out);
+    let is_hex = asked.options.get("--hex").is_some();
+    match asked.action {
+        EventsAction::Encode => encode_events(rt.alloc(), is_hex, &mut input, &mut out),
+        EventsAction::Decode if !is_hex => {
+            decode_events(rt.alloc(), asked.form(), &mut input, &mut out)
+        }
+        EventsAction::Decode => match read_hex(rt.alloc(), &mut input) {
+            Ok(frames) => {
+                let mut frames = CalmSource::new(frames);
+                decode_events(rt.alloc(), asked.form(), &mut frames, &mut out)
+            }
+            Err(status) => status,
+        },
     }
-    let mut disk = HostDisk::new(rt.alloc(), rt);
-    check_events(rt.alloc(), asked, env, frames, &mut disk, &mut out)
 }

@@ -1,1 +1,2 @@
+pub mod EncodeLemmas
 pub mod ShowLemmas

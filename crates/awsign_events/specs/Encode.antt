@@ -36,8 +36,10 @@ events_behind (Err place) = Err (place - 2)
 -- the messages that lines spell, or the place of the first bad line: the first line is `event`, and they are the events of the job that goes on with the
 -- lines behind its request
 unfoldable pub spelled_messages : List ℕ → Result (List Parts) ℕ
-spelled_messages [] = Ok []
-spelled_messages (byte ∷ text) = if begins_with_event (byte ∷ text) then events_behind (job (request_lines ++ byte ∷ text)) else Err 1
+spelled_messages text =
+    if length text == 0 then Ok []
+    else if begins_with_event text then events_behind (job (request_lines ++ text))
+    else Err 1
 
 -- ## Frames
 

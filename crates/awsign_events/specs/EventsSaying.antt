@@ -1,11 +1,10 @@
 -- What is said of how a run of `awsign events` ended, and its number.
-use Rattle.std.specs.Prelude.{◌≡◌, ◌⊎◌, ℕ, List, ◌++◌, codes, Option, string_bytes}
+use Rattle.std.specs.Prelude.{◌≡◌, ◌⊎◌, ℕ, List, ◌++◌, codes, Option}
 use Rattle.std.specs.Fmt.{decimal}
 use Rattle.eventstream.specs.Error.{error_kind, error_kind_text}
-use Rattle.chain_watch.specs.ChainFault.{chain_fault_text}
-use Rattle.awsign_run.specs.Saying.{GainsSome, fault_reason, tool_line}
+use Rattle.awsign_run.specs.Saying.{GainsSome, tool_line}
 use Rattle.awsign_events.specs.declared.status.EventsStatus.{EventsStatus}
-use Rattle.awsign_events.specs.declared.status.EventsStatus.TheVariants.{Done, WrongFrame, CutShort, Unspelled, BadLine, Unframed, BadChain, Refused, CouldNotReadFile, InputFault, TooLarge, OutputFault, NoMemory}
+use Rattle.awsign_events.specs.declared.status.EventsStatus.TheVariants.{Done, WrongFrame, CutShort, Unspelled, BadLine, Unframed, InputFault, TooLarge, OutputFault, NoMemory}
 
 -- the number that the process of `events` ends with
 abbrev pub events_code : EventsStatus → ℕ
@@ -15,9 +14,6 @@ events_code (CutShort place) = 1
 events_code (Unspelled place) = 1
 events_code (BadLine place) = 1
 events_code (Unframed place error) = 1
-events_code (BadChain fault) = 1
-events_code (Refused fault) = 1
-events_code (CouldNotReadFile path) = 3
 events_code InputFault = 3
 events_code TooLarge = 3
 events_code OutputFault = 3
@@ -31,9 +27,6 @@ events_reason (CutShort place) = codes "frame " ++ (decimal place ++ codes ": th
 events_reason (Unspelled place) = codes "frame " ++ (decimal place ++ codes ": lines can't spell one of its headers; --as json can")
 events_reason (BadLine place) = codes "line " ++ (decimal place ++ codes " of the input isn't understood")
 events_reason (Unframed place error) = codes "event " ++ (decimal place ++ (codes ": " ++ error_kind_text (error_kind error)))
-events_reason (BadChain fault) = codes "the chain isn't good: " ++ chain_fault_text fault
-events_reason (Refused fault) = fault_reason fault
-events_reason (CouldNotReadFile path) = codes "could not read the profile file " ++ string_bytes path
 events_reason InputFault = codes "could not read standard input"
 events_reason TooLarge = codes "the input has over 67108864 bytes"
 events_reason OutputFault = codes "the output failed"

@@ -6,12 +6,8 @@ use Rattle.smithy_core.specs.declared.outside.read_all.ReadFault.{ReadFault}
 use Rattle.smithy_core.specs.declared.outside.read_all.ReadFault.TheVariants as read
 use Rattle.smithy_core.specs.declared.outside.sink.SinkError.{SinkError}
 use Rattle.smithy_core.specs.declared.outside.sink.SinkError.TheVariants as sink
-use Rattle.env_config.specs.declared.load_fault.EnvConfigFileLoadError.{EnvConfigFileLoadError}
-use Rattle.env_config.specs.declared.load_fault.EnvConfigFileLoadError.TheVariants as load
-use Rattle.awsign_run.specs.declared.fault.Fault.{Fault}
-use Rattle.awsign_run.specs.declared.fault.Fault.TheVariants as run
 use Rattle.awsign_events.specs.declared.status.EventsStatus.{EventsStatus}
-use Rattle.awsign_events.specs.declared.status.EventsStatus.TheVariants.{BadLine, Refused, CouldNotReadFile, InputFault, TooLarge, OutputFault, NoMemory}
+use Rattle.awsign_events.specs.declared.status.EventsStatus.TheVariants.{BadLine, InputFault, TooLarge, OutputFault, NoMemory}
 
 -- how a run ends whose output isn't written
 abbrev pub sink_events_status : SinkError → EventsStatus
@@ -28,14 +24,3 @@ read_events_status read.NoMemory = NoMemory
 abbrev pub line_status : JobFault → EventsStatus
 line_status (job.BadLine place) = BadLine place
 line_status job.NoMemory = NoMemory
-
--- how a run ends without somebody who signs
-abbrev pub signer_status : Fault → EventsStatus
-signer_status run.NoMemory = NoMemory
-signer_status fault = Refused fault
-
--- how a run ends whose profile files aren't read
-abbrev pub load_events_status : EnvConfigFileLoadError → EventsStatus
-load_events_status (load.ParseError error) = Refused (run.ParseError error)
-load_events_status (load.CouldNotReadFile fault) = CouldNotReadFile fault.path
-load_events_status load.NoMemory = NoMemory

@@ -1,4 +1,3 @@
-pub mod CheckEvents
 pub mod Decode
 pub mod Encode
 pub mod EventText

@@ -88,16 +88,12 @@ fn begins_with_event(bytes: &[u8]) -> bool
 }
 
 // The frames of messages.
-fn frame_texts(
-    alloc: Global,
-    is_hex: bool,
-    messages: &[Message],
-) -> Result<Vec<u8>, EventsStatus>
+fn frame_texts(alloc: Global, is_hex: bool, messages: &[Message]) -> Result<Vec<u8>, EventsStatus>
     ensures { EncodesMessages is_hex messages.now result }
 {
     let mut text = Vec::new(alloc);
     let mut place = 1;
-    for message in messages {
+    'messages: for message in messages {
         let frame = frame_of(alloc, place, message)?;
         push_frame(alloc, &mut text, is_hex, frame.as_slice())?;
         place += 1;

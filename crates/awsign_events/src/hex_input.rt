@@ -1,9 +1,9 @@
 //! An input of lines of hexadecimal.
 ghost use Rattle.std.specs.Prelude.{◌≡◌, ◌≤◌};
-ghost use Rattle.awsign_events.specs.HexInput.{ReadsHex, Unhexes};
+ghost use Rattle.awsign_events.specs.HexInput.{GivesUnhexed, ReadsHex, Unhexes, unhexed};
 
 use crate::status::EventsStatus;
-use job_text::{LineFault, TakeLine, hex_bytes, take_lines, text_of};
+use job_text::{JobFault, LineFault, TakeLine, hex_bytes, take_lines, text_of};
 use smithy_core::{ByteSource, read_all};
 use std::alloc::Global;
 
@@ -44,13 +44,22 @@ pub fn read_hex<S: ByteSource>(alloc: Global, input: &mut S) -> Result<Vec<u8>, 
     ensures count { S.faults input.old ≤ S.faults input.new }
 {
     match read_all(alloc, input, MOST_INPUT) {
-        Ok(text) => unhexed(alloc, text.as_slice()),
+        Ok(text) => given_unhexed(alloc, text.as_slice()),
+        Err(fault) => Err(EventsStatus::from(fault)),
+    }
+}
+
+fn given_unhexed(alloc: Global, bytes: &[u8]) -> Result<Vec<u8>, EventsStatus>
+    ensures { GivesUnhexed (unhexed bytes.now) result }
+{
+    match unhexed(alloc, bytes) {
+        Ok(bytes) => Ok(bytes),
         Err(fault) => Err(EventsStatus::from(fault)),
     }
 }
 
 #[tactic(auto, unfolding(crate::specs::HexInput::unhexed))]
-fn unhexed(alloc: Global, bytes: &[u8]) -> Result<Vec<u8>, EventsStatus>
+fn unhexed(alloc: Global, bytes: &[u8]) -> Result<Vec<u8>, JobFault>
     ensures { Unhexes bytes.now result }
 {
     let text = text_of(bytes)?;

@@ -16,7 +16,11 @@ pub(crate) fn push_json(alloc: Global, text: &mut Vec<u8>, message: &Message) ->
     text.extend_from_slice(b"{\"headers\":[")?;
     push_triples(alloc, text, message.headers())?;
     text.extend_from_slice(b"],\"payload\":")?;
-    push_string(alloc, text, hex::encode(alloc, message.payload().as_slice())?.as_str())?;
+    push_string(
+        alloc,
+        text,
+        hex::encode(alloc, message.payload().as_slice())?.as_str(),
+    )?;
     text.extend_from_slice(b"}\n")?;
     Ok(())
 }

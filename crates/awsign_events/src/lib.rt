@@ -1,13 +1,10 @@
-//! Prints, writes and checks events, as the tool `awsign events` does.
+//! Prints and writes events, as the tool `awsign events` does.
 //!
 //! The program is promised of [`decode_events`] that the output gained the texts of the messages whose frames the source's bytes begin with,
-//! in order, and what comes behind them: the end, or the first frame that is wrong (`specs/Decode.antt`); of [`encode_events`] that it gained
-//! the frames of the messages that lines spell, or nothing (`specs/Encode.antt`); and of [`check_events`] that it gained the texts of the
-//! events of the frames that pass, in order, up to the closing frame, or to the first frame that doesn't pass (`specs/CheckEvents.antt`).
-//! A text is lines that a job has too, or an object of JSON (`specs/EventText.antt`).
+//! in order, and what comes behind them: the end, or the first frame that is wrong (`specs/Decode.antt`); and of [`encode_events`] that it
+//! gained the frames of the messages that lines spell, or nothing (`specs/Encode.antt`). A text is lines that a job has too, or an object of JSON (`specs/EventText.antt`).
 #![tactic(auto)]
 
-mod check;
 mod decode;
 mod encode;
 mod hex_input;
@@ -17,7 +14,6 @@ mod saying;
 mod status;
 mod text;
 
-pub use crate::check::check_events;
 pub use crate::decode::decode_events;
 pub use crate::encode::encode_events;
 pub use crate::hex_input::{HexDraft, read_hex};

@@ -16,7 +16,10 @@ pub(crate) fn push_lines(alloc: Global, text: &mut Vec<u8>, message: &Message) -
     text.extend_from_slice(b"event\n")?;
     push_headers(alloc, text, message.headers())?;
     text.extend_from_slice(b"payload")?;
-    push_spaced(text, hex::encode(alloc, message.payload().as_slice())?.as_str())?;
+    push_spaced(
+        text,
+        hex::encode(alloc, message.payload().as_slice())?.as_str(),
+    )?;
     text.extend_from_slice(b"\n")?;
     Ok(())
 }

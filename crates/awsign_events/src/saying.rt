@@ -1,13 +1,12 @@
 //! What is said of how a run ended.
-ghost use Rattle.std.specs.Prelude.{◌≡◌, ◌≤◌, ◌++◌, IfOk, codes};
+ghost use Rattle.std.specs.Prelude.{◌≡◌, ◌≤◌, IfOk};
 ghost use Rattle.std.specs.String.{string_bytes};
 ghost use Rattle.awsign_run.specs.Saying.{tool_line};
 ghost use Rattle.awsign_events.specs.EventsSaying.{SaysEvents, events_reason};
-ghost use Rattle.awsign_events.specs.declared.status.EventsStatus.TheVariants.{BadChain, BadLine, CutShort, Unframed, Unspelled, WrongFrame};
+ghost use Rattle.awsign_events.specs.declared.status.EventsStatus.TheVariants.{BadLine, CutShort, Unframed, Unspelled, WrongFrame};
 
 use crate::status::EventsStatus;
-use awsign_run::{fault_line, tool_line, write_some};
-use chain_watch::ChainFault;
+use awsign_run::{tool_line, write_some};
 use eventstream::Error;
 use smithy_core::{ByteSink, Mem};
 use std::alloc::Global;
@@ -36,9 +35,6 @@ fn reason_line(alloc: Global, status: &EventsStatus) -> Mem<String>
         EventsStatus::Unspelled(place) => unspelled_line(alloc, *place),
         EventsStatus::BadLine(place) => bad_line(alloc, *place),
         EventsStatus::Unframed(place, error) => event_line(alloc, *place, error),
-        EventsStatus::BadChain(fault) => chain_line(alloc, *fault),
-        EventsStatus::Refused(fault) => fault_line(alloc, fault),
-        EventsStatus::CouldNotReadFile(path) => unread_line(alloc, path.as_str()),
         EventsStatus::InputFault => tool_line(alloc, "could not read standard input"),
         EventsStatus::TooLarge => tool_line(alloc, "the input has over 67108864 bytes"),
         EventsStatus::OutputFault => tool_line(alloc, "the output failed"),
@@ -80,19 +76,5 @@ fn event_line(alloc: Global, place: usize, error: &Error) -> Mem<String>
     ensures { IfOk result (λ line. string_bytes line ≡ tool_line (events_reason (Unframed place error.now))) }
 {
     let text = format!(in alloc; "event {place}: {error}")?;
-    tool_line(alloc, text.as_str())
-}
-
-fn chain_line(alloc: Global, fault: ChainFault) -> Mem<String>
-    ensures { IfOk result (λ line. string_bytes line ≡ tool_line (events_reason (BadChain fault))) }
-{
-    let text = format!(in alloc; "the chain isn't good: {fault}")?;
-    tool_line(alloc, text.as_str())
-}
-
-fn unread_line(alloc: Global, path: &str) -> Mem<String>
-    ensures { IfOk result (λ line. string_bytes line ≡ tool_line (codes "could not read the profile file " ++ path.now)) }
-{
-    let text = format!(in alloc; "could not read the profile file {path}")?;
     tool_line(alloc, text.as_str())
 }

@@ -1,7 +1,4 @@
 //! How a run ends.
-use awsign_run::Fault;
-use chain_watch::ChainFault;
-use env_config::EnvConfigFileLoadError;
 use eventstream::Error;
 use job_text::JobFault;
 use smithy_core::{ReadFault, SinkError};
@@ -22,12 +19,6 @@ pub enum EventsStatus {
     BadLine(usize),
     /// The event at this place has no frame, for this reason.
     Unframed(usize, Error),
-    /// The chain has this fault.
-    BadChain(ChainFault),
-    /// There is no key, no region or no service.
-    Refused(Fault),
-    /// The profile file at this path, which an option names, is absent, or the disk failed.
-    CouldNotReadFile(String),
     /// The input couldn't be read.
     InputFault,
     /// The input has over 64 MiB, and isn't read frame by frame.
@@ -42,8 +33,7 @@ impl EventsStatus {
     ghost use Rattle.std.specs.Prelude.{◌≡◌};
     ghost use Rattle.awsign_events.specs.EventsSaying.{events_code};
 
-    /// The number that the process ends with: 0, 1 where the input is refused or there is nothing to check it with, 3 where a file, the
-    /// input, the output or memory failed.
+    /// The number that the process ends with: 0, 1 where the input is refused, 3 where the input, the output or memory failed.
     pub fn code(&self) -> u8
         ensures { result ≡ events_code self.now }
     {
@@ -53,11 +43,8 @@ impl EventsStatus {
             | EventsStatus::CutShort(_)
             | EventsStatus::Unspelled(_)
             | EventsStatus::BadLine(_)
-            | EventsStatus::Unframed(_, _)
-            | EventsStatus::BadChain(_)
-            | EventsStatus::Refused(_) => 1,
-            EventsStatus::CouldNotReadFile(_)
-            | EventsStatus::InputFault
+            | EventsStatus::Unframed(_, _) => 1,
+            EventsStatus::InputFault
             | EventsStatus::TooLarge
             | EventsStatus::OutputFault
             | EventsStatus::NoMemory => 3,
@@ -115,39 +102,6 @@ impl From<JobFault> for EventsStatus {
         match fault {
             JobFault::BadLine(place) => EventsStatus::BadLine(place),
             JobFault::NoMemory => EventsStatus::NoMemory,
-        }
-    }
-}
-
-impl From<Fault> for EventsStatus {
-    ghost use Rattle.std.specs.Prelude.{◌≡◌};
-    ghost use Rattle.awsign_events.specs.EventsStatus.{signer_status};
-
-    ghost from_gives = { λ fault status. status ≡ signer_status fault };
-
-    fn from(fault: Fault) -> EventsStatus {
-        match fault {
-            Fault::NoMemory => EventsStatus::NoMemory,
-            fault => EventsStatus::Refused(fault),
-        }
-    }
-}
-
-impl From<EnvConfigFileLoadError> for EventsStatus {
-    ghost use Rattle.std.specs.Prelude.{◌≡◌};
-    ghost use Rattle.awsign_events.specs.EventsStatus.{load_events_status};
-
-    ghost from_gives = { λ fault status. status ≡ load_events_status fault };
-
-    fn from(fault: EnvConfigFileLoadError) -> EventsStatus {
-        match fault {
-            EnvConfigFileLoadError::ParseError(error) => {
-                EventsStatus::Refused(Fault::ParseError(error))
-            }
-            EnvConfigFileLoadError::CouldNotReadFile(fault) => {
-                EventsStatus::CouldNotReadFile(fault.path)
-            }
-            EnvConfigFileLoadError::NoMemory => EventsStatus::NoMemory,
         }
     }
 }

@@ -1,14 +1,13 @@
 -- The words behind `awsign events`: what is done, and then options, each at most once.
-use Rattle.std.specs.Prelude.{◌≡◌, ℕ, Bool, true, false, not, ◌&&◌, ◌||◌, if◌then◌else◌, List, [], ◌∷◌, ◌++◌, codes, bytes_eq, Option, Some, None, is_some, option_and_then, option_copied, unwrap_or, Result, Ok, Err}
+use Rattle.std.specs.Prelude.{◌≡◌, ℕ, Bool, false, not, ◌&&◌, ◌||◌, if◌then◌else◌, List, [], ◌∷◌, ◌++◌, codes, bytes_eq, Option, Some, None, is_some, option_and_then, option_copied, unwrap_or, Result, Ok, Err}
 use Rattle.smithy_core.specs.TextPairs.{last_value}
-use Rattle.sigv4.specs.Signature.{is_signature}
 use Rattle.job_text.specs.Pieces.{after_pieces, taken_from}
 use Rattle.job_text.specs.declared.words.WordsFault.{WordsFault}
 use Rattle.job_text.specs.declared.words.WordsFault.TheVariants.{BadWord, NoMemory}
 use Rattle.awsign_words.specs.declared.events.EventForm.{EventForm}
 use Rattle.awsign_words.specs.declared.events.EventForm.TheVariants.{Lines, JsonLines}
 use Rattle.awsign_words.specs.declared.events.EventsAction.{EventsAction}
-use Rattle.awsign_words.specs.declared.events.EventsAction.TheVariants.{Decode, Encode, Check}
+use Rattle.awsign_words.specs.declared.events.EventsAction.TheVariants.{Decode, Encode}
 use Rattle.awsign_words.specs.declared.events.EventsAsked.{EventsAsked}
 use Rattle.awsign_words.specs.declared.events.GivenEvents.{GivenEvents}
 
@@ -29,18 +28,6 @@ no_event_words action = record { action = action; options = []; awaited = None }
 
 -- ## Options
 
--- events are printed
-abbrev pub prints_events : EventsAction → Bool
-prints_events Decode = true
-prints_events Encode = false
-prints_events Check = true
-
--- a chain of signed frames is checked
-abbrev pub is_chain_check : EventsAction → Bool
-is_chain_check Decode = false
-is_chain_check Encode = false
-is_chain_check Check = true
-
 -- the option stood
 abbrev pub has_stood : List (List ℕ × List ℕ) → List ℕ → Bool
 has_stood options word = is_some (last_value options word)
@@ -53,15 +40,10 @@ is_event_flag word = bytes_eq word (codes "--raw") || bytes_eq word (codes "--he
 abbrev pub is_event_spent : List (List ℕ × List ℕ) → List ℕ → Bool
 is_event_spent options word = has_stood options word || (is_event_flag word && (has_stood options (codes "--raw") || has_stood options (codes "--hex")))
 
--- an option that says who signed the chain, and over which signature its first frame
-abbrev pub is_chain_option : List ℕ → Bool
-is_chain_option word =
-    bytes_eq word (codes "--seed") || bytes_eq word (codes "--profile") || bytes_eq word (codes "--region") || bytes_eq word (codes "--service")
-    || bytes_eq word (codes "--config") || bytes_eq word (codes "--credentials")
-
 -- an option whose value is the next word
 abbrev pub takes_event_value : EventsAction → List ℕ → Bool
-takes_event_value action word = (prints_events action && bytes_eq word (codes "--as")) || (is_chain_check action && is_chain_option word)
+takes_event_value Decode word = bytes_eq word (codes "--as")
+takes_event_value Encode word = false
 
 -- the form of events that a word names
 abbrev pub event_form_named : List ℕ → Option EventForm
@@ -73,10 +55,7 @@ asked_event_form options = unwrap_or (option_and_then event_form_named (last_val
 
 -- whether the value fits its option
 abbrev pub is_event_fit : List ℕ → List ℕ → Bool
-is_event_fit option value =
-    if bytes_eq option (codes "--as") then is_some (event_form_named value)
-    else if bytes_eq option (codes "--seed") then is_signature value
-    else true
+is_event_fit option value = not (bytes_eq option (codes "--as")) || is_some (event_form_named value)
 
 -- ## Words
 
@@ -102,10 +81,10 @@ take_event_word given (Some option) word = take_event_value (record given { awai
 abbrev pub event_word : EventsGiven → List ℕ → Option EventsGiven
 event_word given word = take_event_word given given.awaited word
 
--- the words are over: no option waits, and a chain that is checked has its seed
+-- the words are over, and no option waits
 abbrev pub all_event_words : ℕ → EventsGiven → Result EventsWanted ℕ
 all_event_words place given =
-    if is_some given.awaited || (is_chain_check given.action && not (has_stood given.options (codes "--seed"))) then Err place
+    if is_some given.awaited then Err place
     else Ok (record { action = given.action; options = given.options })
 
 -- what a word names is done
@@ -113,7 +92,6 @@ abbrev pub action_named : List ℕ → Option EventsAction
 action_named word =
     if bytes_eq word (codes "decode") then Some Decode
     else if bytes_eq word (codes "encode") then Some Encode
-    else if bytes_eq word (codes "verify") then Some Check
     else None
 
 -- what the words behind what is done ask for, or the place of the first bad one

@@ -2,10 +2,9 @@
 ghost use Rattle.std.specs.Prelude.{◌≡◌, None, map};
 ghost use Rattle.std.specs.String.{string_bytes};
 ghost use Rattle.job_text.specs.Words.{TakesWord};
-ghost use Rattle.awsign_words.specs.EventWords.{ReadsEventsAsked, action_named, action_words, all_event_words, asked_event_form, event_form_named, event_words_behind, events_words, given_events, has_stood, is_chain_option, is_event_fit, is_event_flag, is_event_spent, no_event_words, prints_events, take_event_option, take_event_value, takes_event_value};
+ghost use Rattle.awsign_words.specs.EventWords.{ReadsEventsAsked, action_named, action_words, all_event_words, asked_event_form, event_form_named, event_words_behind, events_words, given_events, has_stood, is_event_fit, is_event_flag, is_event_spent, no_event_words, take_event_option, take_event_value, takes_event_value};
 
 use job_text::{TakeWord, WordsFault, take_words};
-use sigv4::parts::is_signature;
 use smithy_core::Env;
 use std::alloc::Global;
 
@@ -16,8 +15,6 @@ pub enum EventsAction {
     Decode,
     /// To write the frames of events.
     Encode,
-    /// To print the events of a chain of signed frames, each once its signature was recomputed.
-    Check,
 }
 
 /// A form in which events are printed.
@@ -104,8 +101,7 @@ impl<'a> GivenEvents<'a> {
     pub fn finish(self, place: usize) -> Result<EventsAsked, WordsFault>
         ensures { ReadsEventsAsked (all_event_words place (given_events self.entry)) result }
     {
-        let lacks_seed = self.action == EventsAction::Check && !has(&self.options, "--seed");
-        if self.awaited.is_some() || lacks_seed {
+        if self.awaited.is_some() {
             return Err(WordsFault::BadWord(place));
         }
         Ok(EventsAsked {
@@ -132,18 +128,6 @@ impl<'a> TakeWord<'a> for GivenEvents<'a> {
     }
 }
 
-impl EventsAction {
-    // Whether events are printed.
-    fn prints(self) -> bool
-        ensures { result ≡ prints_events self }
-    {
-        match self {
-            EventsAction::Decode | EventsAction::Check => true,
-            EventsAction::Encode => false,
-        }
-    }
-}
-
 // Whether the option stood.
 fn has(options: &Env, word: &str) -> bool
     ensures { result ≡ has_stood options.now word.now }
@@ -164,33 +148,20 @@ fn is_flag(word: &str) -> bool
     word == "--raw" || word == "--hex"
 }
 
-fn is_chain_option(word: &str) -> bool
-    ensures { result ≡ is_chain_option word.now }
-{
-    word == "--seed"
-        || word == "--profile"
-        || word == "--region"
-        || word == "--service"
-        || word == "--config"
-        || word == "--credentials"
-}
-
 fn takes_value(action: EventsAction, word: &str) -> bool
     ensures { result ≡ takes_event_value action word.now }
 {
-    (action.prints() && word == "--as")
-        || (action == EventsAction::Check && is_chain_option(word))
+    match action {
+        EventsAction::Decode => word == "--as",
+        EventsAction::Encode => false,
+    }
 }
 
 // Whether a value fits its option.
 fn is_fit(option: &str, value: &str) -> bool
     ensures { result ≡ is_event_fit option.now value.now }
 {
-    match option {
-        "--as" => event_form_named(value).is_some(),
-        "--seed" => is_signature(value),
-        _ => true,
-    }
+    option != "--as" || event_form_named(value).is_some()
 }
 
 /// The form of events that a word names.
@@ -210,7 +181,6 @@ fn action_named(word: &str) -> Option<EventsAction>
     match word {
         "decode" => Some(EventsAction::Decode),
         "encode" => Some(EventsAction::Encode),
-        "verify" => Some(EventsAction::Check),
         _ => None,
     }
 }

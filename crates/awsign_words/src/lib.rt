@@ -9,7 +9,9 @@ mod events;
 mod words;
 
 pub use crate::command::Command;
-pub use crate::events::{EventForm, EventsAction, EventsAsked, GivenEvents, event_form_named, read_events};
+pub use crate::events::{
+    EventForm, EventsAction, EventsAsked, GivenEvents, event_form_named, read_events,
+};
 pub use crate::words::{
     Asked, AskedCommand, Checksum, GivenWords, VerifyAsked, checksum_named, form_named, is_method,
     read_command,
