@@ -10,14 +10,13 @@ use Rattle.std.proofs.lemmas.List.Folds.{list_all-append}
 use Rattle.job_text.specs.declared.fault.JobFault.{JobFault}
 use Rattle.job_text.specs.declared.fault.JobFault.TheVariants as job
 use Rattle.smithy_core.specs.Message.{Parts}
-use Rattle.smithy_core.specs.Outside.{GainsProperPrefix, IsLongerThan}
+use Rattle.smithy_core.specs.Outside.{IsLongerThan}
 use Rattle.smithy_core.specs.declared.outside.read_all.ReadFault.{ReadFault}
 use Rattle.smithy_core.specs.declared.outside.read_all.ReadFault.TheVariants as read
-use Rattle.smithy_core.specs.declared.outside.sink.SinkError.{SinkError}
-use Rattle.smithy_core.specs.declared.outside.sink.SinkError.TheVariants as sink
 use Rattle.smithy_core.proofs.GainLemmas.{prefix_from_proper}
-use Rattle.awsign_events.specs.Encode.{EncodesAll, EncodesInput, EncodesMessages, EncodesSpelled, MakesFrame, SpellsMessages, is_framed, spelled_messages, written_frame}
-use Rattle.awsign_events.specs.EventsStatus.{line_status, read_events_status, sink_events_status}
+use Rattle.eventstream.specs.Frame.{frame}
+use Rattle.awsign_events.specs.Encode.{EncodesAll, EncodesInput, EncodesMessages, EncodesSpelled, MakesFrame, SpellsMessages, WritesEncoded, framed_text, is_framed, spelled_messages, written_frame}
+use Rattle.awsign_events.specs.EventsStatus.{line_status, read_events_status}
 use Rattle.awsign_events.specs.HexInput.{GivesUnhexed, LacksInput, Unhexes, most_input, unhexed}
 use Rattle.awsign_events.specs.declared.status.EventsStatus.{EventsStatus}
 use Rattle.awsign_events.specs.declared.status.EventsStatus.TheVariants.{Done, WrongFrame, CutShort, Unspelled, BadLine, Unframed, InputFault, TooLarge, OutputFault, NoMemory}
@@ -27,10 +26,10 @@ module _ (is_hex : Bool) (messages : List Parts) (i : ℕ) (message : Parts) (wi
   one_more_taken = take_more messages i message within ∙ ap (λ (m : Parts). take i messages ++ m ∷ []) (sym is)
 
   -- the texts of one frame more
-  pub frames_more : (text frame more : List ℕ) → text ≡ flat_map (written_frame is_hex) (take i messages) → more ≡ text ++ written_frame is_hex message
+  pub frames_more : (text bytes more : List ℕ) → text ≡ flat_map (written_frame is_hex) (take i messages) → bytes ≡ frame message → more ≡ text ++ framed_text is_hex bytes
       → more ≡ flat_map (written_frame is_hex) (take (i + 1) messages)
-  frames_more text frame more so_far one =
-      one ∙ ap (λ (t : List ℕ). t ++ written_frame is_hex message) so_far
+  frames_more text bytes more so_far framed one =
+      one ∙ ap (λ (b : List ℕ). text ++ framed_text is_hex b) framed ∙ ap (λ (t : List ℕ). t ++ written_frame is_hex message) so_far
       ∙ ap (λ (t : List ℕ). flat_map (written_frame is_hex) (take i messages) ++ t) (sym (append-nil (written_frame is_hex message)))
       ∙ sym (flat_map-append (written_frame is_hex) (take i messages) (message ∷ [])) ∙ ap (flat_map (written_frame is_hex)) (sym one_more_taken)
 
@@ -107,8 +106,16 @@ nothing_written is_hex left held InputFault all = inl (all, refl)
 nothing_written is_hex left held TooLarge all = inl (all, refl)
 nothing_written is_hex left held NoMemory all = inl (all, refl)
 
--- a front is written
-pub front_written : (is_hex : Bool) (left before now : Option (List ℕ)) (text : Vec ℕ) (fault : SinkError) → EncodesAll is_hex left (Ok text)
-    → GainsProperPrefix before now text.items → EncodesInput is_hex left (sink_events_status fault) before now
-front_written is_hex left before now text sink.Failed all gains = (text, all, prefix_from_proper before now text.items gains)
-front_written is_hex left before now text sink.NoMemory all gains = inr (refl, (text, all, prefix_from_proper before now text.items gains))
+-- what is encoded is written
+pub encoded_written : (is_hex : Bool) (left before now : Option (List ℕ)) (text : Vec ℕ) (status : EventsStatus) → EncodesAll is_hex left (Ok text)
+    → WritesEncoded text.items status before now → EncodesInput is_hex left status before now
+encoded_written is_hex left before now text Done all wrote = (text, all, wrote)
+encoded_written is_hex left before now text OutputFault all wrote = (text, all, prefix_from_proper before now text.items wrote)
+encoded_written is_hex left before now text NoMemory all wrote = inr (refl, (text, all, prefix_from_proper before now text.items wrote))
+encoded_written is_hex left before now text (WrongFrame place error) all wrote = absurd wrote
+encoded_written is_hex left before now text (CutShort place) all wrote = absurd wrote
+encoded_written is_hex left before now text (Unspelled place) all wrote = absurd wrote
+encoded_written is_hex left before now text (BadLine place) all wrote = absurd wrote
+encoded_written is_hex left before now text (Unframed place error) all wrote = absurd wrote
+encoded_written is_hex left before now text InputFault all wrote = absurd wrote
+encoded_written is_hex left before now text TooLarge all wrote = absurd wrote

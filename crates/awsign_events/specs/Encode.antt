@@ -4,7 +4,7 @@ use Rattle.std.specs.Global.{Vec}
 use Rattle.std.specs.List.{flat_map, list_all, starts_with}
 use Rattle.hex.specs.Hex.{encode_lower}
 use Rattle.smithy_core.specs.Message.{Parts}
-use Rattle.smithy_core.specs.Outside.{Gains, GainsPrefix, IsAllOf}
+use Rattle.smithy_core.specs.Outside.{Gains, GainsPrefix, GainsProperPrefix, IsAllOf}
 use Rattle.smithy_core.specs.Text.{line}
 use Rattle.job_text.specs.Job.{JobParts, job}
 use Rattle.job_text.specs.declared.fault.JobFault.{JobFault}
@@ -94,6 +94,13 @@ abbrev pub SpellsMessages : Result (List Parts) ℕ → Result (Vec Parts) JobFa
 SpellsMessages spelled (Ok messages) = spelled ≡ Ok messages.items
 SpellsMessages spelled (Err (job_fault.BadLine place)) = spelled ≡ Err place
 SpellsMessages spelled (Err job_fault.NoMemory) = Unit {0}
+
+-- all of a text was written, or a part of it where the output failed or memory ran out
+abbrev pub WritesEncoded : List ℕ → EventsStatus → Option (List ℕ) → Option (List ℕ) → Type 0
+WritesEncoded text Done before now = Gains before now text
+WritesEncoded text OutputFault before now = GainsProperPrefix before now text
+WritesEncoded text NoMemory before now = GainsProperPrefix before now text
+WritesEncoded text status before now = ⊥
 
 -- the message at a place has this frame, or none; or memory ran out
 abbrev pub MakesFrame : ℕ → Parts → Result (Vec ℕ) EventsStatus → Type 0

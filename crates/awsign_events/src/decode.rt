@@ -1,9 +1,9 @@
 //! Frames, printed as they come.
-ghost use Rattle.std.specs.Prelude.{◌≡◌, ◌<◌, ◌≤◌, ◌++◌, ℕ, List, Option, Ok, OnOk, true, false, length};
+ghost use Rattle.std.specs.Prelude.{◌≡◌, ◌<◌, ◌≤◌, ◌++◌, [], ℕ, List, Option, Ok, OnOk, true, false, length};
 ghost use Rattle.smithy_core.specs.Outside.{IsAtEnd};
 ghost use Rattle.eventstream.specs.Frame.{most_frame};
 ghost use Rattle.awsign_words.specs.declared.events.EventForm.{EventForm as Form};
-ghost use Rattle.awsign_events.specs.Decode.{DecodesInput, EndsDecoding, ShowsWhole, ShowsOne, ShowsUpTo, WaitsUnfinished, WritesMessage, wrong_frame};
+ghost use Rattle.awsign_events.specs.Decode.{DecodesInput, EndsAs, ReadsFrames, ShowsWhole, ShowsOne, ShowsUpTo, WaitsUnfinished, WritesMessage, wrong_frame};
 
 use crate::status::EventsStatus;
 use crate::text::{is_spelled, message_text};
@@ -14,7 +14,7 @@ use smithy_core::{ByteSink, ByteSource, Message, write_all};
 use std::alloc::Global;
 
 /// The most bytes of one read.
-pub(crate) const MOST_PIECE: usize = 65_536;
+const MOST_PIECE: usize = 8_192;
 
 // The bytes that wait for the rest of their frame, and its place.
 #[derive(Drop)]
@@ -23,7 +23,7 @@ struct Frames {
     place: u64,
 }
 
-/// Prints the message of each frame of an input as soon as the frame is there. It keeps less than a frame and a piece of 65,536 bytes,
+/// Prints the message of each frame of an input as soon as the frame is there. It keeps less than a frame and a piece of 8,192 bytes,
 /// however long the input is.
 ///
 /// What was printed stays where a frame is wrong, a form can't spell its message, or the input ends within it. After 2^64 - 1 reads the
@@ -40,26 +40,49 @@ pub fn decode_events<S: ByteSource, K: ByteSink>(
     // No count fell.
     ensures outside { (S.faults input.old ≤ S.faults input.new) × (K.faults out.old ≤ K.faults out.new) }
 {
-    let mut frames = Frames {
-        waiting: SegBuf::new(alloc),
-        place: 1,
-    };
-    let mut piece = [0u8; MOST_PIECE];
-    'pieces: for _ in 0..u64::MAX {
-        match input.read(&mut piece) {
-            Ok(0) => return frames.end(),
-            Ok(n) => {
-                if let Err(status) = frames.show(alloc, form, &piece[..n], out) {
-                    return status;
-                }
-            }
-            Err(_) => return EventsStatus::InputFault,
-        }
+    let mut frames = Frames::new(alloc);
+    match frames.read(alloc, form, input, out) {
+        Ok(()) => EventsStatus::Done,
+        Err(status) => status,
     }
-    EventsStatus::InputFault
 }
 
 impl Frames {
+    // Nothing was read.
+    fn new(alloc: Global) -> Frames
+        ensures none { result.waiting.bytes ≡ [] }
+        ensures first { result.place ≡ 1 }
+    {
+        Frames {
+            waiting: SegBuf::new(alloc),
+            place: 1,
+        }
+    }
+
+    // Reads the input to its end, and prints the messages of its frames.
+    fn read<S: ByteSource, K: ByteSink>(
+        &mut self,
+        alloc: Global,
+        form: EventForm,
+        input: &mut S,
+        out: &mut K,
+    ) -> Result<(), EventsStatus>
+        requires none { self.old.waiting.bytes ≡ [] }
+        requires first { self.old.place ≡ 1 }
+        ensures reads { ReadsFrames form (S.left input.old) (S.left input.new) (K.held out.old) (K.held out.new) result }
+        ensures counts { (S.faults input.old ≤ S.faults input.new) × (K.faults out.old ≤ K.faults out.new) }
+    {
+        let mut piece = [0u8; MOST_PIECE];
+        'pieces: for _ in 0..u64::MAX {
+            match input.read(&mut piece) {
+                Ok(0) => return self.end(),
+                Ok(n) => self.show(alloc, form, &piece[..n], out)?,
+                Err(_) => return Err(EventsStatus::InputFault),
+            }
+        }
+        Err(EventsStatus::InputFault)
+    }
+
     // Takes a piece, and prints the messages of the frames that are there whole then.
     fn show<K: ByteSink>(
         &mut self,
@@ -69,7 +92,7 @@ impl Frames {
         out: &mut K,
     ) -> Result<(), EventsStatus>
         requires few { length self.old.waiting.bytes < most_frame }
-        requires short { length piece.now ≤ 65536 }
+        requires short { length piece.now ≤ 8192 }
         ensures shows { (taken : List ℕ) (before : Option (List ℕ)) → ShowsUpTo form taken self.old before (K.held out.old)
             → ShowsWhole form (taken ++ piece.now) self.new before (K.held out.new) result }
         ensures few { OnOk result (length self.new.waiting.bytes < most_frame) }
@@ -106,20 +129,20 @@ impl Frames {
     }
 
     // How the input ends, where no whole frame waits.
-    fn end(self) -> EventsStatus
-        ensures { (form : Form) (taken : List ℕ) (left before now : Option (List ℕ)) → IsAtEnd left → ShowsUpTo form taken self before now
-            → WaitsUnfinished self → EndsDecoding form taken left result before now }
+    fn end(&self) -> Result<(), EventsStatus>
+        ensures { (form : Form) (taken : List ℕ) (left before now : Option (List ℕ)) → IsAtEnd left → ShowsUpTo form taken self.now before now
+            → WaitsUnfinished self.now → EndsAs form taken left before now result }
     {
         if self.waiting.remaining() == 0 {
-            EventsStatus::Done
+            Ok(())
         } else {
-            EventsStatus::CutShort(self.place)
+            Err(EventsStatus::CutShort(self.place))
         }
     }
 }
 
-/// Writes a message in a form, where the form can spell it.
-pub(crate) fn write_message<K: ByteSink>(
+// Writes a message in a form, where the form can spell it.
+fn write_message<K: ByteSink>(
     alloc: Global,
     form: EventForm,
     place: u64,

@@ -1,6 +1,6 @@
 //! Frames of events that lines spell.
 ghost use Rattle.std.specs.Prelude.{◌≡◌, ◌≤◌, ◌++◌, OnOk};
-ghost use Rattle.awsign_events.specs.Encode.{EncodesAll, EncodesInput, EncodesMessages, EncodesSpelled, MakesFrame, SpellsMessages, begins_with_event, framed_text, no_frame, spelled_messages};
+ghost use Rattle.awsign_events.specs.Encode.{EncodesAll, EncodesInput, EncodesMessages, EncodesSpelled, MakesFrame, SpellsMessages, WritesEncoded, begins_with_event, framed_text, no_frame, spelled_messages};
 
 use crate::hex_input::MOST_INPUT;
 use crate::status::EventsStatus;
@@ -26,11 +26,19 @@ pub fn encode_events<S: ByteSource, K: ByteSink>(
     ensures outside { (S.faults input.old ≤ S.faults input.new) × (K.faults out.old ≤ K.faults out.new) }
 {
     match encoded_input(alloc, is_hex, input) {
-        Ok(text) => match write_all(out, text.as_slice()) {
-            Ok(()) => EventsStatus::Done,
-            Err(fault) => EventsStatus::from(fault),
-        },
+        Ok(text) => write_encoded(text.as_slice(), out),
         Err(status) => status,
+    }
+}
+
+// Writes a text, and answers how that went.
+fn write_encoded<K: ByteSink>(text: &[u8], out: &mut K) -> EventsStatus
+    ensures wrote { WritesEncoded text.now result (K.held out.old) (K.held out.new) }
+    ensures count { K.faults out.old ≤ K.faults out.new }
+{
+    match write_all(out, text) {
+        Ok(()) => EventsStatus::Done,
+        Err(fault) => EventsStatus::from(fault),
     }
 }
 
