@@ -116,13 +116,13 @@ shows_pushed form taken piece old bytes before now pushed shown = rw pushed (sho
 pub shows_next : (form : EventForm) (taken : List ℕ) (old : Frames) (first before now : Option (List ℕ)) (message : Parts) (n : ℕ) (bytes : List ℕ) (place : ℕ)
     → ShowsUpTo form taken old first before → first_of old.waiting.bytes ≡ begins message (drop n old.waiting.bytes) → bytes ≡ drop n old.waiting.bytes → place ≡ one_more old.place
     → (is_spelled form message ≡ true) × Gains before now (message_text form message) → Shows form taken bytes place first now
-shows_next form taken old first before now message n bytes place shown begins dropped placed wrote =
-    rw dropped (shows_one form taken old.waiting.bytes old.place first before shown message (drop n old.waiting.bytes) begins wrote.0 place now placed wrote.1)
+shows_next form taken old first before now message n bytes place shown found dropped placed wrote =
+    rw dropped (shows_one form taken old.waiting.bytes old.place first before shown message (drop n old.waiting.bytes) found wrote.0 place now placed wrote.1)
 
 -- fewer bytes wait then
 pub waits_fewer : (old : Frames) (message : Parts) (n : ℕ) (bytes : List ℕ) → first_of old.waiting.bytes ≡ begins message (drop n old.waiting.bytes) → bytes ≡ drop n old.waiting.bytes
     → length bytes < length old.waiting.bytes
-waits_fewer old message n bytes begins dropped = rw dropped (shorter old.waiting.bytes message (drop n old.waiting.bytes) begins)
+waits_fewer old message n bytes found dropped = rw dropped (shorter old.waiting.bytes message (drop n old.waiting.bytes) found)
 
 -- a front of what is shown, however the bytes go on
 pub part_more : (form : EventForm) (taken piece : List ℕ) (old : Frames) (before now : Option (List ℕ)) → ShowsUpTo form taken old before now → ShowsPart form (taken ++ piece) before now
@@ -147,20 +147,21 @@ stops_ends form bytes left TooLarge before now stops = absurd stops
 pub unwritten_stops : (form : EventForm) (taken : List ℕ) (frames : Frames) (first before now : Option (List ℕ)) (message : Parts) (others : List ℕ) (status : EventsStatus)
     → ShowsUpTo form taken frames first before → first_of frames.waiting.bytes ≡ begins message others → WritesMessage form frames.place message before now (Err status)
     → StopsDecoding form taken status first now
-unwritten_stops form taken frames first before now message others (Unspelled at) shown begins writes =
+unwritten_stops form taken frames first before now message others (Unspelled at) shown found writes =
     let there : Shows form taken frames.waiting.bytes at first before = rw writes.1.0 shown in
-    (frames.waiting.bytes, rw writes.1.1 there, (message, others, begins, writes.0))
-unwritten_stops form taken frames first before now message others OutputFault shown begins writes =
-    shows_one_part form taken frames.waiting.bytes frames.place first before shown message others begins writes.0 now writes.1
-unwritten_stops form taken frames first before now message others NoMemory shown begins writes =
-    shows_one_part form taken frames.waiting.bytes frames.place first before shown message others begins writes.0 now writes.1
-unwritten_stops form taken frames first before now message others Done shown begins writes = absurd writes
-unwritten_stops form taken frames first before now message others (WrongFrame place error) shown begins writes = absurd writes
-unwritten_stops form taken frames first before now message others (CutShort place) shown begins writes = absurd writes
-unwritten_stops form taken frames first before now message others (BadLine place) shown begins writes = absurd writes
-unwritten_stops form taken frames first before now message others (Unframed place error) shown begins writes = absurd writes
-unwritten_stops form taken frames first before now message others InputFault shown begins writes = absurd writes
-unwritten_stops form taken frames first before now message others TooLarge shown begins writes = absurd writes
+    (frames.waiting.bytes, rw writes.1.1 there, (message, others, found, writes.0))
+unwritten_stops form taken frames first before now message others OutputFault shown found writes =
+    shows_one_part form taken frames.waiting.bytes frames.place first before shown message others found writes.0 now writes.1
+unwritten_stops form taken frames first before now message others NoMemory shown found (inl same) = rw same (shows_part form taken frames.waiting.bytes frames.place first before shown)
+unwritten_stops form taken frames first before now message others NoMemory shown found (inr writes) =
+    shows_one_part form taken frames.waiting.bytes frames.place first before shown message others found writes.0 now writes.1
+unwritten_stops form taken frames first before now message others Done shown found writes = absurd writes
+unwritten_stops form taken frames first before now message others (WrongFrame place error) shown found writes = absurd writes
+unwritten_stops form taken frames first before now message others (CutShort place) shown found writes = absurd writes
+unwritten_stops form taken frames first before now message others (BadLine place) shown found writes = absurd writes
+unwritten_stops form taken frames first before now message others (Unframed place error) shown found writes = absurd writes
+unwritten_stops form taken frames first before now message others InputFault shown found writes = absurd writes
+unwritten_stops form taken frames first before now message others TooLarge shown found writes = absurd writes
 
 -- how a frame that isn't read stops decoding
 pub wrong_stops : (form : EventForm) (taken : List ℕ) (frames : Frames) (first now : Option (List ℕ)) (error : Error) → ShowsUpTo form taken frames first now

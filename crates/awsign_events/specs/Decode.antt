@@ -1,5 +1,5 @@
 -- How frames are decoded: which messages the bytes begin with, and what the output gained.
-use Rattle.std.specs.Prelude.{◌≡◌, ℕ, ◌<◌, Bool, true, false, List, [], ◌++◌, length, Option, Result, Ok, Err}
+use Rattle.std.specs.Prelude.{◌≡◌, ◌⊎◌, ℕ, ◌<◌, Bool, true, false, List, [], ◌++◌, length, Option, Result, Ok, Err}
 use Rattle.std.specs.List.{list_all}
 use Rattle.smithy_core.specs.Calls.{one_more}
 use Rattle.smithy_core.specs.Message.{Parts}
@@ -96,7 +96,7 @@ abbrev pub WritesMessage : EventForm → ℕ → Parts → Option (List ℕ) →
 WritesMessage form place message before now (Ok _) = (is_spelled form message ≡ true) × Gains before now (message_text form message)
 WritesMessage form place message before now (Err (Unspelled at)) = (is_spelled form message ≡ false) × (at ≡ place) × (now ≡ before)
 WritesMessage form place message before now (Err OutputFault) = (is_spelled form message ≡ true) × GainsPrefix before now (message_text form message)
-WritesMessage form place message before now (Err NoMemory) = (is_spelled form message ≡ true) × GainsPrefix before now (message_text form message)
+WritesMessage form place message before now (Err NoMemory) = (now ≡ before) ⊎ ((is_spelled form message ≡ true) × GainsPrefix before now (message_text form message))
 WritesMessage form place message before now (Err status) = ⊥
 
 -- how decoding stops at a frame that isn't read

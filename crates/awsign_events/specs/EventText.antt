@@ -94,9 +94,13 @@ abbrev pub json_triples : List ℕ → List Header → List ℕ
 json_triples lead [] = []
 json_triples lead (h ∷ hs) = (lead ++ json_triple h) ++ json_triples (codes ",") hs
 
--- a message, as an object on a line: its headers in order, and its payload in hexadecimal
+-- a payload, behind the headers: in hexadecimal
+unfoldable pub json_payload : List ℕ → List ℕ
+json_payload payload = codes "],\"payload\":" ++ (json_string (encode_lower payload) ++ codes "}\n")
+
+-- a message, as an object on a line: its headers in order, and its payload
 unfoldable pub json_message : Parts → List ℕ
-json_message m = codes "{\"headers\":[" ++ (json_triples [] m.headers ++ (codes "],\"payload\":" ++ (json_string (encode_lower m.payload) ++ codes "}\n")))
+json_message m = codes "{\"headers\":[" ++ (json_triples [] m.headers ++ json_payload m.payload)
 
 -- ## Either
 

@@ -2,7 +2,7 @@
 ghost use Rattle.std.specs.Prelude.{◌≡◌, ◌++◌, ◌∷◌, [], OnOk, codes};
 ghost use Rattle.hex.specs.Hex.{encode_lower};
 ghost use Rattle.std.specs.List.{flat_map};
-ghost use Rattle.awsign_events.specs.EventText.{json_byte, json_message, json_string, json_triple, json_triples};
+ghost use Rattle.awsign_events.specs.EventText.{json_byte, json_message, json_payload, json_string, json_triple, json_triples};
 
 use crate::lines::{kind_word, spelled_value};
 use smithy_core::{Header, Mem, Message};
@@ -15,12 +15,15 @@ pub(crate) fn push_json(alloc: Global, text: &mut Vec<u8>, message: &Message) ->
 {
     text.extend_from_slice(b"{\"headers\":[")?;
     push_triples(alloc, text, message.headers())?;
-    text.extend_from_slice(b"],\"payload\":")?;
-    push_string(
-        alloc,
-        text,
-        hex::encode(alloc, message.payload().as_slice())?.as_str(),
-    )?;
+    push_payload(alloc, text, message.payload().as_slice())
+}
+
+#[tactic(auto, unfolding(crate::specs::EventText::json_payload))]
+fn push_payload(alloc: Global, text: &mut Vec<u8>, payload: &[u8]) -> Mem<()>
+    ensures { OnOk result (text.new.items ≡ text.old.items ++ json_payload payload.now) }
+{
+    let digits = hex::encode(alloc, payload)?;
+    push_member(alloc, text, b"],\"payload\":", digits.as_str())?;
     text.extend_from_slice(b"}\n")?;
     Ok(())
 }
@@ -36,19 +39,31 @@ fn push_triples(alloc: Global, text: &mut Vec<u8>, headers: &[Header]) -> Mem<()
     Ok(())
 }
 
-#[tactic(auto, unfolding(crate::specs::EventText::json_triple))]
 fn push_triple(alloc: Global, text: &mut Vec<u8>, lead: &[u8], header: &Header) -> Mem<()>
     ensures { OnOk result (text.new.items ≡ text.old.items ++ (lead.now ++ json_triple header.now)) }
 {
     text.extend_from_slice(lead)?;
-    text.extend_from_slice(b"[")?;
-    push_string(alloc, text, header.name().as_str())?;
-    text.extend_from_slice(b",")?;
-    push_string(alloc, text, kind_word(header.value()))?;
-    text.extend_from_slice(b",")?;
-    push_string(alloc, text, spelled_value(alloc, header.value())?.as_str())?;
+    push_list(alloc, text, header)
+}
+
+#[tactic(auto, unfolding(crate::specs::EventText::json_triple))]
+fn push_list(alloc: Global, text: &mut Vec<u8>, header: &Header) -> Mem<()>
+    ensures { OnOk result (text.new.items ≡ text.old.items ++ json_triple header.now) }
+{
+    push_member(alloc, text, b"[", header.name().as_str())?;
+    push_member(alloc, text, b",", kind_word(header.value()))?;
+    let value = spelled_value(alloc, header.value())?;
+    push_member(alloc, text, b",", value.as_str())?;
     text.extend_from_slice(b"]")?;
     Ok(())
+}
+
+// Appends a string behind a lead.
+fn push_member(alloc: Global, text: &mut Vec<u8>, lead: &[u8], content: &str) -> Mem<()>
+    ensures { OnOk result (text.new.items ≡ text.old.items ++ (lead.now ++ json_string content.now)) }
+{
+    text.extend_from_slice(lead)?;
+    push_string(alloc, text, content)
 }
 
 #[tactic(auto, unfolding(crate::specs::EventText::json_string))]

@@ -110,15 +110,15 @@ events_words (word ∷ words) = action_words words (action_named word)
 
 -- ## Answers
 
--- what contracts see of what the words gave
+-- what contracts see of what the words of `events` gave
 abbrev pub given_events : GivenEvents → EventsGiven
 given_events given = record { action = given.action; options = given.options; awaited = option_copied given.awaited }
 
--- what contracts see of what is asked
+-- what contracts see of what is asked of events
 abbrev pub events_wanted : EventsAsked → EventsWanted
 events_wanted asked = record { action = asked.action; options = asked.options }
 
--- this is what is asked, or the word at this place is bad; or memory ran out
+-- this is what is asked of events, or the word at this place is bad; or memory ran out
 abbrev pub ReadsEventsAsked : Result EventsWanted ℕ → Result EventsAsked WordsFault → Type 0
 ReadsEventsAsked read (Ok asked) = read ≡ Ok (events_wanted asked)
 ReadsEventsAsked read (Err (BadWord place)) = read ≡ Err place

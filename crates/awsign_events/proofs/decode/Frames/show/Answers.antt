@@ -23,11 +23,11 @@ pub frames-preserved : goal.frames-preserved
 frames-preserved g c = record {
   shows =
       λ taken before shown.
-      let one = c.in_ok-show_front.ensures.shows (taken ++ c.args.piece.now) before (c.frames.invariant.shows taken before shown) in rw c.frames-test.true at one;
+      let one = c.in_ok-show_front.ensures.shows (taken ++ c.args.piece.now) before (c.frames.invariant.shows taken before shown) in rw c.if-branch.true at one;
   count = omega (arith, c.frames.invariant.count, c.show_front.ensures.count);
 }
 
 pub returns-clause-shows : goal.returns-clause-shows
 returns-clause-shows g c =
     λ taken before shown.
-    let one = c.in_ok-show_front.ensures.shows (taken ++ c.args.piece.now) before (c.frames.invariant.shows taken before shown) in rw c.frames-test.false at one
+    let one = c.in_ok-show_front.ensures.shows (taken ++ c.args.piece.now) before (c.frames.invariant.shows taken before shown) in rw c.if-branch.false at one

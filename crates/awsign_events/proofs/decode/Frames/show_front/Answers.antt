@@ -21,9 +21,9 @@ pub returns-in_ok-write_message-in-Ok-Some-clause-shorter : goal.returns-in_ok-w
 returns-in_ok-write_message-in-Ok-Some-clause-shorter g c =
     λ is. waits_fewer c.args.self.now c.in-Ok-Some.message c.in-Ok-Some.len _ c.in-Ok-Some.ensures.first.1 c.advance.ensures.bytes
 
-pub returns-in-Ok-None-clause-shows : goal.returns-in-Ok-None-clause-shows
-returns-in-Ok-None-clause-shows g c = λ taken before shown. (shown, c.in-Ok-None.ensures.first)
-
 pub returns-in-Err-clause-shows : goal.returns-in-Err-clause-shows
 returns-in-Err-clause-shows g c =
     λ taken before shown. rw c.wrong_frame.ensures (wrong_stops c.args.form taken c.args.self.now before (g.K.ByteSink.held c.args.out.now) c.in-Err.error shown c.in-Err.ensures.first)
+
+pub returns-in-Ok-None-clause-shows : goal.returns-in-Ok-None-clause-shows
+returns-in-Ok-None-clause-shows g c = λ taken before shown. (shown, rw c.in-Ok-None.field-0-is at c.in-Ok-None.ensures.first)
