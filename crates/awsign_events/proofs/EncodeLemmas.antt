@@ -7,6 +7,8 @@ use Rattle.std.proofs.Math.Seq.{drop-cons}
 use Rattle.std.proofs.lemmas.Grind.{flat_map-append}
 use Rattle.std.proofs.lemmas.List.{length-take-le, take_more, take-append-drop}
 use Rattle.std.proofs.lemmas.List.Folds.{list_all-append}
+use Rattle.job_text.specs.Draft.{ReadsJob}
+use Rattle.job_text.specs.Job.{JobParts}
 use Rattle.job_text.specs.declared.fault.JobFault.{JobFault}
 use Rattle.job_text.specs.declared.fault.JobFault.TheVariants as job
 use Rattle.smithy_core.specs.Message.{Parts}
@@ -15,7 +17,7 @@ use Rattle.smithy_core.specs.declared.outside.read_all.ReadFault.{ReadFault}
 use Rattle.smithy_core.specs.declared.outside.read_all.ReadFault.TheVariants as read
 use Rattle.smithy_core.proofs.GainLemmas.{prefix_from_proper}
 use Rattle.eventstream.specs.Frame.{frame}
-use Rattle.awsign_events.specs.Encode.{EncodesAll, EncodesInput, EncodesMessages, EncodesSpelled, MakesFrame, SpellsMessages, WritesEncoded, framed_text, is_framed, spelled_messages, written_frame}
+use Rattle.awsign_events.specs.Encode.{EncodesAll, EncodesInput, EncodesMessages, EncodesSpelled, MakesFrame, SpellsMessages, WritesEncoded, events_behind, framed_text, is_framed, spelled_messages, without_request, written_frame}
 use Rattle.awsign_events.specs.EventsStatus.{line_status, read_events_status}
 use Rattle.awsign_events.specs.HexInput.{GivesUnhexed, LacksInput, Unhexes, most_input, unhexed}
 use Rattle.awsign_events.specs.declared.status.EventsStatus.{EventsStatus}
@@ -60,6 +62,11 @@ module _ (is_hex : Bool) (messages : List Parts) (i : ℕ) (message : Parts) (wi
 spelled_without_memory : (is_hex : Bool) (spelled : Result (List Parts) ℕ) → EncodesSpelled is_hex spelled (Err NoMemory)
 spelled_without_memory is_hex (Ok messages) = tt
 spelled_without_memory is_hex (Err place) = tt
+
+-- a job that has a bad line
+pub job_refused : (read : Result JobParts ℕ) (fault : JobFault) → ReadsJob read (Err fault) → SpellsMessages (events_behind read) (Err (without_request fault))
+job_refused read (job.BadLine place) is = ap events_behind is
+job_refused read job.NoMemory is = tt
 
 -- lines that spell no messages
 pub unspelled_stops : (is_hex : Bool) (spelled : Result (List Parts) ℕ) (fault : JobFault) → SpellsMessages spelled (Err fault) → EncodesSpelled is_hex spelled (Err (line_status fault))

@@ -102,6 +102,11 @@ WritesEncoded text OutputFault before now = GainsProperPrefix before now text
 WritesEncoded text NoMemory before now = GainsProperPrefix before now text
 WritesEncoded text status before now = ⊥
 
+-- the fault, where the two lines of the request don't count
+abbrev pub without_request : JobFault → JobFault
+without_request (job_fault.BadLine place) = job_fault.BadLine (place - 2)
+without_request job_fault.NoMemory = job_fault.NoMemory
+
 -- the message at a place has this frame, or none; or memory ran out
 abbrev pub MakesFrame : ℕ → Parts → Result (Vec ℕ) EventsStatus → Type 0
 MakesFrame place message (Ok bytes) = (is_framed message ≡ true) × (bytes.items ≡ frame message)

@@ -1,6 +1,7 @@
 //! Frames of events that lines spell.
-ghost use Rattle.std.specs.Prelude.{◌≡◌, ◌≤◌, ◌++◌, OnOk};
-ghost use Rattle.awsign_events.specs.Encode.{EncodesAll, EncodesInput, EncodesMessages, EncodesSpelled, MakesFrame, SpellsMessages, WritesEncoded, begins_with_event, framed_text, no_frame, spelled_messages};
+ghost use Rattle.std.specs.Prelude.{◌≡◌, ◌≤◌, ◌++◌, IfOk, OnOk};
+ghost use Rattle.job_text.specs.Job.{job};
+ghost use Rattle.awsign_events.specs.Encode.{EncodesAll, EncodesInput, EncodesMessages, EncodesSpelled, MakesFrame, SpellsMessages, WritesEncoded, begins_with_event, events_behind, framed_text, no_frame, request_lines, spelled_messages, without_request};
 
 use crate::hex_input::MOST_INPUT;
 use crate::status::EventsStatus;
@@ -78,13 +79,37 @@ fn spelled_messages(alloc: Global, bytes: &[u8]) -> Result<Vec<Message>, JobFaul
     if !begins_with_event(bytes) {
         return Err(JobFault::BadLine(1));
     }
+    job_messages(alloc, bytes)
+}
+
+// The events of a job that goes on with lines behind its request.
+fn job_messages(alloc: Global, bytes: &[u8]) -> Result<Vec<Message>, JobFault>
+    ensures { SpellsMessages (events_behind (job (request_lines ++ bytes.now))) result }
+{
+    let lines = job_lines(alloc, bytes)?;
+    match take_job(alloc, lines) {
+        Ok(job) => Ok(job.events),
+        Err(fault) => Err(without_request(fault)),
+    }
+}
+
+// Lines behind a request.
+fn job_lines(alloc: Global, bytes: &[u8]) -> Mem<Vec<u8>>
+    ensures { IfOk result (λ lines. lines.items ≡ request_lines ++ bytes.now) }
+{
     let mut lines = Vec::new(alloc);
     lines.extend_from_slice(b"method GET\ntarget /\n")?;
     lines.extend_from_slice(bytes)?;
-    match take_job(alloc, lines) {
-        Ok(job) => Ok(job.events),
-        Err(JobFault::BadLine(place)) => Err(JobFault::BadLine(place.saturating_sub(2))),
-        Err(JobFault::NoMemory) => Err(JobFault::NoMemory),
+    Ok(lines)
+}
+
+// The fault, where the two lines of the request don't count.
+fn without_request(fault: JobFault) -> JobFault
+    ensures { result ≡ without_request fault }
+{
+    match fault {
+        JobFault::BadLine(place) => JobFault::BadLine(place.saturating_sub(2)),
+        JobFault::NoMemory => JobFault::NoMemory,
     }
 }
 

@@ -15,7 +15,8 @@ pub(crate) fn push_json(alloc: Global, text: &mut Vec<u8>, message: &Message) ->
 {
     text.extend_from_slice(b"{\"headers\":[")?;
     push_triples(alloc, text, message.headers())?;
-    push_payload(alloc, text, message.payload().as_slice())
+    push_payload(alloc, text, message.payload().as_slice())?;
+    Ok(())
 }
 
 #[tactic(auto, unfolding(crate::specs::EventText::json_payload))]

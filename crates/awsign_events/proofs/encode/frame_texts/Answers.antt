@@ -4,7 +4,7 @@ use Rattle.awsign_events.proofs.EncodeLemmas.{framed_more, frames_more, stops_at
 use Rattle.awsign_events.proofs.encode.frame_texts.Goals as goal
 
 pub messages-init : goal.messages-init
-messages-init c = record { written = refl; framed = refl; placed = refl }
+messages-init c = record { written = c.new-text.ensures.items; framed = refl; placed = refl }
 
 pub returns-in_err-frame : goal.returns-in_err-frame
 returns-in_err-frame c =

@@ -19,12 +19,11 @@ pub returns-in-Ok-eq0-clause-reads : goal.returns-in-Ok-eq0-clause-reads
 returns-in-Ok-eq0-clause-reads g c =
     let source = g.S.ByteSource in
     let so_far = c.pieces.invariant.taken in
-    let cut = cut_more (source.left c.args.input.now) so_far.0 (source.left c.pieces.input) (source.left c.read.new.self) c.in-Ok-eq0.field-0 c.read.new.into so_far.1 c.in-Ok-eq0.ensures.taken in
-    (
+    let cut = cut_more (source.left c.args.input.now) so_far.0 (source.left c.pieces.input) (source.left c.read.new.self) c.in-Ok-eq0.field-0 c.read.new.into so_far.1 c.in-Ok-eq0.ensures.taken in (
       so_far.0,
       no_more (source.left c.args.input.now) so_far.0 c.in-Ok-eq0.field-0 c.read.new.into (source.left c.read.new.self) c.in-Ok-eq0.field-0-test cut,
       c.end.ensures c.args.form so_far.0 (source.left c.read.new.self) (g.K.ByteSink.held c.args.out.now) (g.K.ByteSink.held c.pieces.out)
-      (c.in-Ok-eq0.ensures.at_end (ap Ok c.in-Ok-eq0.field-0-test) c.pieces.invariant.room) so_far.2 c.pieces.invariant.unfinished,
+          (c.in-Ok-eq0.ensures.at_end (ap Ok c.in-Ok-eq0.field-0-test) c.pieces.invariant.room) so_far.2 c.pieces.invariant.unfinished,
     )
 
 pub pieces-preserved : goal.pieces-preserved
@@ -55,12 +54,11 @@ returns-in_err-show-in-Ok-clause-reads g c =
     let so_far = c.pieces.invariant.taken in
     let piece = take c.in-Ok.n c.read.new.into in
     let exit = err_from_is_err_and c.from_residual.result c.from_residual.ensures.1 in
-    rw (exit.1, exit.2)
-    (
+    rw (exit.1, exit.2) (
       so_far.0 ++ piece,
       cut_more (source.left c.args.input.now) so_far.0 (source.left c.pieces.input) (source.left c.read.new.self) c.in-Ok.n c.read.new.into so_far.1 c.in-Ok.ensures.taken,
       stops_ends c.args.form (so_far.0 ++ piece) (source.left c.read.new.self) c.in_err-show-in-Ok.field-0.0 (sink.held c.args.out.now) (sink.held c.show.new.out)
-      (c.in_err-show-in-Ok.ensures.shows so_far.0 (sink.held c.args.out.now) so_far.2),
+          (c.in_err-show-in-Ok.ensures.shows so_far.0 (sink.held c.args.out.now) so_far.2),
     )
 
 pub returns-in-Err-clause-reads : goal.returns-in-Err-clause-reads

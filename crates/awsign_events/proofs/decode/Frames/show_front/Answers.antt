@@ -6,20 +6,23 @@ use Rattle.awsign_events.proofs.decode.Frames.show_front.Goals as goal
 pub returns-in_err-write_message-in-Ok-Some-clause-shows : goal.returns-in_err-write_message-in-Ok-Some-clause-shows
 returns-in_err-write_message-in-Ok-Some-clause-shows g c =
     let exit = err_from_is_err_and c.from_residual.result c.from_residual.ensures.1 in
+    let found = rw c.in-Ok-Some.field-0-is at c.in-Ok-Some.ensures.first in
     λ taken before shown.
     rw (exit.1, exit.2)
     (unwritten_stops c.args.form taken c.args.self.now before (g.K.ByteSink.held c.args.out.now) (g.K.ByteSink.held c.write_message.new.out) c.in-Ok-Some.message
-    (drop c.in-Ok-Some.len c.args.self.now.waiting.bytes) c.in_err-write_message-in-Ok-Some.field-0.0 shown c.in-Ok-Some.ensures.first.1 c.in_err-write_message-in-Ok-Some.ensures.wrote)
+    (drop c.in-Ok-Some.len c.args.self.now.waiting.bytes) c.in_err-write_message-in-Ok-Some.field-0.0 shown found.1 c.in_err-write_message-in-Ok-Some.ensures.wrote)
 
 pub returns-in_ok-write_message-in-Ok-Some-clause-shows : goal.returns-in_ok-write_message-in-Ok-Some-clause-shows
 returns-in_ok-write_message-in-Ok-Some-clause-shows g c =
+    let found = rw c.in-Ok-Some.field-0-is at c.in-Ok-Some.ensures.first in
     λ taken before shown.
     shows_next c.args.form taken c.args.self.now before (g.K.ByteSink.held c.args.out.now) (g.K.ByteSink.held c.write_message.new.out) c.in-Ok-Some.message c.in-Ok-Some.len _ _ shown
-    c.in-Ok-Some.ensures.first.1 c.advance.ensures.bytes c.saturating_add-self.ensures c.in_ok-write_message-in-Ok-Some.ensures.wrote
+    found.1 c.advance.ensures.bytes c.saturating_add-self.ensures c.in_ok-write_message-in-Ok-Some.ensures.wrote
 
 pub returns-in_ok-write_message-in-Ok-Some-clause-shorter : goal.returns-in_ok-write_message-in-Ok-Some-clause-shorter
 returns-in_ok-write_message-in-Ok-Some-clause-shorter g c =
-    λ is. waits_fewer c.args.self.now c.in-Ok-Some.message c.in-Ok-Some.len _ c.in-Ok-Some.ensures.first.1 c.advance.ensures.bytes
+    let found = rw c.in-Ok-Some.field-0-is at c.in-Ok-Some.ensures.first in
+    λ is. waits_fewer c.args.self.now c.in-Ok-Some.message c.in-Ok-Some.len _ found.1 c.advance.ensures.bytes
 
 pub returns-in-Err-clause-shows : goal.returns-in-Err-clause-shows
 returns-in-Err-clause-shows g c =
