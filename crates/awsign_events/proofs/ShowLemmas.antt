@@ -149,7 +149,7 @@ pub unwritten_stops : (form : EventForm) (taken : List ℕ) (frames : Frames) (f
     → StopsDecoding form taken status first now
 unwritten_stops form taken frames first before now message others (Unspelled at) shown found writes =
     let there : Shows form taken frames.waiting.bytes at first before = rw writes.1 shown in
-    (frames.waiting.bytes, rw writes.2 there, (message, others, found, writes.0))
+    (frames.waiting.bytes, rw writes.2 there, message, others, found, writes.0)
 unwritten_stops form taken frames first before now message others OutputFault shown found writes =
     shows_one_part form taken frames.waiting.bytes frames.place first before shown message others found writes.0 now writes.1
 unwritten_stops form taken frames first before now message others NoMemory shown found (inl same) = rw same (shows_part form taken frames.waiting.bytes frames.place first before shown)

@@ -55,13 +55,13 @@ DecodesInput form all left status before now = (taken : List ℕ) × IsCutOf all
 -- ## Between the functions of `decode_events`
 
 -- how the bytes taken end a run that is done, or isn't
-abbrev pub EndsAs : EventForm → List ℕ → Option (List ℕ) → Option (List ℕ) → Option (List ℕ) → Result (Unit {0}) EventsStatus → Type 0
-EndsAs form taken left before now (Ok _) = EndsDecoding form taken left Done before now
-EndsAs form taken left before now (Err status) = EndsDecoding form taken left status before now
+abbrev pub EndsDecodingAs : EventForm → List ℕ → Option (List ℕ) → Option (List ℕ) → Option (List ℕ) → Result (Unit {0}) EventsStatus → Type 0
+EndsDecodingAs form taken left before now (Ok _) = EndsDecoding form taken left Done before now
+EndsDecodingAs form taken left before now (Err status) = EndsDecoding form taken left status before now
 
 -- the bytes that were taken of an input end a run so
 abbrev pub ReadsFrames : EventForm → Option (List ℕ) → Option (List ℕ) → Option (List ℕ) → Option (List ℕ) → Result (Unit {0}) EventsStatus → Type 0
-ReadsFrames form all left before now result = (taken : List ℕ) × IsCutOf all taken left × EndsAs form taken left before now result
+ReadsFrames form all left before now result = (taken : List ℕ) × IsCutOf all taken left × EndsDecodingAs form taken left before now result
 
 -- how decoding stops before the input ends
 abbrev pub StopsDecoding : EventForm → List ℕ → EventsStatus → Option (List ℕ) → Option (List ℕ) → Type 0

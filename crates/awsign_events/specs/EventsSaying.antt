@@ -1,23 +1,10 @@
--- What is said of how a run of `awsign events` ended, and its number.
-use Rattle.std.specs.Prelude.{◌≡◌, ◌⊎◌, ℕ, List, ◌++◌, codes, Option}
+-- What is said of how a run of `awsign events` ended.
+use Rattle.std.specs.Prelude.{◌≡◌, ◌⊎◌, List, ◌++◌, codes, Option}
 use Rattle.std.specs.Fmt.{decimal}
 use Rattle.eventstream.specs.Error.{error_kind, error_kind_text}
 use Rattle.awsign_run.specs.Saying.{GainsSome, tool_line}
 use Rattle.awsign_events.specs.declared.status.EventsStatus.{EventsStatus}
 use Rattle.awsign_events.specs.declared.status.EventsStatus.TheVariants.{Done, WrongFrame, CutShort, Unspelled, BadLine, Unframed, InputFault, TooLarge, OutputFault, NoMemory}
-
--- the number that the process of `events` ends with
-abbrev pub events_code : EventsStatus → ℕ
-events_code Done = 0
-events_code (WrongFrame place error) = 1
-events_code (CutShort place) = 1
-events_code (Unspelled place) = 1
-events_code (BadLine place) = 1
-events_code (Unframed place error) = 1
-events_code InputFault = 3
-events_code TooLarge = 3
-events_code OutputFault = 3
-events_code NoMemory = 3
 
 -- why a run isn't done
 abbrev pub events_reason : EventsStatus → List ℕ

@@ -3,7 +3,7 @@ ghost use Rattle.std.specs.Prelude.{◌≡◌, ◌<◌, ◌≤◌, ◌++◌, [],
 ghost use Rattle.smithy_core.specs.Outside.{IsAtEnd};
 ghost use Rattle.eventstream.specs.Frame.{most_frame};
 ghost use Rattle.awsign_words.specs.declared.events.EventForm.{EventForm as Form};
-ghost use Rattle.awsign_events.specs.Decode.{DecodesInput, EndsAs, ReadsFrames, ShowsWhole, ShowsOne, ShowsUpTo, WaitsUnfinished, WritesMessage, wrong_frame};
+ghost use Rattle.awsign_events.specs.Decode.{DecodesInput, EndsDecodingAs, ReadsFrames, ShowsWhole, ShowsOne, ShowsUpTo, WaitsUnfinished, WritesMessage, wrong_frame};
 
 use crate::status::EventsStatus;
 use crate::text::{is_spelled, message_text};
@@ -131,7 +131,7 @@ impl Frames {
     // How the input ends, where no whole frame waits.
     fn end(&self) -> Result<(), EventsStatus>
         ensures { (form : Form) (taken : List ℕ) (left before now : Option (List ℕ)) → IsAtEnd left → ShowsUpTo form taken self.now before now
-            → WaitsUnfinished self.now → EndsAs form taken left before now result }
+            → WaitsUnfinished self.now → EndsDecodingAs form taken left before now result }
     {
         if self.waiting.remaining() == 0 {
             Ok(())

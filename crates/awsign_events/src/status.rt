@@ -31,7 +31,7 @@ pub enum EventsStatus {
 
 impl EventsStatus {
     ghost use Rattle.std.specs.Prelude.{◌≡◌};
-    ghost use Rattle.awsign_events.specs.EventsSaying.{events_code};
+    ghost use Rattle.awsign_events.specs.EventsStatus.{events_code};
 
     /// The number that the process ends with: 0, 1 where the input is refused, 3 where the input, the output or memory failed.
     pub fn code(&self) -> u8
