@@ -16,15 +16,15 @@ pub record EventsWanted : Type 0 where
   pub action : EventsAction
   pub options : List (List ℕ × List ℕ)
 
--- what the words so far gave, and the option that waits for its value
+-- what the words so far gave: what is done, options, and the one that waits for its value
 pub record EventsGiven : Type 0 where
-  pub action : EventsAction
+  pub action : Option EventsAction
   pub options : List (List ℕ × List ℕ)
   pub awaited : Option (List ℕ)
 
--- no options yet
-abbrev pub no_event_words : EventsAction → EventsGiven
-no_event_words action = record { action = action; options = []; awaited = None }
+-- no words yet
+abbrev pub no_event_words : EventsGiven
+no_event_words = record { action = None; options = []; awaited = None }
 
 -- ## Options
 
@@ -59,54 +59,51 @@ is_event_fit option value = not (bytes_eq option (codes "--as")) || is_some (eve
 
 -- ## Words
 
+-- what a word names is done
+abbrev pub action_named : List ℕ → Option EventsAction
+action_named word = if bytes_eq word (codes "decode") then Some Decode else if bytes_eq word (codes "encode") then Some Encode else None
+
+-- the word that says what is done
+abbrev pub take_action : EventsGiven → Option EventsAction → Option EventsGiven
+take_action given None = None
+take_action given (Some action) = Some (record given { action = Some action })
+
 -- the value of an option
 abbrev pub take_event_value : EventsGiven → List ℕ → List ℕ → Option EventsGiven
 take_event_value given option value =
     if is_event_fit option value then Some (record given { options = given.options ++ (option, value) ∷ []; awaited = None }) else None
 
--- an option
-abbrev pub take_event_option : EventsGiven → List ℕ → Option EventsGiven
-take_event_option given word =
+-- an option of what is done
+abbrev pub take_event_option : EventsGiven → EventsAction → List ℕ → Option EventsGiven
+take_event_option given action word =
     if is_event_spent given.options word then None
-    else if takes_event_value given.action word then Some (record given { awaited = Some word })
+    else if takes_event_value action word then Some (record given { awaited = Some word })
     else if is_event_flag word then Some (record given { options = given.options ++ (word, []) ∷ [] })
     else None
 
--- a word, behind an option that waits or doesn't
-abbrev pub take_event_word : EventsGiven → Option (List ℕ) → List ℕ → Option EventsGiven
-take_event_word given None word = take_event_option given word
-take_event_word given (Some option) word = take_event_value (record given { awaited = None }) option word
+-- a word: first what is done, and then options, behind one that waits or not
+abbrev pub take_event_word : EventsGiven → Option EventsAction → Option (List ℕ) → List ℕ → Option EventsGiven
+take_event_word given None awaited word = take_action given (action_named word)
+take_event_word given (Some action) None word = take_event_option given action word
+take_event_word given (Some action) (Some option) word = take_event_value (record given { awaited = None }) option word
 
 -- a word
 abbrev pub event_word : EventsGiven → List ℕ → Option EventsGiven
-event_word given word = take_event_word given given.awaited word
+event_word given word = take_event_word given given.action given.awaited word
 
--- the words are over, and no option waits
+-- the words are over: it is said what is done, and no option waits
+abbrev pub event_words_of : ℕ → EventsGiven → Option EventsAction → Option (List ℕ) → Result EventsWanted ℕ
+event_words_of place given (Some action) None = Ok (record { action = action; options = given.options })
+event_words_of place given (Some action) (Some option) = Err place
+event_words_of place given None awaited = Err place
+
+-- what all words of `events` ask for
 abbrev pub all_event_words : ℕ → EventsGiven → Result EventsWanted ℕ
-all_event_words place given =
-    if is_some given.awaited then Err place
-    else Ok (record { action = given.action; options = given.options })
-
--- what a word names is done
-abbrev pub action_named : List ℕ → Option EventsAction
-action_named word =
-    if bytes_eq word (codes "decode") then Some Decode
-    else if bytes_eq word (codes "encode") then Some Encode
-    else None
-
--- what the words behind what is done ask for, or the place of the first bad one
-unfoldable pub event_words_behind : EventsAction → List (List ℕ) → Result EventsWanted ℕ
-event_words_behind action words = after_pieces all_event_words (taken_from event_word 3 (no_event_words action) words)
-
--- goes on, where the word names what is done
-abbrev pub action_words : List (List ℕ) → Option EventsAction → Result EventsWanted ℕ
-action_words words (Some action) = event_words_behind action words
-action_words words None = Err 2
+all_event_words place given = event_words_of place given given.action given.awaited
 
 -- what the words behind `events` ask for, or the place of the first bad one
 unfoldable pub events_words : List (List ℕ) → Result EventsWanted ℕ
-events_words [] = Err 2
-events_words (word ∷ words) = action_words words (action_named word)
+events_words words = after_pieces all_event_words (taken_from event_word 2 no_event_words words)
 
 -- ## Answers
 

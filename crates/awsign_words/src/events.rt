@@ -2,7 +2,7 @@
 ghost use Rattle.std.specs.Prelude.{◌≡◌, None, map};
 ghost use Rattle.std.specs.String.{string_bytes};
 ghost use Rattle.job_text.specs.Words.{TakesWord};
-ghost use Rattle.awsign_words.specs.EventWords.{ReadsEventsAsked, action_named, action_words, all_event_words, asked_event_form, event_form_named, event_words_behind, events_words, given_events, has_stood, is_event_fit, is_event_flag, is_event_spent, no_event_words, take_event_option, take_event_value, takes_event_value};
+ghost use Rattle.awsign_words.specs.EventWords.{ReadsEventsAsked, action_named, all_event_words, asked_event_form, event_form_named, events_words, given_events, has_stood, is_event_fit, is_event_flag, is_event_spent, no_event_words, take_action, take_event_option, take_event_value, takes_event_value};
 
 use job_text::{TakeWord, WordsFault, take_words};
 use smithy_core::Env;
@@ -47,24 +47,33 @@ impl EventsAsked {
     }
 }
 
-/// What the words of `events` so far gave, and the option that waits for its value.
+/// What the words of `events` so far gave: what is done, options, and the one that waits for its value.
 #[derive(Drop)]
 pub struct GivenEvents<'a> {
-    action: EventsAction,
+    action: Option<EventsAction>,
     options: Env,
     awaited: Option<&'a str>,
 }
 
 impl<'a> GivenEvents<'a> {
-    /// No options yet.
-    pub fn new(alloc: Global, action: EventsAction) -> Self
-        ensures { given_events result ≡ no_event_words action }
+    /// No words yet.
+    pub fn new(alloc: Global) -> Self
+        ensures { given_events result ≡ no_event_words }
     {
         GivenEvents {
-            action,
+            action: None,
             options: Env::new(alloc),
             awaited: None,
         }
+    }
+
+    // Takes the word at a place that says what is done.
+    fn take_action(&mut self, place: usize, word: &str) -> Result<(), WordsFault>
+        ensures { TakesWord (take_action (given_events self.old) (action_named word.now)) place (given_events self.new) result }
+    {
+        let action = action_named(word).ok_or(WordsFault::BadWord(place))?;
+        self.action = Some(action);
+        Ok(())
     }
 
     // Takes the value at a place of an option that no longer waits.
@@ -80,14 +89,19 @@ impl<'a> GivenEvents<'a> {
     }
 
     // Takes the option at a place.
-    fn take_option(&mut self, place: usize, word: &'a str) -> Result<(), WordsFault>
+    fn take_option(
+        &mut self,
+        action: EventsAction,
+        place: usize,
+        word: &'a str,
+    ) -> Result<(), WordsFault>
         requires { self.old.awaited ≡ None }
-        ensures { TakesWord (take_event_option (given_events self.old) word.now) place (given_events self.new) result }
+        ensures { TakesWord (take_event_option (given_events self.old) action word.now) place (given_events self.new) result }
     {
         if is_spent(&self.options, word) {
             return Err(WordsFault::BadWord(place));
         }
-        if takes_value(self.action, word) {
+        if takes_value(action, word) {
             self.awaited = Some(word);
         } else if is_flag(word) {
             self.options.set(word, "")?;
@@ -101,13 +115,13 @@ impl<'a> GivenEvents<'a> {
     pub fn finish(self, place: usize) -> Result<EventsAsked, WordsFault>
         ensures { ReadsEventsAsked (all_event_words place (given_events self.entry)) result }
     {
-        if self.awaited.is_some() {
-            return Err(WordsFault::BadWord(place));
+        match (self.action, self.awaited) {
+            (Some(action), None) => Ok(EventsAsked {
+                action,
+                options: self.options,
+            }),
+            _ => Err(WordsFault::BadWord(place)),
         }
-        Ok(EventsAsked {
-            action: self.action,
-            options: self.options,
-        })
     }
 }
 
@@ -121,9 +135,12 @@ impl<'a> TakeWord<'a> for GivenEvents<'a> {
     ghost step = { event_word };
 
     fn take_word(&mut self, place: usize, word: &'a str) -> Result<(), WordsFault> {
-        match self.awaited.take() {
-            Some(option) => self.take_value(option, place, word),
-            None => self.take_option(place, word),
+        match self.action {
+            Some(action) => match self.awaited.take() {
+                Some(option) => self.take_value(option, place, word),
+                None => self.take_option(action, place, word),
+            },
+            None => self.take_action(place, word),
         }
     }
 }
@@ -194,24 +211,7 @@ fn action_named(word: &str) -> Option<EventsAction>
 pub fn read_events(alloc: Global, words: &[String]) -> Result<EventsAsked, WordsFault>
     ensures { ReadsEventsAsked (events_words (map string_bytes words.now)) result }
 {
-    let [first, rest @ ..] = words else {
-        return Err(WordsFault::BadWord(2));
-    };
-    match action_named(first.as_str()) {
-        Some(action) => read_action(alloc, action, rest),
-        None => Err(WordsFault::BadWord(2)),
-    }
-}
-
-#[tactic(auto, unfolding(crate::specs::EventWords::event_words_behind))]
-fn read_action(
-    alloc: Global,
-    action: EventsAction,
-    words: &[String],
-) -> Result<EventsAsked, WordsFault>
-    ensures { ReadsEventsAsked (event_words_behind action (map string_bytes words.now)) result }
-{
-    let mut given = GivenEvents::new(alloc, action);
-    let place = take_words(&mut given, 3, words)?;
+    let mut given = GivenEvents::new(alloc);
+    let place = take_words(&mut given, 2, words)?;
     given.finish(place)
 }
