@@ -1,5 +1,5 @@
 -- What is said of how a run of `awsign events` ended.
-use Rattle.std.specs.Prelude.{◌≡◌, ◌⊎◌, List, ◌++◌, codes, Option}
+use Rattle.std.specs.Prelude.{◌≡◌, ◌⊎◌, ℕ, List, ◌++◌, codes, Option}
 use Rattle.std.specs.Fmt.{decimal}
 use Rattle.eventstream.specs.Error.{error_kind, error_kind_text}
 use Rattle.awsign_run.specs.Saying.{GainsSome, tool_line}

@@ -22,7 +22,7 @@ pub record EventsGiven : Type 0 where
   pub options : List (List ℕ × List ℕ)
   pub awaited : Option (List ℕ)
 
--- no words yet
+-- no words of `events` yet
 abbrev pub no_event_words : EventsGiven
 no_event_words = record { action = None; options = []; awaited = None }
 
