@@ -19,7 +19,11 @@ events_reason TooLarge = codes "the input has over 67108864 bytes"
 events_reason OutputFault = codes "the output failed"
 events_reason NoMemory = codes "no memory"
 
--- what was said: nothing where all was written, and else the line, or that memory ran out
+-- the line of the reason was said, or that memory ran out
+abbrev pub SaysReason : EventsStatus → Option (List ℕ) → Option (List ℕ) → Type 0
+SaysReason status before now = GainsSome before now (tool_line (events_reason status)) ⊎ GainsSome before now (tool_line (codes "no memory"))
+
+-- what was said: nothing where all was written, and else the line
 abbrev pub SaysEvents : EventsStatus → Option (List ℕ) → Option (List ℕ) → Type 0
 SaysEvents Done before now = now ≡ before
-SaysEvents status before now = GainsSome before now (tool_line (events_reason status)) ⊎ GainsSome before now (tool_line (codes "no memory"))
+SaysEvents status before now = SaysReason status before now

@@ -2,7 +2,7 @@
 ghost use Rattle.std.specs.Prelude.{◌≡◌, ◌≤◌, IfOk};
 ghost use Rattle.std.specs.String.{string_bytes};
 ghost use Rattle.awsign_run.specs.Saying.{tool_line};
-ghost use Rattle.awsign_events.specs.EventsSaying.{SaysEvents, events_reason};
+ghost use Rattle.awsign_events.specs.EventsSaying.{SaysEvents, SaysReason, events_reason};
 ghost use Rattle.awsign_events.specs.declared.status.EventsStatus.TheVariants.{BadLine, CutShort, Unframed, Unspelled, WrongFrame};
 
 use crate::status::EventsStatus;
@@ -18,10 +18,17 @@ pub fn say_events<E: ByteSink>(alloc: Global, status: &EventsStatus, err: &mut E
 {
     match status {
         EventsStatus::Done => {}
-        status => match reason_line(alloc, status) {
-            Ok(line) => write_some(line.as_str(), err),
-            Err(_) => write_some("awsign: no memory\n", err),
-        },
+        status => say_reason(alloc, status, err),
+    }
+}
+
+fn say_reason<E: ByteSink>(alloc: Global, status: &EventsStatus, err: &mut E)
+    ensures said { SaysReason status.now (E.held err.old) (E.held err.new) }
+    ensures count { E.faults err.old ≤ E.faults err.new }
+{
+    match reason_line(alloc, status) {
+        Ok(line) => write_some(line.as_str(), err),
+        Err(_) => write_some("awsign: no memory\n", err),
     }
 }
 
