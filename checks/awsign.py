@@ -1,15 +1,17 @@
 #!/usr/bin/env python3
 """Tasks from the shell with the built program `awsign`: it signs, curl sends, and a listener on loopback asks botocore what the
-signature has to be and keeps the objects; of a body in chunks the listener computes every signature again; and it verifies what it signed,
-and what botocore presigned. For each task that goes wrong there is a line; the status is then 1. Without botocore or curl it checks nothing.
+signature has to be and keeps the objects; of a body in chunks the listener computes every signature again; it verifies what it signed,
+and what botocore presigned; and it prints event stream frames that botocore reads. For each task that goes wrong there is a line; the status is then 1. Without botocore or curl it checks nothing.
 AWSIGN_BIG is how many bytes the big file has."""
 import base64
 import hashlib
 import hmac
 import http.server
+import json
 import os
 import shutil
 import socket
+import struct
 import subprocess
 import sys
 import tempfile
@@ -282,6 +284,77 @@ def outside():
         says(f"a request of botocore to {service}", "awsign verify < message", 0, f"service {service}\nplace headers\n")
 
 
+def framed(headers, payload):
+    """The frame of headers, each a name, a type's number and the bytes of its value; botocore has to read it."""
+    from botocore.eventstream import EventStreamBuffer
+
+    block = b"".join(bytes([len(name)]) + name + bytes([kind]) + value for name, kind, value in headers)
+    front = struct.pack(">II", 16 + len(block) + len(payload), len(block))
+    body = front + struct.pack(">I", zlib.crc32(front)) + block + payload
+    frame = body + struct.pack(">I", zlib.crc32(body))
+    buffer = EventStreamBuffer()
+    buffer.add_data(frame)
+    (message,) = list(buffer)
+    if message.payload != payload or len(message.headers) != len({name for name, _, _ in headers}):
+        failed.append(f"botocore reads another message than {headers} and {payload}")
+    return frame
+
+
+def events():
+    """What `awsign events` prints of frames that botocore reads, and what it writes."""
+    from botocore.eventstream import EventStreamBuffer
+
+    def text(value):
+        return struct.pack(">H", len(value)) + value
+
+    whole = framed([(b":event-type", 7, text("Größe \"x\" \\".encode())), (b"t", 0, b""), (b"f", 1, b""), (b"a", 2, b"\x80"), (b"b", 3, b"\xff\xfe"),
+                    (b"c", 4, struct.pack(">i", 2 ** 31 - 1)), (b"d", 5, struct.pack(">q", -2 ** 63)), (b"e", 6, text(b"\x00\xff")),
+                    (b"g", 8, struct.pack(">q", -1)), (b"h", 9, bytes(range(16))), (b"none", 7, text(b""))], b"hello")
+    lines = "event\nh :event-type text Größe \"x\" \\\nh t true\nh f false\nh a i8 -128\nh b i16 -2\nh c i32 2147483647\nh d i64 -9223372036854775808\n" \
+        "h e bytes 00ff\nh g time -1 999000000\nh h uuid 000102030405060708090a0b0c0d0e0f\nh none text\npayload 68656c6c6f\n"
+    bare, broken = framed([], b""), framed([(b"x", 7, text(b"a\nb\x01"))], b"")
+    kept = {"frames": whole + bare + whole, "wrong": whole + bare[:-1] + b"x" + whole, "short": whole + bare + whole[:-1], "broken": whole + broken,
+            "digits": (whole.hex() + "\n" + bare.hex().upper() + "\n").encode(), "job": (lines + "event\npayload\n").encode(), "nothing": b""}
+    for name, data in kept.items():
+        with open(name, "wb") as it:
+            it.write(data)
+    says("events", "awsign events decode < frames", 0, lines + "event\npayload\n" + lines)
+    says("events of a slow pipe", "(head -c 5 frames; sleep 0.2; tail -c +6 frames) | awsign events decode --raw --as lines", 0, lines + "event\npayload\n" + lines)
+    says("events in hexadecimal", "awsign events decode --hex < digits", 0, lines + "event\npayload\n")
+    says("no events", "awsign events decode < nothing", 0)
+    says("frames again", "awsign events decode < frames | awsign events encode | cmp - frames && echo same", 0, "same")
+    says("frames of lines", "awsign events encode --hex < job", 0, whole.hex() + "\n" + bare.hex() + "\n")
+    says("frames of no lines", "awsign events encode < nothing", 0)
+    says("a wrong frame", "awsign events decode < wrong", 1, lines, "awsign: frame 2: message checksum")
+    says("nothing behind a wrong frame", "awsign events decode < wrong 2> said | grep -c event-type", 1, "1\n")
+    says("a short frame", "awsign events decode < short", 1, lines + "event\npayload\n", "awsign: frame 3: the input ends within it")
+    says("bytes that are no frame", "awsign events decode < word", 1, "", "awsign: frame 1: the input ends within it")
+    says("a line end in a text", "awsign events decode < broken", 1, lines, "awsign: frame 2: lines can't spell one of its headers")
+    shown = subprocess.run(["awsign", "events", "decode", "--as", "json"], input=whole + broken, capture_output=True, timeout=60).stdout.decode()
+    wanted = [{"headers": [[*part, ""][:3] for part in (line[2:].split(" ", 2) for line in lines.splitlines()[1:-1])], "payload": "68656c6c6f"},
+              {"headers": [["x", "text", "a\nb\x01"]], "payload": ""}]
+    try:
+        same = [json.loads(line) for line in shown.splitlines()] == wanted
+    except ValueError:
+        same = False
+    if not same:
+        failed.append(f"events in JSON: {shown!r} for {wanted}")
+    for task, job, place in (("a line before the first event", "h a text b\n", 1), ("a line of a request", "event\nmethod GET\n", 2),
+                             ("a header without a type", "event\n\nh a\n", 3), ("odd digits", "event\npayload 0\n", 2), ("two payloads", "event\npayload\npayload\n", 3)):
+        says(task, "printf \"$JOB\" | awsign events encode", 1, "", f"awsign: line {place} of the input isn't understood", JOB=job)
+    says("a name that is too long", "(printf 'event\\nevent\\nh '; head -c 256 /dev/zero | tr '\\0' n; echo ' true') | awsign events encode", 1, "", "awsign: event 2: invalid header name length")
+    says("odd digits of a frame", "(head -1 digits; echo 0) | awsign events decode --hex", 1, "", "awsign: line 2 of the input")
+    says("events to a full device", "awsign events decode < frames > /dev/full", 3, "", "awsign: the output failed")
+    says("events of a folder", "awsign events decode < .", 3, "", "awsign: could not read standard input")
+    for words in ("events", "events print", "events decode --raw --hex", "events encode --as json", "events decode --as curl", "events decode --as", "events encode --seed x"):
+        says(words, f"awsign {words} < frames", 2, "", "awsign: ")
+    reader = subprocess.run(["awsign", "events", "encode"], input=kept["job"], capture_output=True, timeout=60).stdout
+    buffer = EventStreamBuffer()
+    buffer.add_data(reader)
+    if [message.payload for message in buffer] != [b"hello", b""]:
+        failed.append(f"botocore reads other messages of {reader!r}")
+
+
 def tasks(at, at_body):
     """The tasks with a listener."""
     curl = "curl -sS -K - -w '%{http_code}'"
@@ -306,6 +379,7 @@ def tasks(at, at_body):
     heads(at, int(at.rsplit(":", 1)[1]))
     verified(at)
     chunked(at, at_body)
+    events()
     Listener.token = TOKEN
     shell("a session token", f"awsign sign GET {at}/b/a%20b --s3 | curl -sS -K -", "hello", AWS_SESSION_TOKEN=TOKEN)
     shell("a token in a URL", f"curl -sS \"$(awsign presign GET {at}/b/a%20b --s3 --expires 600)\"", "hello", AWS_SESSION_TOKEN=TOKEN)

@@ -7,7 +7,13 @@ _awsign() {
       return
       ;;
     --as)
-      mapfile -t COMPREPLY < <(compgen -W 'curl headers json http url' -- "$word")
+      words='curl headers json http url'
+      [[ ${COMP_WORDS[1]} == events ]] && words='lines json'
+      mapfile -t COMPREPLY < <(compgen -W "$words" -- "$word")
+      return
+      ;;
+    events)
+      mapfile -t COMPREPLY < <(compgen -W 'decode encode' -- "$word")
       return
       ;;
     --checksum)
@@ -31,8 +37,12 @@ _awsign() {
   case ${COMP_WORDS[1]} in
     presign) words="$words --expires --long" ;;
   esac
+  case ${COMP_WORDS[1]}-${COMP_WORDS[2]} in
+    events-decode) words='--raw --hex --as' ;;
+    events-encode) words='--raw --hex' ;;
+  esac
   if ((COMP_CWORD == 1)); then
-    words='sign presign verify chunk --help --version'
+    words='sign presign verify chunk events --help --version'
   fi
   mapfile -t COMPREPLY < <(compgen -W "$words" -- "$word")
 }

@@ -14,7 +14,19 @@ _awsign() {
   )
   if ((CURRENT == 2)); then
     _values command 'sign[prints a signed request]' 'presign[prints a presigned URL]' 'verify[says who signed a request]' \
-      'chunk[writes a body in chunks]' --help --version
+      'chunk[writes a body in chunks]' 'events[prints events, or writes their frames]' --help --version
+    return
+  fi
+  if [[ $words[2] == events ]]; then
+    if ((CURRENT == 3)); then
+      _values action 'decode[prints events]' 'encode[writes frames]'
+      return
+    fi
+    local -a forms=('(--hex)--raw[frames are bytes]' '(--raw)--hex[frames are lines of hexadecimal]')
+    [[ $words[3] == encode ]] || forms+=('--as[the form]:form:(lines json)')
+    shift 2 words
+    ((CURRENT -= 2))
+    _arguments $forms
     return
   fi
   if [[ $words[2] == (sign|presign) ]]; then

@@ -7,6 +7,8 @@ awsign verify METHOD URL [OPTION]..    says who presigned the URL
 awsign verify [OPTION]..               says who signed the request in the input
 awsign chunk METHOD URL --data FILE --out BODY [OPTION]..   writes the body in
                                        chunks, and prints the request
+awsign events decode [OPTION]..        prints the events of event stream frames
+awsign events encode [OPTION]..        writes the frames of printed events
 
   -H 'name: value'     a header, any number
   --profile NAME, --region NAME
@@ -33,6 +35,11 @@ chunk:
   --trailer 'name: value'              a trailer, any number
   --as FORM
 
+events (decode reads frames from standard input, encode lines):
+  --hex                frames are lines of hexadecimal, not bytes (--raw)
+  --as FORM            decode: lines (event, h NAME TYPE VALUE, payload HEX), or
+                       json (an object a line)
+
 Key and region come from the options, then the variables AWS_ACCESS_KEY_ID,
 AWS_SECRET_ACCESS_KEY, AWS_SESSION_TOKEN, AWS_REGION and AWS_DEFAULT_REGION,
 then the profile. An empty variable counts as unset, and with --profile those
@@ -43,9 +50,10 @@ of the key don't count.
   awsign verify --s3 < REQUEST
   awsign chunk PUT https://bucket.s3.amazonaws.com/key --data FILE --out BODY \
     --signed --checksum crc32 | curl -K -
+  awsign events decode < FRAMES | grep '^h :event-type'
 
-Exit status: 0, 1 nothing is signed or the request isn't good, 2 bad word, 3 a
-file, the input, the output or memory failed
+Exit status: 0, 1 nothing is signed, or the request or the stream isn't good,
+2 bad word, 3 a file, the input, the output or memory failed
 ";
 
 const VERSION: &str = "awsign 0.1.0\n";

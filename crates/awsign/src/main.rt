@@ -1,13 +1,15 @@
-//! The program: makes the real objects, hands them to `run_signing`, `run_verify` or `make_upload`, and ends with the number of its status.
+//! The program: makes the real objects, hands them to `run_signing`, `run_verify`, `make_upload` or a call of `awsign_events`, and ends with
+//! the number of its status.
 #![tactic(auto)]
 
 mod help;
 
 use crate::help::text_asked;
 use awsign_chunk::{ChunkStatus, ChunkedUpload, make_upload, say_chunk, write_upload};
+use awsign_events::{EventsStatus, decode_events, encode_events, read_hex, say_events};
 use awsign_run::{Status, run_signing, say, tell_service, url_host, write_text};
 use awsign_verify::{run_verify, say_verify};
-use awsign_words::{Asked, AskedCommand, VerifyAsked, read_command};
+use awsign_words::{Asked, AskedCommand, EventsAction, EventsAsked, VerifyAsked, read_command};
 use program_start::{StartFault, words_and_env};
 use smithy_core::{ByteSource, CalmSource, Env, HostDisk, StdSink, StdSource, SystemClock};
 use std::fs::File;
@@ -38,6 +40,11 @@ fn answer(rt: &HostRuntime, words: &[String], env: &Env) -> u8 {
         Ok(AskedCommand::Chunking(asked)) => {
             let status = chunk(rt, &asked, env);
             say_chunk(rt.alloc(), words, &status, &mut StdSink::new(rt.stderr()));
+            status.code()
+        }
+        Ok(AskedCommand::Streaming(asked)) => {
+            let status = stream(rt, &asked);
+            say_events(rt.alloc(), &status, &mut StdSink::new(rt.stderr()));
             status.code()
         }
         Err(fault) => said(rt, words, &Status::from(fault)),
@@ -141,4 +148,24 @@ fn verify(rt: &HostRuntime, asked: &VerifyAsked<'_>, env: &Env) -> u8 {
     );
     say_verify(rt.alloc(), &status, &mut StdSink::new(rt.stderr()));
     status.code()
+}
+
+// Prints the events of the input, or writes their frames.
+fn stream(rt: &HostRuntime, asked: &EventsAsked) -> EventsStatus {
+    let mut input = StdSource::new(rt.reader());
+    let mut out = StdSink::new(rt.stdout());
+    let is_hex = asked.options.get("--hex").is_some();
+    match asked.action {
+        EventsAction::Encode => encode_events(rt.alloc(), is_hex, &mut input, &mut out),
+        EventsAction::Decode if !is_hex => {
+            decode_events(rt.alloc(), asked.form(), &mut input, &mut out)
+        }
+        EventsAction::Decode => match read_hex(rt.alloc(), &mut input) {
+            Ok(frames) => {
+                let mut frames = CalmSource::new(frames);
+                decode_events(rt.alloc(), asked.form(), &mut frames, &mut out)
+            }
+            Err(status) => status,
+        },
+    }
 }

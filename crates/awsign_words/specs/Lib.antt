@@ -1,1 +1,2 @@
+pub mod EventWords
 pub mod Words

@@ -12,11 +12,12 @@ use Rattle.job_text.specs.declared.words.WordsFault.{WordsFault}
 use Rattle.job_text.specs.declared.words.WordsFault.TheVariants.{BadWord, NoMemory}
 use Rattle.awsign_text.specs.declared.forms.Form.{Form}
 use Rattle.awsign_text.specs.declared.forms.Form.TheVariants.{Curl, Headers, Json, Http, Url}
+use Rattle.awsign_words.specs.EventWords.{EventsWanted, events_wanted, events_words}
 use Rattle.awsign_words.specs.declared.command.Command.{Command}
 use Rattle.awsign_words.specs.declared.command.Command.TheVariants.{Sign, Presign, Verify, Chunk}
 use Rattle.awsign_words.specs.declared.words.Asked.{Asked}
 use Rattle.awsign_words.specs.declared.words.AskedCommand.{AskedCommand}
-use Rattle.awsign_words.specs.declared.words.AskedCommand.TheVariants.{Signing, Verifying, Chunking}
+use Rattle.awsign_words.specs.declared.words.AskedCommand.TheVariants.{Signing, Verifying, Chunking, Streaming}
 use Rattle.awsign_words.specs.declared.words.Checksum.{Checksum}
 use Rattle.awsign_words.specs.declared.words.Checksum.TheVariants.{Crc32, Sha256}
 use Rattle.awsign_words.specs.declared.words.GivenWords.{GivenWords}
@@ -46,6 +47,7 @@ pub data CommandWanted : Type 0 where
   signs : SignWanted → CommandWanted
   verifies : VerifyWanted → CommandWanted
   chunks : SignWanted → CommandWanted
+  streams : EventsWanted → CommandWanted
 
 -- what the words so far gave, and the option that waits for its value
 pub record Given : Type 0 where
@@ -267,6 +269,11 @@ abbrev pub to_chunk : Result SignWanted ℕ → Result CommandWanted ℕ
 to_chunk (Ok wanted) = Ok (chunks wanted)
 to_chunk (Err place) = Err place
 
+-- to do with events what is asked
+abbrev pub to_stream : Result EventsWanted ℕ → Result CommandWanted ℕ
+to_stream (Ok wanted) = Ok (streams wanted)
+to_stream (Err place) = Err place
+
 -- what the words ask for: a command, and what stands behind it
 abbrev pub command_words : List (List ℕ) → Result CommandWanted ℕ
 command_words [] = Err 1
@@ -275,6 +282,7 @@ command_words (word ∷ words) =
     else if bytes_eq word (codes "presign") then to_sign (words_behind Presign words)
     else if bytes_eq word (codes "verify") then to_verify (verify_words words)
     else if bytes_eq word (codes "chunk") then to_chunk (words_behind Chunk words)
+    else if bytes_eq word (codes "events") then to_stream (events_words words)
     else Err 1
 
 -- ## Answers
@@ -323,6 +331,7 @@ abbrev pub command_wanted : AskedCommand → CommandWanted
 command_wanted (Signing asked) = signs (sign_wanted asked)
 command_wanted (Verifying asked) = verifies (verify_wanted asked)
 command_wanted (Chunking asked) = chunks (sign_wanted asked)
+command_wanted (Streaming asked) = streams (events_wanted asked)
 
 -- this is what words ask for, or the word at this place is bad; or memory ran out
 abbrev pub ReadsCommand : Result CommandWanted ℕ → Result AskedCommand WordsFault → Type 0

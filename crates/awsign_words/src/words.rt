@@ -4,10 +4,12 @@ ghost use Rattle.std.specs.List.{list_all};
 ghost use Rattle.std.specs.String.{string_bytes};
 ghost use Rattle.http_header.specs.Token.{is_token_byte};
 ghost use Rattle.job_text.specs.Words.{TakesWord};
-ghost use Rattle.awsign_words.specs.Words.{ReadsAsked, ReadsCommand, ReadsVerify, all_verify_words, all_words, checksum_named, command_words, form_named, given_words, has, has_payload, is_chunk_option, is_fit, is_flag, is_method, is_payload, is_payload_option, is_printing_option, is_signing_option, is_spent, lacks_option, minus, no_words, take_header, take_operand, take_other, take_trailer, take_value, takes_value, to_chunk, to_sign, to_verify, verify_words, words_behind};
+ghost use Rattle.awsign_words.specs.Words.{ReadsAsked, ReadsCommand, ReadsVerify, all_verify_words, all_words, checksum_named, command_words, form_named, given_words, has, has_payload, is_chunk_option, is_fit, is_flag, is_method, is_payload, is_payload_option, is_printing_option, is_signing_option, is_spent, lacks_option, minus, no_words, take_header, take_operand, take_other, take_trailer, take_value, takes_value, to_chunk, to_sign, to_stream, to_verify, verify_words, words_behind};
 ghost use Rattle.job_text.specs.Lines.{header_of_line};
+ghost use Rattle.awsign_words.specs.EventWords.{events_words};
 
 use crate::command::Command;
+use crate::events::{EventsAsked, read_events};
 use awsign_text::Form;
 use http_header::is_token_char;
 use job_text::{ChunkSize, TakeWord, WordsFault, cut_pair, parse_i64, parse_u64, take_words};
@@ -23,6 +25,8 @@ pub enum AskedCommand<'a> {
     Verifying(VerifyAsked<'a>),
     /// To print a signed request, and to write its body in chunks.
     Chunking(Asked<'a>),
+    /// To print, write or check events.
+    Streaming(EventsAsked),
 }
 
 /// A checksum of data, which goes behind it as a trailer.
@@ -392,6 +396,7 @@ pub fn read_command<'a>(alloc: Global, words: &'a [String]) -> Result<AskedComma
         "presign" => read_signing(alloc, Command::Presign, rest),
         "verify" => read_verifying(alloc, rest),
         "chunk" => read_chunking(alloc, rest),
+        "events" => read_streaming(alloc, rest),
         _ => Err(WordsFault::BadWord(1)),
     }
 }
@@ -416,6 +421,16 @@ fn read_chunking<'a>(alloc: Global, words: &'a [String]) -> Result<AskedCommand<
 {
     match read_behind(alloc, Command::Chunk, words) {
         Ok(asked) => Ok(AskedCommand::Chunking(asked)),
+        Err(fault) => Err(fault),
+    }
+}
+
+// What the words behind `events` ask for.
+fn read_streaming<'a>(alloc: Global, words: &[String]) -> Result<AskedCommand<'a>, WordsFault>
+    ensures { ReadsCommand (to_stream (events_words (map string_bytes words.now))) result }
+{
+    match read_events(alloc, words) {
+        Ok(asked) => Ok(AskedCommand::Streaming(asked)),
         Err(fault) => Err(fault),
     }
 }

@@ -1,0 +1,6 @@
+pub mod Decode
+pub mod Encode
+pub mod EventText
+pub mod EventsSaying
+pub mod EventsStatus
+pub mod HexInput
