@@ -1,0 +1,264 @@
+-- The settings that are told are those that a request is signed with.
+use Rattle.std.proofs.Common.{◌≡◌, ◌++◌, ◌∷◌, [], ℕ, List, Bool, true, false, Option, Some, None, append_assoc, append-nil, codes, cond, fold, option_map, refl, sym, ap, ap₂, subst, ◌∙◌}
+use Rattle.std.specs.Prelude.{Result, Ok, Err, unwrap_or}
+use Rattle.std.specs.Option.{option_or}
+use Rattle.smithy_core.specs.TextPairs.{last_value}
+use Rattle.env_config.specs.Laws.{value_in}
+use Rattle.env_config.specs.Raw.{everything, raw}
+use Rattle.env_config.specs.Sections.{FaultyLine, FileText, Sections, after_file, files_from, no_sections, sections, with_file}
+use Rattle.env_config.specs.Texts.{Named}
+use Rattle.env_config.proofs.LaterLemmas.{later_profile}
+use Rattle.awsign_words.specs.Words.{OptionValues, has}
+use Rattle.awsign_run.specs.Chosen.{Profile, SignRefusal, chosen_key, faulty, filled, key_behind, missing_key, missing_secret, profile_in, profile_name, profile_of, signer_key, signer_region, signs_for, variable, variable_key}
+use Rattle.awsign_settings.specs.Own.{Own, alone, onto_own, own_profiles, part_in, part_key}
+use Rattle.awsign_settings.specs.Settings.{Used, UsedKey, by_name, by_nothing, filled_use, from_files, from_option, from_variable, key_lack, last_part, part_of_own, region_lack, settings_lack, use_in_file, used_key, used_key_behind, used_profile, used_region, used_settings, used_variable_key}
+use Rattle.awsign_settings.specs.UsedLaws.{AreSettingsOf, key_of_settings, signer_lack, value_of}
+use Rattle.awsign_settings.specs.declared.part.Part.{Part}
+use Rattle.awsign_settings.specs.declared.part.Part.TheVariants.{KeyId, Secret, Token, Region}
+
+-- ## Files
+
+-- files go on where the files before them end
+go_on : (s before : Sections) (files more : List FileText) → files_from everything s files ≡ Ok before → files_from everything s (files ++ more) ≡ files_from everything before more
+go_on s before [] more is = cc
+go_on s before (file ∷ files) more is = by (raw everything file.contents) (λ next over. go_on next before files more over) is
+  where
+    by : (read : Result (Named (List (List ℕ × List ℕ))) (ℕ × List ℕ)) → ((next : Sections) → files_from everything next files ≡ Ok before → files_from everything next (files ++ more) ≡ files_from everything before more)
+        → after_file file (λ read. files_from everything (with_file everything s file.kind read) files) read ≡ Ok before → after_file file (λ read. files_from everything (with_file everything s file.kind read) (files ++ more)) read ≡ files_from everything before more
+    by (Ok read) goes_on is = goes_on (with_file everything s file.kind read) is
+    by (Err fault) goes_on is = absurd cc
+
+-- a file that gives sections alone gives some behind others
+one_more : (s alone : Sections) (file : FileText) → sections (file ∷ []) ≡ Ok alone → (after : Sections) × (files_from everything s (file ∷ []) ≡ Ok after)
+unfolding sections
+one_more s alone file is = by (raw everything file.contents) is
+  where
+    by : (read : Result (Named (List (List ℕ × List ℕ))) (ℕ × List ℕ)) → after_file file (λ read. files_from everything (with_file everything no_sections file.kind read) []) read ≡ Ok alone
+        → (after : Sections) × (after_file file (λ read. files_from everything (with_file everything s file.kind read) []) read ≡ Ok after)
+    by (Ok read) is = (with_file everything s file.kind read, refl)
+    by (Err fault) is = absurd cc
+
+-- a file with a faulty line has it behind others too
+faulty_behind : (s : Sections) (line : FaultyLine) (file : FileText) (files : List FileText) → sections (file ∷ []) ≡ Err line → files_from everything s (file ∷ files) ≡ Err line
+unfolding sections
+faulty_behind s line file files is = by (raw everything file.contents) is
+  where
+    by : (read : Result (Named (List (List ℕ × List ℕ))) (ℕ × List ℕ)) → after_file file (λ read. files_from everything (with_file everything no_sections file.kind read) []) read ≡ Err line
+        → after_file file (λ read. files_from everything (with_file everything s file.kind read) files) read ≡ Err line
+    by (Ok read) is = absurd cc
+    by (Err fault) is = is
+
+-- the sections of files with one more
+with_one : (front : List FileText) (before alone : Sections) (file : FileText) → sections front ≡ Ok before → sections (file ∷ []) ≡ Ok alone
+    → (after : Sections) × (sections (front ++ file ∷ []) ≡ Ok after)
+unfolding sections
+with_one front before alone file before_is alone_is =
+    let more = one_more before alone file alone_is in
+    (more.0, go_on no_sections before front (file ∷ []) before_is ∙ more.1)
+
+faulty_with : (front : List FileText) (before : Sections) (line : FaultyLine) (file : FileText) (files : List FileText) → sections front ≡ Ok before → sections (file ∷ []) ≡ Err line
+    → sections (front ++ file ∷ files) ≡ Err line
+unfolding sections
+faulty_with front before line file files before_is is = go_on no_sections before front (file ∷ files) before_is ∙ faulty_behind before line file files is
+
+-- ## Parts
+
+-- the value of a part that was found
+abbrev found_value : Option (FileText × List ℕ) → Option (List ℕ)
+found_value found = option_map (λ (f : FileText × List ℕ). f.1) found
+
+-- a part of a profile among sections
+part_value : (part : Part) (s : Sections) (name : List ℕ) → part_in part (profile_in (record { sections = s; selected = name })) ≡ value_in s.profiles name (part_key part)
+part_value KeyId s name = refl
+part_value Secret s name = refl
+part_value Token s name = refl
+part_value Region s name = refl
+
+-- a file's part goes before what was found
+found_step : (file : FileText) (value : Option (List ℕ)) (found : Option (FileText × List ℕ))
+    → found_value (option_or (option_map (λ (v : List ℕ). (file, v)) value) found) ≡ option_or value (found_value found)
+found_step file None found = refl
+found_step file (Some value) found = refl
+
+-- what was found in files has the values of their sections
+abbrev Stands : List ℕ → Sections → (Part → Option (FileText × List ℕ)) → Type 0
+Stands name s found = (part : Part) → value_in s.profiles name (part_key part) ≡ found_value (found part)
+
+-- the parts that files to come give, behind what was found
+abbrev found_behind : (Part → Option (FileText × List ℕ)) → List Own → Part → Option (FileText × List ℕ)
+found_behind found owns part = fold (λ found own. option_or (part_of_own part own) found) (found part) owns
+
+-- the same with one file more
+abbrev found_in : (Part → Option (FileText × List ℕ)) → Own → Part → Option (FileText × List ℕ)
+found_in found own part = option_or (part_of_own part own) (found part)
+
+-- ## All files
+
+-- the sections of all files have the parts that were found last
+abbrev Gives : List ℕ → List FileText → (Part → Option (FileText × List ℕ)) → Type 0
+Gives name files found = (all : Sections) × (sections files ≡ Ok all) × Stands name all found
+
+module _ (name : List ℕ) where
+  stands_more : (front : List FileText) (before alone after : Sections) (file : FileText) (found : Part → Option (FileText × List ℕ)) → Stands name before found
+      → sections front ≡ Ok before → sections (file ∷ []) ≡ Ok alone → sections (front ++ file ∷ []) ≡ Ok after
+      → Stands name after (found_in found (record { file = file; profile = profile_in (record { sections = alone; selected = name }) }))
+  stands_more front before alone after file found stands before_is alone_is after_is part =
+      later_profile front file before alone after name (part_key part) before_is alone_is after_is
+      ∙ ap₂ option_or (sym (part_value part alone name)) (stands part)
+      ∙ sym (found_step file (part_in part (profile_in (record { sections = alone; selected = name }))) (found part))
+
+  all_given : (files front : List FileText) (before : Sections) (found : Part → Option (FileText × List ℕ)) (owns : List Own) → sections front ≡ Ok before → Stands name before found
+      → own_profiles name files ≡ Ok owns → Gives name (front ++ files) (found_behind found owns)
+  all_given [] front before found owns before_is stands is =
+      let none : owns ≡ [] = cc in
+      rw none (before, ap sections (append-nil front) ∙ before_is, stands)
+  all_given (file ∷ files) front before found owns before_is stands is = by (sections (file ∷ [])) (own_profiles name files) refl (λ next more. all_given files (front ++ file ∷ []) next more) is
+    where
+      by : (read : Result Sections FaultyLine) (others : Result (List Own) SignRefusal) → sections (file ∷ []) ≡ read
+          → ((next : Sections) (more : Part → Option (FileText × List ℕ)) (rest : List Own) → sections (front ++ file ∷ []) ≡ Ok next → Stands name next more
+          → others ≡ Ok rest → Gives name ((front ++ file ∷ []) ++ files) (found_behind more rest))
+          → onto_own file (profile_of read name) others ≡ Ok owns → Gives name (front ++ file ∷ files) (found_behind found owns)
+      by (Err line) others alone_is again is = absurd cc
+      by (Ok alone) (Err refusal) alone_is again is = absurd cc
+      by (Ok alone) (Ok rest) alone_is again is =
+          let own : Own = record { file = file; profile = profile_in (record { sections = alone; selected = name }) } in
+          let next = with_one front before alone file before_is alone_is in
+          let given = again next.0 (found_in found own) rest next.1 (stands_more front before alone next.0 file found stands before_is alone_is next.1) refl in
+          let same : owns ≡ own ∷ rest = cc in
+          rw same (subst (λ (files : List FileText). Gives name files (found_behind (found_in found own) rest)) (append_assoc front (file ∷ []) files) given)
+
+  first_faulty : (files front : List FileText) (before : Sections) (refusal : SignRefusal) → sections front ≡ Ok before
+      → own_profiles name files ≡ Err refusal → profile_of (sections (front ++ files)) name ≡ Err refusal
+  first_faulty [] front before refusal before_is is = absurd cc
+  first_faulty (file ∷ files) front before refusal before_is is = by (sections (file ∷ [])) (own_profiles name files) refl (λ next. first_faulty files (front ++ file ∷ []) next refusal) is
+    where
+      by : (read : Result Sections FaultyLine) (others : Result (List Own) SignRefusal) → sections (file ∷ []) ≡ read
+          → ((next : Sections) → sections (front ++ file ∷ []) ≡ Ok next → others ≡ Err refusal → profile_of (sections ((front ++ file ∷ []) ++ files)) name ≡ Err refusal)
+          → onto_own file (profile_of read name) others ≡ Err refusal → profile_of (sections (front ++ file ∷ files)) name ≡ Err refusal
+      by (Err line) others alone_is again is = ap (λ (r : Result Sections FaultyLine). profile_of r name) (faulty_with front before line file files before_is alone_is) ∙ is
+      by (Ok alone) (Ok rest) alone_is again is = absurd cc
+      by (Ok alone) (Err other) alone_is again is =
+          let next = with_one front before alone file before_is alone_is in
+          let same : other ≡ refusal = cc in
+          ap (λ (files : List FileText). profile_of (sections files) name) (sym (append_assoc front (file ∷ []) files)) ∙ again next.0 next.1 (ap Err same)
+
+  pub faulty_alike : (files : List FileText) (refusal : SignRefusal) → own_profiles name files ≡ Err refusal → profile_of (sections files) name ≡ Err refusal
+  faulty_alike files refusal is = first_faulty files [] no_sections refusal no_files is
+    where
+      no_files : sections [] ≡ Ok no_sections
+      unfolding sections
+      no_files = refl
+
+  -- the profile that all files give has the parts that were found last
+  pub profile_given : (files : List FileText) (owns : List Own) → own_profiles name files ≡ Ok owns
+      → (profile : Profile) × (profile_of (sections files) name ≡ Ok profile) × ((part : Part) → part_in part profile ≡ found_value (last_part part owns))
+  profile_given files owns is =
+      let given = all_given files [] no_sections (λ part. None) owns no_files (λ part. refl) is in
+      let profile = profile_in (record { sections = given.0; selected = name }) in
+      (profile, ap (λ (r : Result Sections FaultyLine). profile_of r name) given.1.0, λ part. part_value part given.0 name ∙ given.1.1 part)
+    where
+      no_files : sections [] ≡ Ok no_sections
+      unfolding sections
+      no_files = refl
+
+-- ## Values
+
+either_value : (x y : Option Used) → value_of (option_or x y) ≡ option_or (value_of x) (value_of y)
+either_value None y = refl
+either_value (Some x) y = refl
+
+filled_value : (name : List ℕ) (value : Option (List ℕ)) → value_of (filled_use (option_map (λ (v : List ℕ). record { value = v; whence = by_name name }) value)) ≡ filled value
+filled_value name None = refl
+filled_value name (Some []) = refl
+filled_value name (Some (byte ∷ text)) = refl
+
+option_value : (options : OptionValues) (word : List ℕ) → value_of (from_option options word) ≡ last_value options word
+option_value options word = by (last_value options word)
+  where
+    by : (value : Option (List ℕ)) → value_of (option_map (λ (v : List ℕ). record { value = v; whence = by_name word }) value) ≡ value
+    by None = refl
+    by (Some value) = refl
+
+variable_value : (env : List (List ℕ × List ℕ)) (name : List ℕ) → value_of (from_variable env name) ≡ variable env name
+variable_value env name = filled_value name (last_value env name)
+
+file_value : (name : List ℕ) (part : Part) (found : Option (FileText × List ℕ)) → value_of (filled_use (option_map (use_in_file name part) found)) ≡ filled (found_value found)
+file_value name part None = refl
+file_value name part (Some (file, [])) = refl
+file_value name part (Some (file, byte ∷ text)) = refl
+
+default_value : (x : Option Used) (d : Used) → (unwrap_or x d).value ≡ unwrap_or (value_of x) d.value
+default_value None d = refl
+default_value (Some x) d = refl
+
+-- ## The law
+
+module _ (options : OptionValues) (env : List (List ℕ × List ℕ)) (owns : List Own) (profile : Profile)
+    (parts : (part : Part) → part_in part profile ≡ found_value (last_part part owns)) where
+  profile_part : (part : Part) → value_of (from_files (profile_name options env) part owns) ≡ filled (part_in part profile)
+  profile_part part = file_value (profile_name options env) part (last_part part owns) ∙ ap filled (sym (parts part))
+
+  same_name : (used_profile options env).value ≡ profile_name options env
+  same_name =
+      let named = from_option options (codes "--profile") in
+      let set = from_variable env (codes "AWS_PROFILE") in
+      default_value (option_or named set) (record { value = codes "default"; whence = by_nothing })
+      ∙ ap (λ (v : Option (List ℕ)). unwrap_or v (codes "default"))
+      (either_value named set ∙ ap₂ option_or (option_value options (codes "--profile")) (variable_value env (codes "AWS_PROFILE")))
+
+  same_region : value_of (used_region options env owns) ≡ signer_region options env profile
+  same_region =
+      let named = from_option options (codes "--region") in
+      let set = from_variable env (codes "AWS_REGION") in
+      let usual = from_variable env (codes "AWS_DEFAULT_REGION") in
+      either_value (option_or (option_or named set) usual) (from_files (profile_name options env) Region owns)
+      ∙ ap₂ option_or
+      (either_value (option_or named set) usual
+      ∙ ap₂ option_or (either_value named set ∙ ap₂ option_or (option_value options (codes "--region")) (variable_value env (codes "AWS_REGION")))
+      (variable_value env (codes "AWS_DEFAULT_REGION")))
+      (profile_part Region)
+
+  same_variable : value_of (used_variable_key options env) ≡ variable_key options env
+  same_variable = by (has options (codes "--profile"))
+    where
+      by : (b : Bool) → value_of (cond b None (from_variable env (codes "AWS_ACCESS_KEY_ID"))) ≡ cond b None (variable env (codes "AWS_ACCESS_KEY_ID"))
+      by true = refl
+      by false = variable_value env (codes "AWS_ACCESS_KEY_ID")
+
+  key_same : (u : Option Used) → key_of_settings (used_key_behind env (profile_name options env) owns u) ≡ key_behind env profile (value_of u)
+  key_same (Some key_id) =
+      ap₂ (signer_key missing_secret (Some key_id.value)) (variable_value env (codes "AWS_SECRET_ACCESS_KEY")) (variable_value env (codes "AWS_SESSION_TOKEN"))
+  key_same None =
+      ap (λ (k : Option (List ℕ)). signer_key missing_key k (value_of (from_files (profile_name options env) Secret owns)) (value_of (from_files (profile_name options env) Token owns))) (profile_part KeyId)
+      ∙ ap₂ (signer_key missing_key (filled profile.key_id)) (profile_part Secret) (profile_part Token)
+
+  same_key : key_of_settings (used_key options env owns) ≡ chosen_key options env profile
+  same_key = key_same (used_variable_key options env) ∙ ap (key_behind env profile) same_variable
+
+  same_lack : (by_variables : Bool) (key_id secret token region : Option Used) (service : List ℕ)
+      → option_or (key_lack (record { by_variables = by_variables; key_id = key_id; secret = secret; token = token })) (region_lack region)
+      ≡ signer_lack (signs_for (key_of_settings (record { by_variables = by_variables; key_id = key_id; secret = secret; token = token })) (value_of region) (Some service))
+  same_lack by_variables None None token region service = refl
+  same_lack by_variables None (Some secret) token region service = refl
+  same_lack by_variables (Some key_id) None token region service = refl
+  same_lack by_variables (Some key_id) (Some secret) token None service = refl
+  same_lack by_variables (Some key_id) (Some secret) token (Some region) service = refl
+
+  are_settings : AreSettingsOf options env profile (used_settings options env owns)
+  unfolding used_settings
+  are_settings = record {
+    name = same_name;
+    key = same_key;
+    region = same_region;
+    lack = λ service.
+        let key = used_key options env owns in
+        same_lack key.by_variables key.key_id key.secret key.token (used_region options env owns) service
+        ∙ ap₂ (λ k r. signer_lack (signs_for k r (Some service))) same_key same_region;
+  }
+
+-- the settings by files that have no faulty line
+pub used : (options : OptionValues) (env : List (List ℕ × List ℕ)) (files : List FileText) (owns : List Own) → own_profiles (profile_name options env) files ≡ Ok owns
+    → (profile : Profile) × (profile_of (sections files) (profile_name options env) ≡ Ok profile) × AreSettingsOf options env profile (used_settings options env owns)
+used options env files owns is =
+    let given = profile_given (profile_name options env) files owns is in
+    (given.0, given.1.0, are_settings options env owns given.0 given.1.1)
