@@ -1,4 +1,4 @@
-//! The program: makes the real objects, hands them to `run_signing`, `run_verify` or `make_upload`, and ends with the number of its status.
+//! The program: makes the real objects, hands them to `run_signing`, `run_verify`, `run_settings` or `make_upload`, and ends with the number of its status.
 #![tactic(auto)]
 
 mod help;
@@ -6,6 +6,7 @@ mod help;
 use crate::help::text_asked;
 use awsign_chunk::{ChunkStatus, ChunkedUpload, make_upload, say_chunk, write_upload};
 use awsign_run::{Status, run_signing, say, tell_service, url_host, write_text};
+use awsign_settings::run_settings;
 use awsign_verify::{run_verify, say_verify};
 use awsign_words::{Asked, AskedCommand, VerifyAsked, read_command};
 use program_start::{StartFault, words_and_env};
@@ -35,6 +36,7 @@ fn answer(rt: &HostRuntime, words: &[String], env: &Env) -> u8 {
     match read_command(rt.alloc(), words) {
         Ok(AskedCommand::Signing(asked)) => said(rt, words, &sign(rt, &asked, env)),
         Ok(AskedCommand::Verifying(asked)) => verify(rt, &asked, env),
+        Ok(AskedCommand::Telling(options)) => said(rt, words, &settings(rt, &options, env)),
         Ok(AskedCommand::Chunking(asked)) => {
             let status = chunk(rt, &asked, env);
             say_chunk(rt.alloc(), words, &status, &mut StdSink::new(rt.stderr()));
@@ -83,6 +85,13 @@ fn sign_over<S: ByteSource>(
         &mut clock,
         &mut out,
     )
+}
+
+// Prints the settings under these options.
+fn settings(rt: &HostRuntime, options: &Env, env: &Env) -> Status {
+    let mut disk = HostDisk::new(rt.alloc(), rt);
+    let mut out = StdSink::new(rt.stdout());
+    run_settings(rt.alloc(), options, env, &mut disk, &mut out)
 }
 
 // Opens the data that an option names, and writes it in chunks.

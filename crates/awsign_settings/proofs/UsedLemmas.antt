@@ -9,10 +9,11 @@ use Rattle.env_config.specs.Sections.{FaultyLine, FileText, Sections, after_file
 use Rattle.env_config.specs.Texts.{Named}
 use Rattle.env_config.proofs.LaterLemmas.{later_profile}
 use Rattle.awsign_words.specs.Words.{OptionValues, has}
-use Rattle.awsign_run.specs.Chosen.{Profile, SignRefusal, chosen_key, faulty, filled, key_behind, missing_key, missing_secret, profile_in, profile_name, profile_of, signer_key, signer_region, signs_for, variable, variable_key}
+use Rattle.aws_settings.specs.Choice.{ChosenKey, ChosenSettings, Lack, Profile, choice_by, chosen_key, chosen_settings, filled, key_behind, key_or, key_with, no_key, no_secret, profile_in, profile_name, profile_of, region_by, settings_of_parts, variable, variable_key}
+use Rattle.awsign_run.specs.Chosen.{asked_profile}
 use Rattle.awsign_settings.specs.Own.{Own, alone, onto_own, own_profiles, part_in, part_key}
-use Rattle.awsign_settings.specs.Settings.{Used, UsedKey, by_name, by_nothing, filled_use, from_files, from_option, from_variable, key_lack, last_part, part_of_own, region_lack, settings_lack, use_in_file, used_key, used_key_behind, used_profile, used_region, used_settings, used_variable_key}
-use Rattle.awsign_settings.specs.UsedLaws.{AreSettingsOf, key_of_settings, signer_lack, value_of}
+use Rattle.awsign_settings.specs.Settings.{Used, UsedKey, by_name, by_nothing, choice_of, filled_use, from_files, from_option, from_variable, key_of_parts, last_part, part_of_own, use_in_file, used_key, used_key_behind, used_profile, used_region, used_settings, used_variable_key, value_of}
+use Rattle.awsign_settings.specs.UsedLaws.{told_choice}
 use Rattle.awsign_settings.specs.declared.part.Part.{Part}
 use Rattle.awsign_settings.specs.declared.part.Part.TheVariants.{KeyId, Secret, Token, Region}
 
@@ -68,7 +69,7 @@ abbrev found_value : Option (FileText × List ℕ) → Option (List ℕ)
 found_value found = option_map (λ (f : FileText × List ℕ). f.1) found
 
 -- a part of a profile among sections
-part_value : (part : Part) (s : Sections) (name : List ℕ) → part_in part (profile_in (record { sections = s; selected = name })) ≡ value_in s.profiles name (part_key part)
+part_value : (part : Part) (s : Sections) (name : List ℕ) → part_in part (profile_in name (record { sections = s; selected = name })) ≡ value_in s.profiles name (part_key part)
 part_value KeyId s name = refl
 part_value Secret s name = refl
 part_value Token s name = refl
@@ -101,11 +102,11 @@ Gives name files found = (all : Sections) × (sections files ≡ Ok all) × Stan
 module _ (name : List ℕ) where
   stands_more : (front : List FileText) (before alone after : Sections) (file : FileText) (found : Part → Option (FileText × List ℕ)) → Stands name before found
       → sections front ≡ Ok before → sections (file ∷ []) ≡ Ok alone → sections (front ++ file ∷ []) ≡ Ok after
-      → Stands name after (found_in found (record { file = file; profile = profile_in (record { sections = alone; selected = name }) }))
+      → Stands name after (found_in found (record { file = file; profile = profile_in name (record { sections = alone; selected = name }) }))
   stands_more front before alone after file found stands before_is alone_is after_is part =
       later_profile front file before alone after name (part_key part) before_is alone_is after_is
       ∙ ap₂ option_or (sym (part_value part alone name)) (stands part)
-      ∙ sym (found_step file (part_in part (profile_in (record { sections = alone; selected = name }))) (found part))
+      ∙ sym (found_step file (part_in part (profile_in name (record { sections = alone; selected = name }))) (found part))
 
   all_given : (files front : List FileText) (before : Sections) (found : Part → Option (FileText × List ℕ)) (owns : List Own) → sections front ≡ Ok before → Stands name before found
       → own_profiles name files ≡ Ok owns → Gives name (front ++ files) (found_behind found owns)
@@ -114,52 +115,51 @@ module _ (name : List ℕ) where
       rw none (before, ap sections (append-nil front) ∙ before_is, stands)
   all_given (file ∷ files) front before found owns before_is stands is = by (sections (file ∷ [])) (own_profiles name files) refl (λ next more. all_given files (front ++ file ∷ []) next more) is
     where
-      by : (read : Result Sections FaultyLine) (others : Result (List Own) SignRefusal) → sections (file ∷ []) ≡ read
+      by : (read : Result Sections FaultyLine) (others : Result (List Own) Lack) → sections (file ∷ []) ≡ read
           → ((next : Sections) (more : Part → Option (FileText × List ℕ)) (rest : List Own) → sections (front ++ file ∷ []) ≡ Ok next → Stands name next more
           → others ≡ Ok rest → Gives name ((front ++ file ∷ []) ++ files) (found_behind more rest))
           → onto_own file (profile_of read name) others ≡ Ok owns → Gives name (front ++ file ∷ files) (found_behind found owns)
       by (Err line) others alone_is again is = absurd cc
-      by (Ok alone) (Err refusal) alone_is again is = absurd cc
+      by (Ok alone) (Err lack) alone_is again is = absurd cc
       by (Ok alone) (Ok rest) alone_is again is =
-          let own : Own = record { file = file; profile = profile_in (record { sections = alone; selected = name }) } in
+          let own : Own = record { file = file; profile = profile_in name (record { sections = alone; selected = name }) } in
           let next = with_one front before alone file before_is alone_is in
           let given = again next.0 (found_in found own) rest next.1 (stands_more front before alone next.0 file found stands before_is alone_is next.1) refl in
           let same : owns ≡ own ∷ rest = cc in
           rw same (subst (λ (files : List FileText). Gives name files (found_behind (found_in found own) rest)) (append_assoc front (file ∷ []) files) given)
 
-  first_faulty : (files front : List FileText) (before : Sections) (refusal : SignRefusal) → sections front ≡ Ok before
-      → own_profiles name files ≡ Err refusal → profile_of (sections (front ++ files)) name ≡ Err refusal
-  first_faulty [] front before refusal before_is is = absurd cc
-  first_faulty (file ∷ files) front before refusal before_is is = by (sections (file ∷ [])) (own_profiles name files) refl (λ next. first_faulty files (front ++ file ∷ []) next refusal) is
+  first_faulty : (files front : List FileText) (before : Sections) (lack : Lack) → sections front ≡ Ok before
+      → own_profiles name files ≡ Err lack → profile_of (sections (front ++ files)) name ≡ Err lack
+  first_faulty [] front before lack before_is is = absurd cc
+  first_faulty (file ∷ files) front before lack before_is is = by (sections (file ∷ [])) (own_profiles name files) refl (λ next. first_faulty files (front ++ file ∷ []) next lack) is
     where
-      by : (read : Result Sections FaultyLine) (others : Result (List Own) SignRefusal) → sections (file ∷ []) ≡ read
-          → ((next : Sections) → sections (front ++ file ∷ []) ≡ Ok next → others ≡ Err refusal → profile_of (sections ((front ++ file ∷ []) ++ files)) name ≡ Err refusal)
-          → onto_own file (profile_of read name) others ≡ Err refusal → profile_of (sections (front ++ file ∷ files)) name ≡ Err refusal
+      by : (read : Result Sections FaultyLine) (others : Result (List Own) Lack) → sections (file ∷ []) ≡ read
+          → ((next : Sections) → sections (front ++ file ∷ []) ≡ Ok next → others ≡ Err lack → profile_of (sections ((front ++ file ∷ []) ++ files)) name ≡ Err lack)
+          → onto_own file (profile_of read name) others ≡ Err lack → profile_of (sections (front ++ file ∷ files)) name ≡ Err lack
       by (Err line) others alone_is again is = ap (λ (r : Result Sections FaultyLine). profile_of r name) (faulty_with front before line file files before_is alone_is) ∙ is
       by (Ok alone) (Ok rest) alone_is again is = absurd cc
       by (Ok alone) (Err other) alone_is again is =
           let next = with_one front before alone file before_is alone_is in
-          let same : other ≡ refusal = cc in
+          let same : other ≡ lack = cc in
           ap (λ (files : List FileText). profile_of (sections files) name) (sym (append_assoc front (file ∷ []) files)) ∙ again next.0 next.1 (ap Err same)
 
-  pub faulty_alike : (files : List FileText) (refusal : SignRefusal) → own_profiles name files ≡ Err refusal → profile_of (sections files) name ≡ Err refusal
-  faulty_alike files refusal is = first_faulty files [] no_sections refusal no_files is
-    where
-      no_files : sections [] ≡ Ok no_sections
-      unfolding sections
-      no_files = refl
+  no_files : sections [] ≡ Ok no_sections
+  unfolding sections
+  no_files = refl
+
+  pub faulty_alike : (files : List FileText) (lack : Lack) → own_profiles name files ≡ Err lack → profile_of (sections files) name ≡ Err lack
+  faulty_alike files lack is = first_faulty files [] no_sections lack no_files is
+
+  -- what sections have of the profile
+  abbrev pub profile_from : Sections → Profile
+  profile_from all = profile_in name (record { sections = all; selected = name })
 
   -- the profile that all files give has the parts that were found last
   pub profile_given : (files : List FileText) (owns : List Own) → own_profiles name files ≡ Ok owns
-      → (profile : Profile) × (profile_of (sections files) name ≡ Ok profile) × ((part : Part) → part_in part profile ≡ found_value (last_part part owns))
+      → (all : Sections) × (profile_of (sections files) name ≡ Ok (profile_from all)) × ((part : Part) → part_in part (profile_from all) ≡ found_value (last_part part owns))
   profile_given files owns is =
       let given = all_given files [] no_sections (λ part. None) owns no_files (λ part. refl) is in
-      let profile = profile_in (record { sections = given.0; selected = name }) in
-      (profile, ap (λ (r : Result Sections FaultyLine). profile_of r name) given.1.0, λ part. part_value part given.0 name ∙ given.1.1 part)
-    where
-      no_files : sections [] ≡ Ok no_sections
-      unfolding sections
-      no_files = refl
+      (given.0, ap (λ (r : Result Sections FaultyLine). profile_of r name) given.1, λ part. part_value part given.0 name ∙ given.2 part)
 
 -- ## Values
 
@@ -172,15 +172,9 @@ filled_value name None = refl
 filled_value name (Some []) = refl
 filled_value name (Some (byte ∷ text)) = refl
 
-option_value : (options : OptionValues) (word : List ℕ) → value_of (from_option options word) ≡ last_value options word
-option_value options word = by (last_value options word)
-  where
-    by : (value : Option (List ℕ)) → value_of (option_map (λ (v : List ℕ). record { value = v; whence = by_name word }) value) ≡ value
-    by None = refl
-    by (Some value) = refl
-
-variable_value : (env : List (List ℕ × List ℕ)) (name : List ℕ) → value_of (from_variable env name) ≡ variable env name
-variable_value env name = filled_value name (last_value env name)
+named_value : (word : List ℕ) (value : Option (List ℕ)) → value_of (option_map (λ (v : List ℕ). record { value = v; whence = by_name word }) value) ≡ value
+named_value word None = refl
+named_value word (Some value) = refl
 
 file_value : (name : List ℕ) (part : Part) (found : Option (FileText × List ℕ)) → value_of (filled_use (option_map (use_in_file name part) found)) ≡ filled (found_value found)
 file_value name part None = refl
@@ -191,74 +185,78 @@ default_value : (x : Option Used) (d : Used) → (unwrap_or x d).value ≡ unwra
 default_value None d = refl
 default_value (Some x) d = refl
 
--- ## The law
+-- ## The choice
 
-module _ (options : OptionValues) (env : List (List ℕ × List ℕ)) (owns : List Own) (profile : Profile)
-    (parts : (part : Part) → part_in part profile ≡ found_value (last_part part owns)) where
-  profile_part : (part : Part) → value_of (from_files (profile_name options env) part owns) ≡ filled (part_in part profile)
-  profile_part part = file_value (profile_name options env) part (last_part part owns) ∙ ap filled (sym (parts part))
+module _ (options : OptionValues) (env : List (List ℕ × List ℕ)) where
+  option_value : (word : List ℕ) → value_of (from_option options word) ≡ last_value options word
+  option_value word = named_value word (last_value options word)
 
-  same_name : (used_profile options env).value ≡ profile_name options env
+  variable_value : (name : List ℕ) → value_of (from_variable env name) ≡ variable env name
+  variable_value name = filled_value name (last_value env name)
+
+  same_name : (used_profile options env).value ≡ asked_profile options env
   same_name =
       let named = from_option options (codes "--profile") in
       let set = from_variable env (codes "AWS_PROFILE") in
       default_value (option_or named set) (record { value = codes "default"; whence = by_nothing })
       ∙ ap (λ (v : Option (List ℕ)). unwrap_or v (codes "default"))
-      (either_value named set ∙ ap₂ option_or (option_value options (codes "--profile")) (variable_value env (codes "AWS_PROFILE")))
+      (either_value named set ∙ ap₂ option_or (option_value (codes "--profile")) (variable_value (codes "AWS_PROFILE")))
 
-  same_region : value_of (used_region options env owns) ≡ signer_region options env profile
-  same_region =
-      let named = from_option options (codes "--region") in
-      let set = from_variable env (codes "AWS_REGION") in
-      let usual = from_variable env (codes "AWS_DEFAULT_REGION") in
-      either_value (option_or (option_or named set) usual) (from_files (profile_name options env) Region owns)
-      ∙ ap₂ option_or
-      (either_value (option_or named set) usual
-      ∙ ap₂ option_or (either_value named set ∙ ap₂ option_or (option_value options (codes "--region")) (variable_value env (codes "AWS_REGION")))
-      (variable_value env (codes "AWS_DEFAULT_REGION")))
-      (profile_part Region)
-
-  same_variable : value_of (used_variable_key options env) ≡ variable_key options env
+  same_variable : value_of (used_variable_key options env) ≡ variable_key (has options (codes "--profile")) env
   same_variable = by (has options (codes "--profile"))
     where
-      by : (b : Bool) → value_of (cond b None (from_variable env (codes "AWS_ACCESS_KEY_ID"))) ≡ cond b None (variable env (codes "AWS_ACCESS_KEY_ID"))
+      by : (b : Bool) → value_of (cond b None (from_variable env (codes "AWS_ACCESS_KEY_ID"))) ≡ variable_key b env
       by true = refl
-      by false = variable_value env (codes "AWS_ACCESS_KEY_ID")
+      by false = variable_value (codes "AWS_ACCESS_KEY_ID")
 
-  key_same : (u : Option Used) → key_of_settings (used_key_behind env (profile_name options env) owns u) ≡ key_behind env profile (value_of u)
-  key_same (Some key_id) =
-      ap₂ (signer_key missing_secret (Some key_id.value)) (variable_value env (codes "AWS_SECRET_ACCESS_KEY")) (variable_value env (codes "AWS_SESSION_TOKEN"))
-  key_same None =
-      ap (λ (k : Option (List ℕ)). signer_key missing_key k (value_of (from_files (profile_name options env) Secret owns)) (value_of (from_files (profile_name options env) Token owns))) (profile_part KeyId)
-      ∙ ap₂ (signer_key missing_key (filled profile.key_id)) (profile_part Secret) (profile_part Token)
+  module _ (owns : List Own) (profile : Profile) (named : profile.name ≡ asked_profile options env)
+      (parts : (part : Part) → part_in part profile ≡ found_value (last_part part owns)) where
+    profile_part : (part : Part) → value_of (from_files (asked_profile options env) part owns) ≡ filled (part_in part profile)
+    profile_part part = file_value (asked_profile options env) part (last_part part owns) ∙ ap filled (sym (parts part))
 
-  same_key : key_of_settings (used_key options env owns) ≡ chosen_key options env profile
-  same_key = key_same (used_variable_key options env) ∙ ap (key_behind env profile) same_variable
+    same_region : value_of (used_region options env owns) ≡ region_by (last_value options (codes "--region")) env profile
+    same_region =
+        let asked = from_option options (codes "--region") in
+        let set = from_variable env (codes "AWS_REGION") in
+        let usual = from_variable env (codes "AWS_DEFAULT_REGION") in
+        either_value (option_or (option_or asked set) usual) (from_files (asked_profile options env) Region owns)
+        ∙ ap₂ option_or
+        (either_value (option_or asked set) usual
+        ∙ ap₂ option_or (either_value asked set ∙ ap₂ option_or (option_value (codes "--region")) (variable_value (codes "AWS_REGION")))
+        (variable_value (codes "AWS_DEFAULT_REGION")))
+        (profile_part Region)
 
-  same_lack : (by_variables : Bool) (key_id secret token region : Option Used) (service : List ℕ)
-      → option_or (key_lack (record { by_variables = by_variables; key_id = key_id; secret = secret; token = token })) (region_lack region)
-      ≡ signer_lack (signs_for (key_of_settings (record { by_variables = by_variables; key_id = key_id; secret = secret; token = token })) (value_of region) (Some service))
-  same_lack by_variables None None token region service = refl
-  same_lack by_variables None (Some secret) token region service = refl
-  same_lack by_variables (Some key_id) None token region service = refl
-  same_lack by_variables (Some key_id) (Some secret) token None service = refl
-  same_lack by_variables (Some key_id) (Some secret) token (Some region) service = refl
+    key_same : (u : Option Used) → key_of_parts profile.name (used_key_behind env (asked_profile options env) owns u) ≡ key_behind env profile (value_of u)
+    key_same (Some key_id) =
+        ap₂ (λ (s t : Option (List ℕ)). key_or no_secret (key_with (Some key_id.value) s t)) (variable_value (codes "AWS_SECRET_ACCESS_KEY")) (variable_value (codes "AWS_SESSION_TOKEN"))
+    key_same None =
+        let key : Option (List ℕ) → Option (List ℕ) → Option (List ℕ) → Result ChosenKey Lack = λ k s t. key_or (no_key profile.name) (key_with k s t) in
+        ap (λ (k : Option (List ℕ)). key k (value_of (from_files (asked_profile options env) Secret owns)) (value_of (from_files (asked_profile options env) Token owns))) (profile_part KeyId)
+        ∙ ap₂ (key (filled profile.key_id)) (profile_part Secret) (profile_part Token)
 
-  are_settings : AreSettingsOf options env profile (used_settings options env owns)
-  unfolding used_settings
-  are_settings = record {
-    name = same_name;
-    key = same_key;
-    region = same_region;
-    lack = λ service.
-        let key = used_key options env owns in
-        same_lack key.by_variables key.key_id key.secret key.token (used_region options env owns) service
-        ∙ ap₂ (λ k r. signer_lack (signs_for k r (Some service))) same_key same_region;
-  }
+    same_key : key_of_parts profile.name (used_key options env owns) ≡ chosen_key (has options (codes "--profile")) env profile
+    same_key = key_same (used_variable_key options env) ∙ ap (key_behind env profile) same_variable
 
--- the settings by files that have no faulty line
-pub used : (options : OptionValues) (env : List (List ℕ × List ℕ)) (files : List FileText) (owns : List Own) → own_profiles (profile_name options env) files ≡ Ok owns
-    → (profile : Profile) × (profile_of (sections files) (profile_name options env) ≡ Ok profile) × AreSettingsOf options env profile (used_settings options env owns)
-used options env files owns is =
-    let given = profile_given (profile_name options env) files owns is in
-    (given.0, given.1.0, are_settings options env owns given.0 given.1.1)
+    same_choice : choice_of (used_settings options env owns) ≡ chosen_settings (has options (codes "--profile")) (last_value options (codes "--region")) env profile
+    unfolding used_settings, chosen_settings
+    same_choice =
+        let name : (used_profile options env).value ≡ profile.name = same_name ∙ sym named in
+        ap (λ (n : List ℕ). settings_of_parts n (key_of_parts n (used_key options env owns)) (value_of (used_region options env owns))) name
+        ∙ ap₂ (settings_of_parts profile.name) same_key same_region
+
+-- what is told is what is chosen
+pub told_chosen : (options : OptionValues) (env : List (List ℕ × List ℕ)) (files : List FileText) → told_choice options env (own_profiles (asked_profile options env) files)
+    ≡ choice_by (has options (codes "--profile")) (last_value options (codes "--region")) env (profile_of (sections files) (asked_profile options env))
+told_chosen options env files = by (own_profiles (asked_profile options env) files) refl
+  where
+    name : List ℕ
+    name = asked_profile options env
+
+    choice : Result Profile Lack → Result ChosenSettings Lack
+    choice profile = choice_by (has options (codes "--profile")) (last_value options (codes "--region")) env profile
+
+    by : (planned : Result (List Own) Lack) → own_profiles name files ≡ planned → told_choice options env planned ≡ choice (profile_of (sections files) name)
+    by (Err lack) is = ap choice (sym (faulty_alike name files lack is))
+    by (Ok owns) is =
+        let given = profile_given name files owns is in
+        same_choice options env owns (profile_in name (record { sections = given.0; selected = name })) refl given.2 ∙ ap choice (sym given.1)

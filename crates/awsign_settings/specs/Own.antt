@@ -3,8 +3,8 @@ use Rattle.std.specs.Prelude.{◌≡◌, ℕ, List, [], ◌∷◌, codes, map, O
 use Rattle.std.specs.Global.{Vec}
 use Rattle.env_config.specs.Sections.{FileText, sections}
 use Rattle.env_config.specs.Source.{file_of}
-use Rattle.awsign_run.specs.Chosen.{IsFaultOf, Profile, SignRefusal, profile_of, profile_values}
-use Rattle.awsign_run.specs.declared.fault.Fault.{Fault}
+use Rattle.aws_settings.specs.Choice.{IsLackOf, Lack, Profile, profile_of, profile_values}
+use Rattle.aws_settings.specs.declared.fault.SettingsFault.{SettingsFault}
 use Rattle.awsign_settings.specs.declared.own.OwnProfile.{OwnProfile}
 use Rattle.awsign_settings.specs.declared.part.Part.{Part}
 use Rattle.awsign_settings.specs.declared.part.Part.TheVariants.{KeyId, Secret, Token, Region}
@@ -33,17 +33,17 @@ pub record Own : Type 0 where
   pub profile : Profile
 
 -- what the profile of this name has in a file alone, or its first faulty line
-abbrev pub alone : List ℕ → FileText → Result Profile SignRefusal
+abbrev pub alone : List ℕ → FileText → Result Profile Lack
 alone name file = profile_of (sections (file ∷ [])) name
 
 -- the same before that of other files
-abbrev pub onto_own : FileText → Result Profile SignRefusal → Result (List Own) SignRefusal → Result (List Own) SignRefusal
-onto_own file (Err refusal) others = Err refusal
-onto_own file (Ok profile) (Err refusal) = Err refusal
+abbrev pub onto_own : FileText → Result Profile Lack → Result (List Own) Lack → Result (List Own) Lack
+onto_own file (Err lack) others = Err lack
+onto_own file (Ok profile) (Err lack) = Err lack
 onto_own file (Ok profile) (Ok others) = Ok (record { file = file; profile = profile } ∷ others)
 
 -- what the profile of this name has in each file alone, or the first faulty line of the first faulty file
-abbrev pub own_profiles : List ℕ → List FileText → Result (List Own) SignRefusal
+abbrev pub own_profiles : List ℕ → List FileText → Result (List Own) Lack
 own_profiles name [] = Ok []
 own_profiles name (file ∷ files) = onto_own file (alone name file) (own_profiles name files)
 
@@ -54,11 +54,11 @@ abbrev pub own_of : OwnProfile → Own
 own_of own = record { file = file_of own.file; profile = profile_values own.values }
 
 -- this is what the profile has in a file, or why there is nothing
-abbrev pub GivesOwn : FileText → Result Profile SignRefusal → Result OwnProfile Fault → Type 0
+abbrev pub GivesOwn : FileText → Result Profile Lack → Result OwnProfile SettingsFault → Type 0
 GivesOwn file planned (Ok own) = ((own_of own).file ≡ file) × (planned ≡ Ok (own_of own).profile)
-GivesOwn file planned (Err fault) = IsFaultOf planned fault
+GivesOwn file planned (Err fault) = IsLackOf planned fault
 
 -- this is what the profile has in each file, or why there is nothing
-abbrev pub GivesOwns : Result (List Own) SignRefusal → Result (Vec OwnProfile) Fault → Type 0
+abbrev pub GivesOwns : Result (List Own) Lack → Result (Vec OwnProfile) SettingsFault → Type 0
 GivesOwns planned (Ok owns) = planned ≡ Ok (map own_of owns.items)
-GivesOwns planned (Err fault) = IsFaultOf planned fault
+GivesOwns planned (Err fault) = IsLackOf planned fault

@@ -4,7 +4,7 @@ use Rattle.std.specs.List.{join_by, slice_split}
 use Rattle.smithy_core.specs.Text.{line_feed}
 use Rattle.smithy_core.specs.TextPairs.{lower}
 use Rattle.env_config.specs.Sections.{FileText}
-use Rattle.awsign_run.specs.Chosen.{Profile, SignRefusal}
+use Rattle.aws_settings.specs.Choice.{Lack, Profile}
 use Rattle.awsign_settings.specs.Own.{alone, part_in, part_key}
 use Rattle.awsign_settings.specs.declared.part.Part.{Part}
 
@@ -34,9 +34,9 @@ is_other value None = false
 is_other value (Some other) = not (bytes_eq other value)
 
 -- the profile has another value of the part
-abbrev pub has_other : Part → List ℕ → Result Profile SignRefusal → Bool
+abbrev pub has_other : Part → List ℕ → Result Profile Lack → Bool
 has_other part value (Ok profile) = is_other value (part_in part profile)
-has_other part value (Err refusal) = false
+has_other part value (Err lack) = false
 
 -- the place of the first line that passes a test, behind so many lines; places count from 1
 abbrev pub first_line : (ℕ → List ℕ → Bool) → ℕ → List (List ℕ) → Option ℕ

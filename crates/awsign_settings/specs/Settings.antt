@@ -1,11 +1,11 @@
 -- Which settings are used, and where each came from: options first, then variables, then the profile files, of which a later one wins.
-use Rattle.std.specs.Prelude.{◌≡◌, ◌⊎◌, ℕ, ◌==◌, Bool, true, false, ◌&&◌, if◌then◌else◌, List, [], codes, fold, map, Option, Some, None, is_some, option_copied, option_map, unwrap_or}
+use Rattle.std.specs.Prelude.{ℕ, ◌==◌, Bool, true, false, if◌then◌else◌, List, [], length, codes, fold, Option, Some, None, option_map, Result, Ok, Err, unwrap_or}
 use Rattle.std.specs.Option.{option_or}
-use Rattle.std.specs.Prelude.{length}
 use Rattle.smithy_core.specs.TextPairs.{last_value}
 use Rattle.env_config.specs.Sections.{FileText}
 use Rattle.awsign_words.specs.Words.{OptionValues, has}
-use Rattle.awsign_run.specs.Chosen.{SignRefusal, missing_key, missing_region, missing_secret, profile_name}
+use Rattle.aws_settings.specs.Choice.{ChosenKey, ChosenSettings, Lack, key_or, key_with, no_key, no_secret, settings_of_parts}
+use Rattle.awsign_run.specs.Chosen.{asked_profile}
 use Rattle.awsign_settings.specs.Own.{Own, part_in}
 use Rattle.awsign_settings.specs.PropertyLine.{property_line}
 use Rattle.awsign_settings.specs.declared.part.Part.{Part}
@@ -82,7 +82,7 @@ used_profile options env =
 abbrev pub used_region : OptionValues → List (List ℕ × List ℕ) → List Own → Option Used
 used_region options env owns =
     option_or (option_or (option_or (from_option options (codes "--region")) (from_variable env (codes "AWS_REGION"))) (from_variable env (codes "AWS_DEFAULT_REGION")))
-    (from_files (profile_name options env) Region owns)
+    (from_files (asked_profile options env) Region owns)
 
 -- the key whose id is this variable's, and else that of the profile
 abbrev pub used_key_behind : List (List ℕ × List ℕ) → List ℕ → List Own → Option Used → UsedKey
@@ -105,7 +105,7 @@ used_variable_key options env = if has options (codes "--profile") then None els
 
 -- the key: that of the variables, or that of the profile
 abbrev pub used_key : OptionValues → List (List ℕ × List ℕ) → List Own → UsedKey
-used_key options env owns = used_key_behind env (profile_name options env) owns (used_variable_key options env)
+used_key options env owns = used_key_behind env (asked_profile options env) owns (used_variable_key options env)
 
 -- what a request is signed with, by options, variables and what each profile file has by itself
 unfoldable pub used_settings : OptionValues → List (List ℕ × List ℕ) → List Own → UsedSettings
@@ -115,21 +115,27 @@ used_settings options env owns = record {
   region = used_region options env owns;
 }
 
--- ## What lacks
+-- ## What there is to sign with
 
--- a key has an id and a secret
-abbrev pub key_lack : UsedKey → Option SignRefusal
-key_lack key =
-    if is_some key.key_id && is_some key.secret then None
-    else Some (if key.by_variables then missing_secret else missing_key)
+-- the value of a setting, where it has one
+abbrev pub value_of : Option Used → Option (List ℕ)
+value_of used = option_map (λ (used : Used). used.value) used
 
-abbrev pub region_lack : Option Used → Option SignRefusal
-region_lack None = Some missing_region
-region_lack (Some region) = None
+-- the key, or why there is none; the name is the profile's
+abbrev pub key_of_parts : List ℕ → UsedKey → Result ChosenKey Lack
+key_of_parts name key = key_or (if key.by_variables then no_secret else no_key name) (key_with (value_of key.key_id) (value_of key.secret) (value_of key.token))
 
--- why nothing can be signed; the host of a request may name the service
-abbrev pub settings_lack : UsedSettings → Option SignRefusal
-settings_lack settings = option_or (key_lack settings.key) (region_lack settings.region)
+-- what the settings give to sign with, or what lacks
+abbrev pub choice_of : UsedSettings → Result ChosenSettings Lack
+choice_of settings = settings_of_parts settings.profile.value (key_of_parts settings.profile.value settings.key) (value_of settings.region)
+
+-- what lacks, where something does
+abbrev pub lack_of : Result ChosenSettings Lack → Option Lack
+lack_of (Ok settings) = None
+lack_of (Err lack) = Some lack
+
+abbrev pub settings_lack : UsedSettings → Option Lack
+settings_lack settings = lack_of (choice_of settings)
 
 -- ## Answers
 

@@ -1,9 +1,10 @@
 -- How a run of `awsign settings` goes: what was read, and what the output gained.
-use Rattle.std.specs.Prelude.{◌≡◌, ◌⊎◌, ℕ, List, Option, Some, None, Result, Ok, Err, string_bytes}
+use Rattle.std.specs.Prelude.{◌≡◌, ◌⊎◌, ℕ, List, Option, Some, None, option_map, Result, Ok, Err, string_bytes}
 use Rattle.smithy_core.specs.Outside.{Gains, GainsProperPrefix}
 use Rattle.env_config.specs.Sections.{FileText}
 use Rattle.awsign_words.specs.Words.{OptionValues}
-use Rattle.awsign_run.specs.Chosen.{SignRefusal, profile_name, refusal_of}
+use Rattle.aws_settings.specs.Choice.{Lack}
+use Rattle.awsign_run.specs.Chosen.{SignRefusal, asked_profile, lacking, refusal_of}
 use Rattle.awsign_run.specs.declared.status.Status.{Status}
 use Rattle.awsign_run.specs.declared.status.Status.TheVariants.{Done, BadWord, CouldNotReadFile, DataFault, Refused, OutputFault, NoMemory}
 use Rattle.awsign_settings.specs.Own.{Own, own_profiles}
@@ -22,22 +23,22 @@ TellsText text lack DataFault before now = ⊥
 
 -- the settings were told by what each profile file has by itself
 abbrev pub TellsOwns : OptionValues → List (List ℕ × List ℕ) → List Own → Status → Option (List ℕ) → Option (List ℕ) → Type 0
-TellsOwns options env owns = TellsText (settings_text (paths_text owns) (used_settings options env owns)) (settings_lack (used_settings options env owns))
+TellsOwns options env owns = TellsText (settings_text (paths_text owns) (used_settings options env owns)) (option_map lacking (settings_lack (used_settings options env owns)))
 
 -- nothing was written, for this reason or since memory ran out
-abbrev pub TellsNothing : SignRefusal → Status → Option (List ℕ) → Option (List ℕ) → Type 0
-TellsNothing refusal (Refused fault) before now = (refusal ≡ refusal_of fault) × (now ≡ before)
-TellsNothing refusal NoMemory before now = now ≡ before
-TellsNothing refusal status before now = ⊥
+abbrev pub TellsNothing : Lack → Status → Option (List ℕ) → Option (List ℕ) → Type 0
+TellsNothing lack (Refused fault) before now = (lacking lack ≡ refusal_of fault) × (now ≡ before)
+TellsNothing lack NoMemory before now = now ≡ before
+TellsNothing lack status before now = ⊥
 
 -- the settings were told by what each profile file has by itself, or a file has a faulty line
-abbrev pub TellsBy : OptionValues → List (List ℕ × List ℕ) → Result (List Own) SignRefusal → Status → Option (List ℕ) → Option (List ℕ) → Type 0
+abbrev pub TellsBy : OptionValues → List (List ℕ × List ℕ) → Result (List Own) Lack → Status → Option (List ℕ) → Option (List ℕ) → Type 0
 TellsBy options env (Ok owns) status before now = TellsOwns options env owns status before now
-TellsBy options env (Err refusal) status before now = TellsNothing refusal status before now
+TellsBy options env (Err lack) status before now = TellsNothing lack status before now
 
 -- the settings were told by the texts of profile files
 abbrev pub TellsFiles : OptionValues → List (List ℕ × List ℕ) → List FileText → Status → Option (List ℕ) → Option (List ℕ) → Type 0
-TellsFiles options env files = TellsBy options env (own_profiles (profile_name options env) files)
+TellsFiles options env files = TellsBy options env (own_profiles (asked_profile options env) files)
 
 -- a file couldn't be read, at a path that `unread` tells of, or memory ran out
 abbrev pub IsFileStatus : (List ℕ → Type 0) → Status → Type 0

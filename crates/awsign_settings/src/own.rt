@@ -1,10 +1,10 @@
 //! What each profile file has of the selected profile by itself.
 ghost use Rattle.std.specs.Prelude.{◌≡◌, [], ◌∷◌, IfOk, map, string_bytes, unwrap_or};
 ghost use Rattle.env_config.specs.Source.{file_of};
-ghost use Rattle.awsign_run.specs.Chosen.{GivesProfile};
+ghost use Rattle.aws_settings.specs.Choice.{GivesProfile};
 ghost use Rattle.awsign_settings.specs.Own.{GivesOwn, GivesOwns, alone, own_of, own_profiles};
 
-use awsign_run::{Fault, ProfileValues, read_profile};
+use aws_settings::{ProfileValues, SettingsFault, read_profile};
 use env_config::{File, Source};
 use smithy_core::Mem;
 use std::alloc::Global;
@@ -34,21 +34,21 @@ impl OwnProfile {
 ///
 /// # Errors
 ///
-/// [`Fault::ParseError`] with the first line outside the grammar in the first faulty file.
-pub fn own_profiles(alloc: Global, source: &Source) -> Result<Vec<OwnProfile>, Fault>
+/// [`SettingsFault::Profile`] with the first line outside the grammar in the first faulty file.
+pub fn own_profiles(alloc: Global, source: &Source) -> Result<Vec<OwnProfile>, SettingsFault>
     ensures { GivesOwns (own_profiles (string_bytes source.now.profile) (map file_of source.now.files.items)) result }
 {
     let mut owns = Vec::new(alloc);
     for file in &source.files {
         let own = own_profile(alloc, source.profile.as_str(), file)?;
         if owns.push(own).is_err() {
-            return Err(Fault::NoMemory);
+            return Err(SettingsFault::NoMemory);
         }
     }
     Ok(owns)
 }
 
-fn own_profile(alloc: Global, profile: &str, file: &File) -> Result<OwnProfile, Fault>
+fn own_profile(alloc: Global, profile: &str, file: &File) -> Result<OwnProfile, SettingsFault>
     ensures { GivesOwn (file_of file.now) (alone profile.now (file_of file.now)) result }
 {
     let file = file.try_clone()?;
@@ -59,7 +59,7 @@ fn own_profile(alloc: Global, profile: &str, file: &File) -> Result<OwnProfile, 
 }
 
 /// What a profile has in a file by itself.
-pub(crate) fn read_alone(alloc: Global, profile: &str, file: File) -> Result<ProfileValues, Fault>
+pub(crate) fn read_alone(alloc: Global, profile: &str, file: File) -> Result<ProfileValues, SettingsFault>
     ensures { GivesProfile (alone profile.now (file_of file)) result }
 {
     let source = source_of(alloc, profile, file)?;

@@ -1,9 +1,9 @@
 //! What a profile has to sign with, part by part.
 ghost use Rattle.std.specs.Prelude.{◌≡◌, option_copied, option_map, string_bytes};
-ghost use Rattle.awsign_run.specs.Chosen.{profile_values};
+ghost use Rattle.aws_settings.specs.Choice.{profile_values};
 ghost use Rattle.awsign_settings.specs.Own.{part_in, part_key};
 
-use awsign_run::ProfileValues;
+use aws_settings::ProfileValues;
 
 /// A part of what a profile has to sign with.
 #[derive(Clone, Copy, Debug, PartialEq, Eq)]

@@ -7,7 +7,7 @@ ghost use Rattle.awsign_settings.specs.PropertyLine.{begins_with_key, has_other,
 
 use crate::own::read_alone;
 use crate::part::Part;
-use awsign_run::Fault;
+use aws_settings::SettingsFault;
 use env_config::File;
 use smithy_core::Mem;
 use std::alloc::{AllocError, Global};
@@ -88,7 +88,7 @@ fn has_other(alloc: Global, profile: &str, file: File, part: Part, value: &str) 
 {
     match read_alone(alloc, profile, file) {
         Ok(values) => Ok(is_other(value, part.of(&values))),
-        Err(Fault::NoMemory) => Err(AllocError),
+        Err(SettingsFault::NoMemory) => Err(AllocError),
         Err(_) => Ok(false),
     }
 }

@@ -2,7 +2,7 @@
 ghost use Rattle.std.specs.Prelude.{◌≡◌, ◌≤◌, map, option_map, string_bytes};
 ghost use Rattle.env_config.specs.Loading.{Loaded, StopsAtFile};
 ghost use Rattle.env_config.specs.Source.{file_of};
-ghost use Rattle.awsign_run.specs.Chosen.{profile_name, refusal_of};
+ghost use Rattle.awsign_run.specs.Chosen.{asked_profile, lacking, refusal_of};
 ghost use Rattle.awsign_run.specs.Run.{asked_places};
 ghost use Rattle.awsign_settings.specs.Own.{own_of};
 ghost use Rattle.awsign_settings.specs.Settings.{settings_lack, used_settings_of};
@@ -52,13 +52,13 @@ fn tell_source<K: ByteSink>(
     source: &Source,
     out: &mut K,
 ) -> Status
-    requires { string_bytes source.now.profile ≡ profile_name options.now env.now }
+    requires { string_bytes source.now.profile ≡ asked_profile options.now env.now }
     ensures tells { TellsFiles options.now env.now (map file_of source.now.files.items) result (K.held out.old) (K.held out.new) }
     ensures count { K.faults out.old ≤ K.faults out.new }
 {
     match own_profiles(alloc, source) {
         Ok(owns) => tell_owns(alloc, options, env, owns.as_slice(), out),
-        Err(fault) => Status::from(fault),
+        Err(fault) => Status::from(Fault::from(fault)),
     }
 }
 
@@ -87,11 +87,14 @@ fn tell_settings<K: ByteSink>(
     out: &mut K,
 ) -> Status
     ensures tells { let settings = used_settings_of settings.now in
-        TellsText (settings_text (paths_text (map own_of owns.now)) settings) (settings_lack settings) result (K.held out.old) (K.held out.new) }
+        TellsText (settings_text (paths_text (map own_of owns.now)) settings) (option_map lacking (settings_lack settings)) result (K.held out.old) (K.held out.new) }
     ensures count { K.faults out.old ≤ K.faults out.new }
 {
+    let Ok(lack) = lack(alloc, settings) else {
+        return Status::NoMemory;
+    };
     match settings_text(alloc, settings, owns) {
-        Ok(text) => tell(text.as_slice(), lack(settings), out),
+        Ok(text) => tell(text.as_slice(), lack, out),
         Err(_) => Status::NoMemory,
     }
 }

@@ -1,13 +1,15 @@
 //! Which settings are used.
 ghost use Rattle.std.specs.Prelude.{◌≡◌, Some, IfOk, map, option_map};
-ghost use Rattle.awsign_run.specs.Chosen.{profile_name, refusal_of};
+ghost use Rattle.aws_settings.specs.Choice.{lack_in, no_key, no_secret};
+ghost use Rattle.awsign_run.specs.Chosen.{lacking, refusal_of};
 ghost use Rattle.awsign_settings.specs.Own.{own_of};
 ghost use Rattle.awsign_settings.specs.Settings.{settings_lack, used_key, used_key_behind, used_key_of, used_of, used_profile, used_region, used_settings, used_settings_of, used_variable_key};
 
 use crate::own::OwnProfile;
 use crate::part::Part;
 use crate::sourced::{Origin, Sourced, from_files, from_option, from_variable};
-use awsign_run::{Fault, profile_name};
+use aws_settings::{SettingsFault, profile_name};
+use awsign_run::Fault;
 use smithy_core::{Env, Mem};
 use std::alloc::Global;
 
@@ -74,7 +76,7 @@ fn used_region<'a>(
     let set = from_option(options, "--region").or(from_variable(env, "AWS_REGION"));
     match set.or(from_variable(env, "AWS_DEFAULT_REGION")) {
         Some(region) => Ok(Some(region)),
-        None => from_files(alloc, profile_name(options, env), owns, Part::Region),
+        None => from_files(alloc, profile_name(options.get("--profile"), env), owns, Part::Region),
     }
 }
 
@@ -94,7 +96,7 @@ fn used_key<'a>(
             token: from_variable(env, "AWS_SESSION_TOKEN"),
         }),
         None => {
-            let profile = profile_name(options, env);
+            let profile = profile_name(options.get("--profile"), env);
             Ok(KeySettings {
                 by_variables: false,
                 key_id: from_files(alloc, profile, owns, Part::KeyId)?,
@@ -116,21 +118,30 @@ fn variable_key<'a>(options: &Env, env: &'a Env) -> Option<Sourced<'a>>
     }
 }
 
-/// Why nothing can be signed with these settings, where that is so: there is no whole key, or no region. The service isn't missed, since the
-/// host of a request may name it.
-pub fn lack(settings: &Settings<'_>) -> Option<Fault>
-    ensures { option_map refusal_of result ≡ settings_lack (used_settings_of settings.now) }
+/// What these settings lack for a signature, where they do: a whole key, or a region. The service isn't missed, since the host of a request
+/// may name it.
+pub fn lack(alloc: Global, settings: &Settings<'_>) -> Mem<Option<Fault>>
+    ensures { IfOk result (λ lack. option_map refusal_of lack ≡ option_map lacking (settings_lack (used_settings_of settings.now))) }
 {
-    let key = &settings.key;
+    let (profile, key) = (settings.profile.value, &settings.key);
     if key.key_id.is_none() || key.secret.is_none() {
-        return Some(if key.by_variables {
-            Fault::MissingSecret
-        } else {
-            Fault::MissingKey
-        });
+        return Ok(Some(Fault::Settings(key_lack(alloc, profile, key.by_variables)?)));
     }
     match settings.region {
-        Some(_) => None,
-        None => Some(Fault::MissingRegion),
+        Some(_) => Ok(None),
+        None => {
+            let profile = String::from_str(alloc, profile)?;
+            Ok(Some(Fault::Settings(SettingsFault::MissingRegion(profile))))
+        }
+    }
+}
+
+fn key_lack(alloc: Global, profile: &str, by_variables: bool) -> Mem<SettingsFault>
+    ensures { IfOk result (λ fault. lack_in fault ≡ Some (if by_variables then no_secret else no_key profile.now)) }
+{
+    if by_variables {
+        Ok(SettingsFault::MissingSecret)
+    } else {
+        Ok(SettingsFault::MissingKey(String::from_str(alloc, profile)?))
     }
 }
