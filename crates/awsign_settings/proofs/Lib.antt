@@ -1,2 +1,4 @@
+pub mod JoinLemmas
+pub mod OwnLemmas
 pub mod ToldLemmas
 pub mod UsedLemmas

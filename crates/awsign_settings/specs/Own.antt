@@ -32,6 +32,10 @@ pub record Own : Type 0 where
   pub file : FileText
   pub profile : Profile
 
+-- the path of a file, where it has one
+abbrev pub own_path : Own → List ℕ
+own_path own = unwrap_or own.file.path []
+
 -- what the profile of this name has in a file alone, or its first faulty line
 abbrev pub alone : List ℕ → FileText → Result Profile Lack
 alone name file = profile_of (sections (file ∷ [])) name

@@ -1,5 +1,5 @@
 -- The line of a property in a profile file: the first one that begins with its key and on which another value would be the profile's.
-use Rattle.std.specs.Prelude.{ℕ, ◌+◌, ◌==◌, Bool, false, not, ◌&&◌, if◌then◌else◌, List, [], ◌∷◌, ◌++◌, length, take, drop, codes, bytes_eq, Option, Some, None, Result, Ok, Err}
+use Rattle.std.specs.Prelude.{ℕ, zero, suc, ◌+◌, ◌==◌, Bool, false, not, ◌&&◌, if◌then◌else◌, List, [], ◌∷◌, ◌++◌, length, take, drop, codes, bytes_eq, nat_le, slice_index_or, Option, Some, None, Result, Ok, Err}
 use Rattle.std.specs.List.{join_by, slice_split}
 use Rattle.smithy_core.specs.Text.{line_feed}
 use Rattle.smithy_core.specs.TextPairs.{lower}
@@ -14,7 +14,7 @@ lines_of text = slice_split (λ byte. byte == line_feed) text
 
 -- the line begins with the key, in whatever case
 abbrev pub begins_with_key : List ℕ → List ℕ → Bool
-begins_with_key key line = bytes_eq (lower (take (length key) line)) key
+begins_with_key key line = nat_le (length key) (length line) && bytes_eq (lower (take (length key) line)) (lower key)
 
 -- lines as a text
 abbrev pub text_of_lines : List (List ℕ) → List ℕ
@@ -38,15 +38,16 @@ abbrev pub has_other : Part → List ℕ → Result Profile Lack → Bool
 has_other part value (Ok profile) = is_other value (part_in part profile)
 has_other part value (Err lack) = false
 
--- the place of the first line that passes a test, behind so many lines; places count from 1
-abbrev pub first_line : (ℕ → List ℕ → Bool) → ℕ → List (List ℕ) → Option ℕ
-first_line test at [] = None
-first_line test at (line ∷ lines) = if test at line then Some (at + 1) else first_line test (at + 1) lines
+-- the value of the part stands on the line with so many before it
+unfoldable pub has_value : List ℕ → FileText → Part → List ℕ → ℕ → Bool
+has_value name file part value at =
+    begins_with_key (part_key part) (slice_index_or (lines_of file.contents) at []) && has_other part value (alone name (other_file file part at))
 
--- the value of the part stands on this line, which has so many before it
-abbrev pub has_value : List ℕ → FileText → Part → List ℕ → ℕ → List ℕ → Bool
-has_value name file part value at line = begins_with_key (part_key part) line && has_other part value (alone name (other_file file part at))
+-- the place of the first line that passes a test, of so many behind so many; places count from 1
+abbrev pub first_line : (ℕ → Bool) → ℕ → ℕ → Option ℕ
+first_line test at zero = None
+first_line test at (suc count) = if test at then Some (at + 1) else first_line test (at + 1) count
 
 -- the line on which the value of the part stands that the profile of this name has
 unfoldable pub property_line : List ℕ → FileText → Part → List ℕ → Option ℕ
-property_line name file part value = first_line (has_value name file part value) 0 (lines_of file.contents)
+property_line name file part value = first_line (has_value name file part value) 0 (length (lines_of file.contents))

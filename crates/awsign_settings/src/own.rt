@@ -1,8 +1,8 @@
 //! What each profile file has of the selected profile by itself.
-ghost use Rattle.std.specs.Prelude.{◌≡◌, [], ◌∷◌, IfOk, map, string_bytes, unwrap_or};
+ghost use Rattle.std.specs.Prelude.{◌≡◌, [], ◌∷◌, IfOk, map, string_bytes};
 ghost use Rattle.env_config.specs.Source.{file_of};
 ghost use Rattle.aws_settings.specs.Choice.{GivesProfile};
-ghost use Rattle.awsign_settings.specs.Own.{GivesOwn, GivesOwns, alone, own_of, own_profiles};
+ghost use Rattle.awsign_settings.specs.Own.{GivesOwn, GivesOwns, alone, own_of, own_path, own_profiles};
 
 use aws_settings::{ProfileValues, SettingsFault, read_profile};
 use env_config::{File, Source};
@@ -21,7 +21,7 @@ pub struct OwnProfile {
 impl OwnProfile {
     /// The path of the file, where it has one.
     pub fn path(&self) -> &str
-        ensures { result.now ≡ unwrap_or (own_of self.now).file.path [] }
+        ensures { result.now ≡ own_path (own_of self.now) }
     {
         match &self.file.path {
             Some(path) => path.as_str(),

@@ -1,6 +1,7 @@
 //! The line of a property in a profile file.
-ghost use Rattle.std.specs.Prelude.{◌≡◌, ◌<◌, IfOk, length, map, option_copied};
+ghost use Rattle.std.specs.Prelude.{◌≡◌, ◌<◌, IfOk, bytes_eq, length, map, option_copied};
 ghost use Rattle.std.specs.String.{string_bytes};
+ghost use Rattle.smithy_core.specs.TextPairs.{lower};
 ghost use Rattle.env_config.specs.Source.{file_of};
 ghost use Rattle.awsign_settings.specs.Own.{alone};
 ghost use Rattle.awsign_settings.specs.PropertyLine.{begins_with_key, has_other, has_value, is_other, lines_of, other_file, other_text, property_line};
@@ -28,15 +29,33 @@ pub fn property_line(
 {
     let lines = lines_of(alloc, file.contents.as_str())?;
     let lines = lines.as_slice();
-    for (at, line) in lines.iter().enumerate() {
-        if begins_with_key(line, part.key()) {
-            let other = other_file(alloc, file, lines, part, at)?;
-            if has_other(alloc, profile, other, part, value)? {
-                return Ok(Some(at + 1));
-            }
+    for at in 0..lines.len() {
+        if has_value(alloc, profile, file, part, value, lines, at)? {
+            return Ok(Some(at + 1));
         }
     }
     Ok(None)
+}
+
+// Whether the value of the part stands on the line with so many before it.
+fn has_value(
+    alloc: Global,
+    profile: &str,
+    file: &File,
+    part: Part,
+    value: &str,
+    lines: &[&str],
+    at: usize,
+) -> Mem<bool>
+    requires lines { map (λ l. l.now) lines.now ≡ lines_of (file_of file.now).contents }
+    requires within { at < length lines.now }
+    ensures { IfOk result (λ has. has ≡ has_value profile.now (file_of file.now) part value.now at) }
+{
+    if !begins_with_key(lines[at], part.key()) {
+        return Ok(false);
+    }
+    let other = other_file(alloc, file, lines, part, at)?;
+    has_other(alloc, profile, other, part, value)
 }
 
 fn lines_of(alloc: Global, text: &str) -> Mem<Vec<&str>>
@@ -49,14 +68,17 @@ fn lines_of(alloc: Global, text: &str) -> Mem<Vec<&str>>
     Ok(lines)
 }
 
-// Whether a line begins with the key, which is in lower case.
+// Whether a line begins with the key, in whatever case.
 fn begins_with_key(line: &str, key: &str) -> bool
     ensures { result ≡ begins_with_key key.now line.now }
 {
-    match line.as_bytes().get(..key.len()) {
-        Some(front) => front.eq_ignore_ascii_case(key.as_bytes()),
-        None => false,
-    }
+    key.len() <= line.len() && is_same_name(&line.as_bytes()[..key.len()], key.as_bytes())
+}
+
+fn is_same_name(name: &[u8], other: &[u8]) -> bool
+    ensures { result ≡ bytes_eq (lower name.now) (lower other.now) }
+{
+    name.eq_ignore_ascii_case(other)
 }
 
 // The file with another value of the part on the line with so many before it.
