@@ -12,7 +12,7 @@ use Rattle.awsign_words.specs.Words.{OptionValues, has}
 use Rattle.aws_settings.specs.Choice.{ChosenKey, ChosenSettings, Lack, Profile, choice_by, chosen_key, chosen_settings, filled, key_behind, key_or, key_with, no_key, no_secret, profile_in, profile_name, profile_of, region_by, settings_of_parts, variable, variable_key}
 use Rattle.awsign_run.specs.Chosen.{asked_profile}
 use Rattle.awsign_settings.specs.Own.{Own, alone, onto_own, own_profiles, part_in, part_key}
-use Rattle.awsign_settings.specs.Settings.{Used, UsedKey, by_name, by_nothing, choice_of, filled_use, from_files, from_option, from_variable, key_of_parts, last_part, part_of_own, use_in_file, used_key, used_key_behind, used_profile, used_region, used_settings, used_variable_key, value_of}
+use Rattle.awsign_settings.specs.Settings.{Used, UsedKey, by_name, by_nothing, given_choice, filled_use, from_files, from_option, from_variable, key_of_parts, last_part, part_of_own, use_in_file, used_key, used_key_behind, used_profile, used_region, used_settings, used_variable_key, used_value}
 use Rattle.awsign_settings.specs.UsedLaws.{told_choice}
 use Rattle.awsign_settings.specs.declared.part.Part.{Part}
 use Rattle.awsign_settings.specs.declared.part.Part.TheVariants.{KeyId, Secret, Token, Region}
@@ -163,35 +163,35 @@ module _ (name : List ℕ) where
 
 -- ## Values
 
-either_value : (x y : Option Used) → value_of (option_or x y) ≡ option_or (value_of x) (value_of y)
+either_value : (x y : Option Used) → used_value (option_or x y) ≡ option_or (used_value x) (used_value y)
 either_value None y = refl
 either_value (Some x) y = refl
 
-filled_value : (name : List ℕ) (value : Option (List ℕ)) → value_of (filled_use (option_map (λ (v : List ℕ). record { value = v; whence = by_name name }) value)) ≡ filled value
+filled_value : (name : List ℕ) (value : Option (List ℕ)) → used_value (filled_use (option_map (λ (v : List ℕ). record { value = v; whence = by_name name }) value)) ≡ filled value
 filled_value name None = refl
 filled_value name (Some []) = refl
 filled_value name (Some (byte ∷ text)) = refl
 
-named_value : (word : List ℕ) (value : Option (List ℕ)) → value_of (option_map (λ (v : List ℕ). record { value = v; whence = by_name word }) value) ≡ value
+named_value : (word : List ℕ) (value : Option (List ℕ)) → used_value (option_map (λ (v : List ℕ). record { value = v; whence = by_name word }) value) ≡ value
 named_value word None = refl
 named_value word (Some value) = refl
 
-file_value : (name : List ℕ) (part : Part) (found : Option (FileText × List ℕ)) → value_of (filled_use (option_map (use_in_file name part) found)) ≡ filled (found_value found)
+file_value : (name : List ℕ) (part : Part) (found : Option (FileText × List ℕ)) → used_value (filled_use (option_map (use_in_file name part) found)) ≡ filled (found_value found)
 file_value name part None = refl
 file_value name part (Some (file, [])) = refl
 file_value name part (Some (file, byte ∷ text)) = refl
 
-default_value : (x : Option Used) (d : Used) → (unwrap_or x d).value ≡ unwrap_or (value_of x) d.value
+default_value : (x : Option Used) (d : Used) → (unwrap_or x d).value ≡ unwrap_or (used_value x) d.value
 default_value None d = refl
 default_value (Some x) d = refl
 
 -- ## The choice
 
 module _ (options : OptionValues) (env : List (List ℕ × List ℕ)) where
-  option_value : (word : List ℕ) → value_of (from_option options word) ≡ last_value options word
+  option_value : (word : List ℕ) → used_value (from_option options word) ≡ last_value options word
   option_value word = named_value word (last_value options word)
 
-  variable_value : (name : List ℕ) → value_of (from_variable env name) ≡ variable env name
+  variable_value : (name : List ℕ) → used_value (from_variable env name) ≡ variable env name
   variable_value name = filled_value name (last_value env name)
 
   same_name : (used_profile options env).value ≡ asked_profile options env
@@ -202,19 +202,19 @@ module _ (options : OptionValues) (env : List (List ℕ × List ℕ)) where
       ∙ ap (λ (v : Option (List ℕ)). unwrap_or v (codes "default"))
       (either_value named set ∙ ap₂ option_or (option_value (codes "--profile")) (variable_value (codes "AWS_PROFILE")))
 
-  same_variable : value_of (used_variable_key options env) ≡ variable_key (has options (codes "--profile")) env
+  same_variable : used_value (used_variable_key options env) ≡ variable_key (has options (codes "--profile")) env
   same_variable = by (has options (codes "--profile"))
     where
-      by : (b : Bool) → value_of (cond b None (from_variable env (codes "AWS_ACCESS_KEY_ID"))) ≡ variable_key b env
+      by : (b : Bool) → used_value (cond b None (from_variable env (codes "AWS_ACCESS_KEY_ID"))) ≡ variable_key b env
       by true = refl
       by false = variable_value (codes "AWS_ACCESS_KEY_ID")
 
   module _ (owns : List Own) (profile : Profile) (named : profile.name ≡ asked_profile options env)
       (parts : (part : Part) → part_in part profile ≡ found_value (last_part part owns)) where
-    profile_part : (part : Part) → value_of (from_files (asked_profile options env) part owns) ≡ filled (part_in part profile)
+    profile_part : (part : Part) → used_value (from_files (asked_profile options env) part owns) ≡ filled (part_in part profile)
     profile_part part = file_value (asked_profile options env) part (last_part part owns) ∙ ap filled (sym (parts part))
 
-    same_region : value_of (used_region options env owns) ≡ region_by (last_value options (codes "--region")) env profile
+    same_region : used_value (used_region options env owns) ≡ region_by (last_value options (codes "--region")) env profile
     same_region =
         let asked = from_option options (codes "--region") in
         let set = from_variable env (codes "AWS_REGION") in
@@ -226,22 +226,22 @@ module _ (options : OptionValues) (env : List (List ℕ × List ℕ)) where
         (variable_value (codes "AWS_DEFAULT_REGION")))
         (profile_part Region)
 
-    key_same : (u : Option Used) → key_of_parts profile.name (used_key_behind env (asked_profile options env) owns u) ≡ key_behind env profile (value_of u)
+    key_same : (u : Option Used) → key_of_parts profile.name (used_key_behind env (asked_profile options env) owns u) ≡ key_behind env profile (used_value u)
     key_same (Some key_id) =
         ap₂ (λ (s t : Option (List ℕ)). key_or no_secret (key_with (Some key_id.value) s t)) (variable_value (codes "AWS_SECRET_ACCESS_KEY")) (variable_value (codes "AWS_SESSION_TOKEN"))
     key_same None =
         let key : Option (List ℕ) → Option (List ℕ) → Option (List ℕ) → Result ChosenKey Lack = λ k s t. key_or (no_key profile.name) (key_with k s t) in
-        ap (λ (k : Option (List ℕ)). key k (value_of (from_files (asked_profile options env) Secret owns)) (value_of (from_files (asked_profile options env) Token owns))) (profile_part KeyId)
+        ap (λ (k : Option (List ℕ)). key k (used_value (from_files (asked_profile options env) Secret owns)) (used_value (from_files (asked_profile options env) Token owns))) (profile_part KeyId)
         ∙ ap₂ (key (filled profile.key_id)) (profile_part Secret) (profile_part Token)
 
     same_key : key_of_parts profile.name (used_key options env owns) ≡ chosen_key (has options (codes "--profile")) env profile
     same_key = key_same (used_variable_key options env) ∙ ap (key_behind env profile) same_variable
 
-    same_choice : choice_of (used_settings options env owns) ≡ chosen_settings (has options (codes "--profile")) (last_value options (codes "--region")) env profile
+    same_choice : given_choice (used_settings options env owns) ≡ chosen_settings (has options (codes "--profile")) (last_value options (codes "--region")) env profile
     unfolding used_settings, chosen_settings
     same_choice =
         let name : (used_profile options env).value ≡ profile.name = same_name ∙ sym named in
-        ap (λ (n : List ℕ). settings_of_parts n (key_of_parts n (used_key options env owns)) (value_of (used_region options env owns))) name
+        ap (λ (n : List ℕ). settings_of_parts n (key_of_parts n (used_key options env owns)) (used_value (used_region options env owns))) name
         ∙ ap₂ (settings_of_parts profile.name) same_key same_region
 
 -- what is told is what is chosen

@@ -118,24 +118,25 @@ used_settings options env owns = record {
 -- ## What there is to sign with
 
 -- the value of a setting, where it has one
-abbrev pub value_of : Option Used → Option (List ℕ)
-value_of used = option_map (λ (used : Used). used.value) used
+abbrev pub used_value : Option Used → Option (List ℕ)
+used_value used = option_map (λ (used : Used). used.value) used
 
 -- the key, or why there is none; the name is the profile's
 abbrev pub key_of_parts : List ℕ → UsedKey → Result ChosenKey Lack
-key_of_parts name key = key_or (if key.by_variables then no_secret else no_key name) (key_with (value_of key.key_id) (value_of key.secret) (value_of key.token))
+key_of_parts name key = key_or (if key.by_variables then no_secret else no_key name) (key_with (used_value key.key_id) (used_value key.secret) (used_value key.token))
 
 -- what the settings give to sign with, or what lacks
-abbrev pub choice_of : UsedSettings → Result ChosenSettings Lack
-choice_of settings = settings_of_parts settings.profile.value (key_of_parts settings.profile.value settings.key) (value_of settings.region)
+abbrev pub given_choice : UsedSettings → Result ChosenSettings Lack
+given_choice settings = settings_of_parts settings.profile.value (key_of_parts settings.profile.value settings.key) (used_value settings.region)
 
--- what lacks, where something does
+-- what lacks, in place of a choice
 abbrev pub lack_of : Result ChosenSettings Lack → Option Lack
 lack_of (Ok settings) = None
 lack_of (Err lack) = Some lack
 
+-- what the settings lack for a signature
 abbrev pub settings_lack : UsedSettings → Option Lack
-settings_lack settings = lack_of (choice_of settings)
+settings_lack settings = lack_of (given_choice settings)
 
 -- ## Answers
 
@@ -158,7 +159,7 @@ used_key_of key = record {
   token = option_map used_of key.token;
 }
 
--- what contracts see of settings
+-- what contracts see of the settings, with where each came from
 abbrev pub used_settings_of : Settings → UsedSettings
 used_settings_of settings = record {
   profile = used_of settings.profile;

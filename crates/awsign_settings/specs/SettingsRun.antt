@@ -41,12 +41,12 @@ abbrev pub TellsFiles : OptionValues → List (List ℕ × List ℕ) → List Fi
 TellsFiles options env files = TellsBy options env (own_profiles (asked_profile options env) files)
 
 -- a file couldn't be read, at a path that `unread` tells of, or memory ran out
-abbrev pub IsFileStatus : (List ℕ → Type 0) → Status → Type 0
-IsFileStatus unread (CouldNotReadFile path) = unread (string_bytes path)
-IsFileStatus unread NoMemory = Unit {0}
-IsFileStatus unread status = ⊥
+abbrev pub IsUnreadStatus : (List ℕ → Type 0) → Status → Type 0
+IsUnreadStatus unread (CouldNotReadFile path) = unread (string_bytes path)
+IsUnreadStatus unread NoMemory = Unit {0}
+IsUnreadStatus unread status = ⊥
 
 -- the settings were told by texts of files that `gave` tells of, or these aren't there and nothing was written
 abbrev pub RanSettings : (List FileText → Type 0) → (List ℕ → Type 0) → OptionValues → List (List ℕ × List ℕ) → Status → Option (List ℕ) → Option (List ℕ) → Type 0
 RanSettings gave unread options env status before now =
-    ((files : List FileText) × gave files × TellsFiles options env files status before now) ⊎ (IsFileStatus unread status × (now ≡ before))
+    ((files : List FileText) × gave files × TellsFiles options env files status before now) ⊎ (IsUnreadStatus unread status × (now ≡ before))

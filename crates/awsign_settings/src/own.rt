@@ -59,7 +59,11 @@ fn own_profile(alloc: Global, profile: &str, file: &File) -> Result<OwnProfile, 
 }
 
 /// What a profile has in a file by itself.
-pub(crate) fn read_alone(alloc: Global, profile: &str, file: File) -> Result<ProfileValues, SettingsFault>
+pub(crate) fn read_alone(
+    alloc: Global,
+    profile: &str,
+    file: File,
+) -> Result<ProfileValues, SettingsFault>
     ensures { GivesProfile (alone profile.now (file_of file)) result }
 {
     let source = source_of(alloc, profile, file)?;

@@ -76,7 +76,12 @@ fn used_region<'a>(
     let set = from_option(options, "--region").or(from_variable(env, "AWS_REGION"));
     match set.or(from_variable(env, "AWS_DEFAULT_REGION")) {
         Some(region) => Ok(Some(region)),
-        None => from_files(alloc, profile_name(options.get("--profile"), env), owns, Part::Region),
+        None => from_files(
+            alloc,
+            profile_name(options.get("--profile"), env),
+            owns,
+            Part::Region,
+        ),
     }
 }
 

@@ -3,7 +3,7 @@ ghost use Rattle.std.specs.Prelude.{◌≡◌, ◌++◌, ◌-◌, IfOk, OnOk, dr
 ghost use Rattle.std.specs.String.{string_bytes};
 ghost use Rattle.awsign_settings.specs.Own.{own_of};
 ghost use Rattle.awsign_settings.specs.Settings.{used_key_of, used_of, used_settings_of, whence_of};
-ghost use Rattle.awsign_settings.specs.Told.{key_lines, missed_at, paths_text, setting_line, settings_text, value_text, told_line, whence_text};
+ghost use Rattle.awsign_settings.specs.Told.{key_lines, missed_at, paths_text, told_setting, settings_text, value_shown, tabbed_line, whence_text};
 
 use crate::own::OwnProfile;
 use crate::settings::{KeySettings, Settings};
@@ -31,9 +31,23 @@ pub fn settings_text(alloc: Global, settings: &Settings<'_>, owns: &[OwnProfile]
     let paths = paths_text(alloc, owns)?;
     let paths = paths.as_str();
     let mut text = Vec::new(alloc);
-    push_setting(alloc, &mut text, "profile", Shown::Plain, paths, Some(settings.profile))?;
+    push_setting(
+        alloc,
+        &mut text,
+        "profile",
+        Shown::Plain,
+        paths,
+        Some(settings.profile),
+    )?;
     push_key(alloc, &mut text, paths, &settings.key)?;
-    push_setting(alloc, &mut text, "region", Shown::Plain, paths, settings.region)?;
+    push_setting(
+        alloc,
+        &mut text,
+        "region",
+        Shown::Plain,
+        paths,
+        settings.region,
+    )?;
     Ok(text)
 }
 
@@ -63,11 +77,11 @@ fn push_setting(
     missed: &str,
     sourced: Option<Sourced<'_>>,
 ) -> Mem<()>
-    ensures { OnOk result (text.new.items ≡ text.old.items ++ setting_line name.now form missed.now (option_map used_of sourced.entry)) }
+    ensures { OnOk result (text.new.items ≡ text.old.items ++ told_setting name.now form missed.now (option_map used_of sourced.entry)) }
 {
     match sourced {
         Some(sourced) => {
-            let value = value_text(alloc, form, sourced.value)?;
+            let value = value_shown(alloc, form, sourced.value)?;
             let whence = whence_text(alloc, sourced.origin)?;
             push_told(text, name, value.as_slice(), whence.as_str())
         }
@@ -76,7 +90,7 @@ fn push_setting(
 }
 
 fn push_told(text: &mut Vec<u8>, name: &str, value: &[u8], whence: &str) -> Mem<()>
-    ensures { OnOk result (text.new.items ≡ text.old.items ++ told_line name.now value.now whence.now) }
+    ensures { OnOk result (text.new.items ≡ text.old.items ++ tabbed_line name.now value.now whence.now) }
 {
     text.extend_from_slice(name.as_bytes())?;
     text.extend_from_slice(b"\t")?;
@@ -85,8 +99,8 @@ fn push_told(text: &mut Vec<u8>, name: &str, value: &[u8], whence: &str) -> Mem<
     push_line(text, whence.as_bytes())
 }
 
-fn value_text(alloc: Global, form: Shown, value: &str) -> Mem<Vec<u8>>
-    ensures { IfOk result (λ made. made.items ≡ value_text form value.now) }
+fn value_shown(alloc: Global, form: Shown, value: &str) -> Mem<Vec<u8>>
+    ensures { IfOk result (λ made. made.items ≡ value_shown form value.now) }
 {
     let mut made = Vec::new(alloc);
     match form {

@@ -276,8 +276,8 @@ unfoldable pub verify_words : List (List ℕ) → Result VerifyWanted ℕ
 verify_words words = after_pieces all_verify_words (taken_from given_word 2 (no_words Verify) words)
 
 -- what the words behind `settings` ask for
-unfoldable pub settings_words : List (List ℕ) → Result OptionValues ℕ
-settings_words words = after_pieces all_settings_words (taken_from given_word 2 (no_words Settings) words)
+unfoldable pub telling_words : List (List ℕ) → Result OptionValues ℕ
+telling_words words = after_pieces all_settings_words (taken_from given_word 2 (no_words Settings) words)
 
 -- to sign what is asked
 abbrev pub to_sign : Result SignWanted ℕ → Result CommandWanted ℕ
@@ -306,7 +306,7 @@ command_words (word ∷ words) =
     if bytes_eq word (codes "sign") then to_sign (words_behind Sign words)
     else if bytes_eq word (codes "presign") then to_sign (words_behind Presign words)
     else if bytes_eq word (codes "verify") then to_verify (verify_words words)
-    else if bytes_eq word (codes "settings") then to_tell (settings_words words)
+    else if bytes_eq word (codes "settings") then to_tell (telling_words words)
     else if bytes_eq word (codes "chunk") then to_chunk (words_behind Chunk words)
     else Err 1
 

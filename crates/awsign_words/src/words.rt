@@ -4,7 +4,7 @@ ghost use Rattle.std.specs.List.{list_all};
 ghost use Rattle.std.specs.String.{string_bytes};
 ghost use Rattle.http_header.specs.Token.{is_token_byte};
 ghost use Rattle.job_text.specs.Words.{TakesWord};
-ghost use Rattle.awsign_words.specs.Words.{ReadsAsked, ReadsCommand, ReadsOptions, ReadsVerify, all_settings_words, all_verify_words, all_words, checksum_named, command_words, form_named, given_words, has, has_payload, is_chunk_option, is_fit, is_flag, is_method, is_no_operand, is_payload, is_payload_option, is_printing_option, is_request_option, is_source_option, is_spent, lacks_option, minus, no_words, settings_words, take_header, take_operand, take_other, take_trailer, take_value, takes_value, to_chunk, to_sign, to_tell, to_verify, verify_words, words_behind};
+ghost use Rattle.awsign_words.specs.Words.{ReadsAsked, ReadsCommand, ReadsOptions, ReadsVerify, all_settings_words, all_verify_words, all_words, checksum_named, command_words, form_named, given_words, has, has_payload, is_chunk_option, is_fit, is_flag, is_method, is_no_operand, is_payload, is_payload_option, is_printing_option, is_request_option, is_source_option, is_spent, lacks_option, minus, no_words, telling_words, take_header, take_operand, take_other, take_trailer, take_value, takes_value, to_chunk, to_sign, to_tell, to_verify, verify_words, words_behind};
 ghost use Rattle.job_text.specs.Lines.{header_of_line};
 
 use crate::command::Command;
@@ -475,7 +475,7 @@ fn read_verify<'a>(alloc: Global, words: &'a [String]) -> Result<VerifyAsked<'a>
 
 // What the words behind `settings` ask for.
 fn read_telling<'a>(alloc: Global, words: &'a [String]) -> Result<AskedCommand<'a>, WordsFault>
-    ensures { ReadsCommand (to_tell (settings_words (map string_bytes words.now))) result }
+    ensures { ReadsCommand (to_tell (telling_words (map string_bytes words.now))) result }
 {
     match read_settings(alloc, words) {
         Ok(options) => Ok(AskedCommand::Telling(options)),
@@ -483,9 +483,9 @@ fn read_telling<'a>(alloc: Global, words: &'a [String]) -> Result<AskedCommand<'
     }
 }
 
-#[tactic(auto, unfolding(crate::specs::Words::settings_words))]
+#[tactic(auto, unfolding(crate::specs::Words::telling_words))]
 fn read_settings(alloc: Global, words: &[String]) -> Result<Env, WordsFault>
-    ensures { ReadsOptions (settings_words (map string_bytes words.now)) result }
+    ensures { ReadsOptions (telling_words (map string_bytes words.now)) result }
 {
     let mut given = GivenWords::new(alloc, Command::Settings);
     let place = take_words(&mut given, 2, words)?;
