@@ -4,7 +4,7 @@ use Rattle.smithy_core.specs.Outside.{Gains, GainsProperPrefix}
 use Rattle.env_config.specs.Sections.{FileText}
 use Rattle.awsign_words.specs.Words.{OptionValues}
 use Rattle.aws_settings.specs.Choice.{Lack}
-use Rattle.awsign_run.specs.Chosen.{SignRefusal, asked_profile, lacking, refusal_of}
+use Rattle.awsign_run.specs.Chosen.{asked_profile, lacking, refusal_of}
 use Rattle.awsign_run.specs.declared.status.Status.{Status}
 use Rattle.awsign_run.specs.declared.status.Status.TheVariants.{Done, BadWord, CouldNotReadFile, DataFault, Refused, OutputFault, NoMemory}
 use Rattle.awsign_settings.specs.Own.{Own, own_profiles}
@@ -12,9 +12,9 @@ use Rattle.awsign_settings.specs.Settings.{UsedSettings, settings_lack, used_set
 use Rattle.awsign_settings.specs.Told.{paths_text, settings_text}
 
 -- the text of the settings was written, and nothing lacks, or this does; or a part of it, where the output failed or memory ran out
-abbrev pub TellsText : List ℕ → Option SignRefusal → Status → Option (List ℕ) → Option (List ℕ) → Type 0
+abbrev pub TellsText : List ℕ → Option Lack → Status → Option (List ℕ) → Option (List ℕ) → Type 0
 TellsText text lack Done before now = Gains before now text × (lack ≡ None)
-TellsText text lack (Refused fault) before now = Gains before now text × (lack ≡ Some (refusal_of fault))
+TellsText text lack (Refused fault) before now = Gains before now text × (option_map lacking lack ≡ Some (refusal_of fault))
 TellsText text lack OutputFault before now = GainsProperPrefix before now text
 TellsText text lack NoMemory before now = (now ≡ before) ⊎ GainsProperPrefix before now text
 TellsText text lack (BadWord place) before now = ⊥
@@ -23,7 +23,7 @@ TellsText text lack DataFault before now = ⊥
 
 -- the settings were told by what each profile file has by itself
 abbrev pub TellsOwns : OptionValues → List (List ℕ × List ℕ) → List Own → Status → Option (List ℕ) → Option (List ℕ) → Type 0
-TellsOwns options env owns = TellsText (settings_text (paths_text owns) (used_settings options env owns)) (option_map lacking (settings_lack (used_settings options env owns)))
+TellsOwns options env owns = TellsText (settings_text (paths_text owns) (used_settings options env owns)) (settings_lack (used_settings options env owns))
 
 -- nothing was written, for this reason or since memory ran out
 abbrev pub TellsNothing : Lack → Status → Option (List ℕ) → Option (List ℕ) → Type 0

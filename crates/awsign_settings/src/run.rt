@@ -1,8 +1,9 @@
 //! A run of `awsign settings`, behind its words.
-ghost use Rattle.std.specs.Prelude.{◌≡◌, ◌≤◌, map, option_map, string_bytes};
+ghost use Rattle.std.specs.Prelude.{◌≡◌, ◌≤◌, Some, Option, map, option_map, string_bytes};
 ghost use Rattle.env_config.specs.Loading.{Loaded, StopsAtFile};
 ghost use Rattle.env_config.specs.Source.{file_of};
-ghost use Rattle.awsign_run.specs.Chosen.{asked_profile, lacking, refusal_of};
+ghost use Rattle.aws_settings.specs.Choice.{Lack, lack_in};
+ghost use Rattle.awsign_run.specs.Chosen.{asked_profile};
 ghost use Rattle.awsign_run.specs.Run.{asked_places};
 ghost use Rattle.awsign_settings.specs.Own.{own_of};
 ghost use Rattle.awsign_settings.specs.Settings.{settings_lack, used_settings_of};
@@ -12,6 +13,7 @@ ghost use Rattle.awsign_settings.specs.SettingsRun.{RanSettings, TellsFiles, Tel
 use crate::own::{OwnProfile, own_profiles};
 use crate::settings::{Settings, lack, settings_of};
 use crate::told::settings_text;
+use aws_settings::SettingsFault;
 use awsign_run::{Fault, Status, load_source, write_text};
 use env_config::Source;
 use smithy_core::{ByteSink, Disk, Env};
@@ -87,7 +89,7 @@ fn tell_settings<K: ByteSink>(
     out: &mut K,
 ) -> Status
     ensures tells { let settings = used_settings_of settings.now in
-        TellsText (settings_text (paths_text (map own_of owns.now)) settings) (option_map lacking (settings_lack settings)) result (K.held out.old) (K.held out.new) }
+        TellsText (settings_text (paths_text (map own_of owns.now)) settings) (settings_lack settings) result (K.held out.old) (K.held out.new) }
     ensures count { K.faults out.old ≤ K.faults out.new }
 {
     let Ok(lack) = lack(alloc, settings) else {
@@ -100,13 +102,13 @@ fn tell_settings<K: ByteSink>(
 }
 
 // Writes the text, and answers how that went, or what lacks.
-fn tell<K: ByteSink>(text: &[u8], lack: Option<Fault>, out: &mut K) -> Status
-    ensures tells { TellsText text.now (option_map refusal_of lack) result (K.held out.old) (K.held out.new) }
+fn tell<K: ByteSink>(text: &[u8], lack: Option<SettingsFault>, out: &mut K) -> Status
+    ensures tells { (lacks : Option Lack) → option_map lack_in lack ≡ option_map Some lacks → TellsText text.now lacks result (K.held out.old) (K.held out.new) }
     ensures count { K.faults out.old ≤ K.faults out.new }
 {
     match write_text(text, out) {
         Status::Done => match lack {
-            Some(fault) => Status::Refused(fault),
+            Some(fault) => Status::Refused(Fault::Settings(fault)),
             None => Status::Done,
         },
         status => status,

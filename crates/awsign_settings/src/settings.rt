@@ -1,7 +1,6 @@
 //! Which settings are used.
 ghost use Rattle.std.specs.Prelude.{◌≡◌, Some, IfOk, map, option_map};
 ghost use Rattle.aws_settings.specs.Choice.{lack_in, no_key, no_secret};
-ghost use Rattle.awsign_run.specs.Chosen.{lacking, refusal_of};
 ghost use Rattle.awsign_settings.specs.Own.{own_of};
 ghost use Rattle.awsign_settings.specs.Settings.{settings_lack, used_key, used_key_behind, used_key_of, used_of, used_profile, used_region, used_settings, used_settings_of, used_variable_key};
 
@@ -9,7 +8,6 @@ use crate::own::OwnProfile;
 use crate::part::Part;
 use crate::sourced::{Origin, Sourced, from_files, from_option, from_variable};
 use aws_settings::{SettingsFault, profile_name};
-use awsign_run::Fault;
 use smithy_core::{Env, Mem};
 use std::alloc::Global;
 
@@ -125,18 +123,18 @@ fn variable_key<'a>(options: &Env, env: &'a Env) -> Option<Sourced<'a>>
 
 /// What these settings lack for a signature, where they do: a whole key, or a region. The service isn't missed, since the host of a request
 /// may name it.
-pub fn lack(alloc: Global, settings: &Settings<'_>) -> Mem<Option<Fault>>
-    ensures { IfOk result (λ lack. option_map refusal_of lack ≡ option_map lacking (settings_lack (used_settings_of settings.now))) }
+pub fn lack(alloc: Global, settings: &Settings<'_>) -> Mem<Option<SettingsFault>>
+    ensures { IfOk result (λ lack. option_map lack_in lack ≡ option_map Some (settings_lack (used_settings_of settings.now))) }
 {
     let (profile, key) = (settings.profile.value, &settings.key);
     if key.key_id.is_none() || key.secret.is_none() {
-        return Ok(Some(Fault::Settings(key_lack(alloc, profile, key.by_variables)?)));
+        return Ok(Some(key_lack(alloc, profile, key.by_variables)?));
     }
     match settings.region {
         Some(_) => Ok(None),
         None => {
             let profile = String::from_str(alloc, profile)?;
-            Ok(Some(Fault::Settings(SettingsFault::MissingRegion(profile))))
+            Ok(Some(SettingsFault::MissingRegion(profile)))
         }
     }
 }
