@@ -1,4 +1,5 @@
 pub mod JoinLemmas
 pub mod OwnLemmas
+pub mod SettingsRunLemmas
 pub mod ToldLemmas
 pub mod UsedLemmas

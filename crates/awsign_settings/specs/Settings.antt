@@ -7,7 +7,7 @@ use Rattle.awsign_words.specs.Words.{OptionValues, has}
 use Rattle.aws_settings.specs.Choice.{ChosenKey, ChosenSettings, Lack, key_or, key_with, no_key, no_secret, settings_of_parts}
 use Rattle.awsign_run.specs.Chosen.{asked_profile}
 use Rattle.awsign_settings.specs.Own.{Own, part_in}
-use Rattle.awsign_settings.specs.PropertyLine.{property_line}
+use Rattle.awsign_settings.specs.ValueLine.{property_line}
 use Rattle.awsign_settings.specs.declared.part.Part.{Part}
 use Rattle.awsign_settings.specs.declared.part.Part.TheVariants.{KeyId, Secret, Token, Region}
 use Rattle.awsign_settings.specs.declared.settings.KeySettings.{KeySettings}

@@ -14,9 +14,9 @@ use crate::own::{OwnProfile, own_profiles};
 use crate::settings::{Settings, lack, settings_of};
 use crate::told::settings_text;
 use aws_settings::SettingsFault;
-use awsign_run::{Fault, Status, load_source, write_text};
+use awsign_run::{Fault, Status, load_source};
 use env_config::Source;
-use smithy_core::{ByteSink, Disk, Env};
+use smithy_core::{ByteSink, Disk, Env, write_all};
 use std::alloc::Global;
 
 /// Prints which settings are used under these options, and where each came from. [`Status::Refused`] says what lacks for a signature; the
@@ -106,11 +106,11 @@ fn tell<K: ByteSink>(text: &[u8], lack: Option<SettingsFault>, out: &mut K) -> S
     ensures tells { (lacks : Option Lack) → option_map lack_in lack ≡ option_map Some lacks → TellsText text.now lacks result (K.held out.old) (K.held out.new) }
     ensures count { K.faults out.old ≤ K.faults out.new }
 {
-    match write_text(text, out) {
-        Status::Done => match lack {
+    match write_all(out, text) {
+        Ok(()) => match lack {
             Some(fault) => Status::Refused(Fault::Settings(fault)),
             None => Status::Done,
         },
-        status => status,
+        Err(fault) => Status::from(fault),
     }
 }

@@ -5,7 +5,7 @@ ghost use Rattle.awsign_settings.specs.Settings.{filled_use, from_files, from_op
 
 use crate::own::OwnProfile;
 use crate::part::Part;
-use crate::property_line::property_line;
+use crate::value_line::property_line;
 use smithy_core::{Env, Mem};
 use std::alloc::Global;
 

@@ -1,7 +1,7 @@
 use Rattle.std.proofs.Common.{◌∙◌, lit<}
 use Rattle.std.proofs.lemmas.Iterator.Consumers.{YieldsList-end}
 use Rattle.std.proofs.lemmas.Iterator.Splits.{YieldsList-from_str_split}
-use Rattle.awsign_settings.proofs.property_line.lines_of.Goals as goal
+use Rattle.awsign_settings.proofs.value_line.lines_of.Goals as goal
 
 pub returns : goal.returns
 returns c =

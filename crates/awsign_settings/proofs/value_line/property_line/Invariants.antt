@@ -1,7 +1,7 @@
 use Rattle.std.proofs.Common.{◌≡◌, ◌-◌, length}
 use Rattle.env_config.specs.Source.{file_of}
-use Rattle.awsign_settings.specs.PropertyLine.{first_line, has_value}
-use Rattle.awsign_settings.proofs.property_line.property_line.Given as goal
+use Rattle.awsign_settings.specs.ValueLine.{first_line, has_value}
+use Rattle.awsign_settings.proofs.value_line.property_line.Given as goal
 
 -- the first line that passes is among those to come
 abbrev pub invariant-loop-at : goal.invariant-loop-at

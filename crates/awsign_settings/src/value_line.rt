@@ -4,7 +4,7 @@ ghost use Rattle.std.specs.String.{string_bytes};
 ghost use Rattle.smithy_core.specs.TextPairs.{lower};
 ghost use Rattle.env_config.specs.Source.{file_of};
 ghost use Rattle.awsign_settings.specs.Own.{alone};
-ghost use Rattle.awsign_settings.specs.PropertyLine.{begins_with_key, has_other, has_value, is_other, lines_of, other_file, other_text, property_line};
+ghost use Rattle.awsign_settings.specs.ValueLine.{begins_with_key, has_other, has_value, is_other, lines_of, other_file, other_text, property_line};
 
 use crate::own::read_alone;
 use crate::part::Part;
@@ -17,7 +17,7 @@ use std::alloc::{AllocError, Global};
 /// would be the profile's. Places count from 1.
 ///
 /// Each line that begins with the key costs a reading of the file, up to the one that is found.
-#[tactic(auto, unfolding(crate::specs::PropertyLine::property_line))]
+#[tactic(auto, unfolding(crate::specs::ValueLine::property_line))]
 pub fn property_line(
     alloc: Global,
     profile: &str,
@@ -94,7 +94,7 @@ fn other_file(alloc: Global, file: &File, lines: &[&str], part: Part, at: usize)
     })
 }
 
-#[tactic(auto, unfolding(crate::specs::PropertyLine::other_text))]
+#[tactic(auto, unfolding(crate::specs::ValueLine::other_text))]
 fn other_text(alloc: Global, lines: &[&str], key: &str, at: usize) -> Mem<String>
     requires { at < length lines.now }
     ensures { IfOk result (λ text. string_bytes text ≡ other_text key.now (map (λ l. l.now) lines.now) at) }

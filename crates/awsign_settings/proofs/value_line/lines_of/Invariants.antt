@@ -1,5 +1,5 @@
 use Rattle.std.proofs.Common.{◌≡◌, map}
-use Rattle.awsign_settings.proofs.property_line.lines_of.Given as goal
+use Rattle.awsign_settings.proofs.value_line.lines_of.Given as goal
 
 -- the lines so far
 abbrev pub invariant-loop-line : goal.invariant-loop-line
