@@ -1,5 +1,5 @@
 -- Who signs.
-use Rattle.std.proofs.Common.{◌≡◌, ℕ, inl, inr, List, Option, refl}
+use Rattle.std.proofs.Common.{ℕ, inl, inr, List, Option, refl}
 use Rattle.std.specs.Prelude.{Result}
 use Rattle.aws_settings.specs.Choice.{ChosenSettings, IsLackOf, Lack}
 use Rattle.aws_settings.specs.declared.fault.SettingsFault.{SettingsFault}

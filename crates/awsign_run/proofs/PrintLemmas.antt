@@ -1,6 +1,6 @@
 -- The signed request of words, as it is printed.
-use Rattle.std.proofs.Common.{◌≡◌, ℕ, true, false, inl, inr, List, Option, codes, refl, ◌∙◌, ap}
-use Rattle.std.specs.Prelude.{Result, Ok, Err, string_bytes}
+use Rattle.std.proofs.Common.{◌≡◌, ℕ, true, false, inl, inr, List, Option, codes, refl}
+use Rattle.std.specs.Prelude.{Result, Ok, Err}
 use Rattle.std.specs.Global.{Vec}
 use Rattle.smithy_core.specs.Moment.{Instant}
 use Rattle.smithy_core.specs.TextPairs.{last_value}
@@ -32,7 +32,7 @@ pub long_refused : (sign_wanted : SignWanted) (env : List (List ℕ × List ℕ)
 long_refused sign_wanted env files digest at long = rw long (inl refl)
 
 module _ (sign_wanted : SignWanted) (env : List (List ℕ × List ℕ)) (files : List FileText) (digest : Option (List ℕ)) (at : Instant) (short : is_long sign_wanted.options ≡ false) where
-  signs_by : Result SignsFor SignRefusal
+  abbrev signs_by : Result SignsFor SignRefusal
   signs_by = signer_by sign_wanted.options (url_host sign_wanted.url) env (profile_of (sections files) (asked_profile sign_wanted.options env))
 
   -- what somebody signs is printed

@@ -1,6 +1,5 @@
 -- What `awsign` prints of the request that words ask for.
-use Rattle.std.specs.Prelude.{◌≡◌, ◌⊎◌, ℕ, Bool, true, false, not, nat_lt, ◌&&◌, ◌||◌, if◌then◌else◌, List, [], ◌∷◌, ◌++◌, codes, bytes_eq, map, Option, Some, None, unwrap_or, Result, Ok, Err, string_bytes}
-use Rattle.std.specs.Int.{w64}
+use Rattle.std.specs.Prelude.{◌≡◌, ◌⊎◌, ℕ, Bool, not, nat_lt, ◌&&◌, ◌||◌, if◌then◌else◌, List, [], codes, bytes_eq, Option, Some, None, unwrap_or, Result, Ok, Err, string_bytes}
 use Rattle.std.specs.Global.{Vec}
 use Rattle.std.specs.Option.{option_and_then, option_or}
 use Rattle.hex.specs.Hex.{encode_lower}

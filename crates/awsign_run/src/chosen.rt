@@ -1,9 +1,10 @@
 //! Who signs, and for which region and service.
-ghost use Rattle.std.specs.Prelude.{◌≡◌, Ok, map, option_copied, string_bytes};
+ghost use Rattle.std.specs.Prelude.{◌≡◌, Ok, codes, map, option_copied, string_bytes};
 ghost use Rattle.std.specs.Option.{option_or};
 ghost use Rattle.env_config.specs.Sections.{sections};
 ghost use Rattle.env_config.specs.Source.{file_of};
 ghost use Rattle.aws_settings.specs.Choice.{profile_of, settings_seen};
+ghost use Rattle.awsign_words.specs.Words.{has};
 ghost use Rattle.awsign_run.specs.Chosen.{GivesSigner, chosen_service, signer_by, signs_for};
 
 use crate::fault::Fault;
@@ -39,11 +40,18 @@ pub fn signer_for(
 ) -> Result<Signer, Fault>
     ensures { GivesSigner (signer_by options.now host.now env.now (profile_of (sections (map file_of source.now.files.items)) (string_bytes source.now.profile))) result }
 {
-    let names_profile = options.get("--profile").is_some();
-    match settings_of(alloc, names_profile, options.get("--region"), env, source) {
+    let region = options.get("--region");
+    match settings_of(alloc, names_profile(options), region, env, source) {
         Ok(settings) => signer_of(alloc, settings, service_of(options, host)),
         Err(fault) => Err(Fault::from(fault)),
     }
+}
+
+// Whether an option names the profile.
+fn names_profile(options: &Env) -> bool
+    ensures { result ≡ has options.now (codes "--profile") }
+{
+    options.get("--profile").is_some()
 }
 
 // The signer with these settings, where there is a service.

@@ -15,4 +15,7 @@ returns-in-Err c =
     let profile = profile_of (sections (map file_of c.args.source.now.files.items)) (string_bytes c.args.source.now.profile) in
     rw c.from.ensures
     (nobody_without (choice_by (has options (codes "--profile")) (last_value options (codes "--region")) c.args.env.now profile)
-    (chosen_service options c.args.host.now) c.in-Err.fault c.in-Err.ensures)
+    (chosen_service options c.args.host.now) c.in-Err.fault (rw (c.names_profile.ensures, c.get-region.ensures) at c.in-Err.ensures))
+
+pub returns-in-Ok : goal.returns-in-Ok
+returns-in-Ok c = rw (rw (c.names_profile.ensures, c.get-region.ensures) at c.in-Ok.ensures, ← c.service_of.ensures) c.signer_of.ensures

@@ -1,5 +1,4 @@
-use Rattle.std.proofs.Common.{map, option_map}
-use Rattle.std.specs.Prelude.{string_bytes}
+use Rattle.std.proofs.Common.{map}
 use Rattle.smithy_core.specs.Given.{Gives}
 use Rattle.env_config.specs.Source.{file_of}
 use Rattle.env_config.specs.Loading.{Loaded, StopsAtFile}
