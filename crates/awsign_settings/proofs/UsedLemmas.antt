@@ -238,7 +238,7 @@ module _ (options : OptionValues) (env : List (List ℕ × List ℕ)) where
     same_key = key_same (used_variable_key options env) ∙ ap (key_behind env profile) same_variable
 
     same_choice : given_choice (used_settings options env owns) ≡ chosen_settings (has options (codes "--profile")) (last_value options (codes "--region")) env profile
-    unfolding used_settings, chosen_settings
+    unfolding used_settings chosen_settings
     same_choice =
         let name : (used_profile options env).value ≡ profile.name = same_name ∙ sym named in
         ap (λ (n : List ℕ). settings_of_parts n (key_of_parts n (used_key options env owns)) (used_value (used_region options env owns))) name
