@@ -283,10 +283,11 @@ def outside():
 
 
 FILES = {
-    ".aws/config": "[default]\nregion = eu-west-1\n\n[profile work]\n# region = nowhere\nregion = us-west-1\nregion_x = eu-north-1\nRegion = eu-central-1\n"
+    ".aws/config": "[default]\nregion = eu-west-1\n\n[profile work]\n# region = nowhere\nregion_x = eu-north-1\nRegion = eu-central-1\n"
                    "[profile bare]\noutput = json\n[profile both]\naws_access_key_id = AKIDCONFIG\naws_secret_access_key = of-config\nregion = ca-west-1",
     ".aws/credentials": "[default]\naws_access_key_id = AKIDDEFAULT\naws_secret_access_key = of-default\n\n[work]\r\naws_access_key_id=AKIDWORK\r\n"
                         "aws_session_token = of-token\r\naws_secret_access_key=of-work\r\n[both]\naws_access_key_id = AKIDBOTH\naws_secret_access_key = of-both\n",
+    "odd": "[profile work]\nregion = a\n[other]\nregion = b\n[profile  work]\nregion = c\n\n[profile work]\nregion = d\nregion = e\n",
     "half": "[default]\naws_access_key_id = A\nregion =\n",
     "faulty": "[default]\nregion\n",
 }
@@ -300,7 +301,7 @@ def told(task, words, code, out, err="", **more):
     wanted = out.replace("; ", "\n").replace(" | ", "\t").replace("~", os.getcwd())
     if run.returncode != code or wrote.rstrip("\n") != wanted or err not in said or (not err and said) or "of-" in wrote + said:
         failed.append(f"settings, {task}: ended with {run.returncode}, wrote {wrote!r} and said {said!r}")
-    if code == 0 and shutil.which("aws") and "AWS_REGION" not in more and "--" not in words.replace("--profile", ""):
+    if code == 0 and shutil.which("aws") and "AWS_REGION" not in more and all(more.values()) and "--" not in words.replace("--profile", ""):
         compared(task, words, wrote, env)
 
 
@@ -329,8 +330,8 @@ def settings():
     region = f"region | eu-west-1 | {file}, line 2"
     own = {"AWS_ACCESS_KEY_ID": "AKIDOWN", "AWS_SECRET_ACCESS_KEY": "of-own"}
     told("files", "", 0, f"profile | default | not named; {default}; token | not set | {both}; {region}")
-    told("a profile by a variable", "", 0, f"profile | work | AWS_PROFILE; {work}; region | eu-central-1 | {file}, line 8", AWS_PROFILE="work")
-    told("a profile by an option", "--profile work", 0, f"profile | work | --profile; {work}; region | eu-central-1 | {file}, line 8", AWS_PROFILE="none", **own)
+    told("a profile by a variable", "", 0, f"profile | work | AWS_PROFILE; {work}; region | eu-central-1 | {file}, line 7", AWS_PROFILE="work")
+    told("a profile by an option", "--profile work", 0, f"profile | work | --profile; {work}; region | eu-central-1 | {file}, line 7", AWS_PROFILE="none", **own)
     told("a key by variables", "", 0, f"profile | default | not named; key | ****************DOWN | AWS_ACCESS_KEY_ID; secret | set | AWS_SECRET_ACCESS_KEY; "
          f"token | not set | AWS_SESSION_TOKEN; {region}", **own)
     told("a token by a variable", "", 0, f"profile | default | not named; key | ****************DOWN | AWS_ACCESS_KEY_ID; secret | set | AWS_SECRET_ACCESS_KEY; "
@@ -342,9 +343,11 @@ def settings():
          AWS_REGION="sa-east-1", AWS_DEFAULT_REGION="none")
     told("a region by an option", "--region x", 0, f"profile | default | not named; {default}; token | not set | {both}; region | x | --region", AWS_REGION="sa-east-1")
     told("a key in both files", "--profile both", 0, "profile | both | --profile; key | ****************BOTH | ~/.aws/credentials, line 10; "
-         f"secret | set | ~/.aws/credentials, line 11; token | not set | {both}; region | ca-west-1 | {file}, line 14")
-    told("named files", "--config .aws/config --region x --profile both", 0, "profile | both | --profile; key | ****************NFIG | .aws/config, line 12; "
-         "secret | set | .aws/config, line 13; token | not set | .aws/config; region | x | --region")
+         f"secret | set | ~/.aws/credentials, line 11; token | not set | {both}; region | ca-west-1 | {file}, line 13")
+    told("named files", "--config .aws/config --region x --profile both", 0, "profile | both | --profile; key | ****************NFIG | .aws/config, line 11; "
+         "secret | set | .aws/config, line 12; token | not set | .aws/config; region | x | --region")
+    told("a section that is gone on with", "--config odd", 0, "profile | work | AWS_PROFILE; key | ****************DOWN | AWS_ACCESS_KEY_ID; "
+         "secret | set | AWS_SECRET_ACCESS_KEY; token | not set | AWS_SESSION_TOKEN; region | c | odd, line 6", AWS_PROFILE="work", **own)
     told("a profile without all", "--profile bare", 1, f"profile | bare | --profile; key | not set | {both}; secret | not set | {both}; token | not set | {both}; "
          f"region | not set | {both}", "awsign: no key")
     told("a profile without a region", "", 1, f"profile | bare | AWS_PROFILE; key | ****************DOWN | AWS_ACCESS_KEY_ID; secret | set | AWS_SECRET_ACCESS_KEY; "
