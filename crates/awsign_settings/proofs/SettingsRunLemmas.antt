@@ -1,5 +1,5 @@
 -- A run of `awsign settings`.
-use Rattle.std.proofs.Common.{◌≡◌, ◌⊎◌, ℕ, inl, inr, List, Option, Some, None, option_map, absurd, ap, refl, sym, ◌∙◌}
+use Rattle.std.proofs.Common.{◌≡◌, ◌⊎◌, ℕ, inl, inr, List, Option, Some, None, option_map, refl}
 use Rattle.std.specs.Prelude.{Result, Ok, Err, unwrap_or}
 use Rattle.env_config.specs.Sections.{FileText}
 use Rattle.env_config.specs.declared.load_fault.EnvConfigFileLoadError.{EnvConfigFileLoadError}

@@ -1,5 +1,6 @@
 -- The settings that are told are those that a request is signed with.
-use Rattle.std.proofs.Common.{◌≡◌, ◌++◌, ◌∷◌, [], ℕ, List, Bool, true, false, Option, Some, None, append_assoc, append-nil, codes, cond, fold, option_map, refl, sym, ap, ap₂, subst, ◌∙◌}
+use Rattle.std.proofs.Common.{◌≡◌, ◌++◌, ◌∷◌, [], ℕ, List, Bool, true, false, Option, Some, None, append_assoc, append-nil, codes, cond, fold, length, option_map, refl, sym, ap, ap₂, subst, ◌∙◌}
+use Rattle.std.proofs.Math.Dec.{eqb-suc-zero}
 use Rattle.std.specs.Prelude.{Result, Ok, Err, unwrap_or}
 use Rattle.std.specs.Option.{option_or}
 use Rattle.smithy_core.specs.TextPairs.{last_value}
@@ -9,9 +10,9 @@ use Rattle.env_config.specs.Sections.{FaultyLine, FileText, Sections, after_file
 use Rattle.env_config.specs.Texts.{Named}
 use Rattle.env_config.proofs.LaterLemmas.{later_profile}
 use Rattle.awsign_words.specs.Words.{OptionValues, has}
-use Rattle.aws_settings.specs.Choice.{ChosenKey, ChosenSettings, Lack, Profile, choice_by, chosen_key, chosen_settings, filled, key_behind, key_or, key_with, no_key, no_secret, profile_in, profile_name, profile_of, region_by, settings_of_parts, variable, variable_key}
+use Rattle.aws_settings.specs.Choice.{ChosenKey, ChosenSettings, Lack, Profile, choice_by, chosen_key, chosen_settings, faulty, filled, key_behind, key_or, key_with, no_key, no_secret, profile_in, profile_name, profile_of, region_by, settings_of_parts, variable, variable_key}
 use Rattle.awsign_run.specs.Chosen.{asked_profile}
-use Rattle.awsign_settings.specs.Own.{Own, alone, onto_own, own_profiles, part_in, part_key}
+use Rattle.awsign_settings.specs.Own.{Own, onto_own, own_profiles, part_in, part_key}
 use Rattle.awsign_settings.specs.Settings.{Used, UsedKey, by_name, by_nothing, given_choice, filled_use, from_files, from_option, from_variable, key_of_parts, last_part, part_of_own, use_in_file, used_key, used_key_behind, used_profile, used_region, used_settings, used_variable_key, used_value}
 use Rattle.awsign_settings.specs.UsedLaws.{told_choice}
 use Rattle.awsign_settings.specs.declared.part.Part.{Part}
@@ -29,12 +30,12 @@ go_on s before (file ∷ files) more is = by (raw everything file.contents) (λ 
     by (Ok read) goes_on is = goes_on (with_file everything s file.kind read) is
     by (Err fault) goes_on is = absurd cc
 
--- a file that gives sections alone gives some behind others
-one_more : (s alone : Sections) (file : FileText) → sections (file ∷ []) ≡ Ok alone → (after : Sections) × (files_from everything s (file ∷ []) ≡ Ok after)
+-- a file that gives sections one gives some behind others
+one_more : (s one : Sections) (file : FileText) → sections (file ∷ []) ≡ Ok one → (after : Sections) × (files_from everything s (file ∷ []) ≡ Ok after)
 unfolding sections
-one_more s alone file is = by (raw everything file.contents) is
+one_more s one file is = by (raw everything file.contents) is
   where
-    by : (read : Result (Named (List (List ℕ × List ℕ))) (ℕ × List ℕ)) → after_file file (λ read. files_from everything (with_file everything no_sections file.kind read) []) read ≡ Ok alone
+    by : (read : Result (Named (List (List ℕ × List ℕ))) (ℕ × List ℕ)) → after_file file (λ read. files_from everything (with_file everything no_sections file.kind read) []) read ≡ Ok one
         → (after : Sections) × (after_file file (λ read. files_from everything (with_file everything s file.kind read) []) read ≡ Ok after)
     by (Ok read) is = (with_file everything s file.kind read, refl)
     by (Err fault) is = absurd cc
@@ -50,11 +51,11 @@ faulty_behind s line file files is = by (raw everything file.contents) is
     by (Err fault) is = is
 
 -- the sections of files with one more
-with_one : (front : List FileText) (before alone : Sections) (file : FileText) → sections front ≡ Ok before → sections (file ∷ []) ≡ Ok alone
+with_one : (front : List FileText) (before one : Sections) (file : FileText) → sections front ≡ Ok before → sections (file ∷ []) ≡ Ok one
     → (after : Sections) × (sections (front ++ file ∷ []) ≡ Ok after)
 unfolding sections
-with_one front before alone file before_is alone_is =
-    let more = one_more before alone file alone_is in
+with_one front before one file before_is alone_is =
+    let more = one_more before one file alone_is in
     (more.0, go_on no_sections before front (file ∷ []) before_is ∙ more.1)
 
 faulty_with : (front : List FileText) (before : Sections) (line : FaultyLine) (file : FileText) (files : List FileText) → sections front ≡ Ok before → sections (file ∷ []) ≡ Err line
@@ -100,13 +101,13 @@ abbrev Gives : List ℕ → List FileText → (Part → Option (FileText × List
 Gives name files found = (all : Sections) × (sections files ≡ Ok all) × Stands name all found
 
 module _ (name : List ℕ) where
-  stands_more : (front : List FileText) (before alone after : Sections) (file : FileText) (found : Part → Option (FileText × List ℕ)) → Stands name before found
-      → sections front ≡ Ok before → sections (file ∷ []) ≡ Ok alone → sections (front ++ file ∷ []) ≡ Ok after
-      → Stands name after (found_in found (record { file = file; profile = profile_in name (record { sections = alone; selected = name }) }))
-  stands_more front before alone after file found stands before_is alone_is after_is part =
-      later_profile front file before alone after name (part_key part) before_is alone_is after_is
-      ∙ ap₂ option_or (sym (part_value part alone name)) (stands part)
-      ∙ sym (found_step file (part_in part (profile_in name (record { sections = alone; selected = name }))) (found part))
+  stands_more : (front : List FileText) (before one after : Sections) (file : FileText) (found : Part → Option (FileText × List ℕ)) → Stands name before found
+      → sections front ≡ Ok before → sections (file ∷ []) ≡ Ok one → sections (front ++ file ∷ []) ≡ Ok after
+      → Stands name after (found_in found (record { file = file; profile = profile_in name (record { sections = one; selected = name }) }))
+  stands_more front before one after file found stands before_is alone_is after_is part =
+      later_profile front file before one after name (part_key part) before_is alone_is after_is
+      ∙ ap₂ option_or (sym (part_value part one name)) (stands part)
+      ∙ sym (found_step file (part_in part (profile_in name (record { sections = one; selected = name }))) (found part))
 
   all_given : (files front : List FileText) (before : Sections) (found : Part → Option (FileText × List ℕ)) (owns : List Own) → sections front ≡ Ok before → Stands name before found
       → own_profiles name files ≡ Ok owns → Gives name (front ++ files) (found_behind found owns)
@@ -120,11 +121,11 @@ module _ (name : List ℕ) where
           → others ≡ Ok rest → Gives name ((front ++ file ∷ []) ++ files) (found_behind more rest))
           → onto_own file (profile_of read name) others ≡ Ok owns → Gives name (front ++ file ∷ files) (found_behind found owns)
       by (Err line) others alone_is again is = absurd cc
-      by (Ok alone) (Err lack) alone_is again is = absurd cc
-      by (Ok alone) (Ok rest) alone_is again is =
-          let own : Own = record { file = file; profile = profile_in name (record { sections = alone; selected = name }) } in
-          let next = with_one front before alone file before_is alone_is in
-          let given = again next.0 (found_in found own) rest next.1 (stands_more front before alone next.0 file found stands before_is alone_is next.1) refl in
+      by (Ok one) (Err lack) alone_is again is = absurd cc
+      by (Ok one) (Ok rest) alone_is again is =
+          let own : Own = record { file = file; profile = profile_in name (record { sections = one; selected = name }) } in
+          let next = with_one front before one file before_is alone_is in
+          let given = again next.0 (found_in found own) rest next.1 (stands_more front before one next.0 file found stands before_is alone_is next.1) refl in
           let same : owns ≡ own ∷ rest = cc in
           rw same (subst (λ (files : List FileText). Gives name files (found_behind (found_in found own) rest)) (append_assoc front (file ∷ []) files) given)
 
@@ -136,10 +137,12 @@ module _ (name : List ℕ) where
       by : (read : Result Sections FaultyLine) (others : Result (List Own) Lack) → sections (file ∷ []) ≡ read
           → ((next : Sections) → sections (front ++ file ∷ []) ≡ Ok next → others ≡ Err lack → profile_of (sections ((front ++ file ∷ []) ++ files)) name ≡ Err lack)
           → onto_own file (profile_of read name) others ≡ Err lack → profile_of (sections (front ++ file ∷ files)) name ≡ Err lack
-      by (Err line) others alone_is again is = ap (λ (r : Result Sections FaultyLine). profile_of r name) (faulty_with front before line file files before_is alone_is) ∙ is
-      by (Ok alone) (Ok rest) alone_is again is = absurd cc
-      by (Ok alone) (Err other) alone_is again is =
-          let next = with_one front before alone file before_is alone_is in
+      by (Err line) others alone_is again is =
+          let same : faulty line ≡ lack = cc in
+          ap (λ (r : Result Sections FaultyLine). profile_of r name) (faulty_with front before line file files before_is alone_is) ∙ ap Err same
+      by (Ok one) (Ok rest) alone_is again is = absurd cc
+      by (Ok one) (Err other) alone_is again is =
+          let next = with_one front before one file before_is alone_is in
           let same : other ≡ lack = cc in
           ap (λ (files : List FileText). profile_of (sections files) name) (sym (append_assoc front (file ∷ []) files)) ∙ again next.0 next.1 (ap Err same)
 
@@ -170,7 +173,8 @@ either_value (Some x) y = refl
 filled_value : (name : List ℕ) (value : Option (List ℕ)) → used_value (filled_use (option_map (λ (v : List ℕ). record { value = v; whence = by_name name }) value)) ≡ filled value
 filled_value name None = refl
 filled_value name (Some []) = refl
-filled_value name (Some (byte ∷ text)) = refl
+filled_value name (Some (byte ∷ text)) =
+    ap (λ (b : Bool). used_value (cond b None (Some (record { value = byte ∷ text; whence = by_name name })))) (eqb-suc-zero (length text))
 
 named_value : (word : List ℕ) (value : Option (List ℕ)) → used_value (option_map (λ (v : List ℕ). record { value = v; whence = by_name word }) value) ≡ value
 named_value word None = refl
@@ -179,7 +183,8 @@ named_value word (Some value) = refl
 file_value : (name : List ℕ) (part : Part) (found : Option (FileText × List ℕ)) → used_value (filled_use (option_map (use_in_file name part) found)) ≡ filled (found_value found)
 file_value name part None = refl
 file_value name part (Some (file, [])) = refl
-file_value name part (Some (file, byte ∷ text)) = refl
+file_value name part (Some (file, byte ∷ text)) =
+    ap (λ (b : Bool). used_value (cond b None (Some (use_in_file name part (file, byte ∷ text))))) (eqb-suc-zero (length text))
 
 default_value : (x : Option Used) (d : Used) → (unwrap_or x d).value ≡ unwrap_or (used_value x) d.value
 default_value None d = refl
