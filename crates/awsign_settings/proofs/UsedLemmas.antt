@@ -30,7 +30,7 @@ go_on s before (file ∷ files) more is = by (raw everything file.contents) (λ 
     by (Ok read) goes_on is = goes_on (with_file everything s file.kind read) is
     by (Err fault) goes_on is = absurd cc
 
--- a file that gives sections one gives some behind others
+-- a file that gives sections by itself gives some behind others
 one_more : (s one : Sections) (file : FileText) → sections (file ∷ []) ≡ Ok one → (after : Sections) × (files_from everything s (file ∷ []) ≡ Ok after)
 unfolding sections
 one_more s one file is = by (raw everything file.contents) is
