@@ -1,5 +1,5 @@
 -- Values and where they came from, one or another.
-use Rattle.std.proofs.Common.{◌≡◌, Bool, true, Option, Some, None, option_map, refl}
+use Rattle.std.proofs.Common.{◌≡◌, true, Option, Some, None, option_map, refl}
 use Rattle.std.specs.Prelude.{unwrap_or}
 use Rattle.std.specs.Option.{option_or}
 use Rattle.awsign_settings.specs.Settings.{Used, UsedKey, used_of}

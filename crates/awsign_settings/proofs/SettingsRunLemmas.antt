@@ -1,6 +1,6 @@
 -- A run of `awsign settings`.
-use Rattle.std.proofs.Common.{◌≡◌, ◌⊎◌, ℕ, inl, inr, List, Option, Some, None, option_map, refl}
-use Rattle.std.specs.Prelude.{Result, Ok, Err, unwrap_or}
+use Rattle.std.proofs.Common.{◌≡◌, ℕ, inl, List, Option, Some, None, option_map, refl}
+use Rattle.std.specs.Prelude.{Result, Ok, Err}
 use Rattle.env_config.specs.Sections.{FileText}
 use Rattle.env_config.specs.declared.load_fault.EnvConfigFileLoadError.{EnvConfigFileLoadError}
 use Rattle.env_config.specs.declared.load_fault.EnvConfigFileLoadError.TheVariants as load
@@ -8,7 +8,7 @@ use Rattle.aws_settings.specs.Choice.{IsLackOf, Lack, lack_in}
 use Rattle.aws_settings.specs.declared.fault.SettingsFault.{SettingsFault}
 use Rattle.aws_settings.specs.declared.fault.SettingsFault.TheVariants as set
 use Rattle.awsign_words.specs.Words.{OptionValues}
-use Rattle.awsign_run.specs.Chosen.{SignRefusal, lacking, out_of_memory, refusal_of}
+use Rattle.awsign_run.specs.Chosen.{lacking, refusal_of}
 use Rattle.awsign_run.specs.Faults.{lacking_fault}
 use Rattle.awsign_run.specs.Run.{LoadsAsked}
 use Rattle.awsign_run.specs.Status.{fault_status, load_status}

@@ -10,10 +10,10 @@ use Rattle.env_config.specs.Sections.{FaultyLine, FileText, Sections, after_file
 use Rattle.env_config.specs.Texts.{Named}
 use Rattle.env_config.proofs.LaterLemmas.{later_profile}
 use Rattle.awsign_words.specs.Words.{OptionValues, has}
-use Rattle.aws_settings.specs.Choice.{ChosenKey, ChosenSettings, Lack, Profile, choice_by, chosen_key, chosen_settings, faulty, filled, key_behind, key_or, key_with, no_key, no_secret, profile_in, profile_name, profile_of, region_by, settings_of_parts, variable, variable_key}
+use Rattle.aws_settings.specs.Choice.{ChosenKey, ChosenSettings, Lack, Profile, choice_by, chosen_key, chosen_settings, faulty, filled, key_behind, key_or, key_with, no_key, no_secret, profile_in, profile_of, region_by, settings_of_parts, variable, variable_key}
 use Rattle.awsign_run.specs.Chosen.{asked_profile}
 use Rattle.awsign_settings.specs.Own.{Own, onto_own, own_profiles, part_in, part_key}
-use Rattle.awsign_settings.specs.Settings.{Used, UsedKey, by_name, by_nothing, given_choice, filled_use, from_files, from_option, from_variable, key_of_parts, last_part, part_of_own, use_in_file, used_key, used_key_behind, used_profile, used_region, used_settings, used_variable_key, used_value}
+use Rattle.awsign_settings.specs.Settings.{Used, by_name, by_nothing, given_choice, filled_use, from_files, from_option, from_variable, key_of_parts, last_part, part_of_own, use_in_file, used_key, used_key_behind, used_profile, used_region, used_settings, used_variable_key, used_value}
 use Rattle.awsign_settings.specs.UsedLaws.{told_choice}
 use Rattle.awsign_settings.specs.declared.part.Part.{Part}
 use Rattle.awsign_settings.specs.declared.part.Part.TheVariants.{KeyId, Secret, Token, Region}

@@ -1,5 +1,5 @@
 -- What each profile file has of the selected profile by itself.
-use Rattle.std.specs.Prelude.{◌≡◌, ℕ, List, [], ◌∷◌, codes, map, Option, None, option_map, Result, Ok, Err, string_bytes, unwrap_or}
+use Rattle.std.specs.Prelude.{◌≡◌, ℕ, List, [], ◌∷◌, codes, map, Option, Result, Ok, Err, unwrap_or}
 use Rattle.std.specs.Global.{Vec}
 use Rattle.env_config.specs.Sections.{FileText, sections}
 use Rattle.env_config.specs.Source.{file_of}

@@ -8,7 +8,7 @@ use Rattle.awsign_run.specs.Chosen.{asked_profile, lacking, refusal_of}
 use Rattle.awsign_run.specs.declared.status.Status.{Status}
 use Rattle.awsign_run.specs.declared.status.Status.TheVariants.{Done, BadWord, CouldNotReadFile, DataFault, Refused, OutputFault, NoMemory}
 use Rattle.awsign_settings.specs.Own.{Own, own_profiles}
-use Rattle.awsign_settings.specs.Settings.{UsedSettings, settings_lack, used_settings}
+use Rattle.awsign_settings.specs.Settings.{settings_lack, used_settings}
 use Rattle.awsign_settings.specs.Told.{paths_text, settings_text}
 
 -- the text of the settings was written, and nothing lacks, or this does; or a part of it, where the output failed or memory ran out

@@ -1,4 +1,4 @@
-use Rattle.std.proofs.Common.{◌≡◌, ℕ, List, Option, None, Some, IfOk, codes, map, option_map, ap, ap₂, sym, subst, ◌∙◌}
+use Rattle.std.proofs.Common.{◌≡◌, ℕ, List, Option, None, Some, IfOk, codes, map, option_map, ap, ap₂, subst, ◌∙◌}
 use Rattle.std.specs.Option.{option_or}
 use Rattle.aws_settings.specs.Choice.{profile_name}
 use Rattle.awsign_run.specs.Chosen.{asked_profile}

@@ -1,4 +1,4 @@
-use Rattle.std.proofs.Common.{◌≡◌, ℕ, List, Bor, IfOk, codes, map, take, take_all, length, arith, ap, sym, subst, string_bytes, ◌∙◌}
+use Rattle.std.proofs.Common.{◌≡◌, ℕ, List, Bor, IfOk, codes, map, take, take_all, arith, ap, sym, subst, string_bytes, ◌∙◌}
 use Rattle.std.specs.List.{join_by}
 use Rattle.awsign_settings.specs.Own.{own_of, own_path}
 use Rattle.awsign_settings.proofs.JoinLemmas.{joined_map}

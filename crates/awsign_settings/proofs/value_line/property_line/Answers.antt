@@ -1,4 +1,4 @@
-use Rattle.std.proofs.Common.{◌≡◌, ◌<◌, length, arith, sym, ◌∙◌}
+use Rattle.std.proofs.Common.{◌<◌, length, arith, sym, ◌∙◌}
 use Rattle.env_config.specs.Source.{file_of}
 use Rattle.awsign_settings.specs.ValueLine.{has_value}
 use Rattle.awsign_settings.proofs.ValueLineLemmas.{first_step}
