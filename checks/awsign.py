@@ -363,6 +363,7 @@ def settings():
     told("an option twice", "--region x --region y", 2, "", "word 4 isn't understood here: --region")
     told("an option without its value", "--profile", 2, "", "a word is missing at the end")
     says("settings to a full device", "awsign settings > /dev/full", 3, "", "awsign: the output failed")
+    shutil.rmtree(".aws")
 
 
 def tasks(at, at_body):
