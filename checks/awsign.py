@@ -1,7 +1,8 @@
 #!/usr/bin/env python3
 """Tasks from the shell with the built program `awsign`: it signs, curl sends, and a listener on loopback asks botocore what the
 signature has to be and keeps the objects; of a body in chunks the listener computes every signature again; it verifies what it signed,
-and what botocore presigned; and it prints event stream frames that botocore reads. For each task that goes wrong there is a line; the status is then 1. Without botocore or curl it checks nothing.
+and what botocore presigned; it tells the settings that `aws configure list` does, where that is there; and it prints event stream
+frames that botocore reads. For each task that goes wrong there is a line; the status is then 1. Without botocore or curl it checks nothing.
 AWSIGN_BIG is how many bytes the big file has."""
 import base64
 import hashlib
@@ -284,6 +285,90 @@ def outside():
         says(f"a request of botocore to {service}", "awsign verify < message", 0, f"service {service}\nplace headers\n")
 
 
+FILES = {
+    ".aws/config": "[default]\nregion = eu-west-1\n\n[profile work]\n# region = nowhere\nregion_x = eu-north-1\nRegion = eu-central-1\n"
+                   "[profile bare]\noutput = json\n[profile both]\naws_access_key_id = AKIDCONFIG\naws_secret_access_key = of-config\nregion = ca-west-1",
+    ".aws/credentials": "[default]\naws_access_key_id = AKIDDEFAULT\naws_secret_access_key = of-default\n\n[work]\r\naws_access_key_id=AKIDWORK\r\n"
+                        "aws_session_token = of-token\r\naws_secret_access_key=of-work\r\n[both]\naws_access_key_id = AKIDBOTH\naws_secret_access_key = of-both\n",
+    "odd": "[profile work]\nregion = a\n[other]\nregion = b\n[profile  work]\nregion = c\n\n[profile work]\nregion = d\nregion = e\n",
+    "half": "[default]\naws_access_key_id = A\nregion =\n",
+    "faulty": "[default]\nregion\n",
+}
+
+
+def told(task, words, code, out, err="", **more):
+    """Runs `awsign settings` with these variables alone: what it writes, by lines whose fields have tabs between them."""
+    env = {"PATH": os.environ["PATH"], "HOME": os.getcwd(), **more}
+    run = subprocess.run(["awsign", "settings", *words.split()], capture_output=True, env=env, timeout=60)
+    wrote, said = run.stdout.decode(), run.stderr.decode()
+    wanted = out.replace("; ", "\n").replace(" | ", "\t").replace("~", os.getcwd())
+    if run.returncode != code or wrote.rstrip("\n") != wanted or err not in said or (not err and said) or "of-" in wrote + said:
+        failed.append(f"settings, {task}: ended with {run.returncode}, wrote {wrote!r} and said {said!r}")
+    if code == 0 and shutil.which("aws") and "AWS_REGION" not in more and all(more.values()) and "--" not in words.replace("--profile", ""):
+        compared(task, words, wrote, env)
+
+
+def compared(task, words, wrote, env):
+    """The same as `aws configure list` tells: profile, end of the key's id, region, and what kind of place each came from."""
+    listed = subprocess.run(["aws", *words.split(), "configure", "list"], capture_output=True, env=env, timeout=60).stdout.decode()
+    own = {name: (value, place) for name, value, place in (line.split("\t") for line in wrote.splitlines())}
+    for line in listed.splitlines()[2:]:
+        name, value, kind = line.replace("<not set>", "-").split()[:3]
+        mine, place = own[{"access_key": "key", "secret_key": "secret"}.get(name, name)]
+        kinds = {"env": place.startswith("AWS_"), "manual": place == "--profile", "None": place == "not named" or mine == "not set",
+                 "config-file": "/.aws/" in place, "shared-credentials-file": "/.aws/credentials" in place}
+        if not kinds[kind] or (value not in ("-", mine) and name != "secret_key") or (value == "-") != (place == "not named" or mine == "not set"):
+            failed.append(f"settings, {task}: {name} is {mine} of {place}, and by aws configure list {line.strip()!r}")
+
+
+def settings():
+    """What `awsign settings` tells by options, variables and files."""
+    os.mkdir(".aws")
+    for name, text in FILES.items():
+        with open(name, "w", newline="") as it:
+            it.write(text)
+    file, both = "~/.aws/config", "~/.aws/config, ~/.aws/credentials"
+    work = "key | ****************WORK | ~/.aws/credentials, line 6; secret | set | ~/.aws/credentials, line 8; token | set | ~/.aws/credentials, line 7"
+    default = "key | ****************AULT | ~/.aws/credentials, line 2; secret | set | ~/.aws/credentials, line 3"
+    region = f"region | eu-west-1 | {file}, line 2"
+    own = {"AWS_ACCESS_KEY_ID": "AKIDOWN", "AWS_SECRET_ACCESS_KEY": "of-own"}
+    told("files", "", 0, f"profile | default | not named; {default}; token | not set | {both}; {region}")
+    told("a profile by a variable", "", 0, f"profile | work | AWS_PROFILE; {work}; region | eu-central-1 | {file}, line 7", AWS_PROFILE="work")
+    told("a profile by an option", "--profile work", 0, f"profile | work | --profile; {work}; region | eu-central-1 | {file}, line 7", AWS_PROFILE="none", **own)
+    told("a key by variables", "", 0, f"profile | default | not named; key | ****************DOWN | AWS_ACCESS_KEY_ID; secret | set | AWS_SECRET_ACCESS_KEY; "
+         f"token | not set | AWS_SESSION_TOKEN; {region}", **own)
+    told("a token by a variable", "", 0, f"profile | default | not named; key | ****************DOWN | AWS_ACCESS_KEY_ID; secret | set | AWS_SECRET_ACCESS_KEY; "
+         f"token | set | AWS_SESSION_TOKEN; {region}", **own, AWS_SESSION_TOKEN="of-token")
+    told("empty variables", "", 0, f"profile | default | not named; {default}; token | not set | {both}; {region}", AWS_ACCESS_KEY_ID="", AWS_REGION="", AWS_DEFAULT_REGION="")
+    told("a region by its usual variable", "", 0, f"profile | default | not named; {default}; token | not set | {both}; region | sa-east-1 | AWS_DEFAULT_REGION",
+         AWS_DEFAULT_REGION="sa-east-1")
+    told("a region by its variable", "", 0, f"profile | default | not named; {default}; token | not set | {both}; region | sa-east-1 | AWS_REGION",
+         AWS_REGION="sa-east-1", AWS_DEFAULT_REGION="none")
+    told("a region by an option", "--region x", 0, f"profile | default | not named; {default}; token | not set | {both}; region | x | --region", AWS_REGION="sa-east-1")
+    told("a key in both files", "--profile both", 0, "profile | both | --profile; key | ****************BOTH | ~/.aws/credentials, line 10; "
+         f"secret | set | ~/.aws/credentials, line 11; token | not set | {both}; region | ca-west-1 | {file}, line 13")
+    told("named files", "--config .aws/config --region x --profile both", 0, "profile | both | --profile; key | ****************NFIG | .aws/config, line 11; "
+         "secret | set | .aws/config, line 12; token | not set | .aws/config; region | x | --region")
+    told("a section that is gone on with", "--config odd", 0, "profile | work | AWS_PROFILE; key | ****************DOWN | AWS_ACCESS_KEY_ID; "
+         "secret | set | AWS_SECRET_ACCESS_KEY; token | not set | AWS_SESSION_TOKEN; region | c | odd, line 6", AWS_PROFILE="work", **own)
+    told("a profile without all", "--profile bare", 1, f"profile | bare | --profile; key | not set | {both}; secret | not set | {both}; token | not set | {both}; "
+         f"region | not set | {both}", "awsign: no key")
+    told("a profile without a region", "", 1, f"profile | bare | AWS_PROFILE; key | ****************DOWN | AWS_ACCESS_KEY_ID; secret | set | AWS_SECRET_ACCESS_KEY; "
+         f"token | not set | AWS_SESSION_TOKEN; region | not set | {both}", "awsign: no region", AWS_PROFILE="bare", **own)
+    told("half of a key", "", 1, f"profile | default | not named; key | ****************DOWN | AWS_ACCESS_KEY_ID; secret | not set | AWS_SECRET_ACCESS_KEY; "
+         f"token | not set | AWS_SESSION_TOKEN; {region}", "AWS_SECRET_ACCESS_KEY isn't", AWS_ACCESS_KEY_ID="AKIDOWN")
+    told("half of a key and no region in a file", "--credentials half", 1, "profile | default | not named; key | ****************A | half, line 2; secret | not set | half; "
+         "token | not set | half; region | not set | half", "awsign: no key")
+    told("a faulty file", "--config faulty", 1, "", "faulty, line 2: ", **own)
+    told("a file that isn't there", "--config nowhere", 3, "", "could not read the profile file nowhere", **own)
+    told("an operand", "GET", 2, "", "word 2 isn't understood here: GET")
+    told("an option of other commands", "--s3", 2, "", "word 2 isn't understood here: --s3")
+    told("an option twice", "--region x --region y", 2, "", "word 4 isn't understood here: --region")
+    told("an option without its value", "--profile", 2, "", "a word is missing at the end")
+    says("settings to a full device", "awsign settings > /dev/full", 3, "", "awsign: the output failed")
+    shutil.rmtree(".aws")
+
+
 def framed(headers, payload):
     """The frame of headers, each a name, a type's number and the bytes of its value; botocore has to read it."""
     from botocore.eventstream import EventStreamBuffer
@@ -378,6 +463,7 @@ def tasks(at, at_body):
     shell("an altered body", f"awsign sign PUT {at}/b/small --s3 --data word | sed 's,\"word\",\"small\",' | {curl}", "403")
     heads(at, int(at.rsplit(":", 1)[1]))
     verified(at)
+    settings()
     chunked(at, at_body)
     events()
     Listener.token = TOKEN

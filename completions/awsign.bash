@@ -30,6 +30,9 @@ _awsign() {
       ;;
   esac
   words='-H --service --s3 --region --profile --config --credentials --at'
+  if [[ ${COMP_WORDS[1]} == settings ]]; then
+    words='--region --profile --config --credentials'
+  fi
   case ${COMP_WORDS[1]} in
     sign | presign) words="$words --data --payload-hash --payload-text --unsigned --as" ;;
     chunk) words="$words --data --out --signed --size --checksum --trailer --as" ;;
@@ -42,7 +45,7 @@ _awsign() {
     events-encode) words='--raw --hex' ;;
   esac
   if ((COMP_CWORD == 1)); then
-    words='sign presign verify chunk events --help --version'
+    words='sign presign verify settings chunk events --help --version'
   fi
   mapfile -t COMPREPLY < <(compgen -W "$words" -- "$word")
 }

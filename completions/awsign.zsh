@@ -1,20 +1,23 @@
 #compdef awsign
 # Completion of the words of awsign for zsh: put it as _awsign where fpath looks.
 _awsign() {
-  local -a options
-  options=(
-    '*-H[a header]:header:'
-    '--service[the signing name]:name:'
-    '--s3[the settings of Amazon S3]'
+  local -a options sources
+  sources=(
     '--region[the region]:name:'
     '--profile[the profile]:name:'
     '--config[a config file]:file:_files'
     '--credentials[a credentials file]:file:_files'
+  )
+  options=(
+    $sources
+    '*-H[a header]:header:'
+    '--service[the signing name]:name:'
+    '--s3[the settings of Amazon S3]'
     '--at[the moment]:seconds:'
   )
   if ((CURRENT == 2)); then
     _values command 'sign[prints a signed request]' 'presign[prints a presigned URL]' 'verify[says who signed a request]' \
-      'chunk[writes a body in chunks]' 'events[prints events, or writes their frames]' --help --version
+      'settings[says which key and region are used]' 'chunk[writes a body in chunks]' 'events[prints events, or writes their frames]' --help --version
     return
   fi
   if [[ $words[2] == events ]]; then
@@ -51,6 +54,12 @@ _awsign() {
   fi
   if [[ $words[2] == presign ]]; then
     options+=('--expires[how long it is good]:seconds:' '--long[over seven days]')
+  fi
+  if [[ $words[2] == settings ]]; then
+    shift words
+    ((CURRENT--))
+    _arguments $sources
+    return
   fi
   shift words
   ((CURRENT--))

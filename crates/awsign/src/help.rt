@@ -5,6 +5,8 @@ awsign sign METHOD URL [OPTION]..      prints the signed request
 awsign presign METHOD URL --expires SECONDS [OPTION]..   prints a presigned URL
 awsign verify METHOD URL [OPTION]..    says who presigned the URL
 awsign verify [OPTION]..               says who signed the request in the input
+awsign settings [OPTION]..             says which key and region are used, and
+                                       where each came from
 awsign chunk METHOD URL --data FILE --out BODY [OPTION]..   writes the body in
                                        chunks, and prints the request
 awsign events decode [OPTION]..        prints the events of event stream frames
@@ -12,9 +14,10 @@ awsign events encode [OPTION]..        writes the frames of printed events
 
   -H 'name: value'     a header, any number
   --profile NAME, --region NAME
+  --config PATH, --credentials PATH    profile files, not the default ones
+                       (settings takes these four alone)
   --service NAME       else the one that an amazonaws.com host names
   --s3                 the service s3, and its settings
-  --config PATH, --credentials PATH    profile files, not the default ones
   --at SECONDS         the moment, since 1970-01-01T00:00:00Z
 
 sign and presign:
@@ -48,12 +51,14 @@ of the key don't count.
   awsign sign PUT https://bucket.s3.amazonaws.com/key --data FILE | curl -K -
   awsign presign GET https://bucket.s3.amazonaws.com/key --expires 600
   awsign verify --s3 < REQUEST
+  awsign settings --profile work
   awsign chunk PUT https://bucket.s3.amazonaws.com/key --data FILE --out BODY \
     --signed --checksum crc32 | curl -K -
   awsign events decode < FRAMES | grep '^h :event-type'
 
-Exit status: 0, 1 nothing is signed, or the request or the stream isn't good,
-2 bad word, 3 a file, the input, the output or memory failed
+Exit status: 0, 1 nothing is signed, the request or the stream isn't good, or a
+key or region is missing, 2 bad word, 3 a file, the input, the output or memory
+failed
 ";
 
 const VERSION: &str = "awsign 0.1.0\n";

@@ -1,5 +1,5 @@
-//! The program: makes the real objects, hands them to `run_signing`, `run_verify`, `make_upload` or a call of `awsign_events`, and ends with
-//! the number of its status.
+//! The program: makes the real objects, hands them to `run_signing`, `run_verify`, `run_settings`, `make_upload` or a call of
+//! `awsign_events`, and ends with the number of its status.
 #![tactic(auto)]
 
 mod help;
@@ -8,6 +8,7 @@ use crate::help::text_asked;
 use awsign_chunk::{ChunkStatus, ChunkedUpload, make_upload, say_chunk, write_upload};
 use awsign_events::{EventsStatus, decode_events, encode_events, read_hex, say_events};
 use awsign_run::{Status, run_signing, say, tell_service, url_host, write_text};
+use awsign_settings::run_settings;
 use awsign_verify::{run_verify, say_verify};
 use awsign_words::{Asked, AskedCommand, EventsAction, EventsAsked, VerifyAsked, read_command};
 use program_start::{StartFault, words_and_env};
@@ -37,6 +38,7 @@ fn answer(rt: &HostRuntime, words: &[String], env: &Env) -> u8 {
     match read_command(rt.alloc(), words) {
         Ok(AskedCommand::Signing(asked)) => said(rt, words, &sign(rt, &asked, env)),
         Ok(AskedCommand::Verifying(asked)) => verify(rt, &asked, env),
+        Ok(AskedCommand::Telling(options)) => said(rt, words, &settings(rt, &options, env)),
         Ok(AskedCommand::Chunking(asked)) => {
             let status = chunk(rt, &asked, env);
             say_chunk(rt.alloc(), words, &status, &mut StdSink::new(rt.stderr()));
@@ -90,6 +92,13 @@ fn sign_over<S: ByteSource>(
         &mut clock,
         &mut out,
     )
+}
+
+// Prints the settings under these options.
+fn settings(rt: &HostRuntime, options: &Env, env: &Env) -> Status {
+    let mut disk = HostDisk::new(rt.alloc(), rt);
+    let mut out = StdSink::new(rt.stdout());
+    run_settings(rt.alloc(), options, env, &mut disk, &mut out)
 }
 
 // Opens the data that an option names, and writes it in chunks.

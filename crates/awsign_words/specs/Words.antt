@@ -14,10 +14,10 @@ use Rattle.awsign_text.specs.declared.forms.Form.{Form}
 use Rattle.awsign_text.specs.declared.forms.Form.TheVariants.{Curl, Headers, Json, Http, Url}
 use Rattle.awsign_words.specs.EventWords.{EventsWanted, events_wanted, events_words}
 use Rattle.awsign_words.specs.declared.command.Command.{Command}
-use Rattle.awsign_words.specs.declared.command.Command.TheVariants.{Sign, Presign, Verify, Chunk}
+use Rattle.awsign_words.specs.declared.command.Command.TheVariants.{Sign, Presign, Verify, Settings, Chunk}
 use Rattle.awsign_words.specs.declared.words.Asked.{Asked}
 use Rattle.awsign_words.specs.declared.words.AskedCommand.{AskedCommand}
-use Rattle.awsign_words.specs.declared.words.AskedCommand.TheVariants.{Signing, Verifying, Chunking, Streaming}
+use Rattle.awsign_words.specs.declared.words.AskedCommand.TheVariants.{Signing, Verifying, Telling, Chunking, Streaming}
 use Rattle.awsign_words.specs.declared.words.Checksum.{Checksum}
 use Rattle.awsign_words.specs.declared.words.Checksum.TheVariants.{Crc32, Sha256}
 use Rattle.awsign_words.specs.declared.words.GivenWords.{GivenWords}
@@ -46,6 +46,7 @@ pub record VerifyWanted : Type 0 where
 pub data CommandWanted : Type 0 where
   signs : SignWanted → CommandWanted
   verifies : VerifyWanted → CommandWanted
+  tells : OptionValues → CommandWanted
   chunks : SignWanted → CommandWanted
   streams : EventsWanted → CommandWanted
 
@@ -70,6 +71,7 @@ abbrev pub prints : Command → Bool
 prints Sign = true
 prints Presign = true
 prints Verify = false
+prints Settings = false
 prints Chunk = false
 
 -- the command prints a presigned URL
@@ -77,6 +79,7 @@ abbrev pub is_presign : Command → Bool
 is_presign Sign = false
 is_presign Presign = true
 is_presign Verify = false
+is_presign Settings = false
 is_presign Chunk = false
 
 -- the command writes a body in chunks
@@ -84,13 +87,25 @@ abbrev pub is_chunk : Command → Bool
 is_chunk Sign = false
 is_chunk Presign = false
 is_chunk Verify = false
+is_chunk Settings = false
 is_chunk Chunk = true
 
--- an option that says who signs, for what, or when
-abbrev pub is_signing_option : List ℕ → Bool
-is_signing_option word =
-    bytes_eq word (codes "--profile") || bytes_eq word (codes "--region") || bytes_eq word (codes "--service") || bytes_eq word (codes "--config")
-    || bytes_eq word (codes "--credentials") || bytes_eq word (codes "--at") || bytes_eq word (codes "-H")
+-- the command is about a request, and not about settings alone
+abbrev pub is_request : Command → Bool
+is_request Sign = true
+is_request Presign = true
+is_request Verify = true
+is_request Settings = false
+is_request Chunk = true
+
+-- an option that says who signs, and for which region
+abbrev pub is_source_option : List ℕ → Bool
+is_source_option word =
+    bytes_eq word (codes "--profile") || bytes_eq word (codes "--region") || bytes_eq word (codes "--config") || bytes_eq word (codes "--credentials")
+
+-- an option that says what is signed, for which service, or when
+abbrev pub is_request_option : List ℕ → Bool
+is_request_option word = bytes_eq word (codes "--service") || bytes_eq word (codes "--at") || bytes_eq word (codes "-H")
 
 -- an option that gives the payload by a value: a file, its digest, or the payload's text
 abbrev pub is_payload_option : List ℕ → Bool
@@ -109,13 +124,13 @@ is_chunk_option word =
 -- an option whose value is the next word; only a presigned URL has an expiry
 abbrev pub takes_value : Command → List ℕ → Bool
 takes_value command word =
-    is_signing_option word || (prints command && is_printing_option word) || (is_presign command && bytes_eq word (codes "--expires"))
+    is_source_option word || (is_request command && is_request_option word) || (prints command && is_printing_option word) || (is_presign command && bytes_eq word (codes "--expires"))
     || (is_chunk command && is_chunk_option word)
 
 -- an option without a value
 abbrev pub is_flag : Command → List ℕ → Bool
 is_flag command word =
-    bytes_eq word (codes "--s3") || (prints command && bytes_eq word (codes "--unsigned")) || (is_presign command && bytes_eq word (codes "--long"))
+    (is_request command && bytes_eq word (codes "--s3")) || (prints command && bytes_eq word (codes "--unsigned")) || (is_presign command && bytes_eq word (codes "--long"))
     || (is_chunk command && bytes_eq word (codes "--signed"))
 
 -- the option stood
@@ -199,13 +214,17 @@ take_operand given (Some method) (Some url) word = None
 abbrev pub minus : ℕ
 minus = 45
 
--- a word that isn't a value: an option that takes one, a flag, or an operand, which doesn't begin with `-`
+-- the word is no operand: it begins with `-`, or the command takes none
+abbrev pub is_no_operand : Command → List ℕ → Bool
+is_no_operand command word = slice_index word 0 == minus || not (is_request command)
+
+-- a word that isn't a value: an option that takes one, a flag, or an operand
 unfoldable pub take_other : Given → List ℕ → Option Given
 take_other given word =
     if is_spent given.options word then None
     else if takes_value given.command word then Some (record given { awaited = Some word })
     else if is_flag given.command word then Some (record given { options = given.options ++ (word, []) ∷ [] })
-    else if slice_index word 0 == minus then None
+    else if is_no_operand given.command word then None
     else take_operand given given.method given.url word
 
 -- a word, behind an option that waits or doesn't
@@ -246,6 +265,10 @@ verify_words_of place given (Some option) method url = Err place
 abbrev pub all_verify_words : ℕ → Given → Result VerifyWanted ℕ
 all_verify_words place given = verify_words_of place given given.awaited given.method given.url
 
+-- what all words of `settings` ask for: the values of options
+abbrev pub all_settings_words : ℕ → Given → Result OptionValues ℕ
+all_settings_words place given = if is_some given.awaited then Err place else Ok given.options
+
 -- what the words behind `sign`, `presign` and `chunk` ask for, or the place of the first bad one
 unfoldable pub words_behind : Command → List (List ℕ) → Result SignWanted ℕ
 words_behind command words = after_pieces all_words (taken_from given_word 2 (no_words command) words)
@@ -253,6 +276,10 @@ words_behind command words = after_pieces all_words (taken_from given_word 2 (no
 -- what the words behind `verify` ask for
 unfoldable pub verify_words : List (List ℕ) → Result VerifyWanted ℕ
 verify_words words = after_pieces all_verify_words (taken_from given_word 2 (no_words Verify) words)
+
+-- what the words behind `settings` ask for
+unfoldable pub telling_words : List (List ℕ) → Result OptionValues ℕ
+telling_words words = after_pieces all_settings_words (taken_from given_word 2 (no_words Settings) words)
 
 -- to sign what is asked
 abbrev pub to_sign : Result SignWanted ℕ → Result CommandWanted ℕ
@@ -263,6 +290,11 @@ to_sign (Err place) = Err place
 abbrev pub to_verify : Result VerifyWanted ℕ → Result CommandWanted ℕ
 to_verify (Ok wanted) = Ok (verifies wanted)
 to_verify (Err place) = Err place
+
+-- to tell the settings under these options
+abbrev pub to_tell : Result OptionValues ℕ → Result CommandWanted ℕ
+to_tell (Ok options) = Ok (tells options)
+to_tell (Err place) = Err place
 
 -- to write in chunks what is asked
 abbrev pub to_chunk : Result SignWanted ℕ → Result CommandWanted ℕ
@@ -281,6 +313,7 @@ command_words (word ∷ words) =
     if bytes_eq word (codes "sign") then to_sign (words_behind Sign words)
     else if bytes_eq word (codes "presign") then to_sign (words_behind Presign words)
     else if bytes_eq word (codes "verify") then to_verify (verify_words words)
+    else if bytes_eq word (codes "settings") then to_tell (telling_words words)
     else if bytes_eq word (codes "chunk") then to_chunk (words_behind Chunk words)
     else if bytes_eq word (codes "events") then to_stream (events_words words)
     else Err 1
@@ -326,10 +359,17 @@ ReadsVerify read (Ok asked) = read ≡ Ok (verify_wanted asked)
 ReadsVerify read (Err (BadWord place)) = read ≡ Err place
 ReadsVerify read (Err NoMemory) = Unit {0}
 
+-- these are the values of options, or the word at this place is bad; or memory ran out
+abbrev pub ReadsOptions : Result OptionValues ℕ → Result OptionValues WordsFault → Type 0
+ReadsOptions read (Ok options) = read ≡ Ok options
+ReadsOptions read (Err (BadWord place)) = read ≡ Err place
+ReadsOptions read (Err NoMemory) = Unit {0}
+
 -- what contracts see of what words ask for
 abbrev pub command_wanted : AskedCommand → CommandWanted
 command_wanted (Signing asked) = signs (sign_wanted asked)
 command_wanted (Verifying asked) = verifies (verify_wanted asked)
+command_wanted (Telling options) = tells options
 command_wanted (Chunking asked) = chunks (sign_wanted asked)
 command_wanted (Streaming asked) = streams (events_wanted asked)
 

@@ -1,6 +1,6 @@
 //! The commands of the tool.
 ghost use Rattle.std.specs.Prelude.{◌≡◌};
-ghost use Rattle.awsign_words.specs.Words.{is_chunk, is_presign, prints};
+ghost use Rattle.awsign_words.specs.Words.{is_chunk, is_presign, is_request, prints};
 
 /// A command of the tool.
 #[derive(Clone, Copy, Debug, PartialEq, Eq)]
@@ -11,6 +11,8 @@ pub enum Command {
     Presign,
     /// To say who signed a request.
     Verify,
+    /// To say which settings are used, and where each came from.
+    Settings,
     /// To print a signed request, and to write its body in chunks.
     Chunk,
 }
@@ -22,7 +24,7 @@ impl Command {
     {
         match self {
             Command::Sign | Command::Presign => true,
-            Command::Verify | Command::Chunk => false,
+            Command::Verify | Command::Settings | Command::Chunk => false,
         }
     }
 
@@ -32,7 +34,7 @@ impl Command {
     {
         match self {
             Command::Presign => true,
-            Command::Sign | Command::Verify | Command::Chunk => false,
+            Command::Sign | Command::Verify | Command::Settings | Command::Chunk => false,
         }
     }
 
@@ -42,7 +44,17 @@ impl Command {
     {
         match self {
             Command::Chunk => true,
-            Command::Sign | Command::Presign | Command::Verify => false,
+            Command::Sign | Command::Presign | Command::Verify | Command::Settings => false,
+        }
+    }
+
+    /// Whether it is about a request, and not about settings alone.
+    pub fn is_request(self) -> bool
+        ensures { result ≡ is_request self }
+    {
+        match self {
+            Command::Settings => false,
+            Command::Sign | Command::Presign | Command::Verify | Command::Chunk => true,
         }
     }
 }

@@ -4,7 +4,7 @@ ghost use Rattle.std.specs.List.{list_all};
 ghost use Rattle.std.specs.String.{string_bytes};
 ghost use Rattle.http_header.specs.Token.{is_token_byte};
 ghost use Rattle.job_text.specs.Words.{TakesWord};
-ghost use Rattle.awsign_words.specs.Words.{ReadsAsked, ReadsCommand, ReadsVerify, all_verify_words, all_words, checksum_named, command_words, form_named, given_words, has, has_payload, is_chunk_option, is_fit, is_flag, is_method, is_payload, is_payload_option, is_printing_option, is_signing_option, is_spent, lacks_option, minus, no_words, take_header, take_operand, take_other, take_trailer, take_value, takes_value, to_chunk, to_sign, to_stream, to_verify, verify_words, words_behind};
+ghost use Rattle.awsign_words.specs.Words.{ReadsAsked, ReadsCommand, ReadsOptions, ReadsVerify, all_settings_words, all_verify_words, all_words, checksum_named, command_words, form_named, given_words, has, has_payload, is_chunk_option, is_fit, is_flag, is_method, is_no_operand, is_payload, is_payload_option, is_printing_option, is_request_option, is_source_option, is_spent, lacks_option, minus, no_words, take_header, take_operand, take_other, take_trailer, take_value, takes_value, telling_words, to_chunk, to_sign, to_stream, to_tell, to_verify, verify_words, words_behind};
 ghost use Rattle.job_text.specs.Lines.{header_of_line};
 ghost use Rattle.awsign_words.specs.EventWords.{events_words};
 
@@ -23,6 +23,8 @@ pub enum AskedCommand<'a> {
     Signing(Asked<'a>),
     /// To say who signed a request.
     Verifying(VerifyAsked<'a>),
+    /// To say which settings are used under these options, and where each came from.
+    Telling(Env),
     /// To print a signed request, and to write its body in chunks.
     Chunking(Asked<'a>),
     /// To print, write or check events.
@@ -146,7 +148,7 @@ impl<'a> GivenWords<'a> {
             self.awaited = Some(word);
         } else if is_flag(self.command, word) {
             self.options.set(word, "")?;
-        } else if begins_with_minus(word) {
+        } else if is_no_operand(self.command, word) {
             return Err(WordsFault::BadWord(place));
         } else {
             return self.take_operand(place, word);
@@ -210,6 +212,16 @@ impl<'a> GivenWords<'a> {
             named,
         })
     }
+
+    /// The options under which settings are told, where the place behind the last word is reached.
+    pub fn finish_settings(self, place: usize) -> Result<Env, WordsFault>
+        ensures { ReadsOptions (all_settings_words place (given_words self.entry)) result }
+    {
+        match self.awaited {
+            Some(_) => Err(WordsFault::BadWord(place)),
+            None => Ok(self.options),
+        }
+    }
 }
 
 impl<'a> TakeWord<'a> for GivenWords<'a> {
@@ -272,16 +284,16 @@ fn is_payload_option(word: &str) -> bool
     word == "--data" || word == "--payload-hash" || word == "--payload-text"
 }
 
-fn is_signing_option(word: &str) -> bool
-    ensures { result ≡ is_signing_option word.now }
+fn is_source_option(word: &str) -> bool
+    ensures { result ≡ is_source_option word.now }
 {
-    word == "--profile"
-        || word == "--region"
-        || word == "--service"
-        || word == "--config"
-        || word == "--credentials"
-        || word == "--at"
-        || word == "-H"
+    word == "--profile" || word == "--region" || word == "--config" || word == "--credentials"
+}
+
+fn is_request_option(word: &str) -> bool
+    ensures { result ≡ is_request_option word.now }
+{
+    word == "--service" || word == "--at" || word == "-H"
 }
 
 fn is_printing_option(word: &str) -> bool
@@ -304,7 +316,8 @@ fn is_chunk_option(word: &str) -> bool
 fn takes_value(command: Command, word: &str) -> bool
     ensures { result ≡ takes_value command word.now }
 {
-    is_signing_option(word)
+    is_source_option(word)
+        || (command.is_request() && is_request_option(word))
         || (command.prints() && is_printing_option(word))
         || (command.is_presign() && word == "--expires")
         || (command.is_chunk() && is_chunk_option(word))
@@ -313,10 +326,16 @@ fn takes_value(command: Command, word: &str) -> bool
 fn is_flag(command: Command, word: &str) -> bool
     ensures { result ≡ is_flag command word.now }
 {
-    word == "--s3"
+    (command.is_request() && word == "--s3")
         || (command.prints() && word == "--unsigned")
         || (command.is_presign() && word == "--long")
         || (command.is_chunk() && word == "--signed")
+}
+
+fn is_no_operand(command: Command, word: &str) -> bool
+    ensures { result ≡ is_no_operand command word.now }
+{
+    begins_with_minus(word) || !command.is_request()
 }
 
 fn begins_with_minus(word: &str) -> bool
@@ -380,7 +399,8 @@ pub fn checksum_named(word: &str) -> Option<Checksum>
     }
 }
 
-/// What the words behind the program's name ask for: a command, and then its options in any order, with a method and a URL among them.
+/// What the words behind the program's name ask for: a command, and then its options in any order, with a method and a URL among them;
+/// `settings` has only options.
 ///
 /// # Errors
 ///
@@ -395,6 +415,7 @@ pub fn read_command<'a>(alloc: Global, words: &'a [String]) -> Result<AskedComma
         "sign" => read_signing(alloc, Command::Sign, rest),
         "presign" => read_signing(alloc, Command::Presign, rest),
         "verify" => read_verifying(alloc, rest),
+        "settings" => read_telling(alloc, rest),
         "chunk" => read_chunking(alloc, rest),
         "events" => read_streaming(alloc, rest),
         _ => Err(WordsFault::BadWord(1)),
@@ -465,4 +486,23 @@ fn read_verify<'a>(alloc: Global, words: &'a [String]) -> Result<VerifyAsked<'a>
     let mut given = GivenWords::new(alloc, Command::Verify);
     let place = take_words(&mut given, 2, words)?;
     given.finish_verify(place)
+}
+
+// What the words behind `settings` ask for.
+fn read_telling<'a>(alloc: Global, words: &'a [String]) -> Result<AskedCommand<'a>, WordsFault>
+    ensures { ReadsCommand (to_tell (telling_words (map string_bytes words.now))) result }
+{
+    match read_settings(alloc, words) {
+        Ok(options) => Ok(AskedCommand::Telling(options)),
+        Err(fault) => Err(fault),
+    }
+}
+
+#[tactic(auto, unfolding(crate::specs::Words::telling_words))]
+fn read_settings(alloc: Global, words: &[String]) -> Result<Env, WordsFault>
+    ensures { ReadsOptions (telling_words (map string_bytes words.now)) result }
+{
+    let mut given = GivenWords::new(alloc, Command::Settings);
+    let place = take_words(&mut given, 2, words)?;
+    given.finish_settings(place)
 }
