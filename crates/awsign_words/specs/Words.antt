@@ -133,7 +133,7 @@ is_flag command word =
     (is_request command && bytes_eq word (codes "--s3")) || (prints command && bytes_eq word (codes "--unsigned")) || (is_presign command && bytes_eq word (codes "--long"))
     || (is_chunk command && bytes_eq word (codes "--signed"))
 
--- the option stood
+-- an option of this name stood
 abbrev pub has : OptionValues → List ℕ → Bool
 has options word = is_some (last_value options word)
 
