@@ -64,6 +64,8 @@ void *aligned_alloc(size_t align, size_t size) {
 """
 # The most numbers that one run is tried with, so that the whole ends.
 MOST_NUMBERS = 20_000
+# How the errors that `tool_uses` prints say that they want memory.
+WANTS = ("no memory", "memory allocation failed", "out of memory")
 runner = runs.Runner()
 counts = collections.Counter()
 
@@ -73,8 +75,19 @@ def is_front(found, whole):
     return whole.out.startswith(found.out) and whole.file.startswith(found.file)
 
 
+def uses_want(found, whole):
+    """Whether `tool_uses` ended with that, or went on and printed it in place of one outcome."""
+    if found.status == 1:
+        return not found.out and found.err.decode().rstrip("\n").endswith(WANTS)
+    lines, others = found.out.decode().split("\n"), whole.out.decode().split("\n")
+    differ = [line for line, other in zip(lines, others) if line != other]
+    return found.status == 0 and len(lines) == len(others) and len(differ) == 1 and differ[0].endswith(WANTS)
+
+
 def wants_memory(run, found, whole):
     """Whether the run says that it wants memory. Where that comes before a note, the note may be missing."""
+    if run.program == "tool_uses":
+        return uses_want(found, whole)
     wanted = run.said().no_memory
     return found.status == wanted.status and found.err.removeprefix(run.note.encode()) == wanted.err and is_front(found, whole)
 
@@ -121,7 +134,7 @@ def main():
             for path in runs.built(run.program).values():
                 tries(run, path, told)
         os.chdir("/")
-    for program in runs.SAID:
+    for program in dict.fromkeys(run.program for run in table):
         if counts["runs", program]:
             print(f"memory.py: {program}: {counts['runs', program]} runs, {counts['numbers', program]} numbers, {counts['wanting', program]} wanted memory")
     total = {what: sum(count for key, count in counts.items() if key[0] == what) for what in ("runs", "numbers", "wanting")}

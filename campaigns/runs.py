@@ -66,9 +66,7 @@ AWSIGN = Said(
     said_by_awsign("could not read the file that --data names"),
     said_by_awsign("could not write the file that --out names"),
 )
-# `tool_uses` says what its error says.
-USES = STREAMS._replace(no_memory=Ended(1, b"", b"allocation failed\n"))
-SAID = {"firuvaik": STREAMS, "presigned": STREAMS, "operation": STREAMS, "awsign": AWSIGN, "tool_uses": USES}
+SAID = {"firuvaik": STREAMS, "presigned": STREAMS, "operation": STREAMS, "awsign": AWSIGN}
 
 
 # What `awsign` says where the host names the service.
