@@ -293,7 +293,7 @@ def calls_fail_from_then_on(program, told):
 
 def files_change(program):
     """A named file grows, shrinks or vanishes before one of its reads: what is read is the file before or after that."""
-    for path in program.run.files():
+    for path in program.run.files() + program.run.named("--data"):
         content = stored(path)
         for how, other in (("grow", content + b"region = grown\n"), ("shrink", b""), ("vanish", content)):
             with open(path, "wb") as file:
