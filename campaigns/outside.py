@@ -204,6 +204,8 @@ class Program:
 
     def without(self, path):
         """How the run ends where the file at the path is absent."""
+        if not os.path.exists(path):
+            return self.whole
         os.rename(path, path + ".away")
         try:
             return self.end()
@@ -287,6 +289,8 @@ def calls_fail_from_then_on(program, told):
         met = runs.content_of(told).decode().split("\n")[0]
         if not met:
             break
+        # Behind a note that fails comes the output, which fails too.
+        met = "write output" if met == "write error" and program.run.note else met
         wanted = {"write output": program.said.output_fault, f"write {BODY}": program.said.file_fault}.get(met, program.whole)
         expect_front(f"{program.name}: {met} and all after it fail", found, wanted._replace(err=b""), program.whole)
 

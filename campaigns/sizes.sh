@@ -247,9 +247,9 @@ tool 'an expiry of 64 bits for awsign' 0 '' $((11 + added + 19)) $few nothing pr
 tool 'an expiry over 64 bits for awsign' 2 "awsign: word 10 isn't understood here: 18446744073709551616; awsign --help lists the words" 0 $few nothing presign GET https://h/ --long $links 18446744073709551616
 tool 'the last second for awsign' 0 '' 11 $few nothing $asked 253402300799 --as url
 tool 'the second after the last for awsign' 1 "${unsigned}moment 253402300800 is outside the years 0 to 9999" 0 $few nothing $asked 253402300800
-# Data is hashed piece by piece: a file of 1 GiB takes no more memory than one of a byte.
-truncate -s 1G sparse
-tool 'data of 1 GiB' 0 '' 11 $few nothing $asked 0 --as url --data sparse
+# Data is hashed piece by piece: a file of 256 MiB takes no more memory than one of a byte.
+truncate -s 256M sparse
+tool 'data of 256 MiB' 0 '' 11 $few nothing $asked 0 --as url --data sparse
 rm sparse
 # `chunk` keeps the data and the body; endless data ends as the memory does.
 make data "bytes($file)"
