@@ -5,12 +5,13 @@ docs/CALLING.md: each function that it shows is so in crates/tool_uses/src.
 crates/*/specs: each definition that clauses of public functions, or docs/CLAIMS.md, cite has a comment of its own, directly above
 it, which no other definition has.
 README.md: each file, and each name beside it, of the table of claims is in the crate's src.
+README.md: its example is the source that it names, without the comments of its items.
 The pages that speak of this repository alone: each word that is a name by its form is in the sources.
 Every page: each link with its heading, and each path that begins with a folder of the repository, leads to something.
 docs/CALLING.md: "Conditions" lists each public function that has a condition, and no other.
 docs/CLAIMS.md: each name in round brackets is that of a clause, a definition or a part of one, or a function.
 docs/FROM_THE_SDK.md: each name beside a crate here is one that this crate hands out.
-docs/ARCHITECTURE.md: each definition, function, wrong body and case of "From a rule to its files" is where the page says.
+docs/RULES.md: each definition, function, wrong body and case is where the page says.
 The pages together have fewer than MOST_WORDS words, as `wc -w` counts them.
 """
 import collections
@@ -21,9 +22,9 @@ import sys
 from definitions import ROOT, cited_names, conditional_names, exported_names, meanings
 
 PAGES = [*ROOT.glob("*.md"), *ROOT.glob("docs/*"), *ROOT.glob("bench/*.md")]
-# So many can be read in two hours; a man page is read by who uses its program, and the list of calls, which a script makes, is looked up.
+# So many can be read in two hours; a man page is read by who uses its program, and the lists of calls and of rules are looked up.
 MOST_WORDS = 25_000
-LOOKED_UP = ROOT / "docs/CALLS.md"
+LOOKED_UP = [ROOT / "docs/CALLS.md", ROOT / "docs/RULES.md"]
 # What a copy shares with what it was made of: the same sentence holds for each.
 COPIES = re.compile(r"IsSame\w+|Is\w+Copy|IsCopied")
 # The pages whose names are this repository's; the others tell of the SDK for Rust, or of keys and variables that nothing reads.
@@ -97,13 +98,12 @@ def cited_places(cell):
 
 def map_faults():
     """Where the map of rules cites what isn't there: a definition, a function, a wrong body or a case."""
-    page = (ROOT / "docs/ARCHITECTURE.md").read_text()
+    table = (ROOT / "docs/RULES.md").read_text()
     known = {(f"{crate}/specs/{subject}.antt", name) for crate, subject, name in meanings()}
-    table = page.split("## From a rule to its files\n")[1].split("\n## ")[0]
     for row in rows_of(table, "rule"):
         cells = row.strip("| ").split(" | ")
         if len(cells) != 5:
-            yield f"docs/ARCHITECTURE.md: a row of the map has {len(cells)} columns and not 5: {cells[0]}"
+            yield f"docs/RULES.md: a row of the map has {len(cells)} columns and not 5: {cells[0]}"
             continue
         rule, definitions, code, wrong_bodies, cases = cells
         stands = [
@@ -115,10 +115,10 @@ def map_faults():
         for cell, is_there in stands:
             places = list(cited_places(cell))
             if not places and (cell is not wrong_bodies or cell != "none"):
-                yield f"docs/ARCHITECTURE.md: {rule}: a column cites nothing: {cell}"
+                yield f"docs/RULES.md: {rule}: a column cites nothing: {cell}"
             for place, name in places:
                 if not place or not is_there(place, name):
-                    yield f"docs/ARCHITECTURE.md: {rule}: {place} has no {name}"
+                    yield f"docs/RULES.md: {rule}: {place} has no {name}"
 
 
 def has_case(file, text):
@@ -177,6 +177,15 @@ def readme_faults():
                 yield f"README.md: {crates} has no {name}"
 
 
+def example_faults():
+    """Where the example of README.md isn't the source that it names, without the comments of its items."""
+    page = (ROOT / "README.md").read_text()
+    file, shown = re.search(r"`(crates/tool_uses/src/\w+\.rt)`, which the gate proves and runs:\n\n((?: {4}.*\n|\n)+)", page).groups()
+    source = [line for line in (ROOT / file).read_text().split("\n") if not line.startswith("//")]
+    if "\n".join(source).strip() != re.sub(r"^ {4}", "", shown, flags=re.M).strip():
+        yield f"README.md: its example isn't {file}"
+
+
 def headings(page):
     """The anchors of a page's headings."""
     for heading in re.findall(r"(?m)^#+ (.*)$", page.read_text()):
@@ -202,7 +211,7 @@ def path_faults():
 
 def length_faults():
     """Where the pages are too long to be read."""
-    words = sum(len(page.read_text().split()) for page in PAGES if page.suffix == ".md" and page != LOOKED_UP)
+    words = sum(len(page.read_text().split()) for page in PAGES if page.suffix == ".md" and page not in LOOKED_UP)
     if words >= MOST_WORDS:
         yield f"the pages have {words} words, and may have fewer than {MOST_WORDS}"
 
@@ -222,6 +231,7 @@ faults = [
     *name_faults(),
     *sdk_faults(),
     *readme_faults(),
+    *example_faults(),
     *path_faults(),
     *length_faults(),
 ]

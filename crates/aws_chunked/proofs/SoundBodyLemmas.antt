@@ -31,7 +31,7 @@ use Rattle.aws_chunked.specs.Text.{Part, chunk, pieces_of_size, parts_of, tail}
 use Rattle.aws_chunked.specs.declared.body.AwsChunkedBody.{AwsChunkedBody}
 use Rattle.aws_chunked.specs.declared.body.ChunkNext.TheVariants as next
 use Rattle.aws_chunked.proofs.DueLemmas.{closed_due, parts_same}
-use Rattle.aws_chunked.specs.SoundBody.{EndsWith, GivesText, IsSoundBodyOf, IsSoundBody, text_left, text_or_none}
+use Rattle.aws_chunked.specs.SoundBody.{EndsWith, GivesNextText, IsSoundBodyOf, IsSoundBody, text_left, text_or_none}
 
 -- ---- what is told of a signer
 
@@ -197,7 +197,7 @@ module _ {F G : Type 0} (source : FrameSource.Ghosts F) (signer : SignChunk.Ghos
   pub sound_next : (old new : AwsChunkedBody F G) (bytes : List ℕ) → IsSoundBody source signer old
       → TakesDue (due source signer old) (due source signer new) (Ok (next.Frame bytes)) → AnswersFrame source signer old new (Ok (next.Frame bytes))
       → HasCause source signer old new (Ok (next.Frame bytes)) → TakesIdleFrames source (AreTurns (Ok (next.Frame bytes))) old new
-      → GivesText source signer old new bytes
+      → GivesNextText source signer old new bytes
   sound_next old new bytes sound takes answers cause turns =
       by (due source signer new) refl (subst (λ (before : Option (List ℕ)). TakesText bytes before (due source signer new)) sound.text_is takes.0)
     where
@@ -210,7 +210,7 @@ module _ {F G : Type 0} (source : FrameSource.Ghosts F) (signer : SignChunk.Ghos
       frames : Few new
       frames = few_stay (AreTurns (Ok (next.Frame bytes))) old new turns (record { frames = sound.frames; are = sound.frames_are; few = sound.few })
 
-      by : (now : Option (List ℕ)) → due source signer new ≡ now → TakesText bytes (Some sound.text) now → GivesText source signer old new bytes
+      by : (now : Option (List ℕ)) → due source signer new ≡ now → TakesText bytes (Some sound.text) now → GivesNextText source signer old new bytes
       by None now_is taken = absurd taken
       by (Some rest) now_is taken = (
         record {

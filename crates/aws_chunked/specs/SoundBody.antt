@@ -44,6 +44,6 @@ abbrev pub IsSoundBodyOf : {F G : Type 0} → FrameSource.Ghosts F → SignChunk
 IsSoundBodyOf source signer text body = IsSoundBody source signer body × (text_left source signer body ≡ text)
 
 -- a sound body gave these bytes, some of them: they come first in the text that was left, and the rest of it is left now
-abbrev pub GivesText : {F G : Type 0} → FrameSource.Ghosts F → SignChunk.Ghosts G → AwsChunkedBody F G → AwsChunkedBody F G → List ℕ → Type 0
-GivesText source signer old new bytes =
+abbrev pub GivesNextText : {F G : Type 0} → FrameSource.Ghosts F → SignChunk.Ghosts G → AwsChunkedBody F G → AwsChunkedBody F G → List ℕ → Type 0
+GivesNextText source signer old new bytes =
     IsSoundBody source signer new × (text_left source signer old ≡ bytes ++ text_left source signer new) × (0 < length bytes)

@@ -3,4 +3,4 @@
 
 pub use crate::announcement::joined_names;
 pub use crate::decode::begins_with;
-pub use crate::sound::next_in_memory;
+pub use crate::sound::{frames_in_memory, next_in_memory};

@@ -1,4 +1,3 @@
-pub mod AwsSettingsLemmas
 pub mod EventFramesLemmas
 pub mod PresigningLemmas
 pub mod SigningByLemmas

@@ -1,4 +1,3 @@
-pub mod AwsSettings
 pub mod EventFrames
 pub mod KeyHolder
 pub mod Presigning

@@ -14,14 +14,14 @@ use Rattle.chain_watch.specs.declared.chain_fault.ChainFault.TheVariants as chai
 use Rattle.aws_chunked.specs.Announcement.{announce_fault_text}
 use Rattle.aws_chunked.specs.declared.announcement.AnnounceFault.{AnnounceFault}
 use Rattle.aws_chunked.specs.declared.announcement.AnnounceFault.TheVariants as announcing
-use Rattle.env_config.specs.ParseFault.{parse_error_text}
-use Rattle.env_config.specs.declared.parse_fault.ParseFault.{ParseFault}
-use Rattle.env_config.specs.declared.parse_fault.ParseFault.TheVariants as parsing
+use Rattle.aws_settings.specs.Faults.{settings_lack_text}
+use Rattle.aws_settings.specs.declared.fault.SettingsFault.{SettingsFault}
+use Rattle.aws_settings.specs.declared.fault.SettingsFault.TheVariants as settings
 use Rattle.request_door.specs.DoorFaults.{door_fault_text}
 use Rattle.request_door.specs.declared.fault.DoorFault.{DoorFault}
 use Rattle.request_door.specs.declared.fault.DoorFault.TheVariants as door
 use Rattle.aws_signing.specs.declared.fault.AwsSigningError.{AwsSigningError}
-use Rattle.aws_signing.specs.declared.fault.AwsSigningError.TheVariants.{EmptyKeyId, EmptySecret, EmptyRegion, EmptyName, InvalidExpiry, AlreadyPresigned, Profile, MissingCredentials, MissingRegion, InvalidChunkSize, DataTooLong, Unannounced, StreamTooLong, CutOff, Signing, Frame, Chain, Refused, NoMemory}
+use Rattle.aws_signing.specs.declared.fault.AwsSigningError.TheVariants.{EmptyKeyId, EmptySecret, EmptyRegion, EmptyName, InvalidExpiry, AlreadyPresigned, Settings, InvalidChunkSize, DataTooLong, Unannounced, StreamTooLong, CutOff, Signing, Frame, Chain, Refused, NoMemory}
 
 -- the fault of a signing that failed
 abbrev pub of_signing : SigningError → AwsSigningError
@@ -47,10 +47,10 @@ abbrev pub of_door : DoorFault → AwsSigningError
 of_door door.NoMemory = NoMemory
 of_door fault = Refused fault
 
--- the fault of texts of profile files that give no sections
-abbrev pub of_parsing : ParseFault → AwsSigningError
-of_parsing (parsing.Parse error) = Profile error
-of_parsing parsing.NoMemory = NoMemory
+-- the fault where there is nothing to sign with
+abbrev pub of_settings : SettingsFault → AwsSigningError
+of_settings settings.NoMemory = NoMemory
+of_settings fault = Settings fault
 
 -- the fault of an upload that isn't announced
 abbrev pub of_announcing : AnnounceFault → AwsSigningError
@@ -65,9 +65,7 @@ signing_fault_text EmptyRegion = codes "the region is empty"
 signing_fault_text EmptyName = codes "the service's name is empty"
 signing_fault_text (InvalidExpiry seconds) = codes "a URL is good for 1 to 604800 seconds, not for " ++ decimal seconds
 signing_fault_text AlreadyPresigned = codes "the URL is presigned already"
-signing_fault_text (Profile error) = parse_error_text error
-signing_fault_text MissingCredentials = codes "the profile has no credentials"
-signing_fault_text MissingRegion = codes "there is no region"
+signing_fault_text (Settings fault) = settings_lack_text fault
 signing_fault_text (InvalidChunkSize size) = codes "a chunk has 1 to 4294967295 bytes, not " ++ decimal size
 signing_fault_text DataTooLong = codes "the data is too long"
 signing_fault_text (Unannounced fault) = announce_fault_text fault

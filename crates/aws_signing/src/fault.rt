@@ -1,6 +1,6 @@
 use aws_chunked::AnnounceFault;
+use aws_settings::SettingsFault;
 use chain_watch::ChainFault;
-use env_config::{EnvConfigParseError, ParseFault};
 use eventstream::{Error, ErrorKind};
 use request_door::DoorFault;
 use sigv4::SigningError;
@@ -25,12 +25,8 @@ pub enum AwsSigningError {
     InvalidExpiry(u64),
     /// The URL that was to be presigned has a parameter `X-Amz-Signature`.
     AlreadyPresigned,
-    /// A line of a profile file is outside the grammar: the first one of the first faulty file.
-    Profile(EnvConfigParseError),
-    /// The selected profile lacks `aws_access_key_id` or `aws_secret_access_key`.
-    MissingCredentials,
-    /// Neither a variable nor the selected profile has a region.
-    MissingRegion,
+    /// There is nothing to sign with for this reason.
+    Settings(SettingsFault),
     /// A chunk was to have so many bytes, which aren't from 1 to 4,294,967,295.
     InvalidChunkSize(usize),
     /// The data of an upload has more than 4,294,967,295 bytes.
@@ -70,9 +66,7 @@ impl fmt::Display for AwsSigningError {
                 "a URL is good for 1 to 604800 seconds, not for {seconds}"
             ),
             AwsSigningError::AlreadyPresigned => f.write_str("the URL is presigned already"),
-            AwsSigningError::Profile(error) => write!(f, "{error}"),
-            AwsSigningError::MissingCredentials => f.write_str("the profile has no credentials"),
-            AwsSigningError::MissingRegion => f.write_str("there is no region"),
+            AwsSigningError::Settings(fault) => write!(f, "{fault}"),
             AwsSigningError::InvalidChunkSize(size) => write!(
                 f,
                 "a chunk has 1 to 4294967295 bytes, not {size}"
@@ -148,16 +142,16 @@ impl From<DoorFault> for AwsSigningError {
     }
 }
 
-impl From<ParseFault> for AwsSigningError {
+impl From<SettingsFault> for AwsSigningError {
     ghost use Rattle.std.specs.Prelude.{◌≡◌};
-    ghost use Rattle.aws_signing.specs.SigningFaults.{of_parsing};
+    ghost use Rattle.aws_signing.specs.SigningFaults.{of_settings};
 
-    ghost from_gives = { λ inner fault. fault ≡ of_parsing inner };
+    ghost from_gives = { λ inner fault. fault ≡ of_settings inner };
 
-    fn from(inner: ParseFault) -> AwsSigningError {
+    fn from(inner: SettingsFault) -> AwsSigningError {
         match inner {
-            ParseFault::Parse(error) => AwsSigningError::Profile(error),
-            ParseFault::NoMemory => AwsSigningError::NoMemory,
+            SettingsFault::NoMemory => AwsSigningError::NoMemory,
+            _ => AwsSigningError::Settings(inner),
         }
     }
 }

@@ -1,11 +1,8 @@
-ghost use Rattle.std.specs.Prelude.{ℕ, List, ◌≡◌, ◌≤◌, ◌++◌, ◌<◌, ◌∷◌, [], length, None, IfOk, IsTrue, string_bytes};
+ghost use Rattle.std.specs.Prelude.{ℕ, List, ◌≡◌, None, IfOk, IsTrue, string_bytes};
 ghost use Rattle.smithy_core.specs.Civil.{is_in_years};
-ghost use Rattle.smithy_core.specs.FrameSource.{AreShort};
-ghost use Rattle.smithy_core.specs.declared.outside.frame_part.FramePart.TheVariants as frame;
 ghost use Rattle.smithy_core.specs.Moment.{Instant};
 ghost use Rattle.eventstream.specs.Key.{Signer as Who};
 ghost use Rattle.sigv4.specs.ChunkTold.{signs_over, unsigned_chunk_at};
-ghost use Rattle.aws_chunked.specs.Body.{IsBodyClosed};
 ghost use Rattle.aws_chunked.specs.SoundBody.{IsSoundBody, IsSoundBodyOf, text_left};
 ghost use Rattle.aws_chunked.specs.Due.{signed_chunked_text};
 ghost use Rattle.aws_auth.specs.ChunkSigner.{chunk_told};
@@ -15,12 +12,13 @@ ghost use Rattle.aws_signing.specs.Upload.{AnnouncesUpload, IsFitBody, IsFitUplo
 use crate::fault::AwsSigningError;
 use crate::signer::Signer;
 use aws_auth::SigV4MessageSigner;
-use aws_chunked::{AwsChunkedBody, AwsChunkedBodyError, AwsChunkedBodyOptions, ChunkNext};
+use aws_chunked::parts::{frames_in_memory, next_in_memory};
+use aws_chunked::{AwsChunkedBody, AwsChunkedBodyOptions};
 use bytes::Bytes;
 use sigv4::parts::test_headers;
 use sigv4::{SignChunk, SigningError, SigningSettings};
-use smithy_core::{CalmFrames, FramePart, FrameSource, Headers, HttpRequest, Mem, Moment};
-use std::alloc::{AllocError, Global};
+use smithy_core::{CalmFrames, FrameSource, Headers, HttpRequest, Mem, Moment};
+use std::alloc::Global;
 
 /// How many bytes a chunk has at most, and the data.
 const MOST_BYTES: usize = 4_294_967_295;
@@ -163,20 +161,8 @@ fn upload_of(
         → IfOk result (IsSoundBodyOf ⟦<CalmFrames as FrameSource>⟧ ⟦<SigV4MessageSigner<SigningSettings> as SignChunk>⟧
         (signed_chunked_text who t before options.chunk_size content trailers)) }
 {
-    let source = CalmFrames::new(upload_frames(alloc, content, trailers)?);
+    let source = CalmFrames::new(frames_in_memory(alloc, content, trailers)?);
     Ok(AwsChunkedBody::new(alloc, source, options).with_signer(signer))
-}
-
-// The data in one frame, and the trailers in another.
-fn upload_frames(alloc: Global, content: Bytes, trailers: Headers) -> Mem<Vec<FramePart>>
-    requires { length content ≤ 4294967295 }
-    ensures frames { IfOk result (λ frames. frames.items ≡ frame.Data content ∷ frame.Trailers trailers ∷ []) }
-    ensures short { IfOk result (λ frames. AreShort frames.items) }
-{
-    let mut frames = Vec::new(alloc);
-    frames.push(FramePart::Data(content))?;
-    frames.push(FramePart::Trailers(trailers))?;
-    Ok(frames)
 }
 
 // All pieces of an upload.
@@ -186,28 +172,7 @@ fn all_pieces(alloc: Global, mut body: Upload) -> Mem<Vec<Bytes>>
 {
     let mut pieces = Vec::new(alloc);
     'polls: while !body.is_end_stream() {
-        pieces.push(next_piece(&mut body)?)?;
+        pieces.push(next_in_memory(&mut body)?)?;
     }
     Ok(pieces)
-}
-
-// The next piece of an upload that isn't over: one in memory neither waits nor has a fault.
-fn next_piece(body: &mut Upload) -> Mem<Bytes>
-    requires sound { IsSoundBody ⟦<CalmFrames as FrameSource>⟧ ⟦<SigV4MessageSigner<SigningSettings> as SignChunk>⟧ body.old }
-    requires going { IsBodyClosed body.old → ⊥ }
-    ensures { IfOk result (λ piece. IsSoundBody ⟦<CalmFrames as FrameSource>⟧ ⟦<SigV4MessageSigner<SigningSettings> as SignChunk>⟧ body.new
-        × (text_left ⟦<CalmFrames as FrameSource>⟧ ⟦<SigV4MessageSigner<SigningSettings> as SignChunk>⟧ body.old ≡ piece ++ text_left ⟦<CalmFrames as FrameSource>⟧ ⟦<SigV4MessageSigner<SigningSettings> as SignChunk>⟧ body.new) × (0 < length piece)) }
-{
-    match body.poll_frame() {
-        Ok(ChunkNext::Frame(piece)) => Ok(piece),
-        Err(AwsChunkedBodyError::NoMemory) => Err(AllocError),
-        // An arm each: the prover's search doesn't get through them as one.
-        Ok(ChunkNext::NotYet) => unreachable!(),
-        Ok(ChunkNext::OutOfTurns) => unreachable!(),
-        Ok(ChunkNext::End) => unreachable!(),
-        Err(AwsChunkedBodyError::SourceFault) => unreachable!(),
-        Err(AwsChunkedBodyError::StreamLengthMismatch { .. }) => unreachable!(),
-        Err(AwsChunkedBodyError::ReportedTrailerLengthMismatch { .. }) => unreachable!(),
-        Err(AwsChunkedBodyError::FailedToSign { .. }) => unreachable!(),
-    }
 }

@@ -1,7 +1,7 @@
 -- How a run of `awsign chunk` goes.
-use Rattle.std.proofs.Common.{◌≡◌, ℕ, inl, inr, List, Option, Some, None, refl}
-use Rattle.std.specs.Prelude.{Result, Ok, Err, string_bytes}
-use Rattle.smithy_core.specs.Outside.{Gains, GainsProperPrefix, IsLongerThan}
+use Rattle.std.proofs.Common.{◌≡◌, ℕ, inl, List, Option, refl}
+use Rattle.std.specs.Prelude.{Err}
+use Rattle.smithy_core.specs.Outside.{Gains, IsLongerThan}
 use Rattle.smithy_core.specs.declared.outside.read_all.ReadFault.{ReadFault}
 use Rattle.smithy_core.specs.declared.outside.read_all.ReadFault.TheVariants as read
 use Rattle.env_config.specs.Sections.{FileText}

@@ -1,11 +1,12 @@
 -- How a run of `awsign chunk` goes: what was read, and what was written.
-use Rattle.std.specs.Prelude.{◌≡◌, ◌⊎◌, ℕ, IsErrAnd, List, Option, Some, None, Result, Ok, Err, string_bytes}
+use Rattle.std.specs.Prelude.{◌≡◌, ◌⊎◌, ℕ, IsErrAnd, List, Option, Result, string_bytes}
 use Rattle.smithy_core.specs.Moment.{Instant}
 use Rattle.smithy_core.specs.Outside.{Gains, GainsProperPrefix, IsAllOf, IsLongerThan}
 use Rattle.smithy_core.specs.declared.outside.read_all.ReadFault.{ReadFault}
 use Rattle.smithy_core.specs.declared.outside.read_all.ReadFault.TheVariants as read
 use Rattle.env_config.specs.Sections.{FileText, sections}
-use Rattle.awsign_run.specs.Chosen.{SignRefusal, SignsFor, profile_name, profile_of, signer_by}
+use Rattle.aws_settings.specs.Choice.{profile_of}
+use Rattle.awsign_run.specs.Chosen.{SignRefusal, SignsFor, asked_profile, signer_by}
 use Rattle.awsign_run.specs.Guess.{url_host}
 use Rattle.awsign_run.specs.declared.status.Status.TheVariants.{CouldNotReadFile, DataFault, Done, NoMemory, OutputFault}
 use Rattle.awsign_words.specs.Words.{SignWanted}
@@ -47,7 +48,7 @@ IsFileStatus unread status = ⊥
 
 -- who is chosen, by options, variables and the texts of profile files
 abbrev pub sent_signer : SignWanted → List (List ℕ × List ℕ) → List FileText → Result SignsFor SignRefusal
-sent_signer wanted env files = signer_by wanted.options (url_host wanted.url) env (profile_of (sections files) (profile_name wanted.options env))
+sent_signer wanted env files = signer_by wanted.options (url_host wanted.url) env (profile_of (sections files) (asked_profile wanted.options env))
 
 module _ (moment : Instant → Type 0) (env : List (List ℕ × List ℕ)) where
   -- the upload of data with texts of profile files, at a moment that `moment` tells of

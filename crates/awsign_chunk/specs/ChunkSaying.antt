@@ -1,5 +1,5 @@
 -- What is said of how a run of `awsign chunk` ended, and the number that it ends with.
-use Rattle.std.specs.Prelude.{◌⊎◌, ℕ, List, [], ◌++◌, codes, Option, Some, None}
+use Rattle.std.specs.Prelude.{◌⊎◌, ℕ, List, [], ◌++◌, codes, Option}
 use Rattle.sigv4.specs.Error.{error_text}
 use Rattle.aws_chunked.specs.Announcement.{announce_fault_text}
 use Rattle.awsign_run.specs.Saying.{GainsSome, Says, tool_line}

@@ -3,7 +3,7 @@ ghost use Rattle.std.specs.Prelude.{◌≡◌, ◌≤◌, length, map, string_by
 ghost use Rattle.smithy_core.specs.Given.{Gives};
 ghost use Rattle.env_config.specs.Loading.{Loaded, StopsAtFile};
 ghost use Rattle.env_config.specs.Source.{file_of};
-ghost use Rattle.awsign_run.specs.Chosen.{profile_name};
+ghost use Rattle.awsign_run.specs.Chosen.{asked_profile};
 ghost use Rattle.awsign_run.specs.Run.{TakesAskedMoment, asked_moment, asked_places};
 ghost use Rattle.awsign_words.specs.Words.{sign_wanted};
 ghost use Rattle.awsign_chunk.specs.ChunkRun.{MakesSentOf, MakesUpload, WritesUpload, sent_signer};
@@ -56,7 +56,7 @@ fn upload_by_files<S: ByteSource, C: Clock>(
     content: &mut S,
     clock: &mut C,
 ) -> Result<ChunkedUpload, ChunkStatus>
-    requires { string_bytes source.now.profile ≡ profile_name asked.now.options env.now }
+    requires { string_bytes source.now.profile ≡ asked_profile asked.now.options env.now }
     ensures makes { MakesSentOf (TakesAskedMoment (λ taken. Gives C.Clock clock.old taken clock.new) (asked_moment asked.now.options)) env.now
         (sign_wanted asked.now) (map file_of source.now.files.items) (S.left content.old) result }
     ensures count { S.faults content.old ≤ S.faults content.new }
@@ -79,7 +79,7 @@ fn upload_at(
     content: Vec<u8>,
     at: Moment,
 ) -> Result<ChunkedUpload, ChunkStatus>
-    requires profile { string_bytes source.now.profile ≡ profile_name asked.now.options env.now }
+    requires profile { string_bytes source.now.profile ≡ asked_profile asked.now.options env.now }
     requires short { length content.items ≤ 4294967295 }
     ensures { MakesSentFor (sign_wanted asked.now) content.items (sent_signer (sign_wanted asked.now) env.now (map file_of source.now.files.items)) at result }
 {

@@ -1,5 +1,5 @@
 -- A request that is signed in place, for what its target spells.
-use Rattle.std.proofs.Common.{◌≡◌, ℕ, ◌⊎◌, true, false, inl, inr, List, Option, Some, None, refl, sym, ap, subst, ◌∙◌}
+use Rattle.std.proofs.Common.{◌≡◌, ℕ, ◌⊎◌, true, false, inl, inr, List, Some, None, refl, ap, subst, ◌∙◌}
 use Rattle.std.specs.Prelude.{OnOk, Result, Ok, Err, String, string_bytes}
 use Rattle.std.specs.declared.alloc.Global.{Global}
 use Rattle.http_uri.specs.declared.uri.Uri.{Uri}
@@ -13,14 +13,13 @@ use Rattle.sigv4.specs.Parameters.{AppliesTo, takes_no_more, target_text_with}
 use Rattle.sigv4.specs.Query.{Pair}
 use Rattle.sigv4.specs.Refusal.{request_refusal, unfit_signed_target}
 use Rattle.sigv4.specs.Request.{Case, request_case}
-use Rattle.sigv4.specs.RequestSigning.{SignsCase}
 use Rattle.sigv4.specs.Signed.{instructions, parameters, signature_of, signed_headers, signed_target}
 use Rattle.sigv4.specs.declared.error.SigningError.{SigningError}
 use Rattle.sigv4.specs.declared.error.SigningError.TheVariants.{InvalidUri, NoMemory}
 use Rattle.sigv4.specs.declared.request.SignableRequest.{SignableRequest}
 use Rattle.sigv4.specs.declared.signing_params.SigningParams.{SigningParams}
 use Rattle.sigv4.specs.declared.signing_params.SigningParams.TheVariants.{V4}
-use Rattle.awsign_run.specs.InPlace.{HasSigned, SignsInPlace, in_place_refusal, in_place_case}
+use Rattle.awsign_run.specs.InPlace.{SignsInPlace, in_place_case}
 
 -- the case that is signed is that of the request
 pub case_made : (request : HttpRequest) (payload : List ℕ) (params : SigningParams) (signable : SignableRequest)

@@ -3,6 +3,5 @@ pub mod DigestLemmas
 pub mod FileLemmas
 pub mod InPlaceLemmas
 pub mod PrintLemmas
-pub mod ProfileLemmas
 pub mod RunLemmas
 pub mod SigningLemmas

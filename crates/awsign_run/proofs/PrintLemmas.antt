@@ -1,13 +1,14 @@
 -- The signed request of words, as it is printed.
-use Rattle.std.proofs.Common.{◌≡◌, ℕ, true, false, inl, inr, List, Option, codes, refl, ◌∙◌, ap}
-use Rattle.std.specs.Prelude.{Result, Ok, Err, string_bytes}
+use Rattle.std.proofs.Common.{◌≡◌, ℕ, true, false, inl, inr, List, Option, codes, refl}
+use Rattle.std.specs.Prelude.{Result, Ok, Err}
 use Rattle.std.specs.Global.{Vec}
 use Rattle.smithy_core.specs.Moment.{Instant}
 use Rattle.smithy_core.specs.TextPairs.{last_value}
 use Rattle.smithy_http.specs.Target.{Target}
 use Rattle.sigv4.specs.Request.{Case}
 use Rattle.env_config.specs.Sections.{FileText, sections}
-use Rattle.awsign_run.specs.Chosen.{IsFaultOf, Profile, SignRefusal, SignsFor, chosen_signer, profile_name, profile_of}
+use Rattle.aws_settings.specs.Choice.{profile_of}
+use Rattle.awsign_run.specs.Chosen.{IsFaultOf, SignRefusal, SignsFor, asked_profile, signer_by}
 use Rattle.awsign_run.specs.Signing.{IsPrinted, PrintsFor, PrintsSigned, SignsAsked, SignsPrinted, is_long}
 use Rattle.awsign_words.specs.Words.{SignWanted}
 use Rattle.awsign_run.specs.Guess.{url_host}
@@ -21,7 +22,7 @@ out_of_memory sign_wanted (Ok signer) digest at fault is = inr is
 out_of_memory sign_wanted (Err refusal) digest at fault is = inr is
 
 -- where nobody signs nothing is printed
-pub signer_lacks : (sign_wanted : SignWanted) (planned : Result SignsFor SignRefusal) (digest : Option (List ℕ)) (at : Instant) (fault : Fault) → IsFaultOf planned fault → PrintsFor sign_wanted planned digest at (Err fault)
+signer_lacks : (sign_wanted : SignWanted) (planned : Result SignsFor SignRefusal) (digest : Option (List ℕ)) (at : Instant) (fault : Fault) → IsFaultOf planned fault → PrintsFor sign_wanted planned digest at (Err fault)
 signer_lacks sign_wanted planned digest at fault (inl is) = rw is (inl refl)
 signer_lacks sign_wanted planned digest at fault (inr is) = out_of_memory sign_wanted planned digest at fault is
 
@@ -30,17 +31,17 @@ pub long_refused : (sign_wanted : SignWanted) (env : List (List ℕ × List ℕ)
     → PrintsSigned sign_wanted env files digest at (Err LongExpiry)
 long_refused sign_wanted env files digest at long = rw long (inl refl)
 
--- nothing is printed where there is no profile
-pub profile_lacks : (sign_wanted : SignWanted) (env : List (List ℕ × List ℕ)) (files : List FileText) (digest : Option (List ℕ)) (at : Instant) (fault : Fault) → is_long sign_wanted.options ≡ false
-    → IsFaultOf (profile_of (sections files) (profile_name sign_wanted.options env)) fault → PrintsSigned sign_wanted env files digest at (Err fault)
-profile_lacks sign_wanted env files digest at fault short (inl is) = rw (short, is) (inl refl)
-profile_lacks sign_wanted env files digest at fault short (inr is) = out_of_memory sign_wanted _ digest at fault is
+module _ (sign_wanted : SignWanted) (env : List (List ℕ × List ℕ)) (files : List FileText) (digest : Option (List ℕ)) (at : Instant) (short : is_long sign_wanted.options ≡ false) where
+  abbrev signs_by : Result SignsFor SignRefusal
+  signs_by = signer_by sign_wanted.options (url_host sign_wanted.url) env (profile_of (sections files) (asked_profile sign_wanted.options env))
 
--- what a profile gives is printed
-pub by_profile : (sign_wanted : SignWanted) (env : List (List ℕ × List ℕ)) (files : List FileText) (digest : Option (List ℕ)) (at : Instant) (profile : Profile) (result : Result (Vec ℕ) Fault)
-    → is_long sign_wanted.options ≡ false → profile_of (sections files) (profile_name sign_wanted.options env) ≡ Ok profile
-    → PrintsFor sign_wanted (chosen_signer sign_wanted.options (url_host sign_wanted.url) env profile) digest at result → PrintsSigned sign_wanted env files digest at result
-by_profile sign_wanted env files digest at profile result short is prints = rw (short, is) prints
+  -- what somebody signs is printed
+  pub by_signer : (signer : SignsFor) (result : Result (Vec ℕ) Fault) → signs_by ≡ Ok signer → PrintsFor sign_wanted (Ok signer) digest at result → PrintsSigned sign_wanted env files digest at result
+  by_signer signer result is prints = rw (short, is) prints
+
+  -- nothing is printed where nobody signs
+  pub nobody_prints : (fault : Fault) → IsFaultOf signs_by fault → PrintsSigned sign_wanted env files digest at (Err fault)
+  nobody_prints fault is = rw short (signer_lacks sign_wanted signs_by digest at fault is)
 
 -- a signed request is printed
 pub request_printed : (sign_wanted : SignWanted) (case : Target → Case) (signed : SignedRequest) (text : Vec ℕ) → SignsAsked sign_wanted case (Ok signed)

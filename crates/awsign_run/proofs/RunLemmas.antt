@@ -1,6 +1,6 @@
 -- How a run goes.
 use Rattle.std.proofs.Common.{◌≡◌, ℕ, true, inl, inr, List, Option, codes, refl}
-use Rattle.std.specs.Prelude.{Result, Ok, Err, string_bytes}
+use Rattle.std.specs.Prelude.{Result, Ok, Err}
 use Rattle.std.specs.Global.{Vec}
 use Rattle.smithy_core.specs.Moment.{Instant}
 use Rattle.smithy_core.specs.declared.outside.read_all.ReadFault.{ReadFault}

@@ -1,9 +1,8 @@
 -- The service that a host of AWS names: `SERVICE.amazonaws.com` or `SERVICE.REGION.amazonaws.com`, with more labels before or without.
-use Rattle.std.specs.Prelude.{◌≡◌, ◌⊎◌, ℕ, Bool, ◌==◌, ◌-◌, not, ◌&&◌, ◌||◌, if◌then◌else◌, List, [], ◌∷◌, ◌++◌, length, slice_index, codes, bytes_eq, fold, Option, Some, None}
+use Rattle.std.specs.Prelude.{◌≡◌, ◌⊎◌, ℕ, Bool, ◌==◌, ◌-◌, not, ◌&&◌, ◌||◌, if◌then◌else◌, List, [], ◌++◌, length, slice_index, codes, bytes_eq, fold, Option, Some, None}
 use Rattle.std.specs.Char.{is_ascii_digit, is_ascii_lowercase}
 use Rattle.std.specs.List.{after_first, before_first, ends_with, list_all, list_any, slice_split, starts_with}
 use Rattle.std.specs.Option.{option_or}
-use Rattle.smithy_core.specs.Outside.{Gains, GainsProperPrefix}
 use Rattle.job_text.specs.Lines.{colon}
 use Rattle.awsign_words.specs.Words.{OptionValues, has}
 use Rattle.awsign_run.specs.Saying.{GainsSome, tool_line}

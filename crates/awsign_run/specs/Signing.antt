@@ -1,6 +1,5 @@
 -- What `awsign` prints of the request that words ask for.
-use Rattle.std.specs.Prelude.{◌≡◌, ◌⊎◌, ℕ, Bool, true, false, not, nat_lt, ◌&&◌, ◌||◌, if◌then◌else◌, List, [], ◌∷◌, ◌++◌, codes, bytes_eq, map, Option, Some, None, unwrap_or, Result, Ok, Err, string_bytes}
-use Rattle.std.specs.Int.{w64}
+use Rattle.std.specs.Prelude.{◌≡◌, ◌⊎◌, ℕ, Bool, not, nat_lt, ◌&&◌, ◌||◌, if◌then◌else◌, List, [], codes, bytes_eq, Option, Some, None, unwrap_or, Result, Ok, Err, string_bytes}
 use Rattle.std.specs.Global.{Vec}
 use Rattle.std.specs.Option.{option_and_then, option_or}
 use Rattle.hex.specs.Hex.{encode_lower}
@@ -26,7 +25,8 @@ use Rattle.sigv4.specs.declared.settings.SignatureLocation.TheVariants.{QueryPar
 use Rattle.awsign_text.specs.Forms.{text_in_form}
 use Rattle.awsign_text.specs.declared.forms.Form.{Form}
 use Rattle.awsign_text.specs.declared.forms.Form.TheVariants.{Curl, Url}
-use Rattle.awsign_run.specs.Chosen.{SignRefusal, SignsFor, long_expiry, out_of_memory, profile_name, profile_of, refusal_of, signer_by, unsigned}
+use Rattle.aws_settings.specs.Choice.{profile_of}
+use Rattle.awsign_run.specs.Chosen.{SignRefusal, SignsFor, asked_profile, long_expiry, refusal_of, signer_by, unsigned}
 use Rattle.awsign_run.specs.Guess.{url_host}
 use Rattle.awsign_run.specs.declared.signing.SignedRequest.{SignedRequest}
 use Rattle.awsign_words.specs.Words.{OptionValues, SignWanted, form_named, has}
@@ -77,7 +77,7 @@ asked_case sign_wanted signer payload at target = record {
   headers = sign_wanted.headers;
   payload = payload;
   settings = asked_settings sign_wanted (is_s3 sign_wanted.options signer.service);
-  key_id = signer.key.key_id;
+  key_id = signer.key.id;
   token = signer.key.token;
   signer = record { secret = signer.key.secret; region = signer.region; name = signer.service };
   at = at;
@@ -118,7 +118,7 @@ PrintsFor sign_wanted (Err refusal) digest at (Err fault) = (refusal_of fault �
 abbrev pub asked_signer : SignWanted → List (List ℕ × List ℕ) → List FileText → Result SignsFor SignRefusal
 asked_signer sign_wanted env files =
     if is_long sign_wanted.options then Err long_expiry
-    else signer_by sign_wanted.options (url_host sign_wanted.url) env (profile_of (sections files) (profile_name sign_wanted.options env))
+    else signer_by sign_wanted.options (url_host sign_wanted.url) env (profile_of (sections files) (asked_profile sign_wanted.options env))
 
 -- the text that words, variables, the texts of profile files, the digest of the data and a moment give, or why there is none
 abbrev pub PrintsSigned : SignWanted → List (List ℕ × List ℕ) → List FileText → Option (List ℕ) → Instant → Result (Vec ℕ) Fault → Type 0

@@ -1,19 +1,13 @@
 //! Why nothing is signed.
-use env_config::{EnvConfigParseError, ParseFault};
+use aws_settings::SettingsFault;
 use sigv4::SigningError;
 use std::alloc::AllocError;
 
 /// Why nothing is signed.
 #[derive(Debug, Drop)]
 pub enum Fault {
-    /// A line of a profile file is outside the grammar: the first one of the first faulty file.
-    ParseError(EnvConfigParseError),
-    /// The profile has no key id or no secret, and no variable has a key id.
-    MissingKey,
-    /// `AWS_ACCESS_KEY_ID` has a value and `AWS_SECRET_ACCESS_KEY` doesn't.
-    MissingSecret,
-    /// No option, no variable and not the profile has a region.
-    MissingRegion,
+    /// Options, variables and profile files don't give a key and a region.
+    Settings(SettingsFault),
     /// Neither an option nor the host names the service.
     MissingService,
     /// A presigned URL would be good for more than seven days.
@@ -35,16 +29,16 @@ impl From<AllocError> for Fault {
     }
 }
 
-impl From<ParseFault> for Fault {
+impl From<SettingsFault> for Fault {
     ghost use Rattle.std.specs.Prelude.{◌≡◌};
-    ghost use Rattle.awsign_run.specs.Faults.{parse_fault};
+    ghost use Rattle.awsign_run.specs.Faults.{lacking_fault};
 
-    ghost from_gives = { λ inner fault. fault ≡ parse_fault inner };
+    ghost from_gives = { λ inner fault. fault ≡ lacking_fault inner };
 
-    fn from(inner: ParseFault) -> Fault {
+    fn from(inner: SettingsFault) -> Fault {
         match inner {
-            ParseFault::Parse(error) => Fault::ParseError(error),
-            ParseFault::NoMemory => Fault::NoMemory,
+            SettingsFault::NoMemory => Fault::NoMemory,
+            inner => Fault::Settings(inner),
         }
     }
 }

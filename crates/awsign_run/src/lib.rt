@@ -11,18 +11,16 @@ mod digest;
 mod fault;
 mod guess;
 mod in_place;
-mod profile;
 mod run;
 mod saying;
 mod signing;
 mod status;
 
-pub use crate::chosen::{Signer, choose_signer, profile_name, signer_for};
+pub use crate::chosen::{Signer, signer_for};
 pub use crate::digest::digest_of;
 pub use crate::fault::Fault;
 pub use crate::guess::{guessed_service, tell_service, url_host};
 pub use crate::in_place::sign_in_place;
-pub use crate::profile::{ProfileValues, read_profile};
 pub use crate::run::{load_source, moment_asked, moment_of, run_signing, write_text};
 pub use crate::saying::{fault_line, say, tool_line, write_some};
 pub use crate::signing::{

@@ -6,14 +6,14 @@ ghost use Rattle.smithy_core.specs.TextPairs.{last_value};
 ghost use Rattle.env_config.specs.Files.{chosen_places, file_places};
 ghost use Rattle.env_config.specs.Source.{file_of};
 ghost use Rattle.env_config.specs.Loading.{Loaded, StopsAtFile};
-ghost use Rattle.awsign_run.specs.Chosen.{profile_name};
+ghost use Rattle.awsign_run.specs.Chosen.{asked_profile};
 ghost use Rattle.awsign_run.specs.Run.{Digests, GivesByDigest, GivesByFiles, GivesRunText, HasWritten, LoadsAsked, RanSigning, TakesAskedMoment, asked_moment, asked_places, named_place, or_usual};
 ghost use Rattle.awsign_words.specs.Words.{has, sign_wanted};
 
-use crate::chosen::profile_name;
 use crate::digest::digest_of;
 use crate::signing::signed_text;
 use crate::status::Status;
+use aws_settings::profile_name;
 use awsign_words::Asked;
 use env_config::{
     BuildFault, Builder, EnvConfigFileKind, EnvConfigFileLoadError, EnvConfigFiles, Source, load,
@@ -93,7 +93,7 @@ fn sign_source<S: ByteSource, C: Clock>(
     body: &mut S,
     clock: &mut C,
 ) -> Result<Vec<u8>, Status>
-    requires { string_bytes source.now.profile ≡ profile_name asked.now.options env.now }
+    requires { string_bytes source.now.profile ≡ asked_profile asked.now.options env.now }
     ensures gives { GivesByFiles (Digests asked.now.options (S.left body.old) (S.left body.new))
         (TakesAskedMoment (λ taken. Gives C.Clock clock.old taken clock.new) (asked_moment asked.now.options))
         (sign_wanted asked.now) env.now (map file_of source.now.files.items) result }
@@ -114,7 +114,7 @@ fn sign_digest<C: Clock>(
     digest: &Option<String>,
     clock: &mut C,
 ) -> Result<Vec<u8>, Status>
-    requires { string_bytes source.now.profile ≡ profile_name asked.now.options env.now }
+    requires { string_bytes source.now.profile ≡ asked_profile asked.now.options env.now }
     ensures { GivesByDigest (TakesAskedMoment (λ taken. Gives C.Clock clock.old taken clock.new) (asked_moment asked.now.options))
         (sign_wanted asked.now) env.now (map file_of source.now.files.items) (option_map string_bytes digest.now) result }
 {
@@ -149,9 +149,9 @@ pub fn load_source<D: Disk>(
     ensures count { D.faults disk.old ≤ D.faults disk.new }
     ensures same { D.files disk.new ≡ D.files disk.old }
     ensures loads { LoadsAsked (Loaded D.answers D.faults (D.files disk.old) env.now (asked_places options.now) disk.old disk.new)
-        (StopsAtFile D.answers D.faults (D.files disk.old) env.now (asked_places options.now) disk.old disk.new) (profile_name options.now env.now) result }
+        (StopsAtFile D.answers D.faults (D.files disk.old) env.now (asked_places options.now) disk.old disk.new) (asked_profile options.now env.now) result }
 {
-    let profile = String::from_str(alloc, profile_name(options, env))?;
+    let profile = String::from_str(alloc, profile_name(options.get("--profile"), env))?;
     let files = files_of(alloc, options)?;
     let source = load(alloc, env, disk, &files)?;
     Ok(Source { profile, ..source })

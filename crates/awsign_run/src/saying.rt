@@ -2,11 +2,11 @@
 ghost use Rattle.std.specs.Prelude.{◌≡◌, ◌≤◌, ◌-◌, ◌++◌, Some, IfOk, codes, map, option_copied, option_map, slice_get};
 ghost use Rattle.std.specs.String.{string_bytes};
 ghost use Rattle.sigv4.specs.Error.{error_text};
-ghost use Rattle.awsign_run.specs.Saying.{GainsSome, Says, fault_reason, faulty_text, status_line, tool_line, word_text};
+ghost use Rattle.awsign_run.specs.Saying.{GainsSome, Says, fault_reason, faulty_text, settings_reason, status_line, tool_line, word_text};
 
 use crate::fault::Fault;
 use crate::status::Status;
-use env_config::EnvConfigParseError;
+use aws_settings::{EnvConfigParseError, SettingsFault};
 use sigv4::SigningError;
 use smithy_core::{ByteSink, Mem, write_all};
 use std::alloc::Global;
@@ -97,20 +97,8 @@ pub fn fault_line(alloc: Global, fault: &Fault) -> Mem<String>
     ensures { IfOk result (λ line. string_bytes line ≡ tool_line (fault_reason fault.now)) }
 {
     match fault {
-        Fault::ParseError(error) => faulty_line(alloc, error),
+        Fault::Settings(fault) => settings_line(alloc, fault),
         Fault::Signing(error) => unsigned_line(alloc, error),
-        Fault::MissingKey => tool_line(
-            alloc,
-            "no key: set AWS_ACCESS_KEY_ID and AWS_SECRET_ACCESS_KEY, or give the profile aws_access_key_id and aws_secret_access_key",
-        ),
-        Fault::MissingSecret => tool_line(
-            alloc,
-            "AWS_ACCESS_KEY_ID is set and AWS_SECRET_ACCESS_KEY isn't: set both, or neither",
-        ),
-        Fault::MissingRegion => tool_line(
-            alloc,
-            "no region: say --region, set AWS_REGION, or give the profile a region",
-        ),
         Fault::MissingService => tool_line(
             alloc,
             "no service, and the host names none: say --service NAME, or --s3",
@@ -127,6 +115,27 @@ fn unsigned_line(alloc: Global, error: &SigningError) -> Mem<String>
     ensures { IfOk result (λ line. string_bytes line ≡ tool_line (codes "the request can't be signed: " ++ error_text error.now)) }
 {
     let text = format!(in alloc; "the request can't be signed: {error}")?;
+    tool_line(alloc, text.as_str())
+}
+
+// The line that says what lacks, and what to do.
+fn settings_line(alloc: Global, fault: &SettingsFault) -> Mem<String>
+    ensures { IfOk result (λ line. string_bytes line ≡ tool_line (settings_reason fault.now)) }
+{
+    let text = match fault {
+        SettingsFault::Profile(error) => return faulty_line(alloc, error),
+        SettingsFault::MissingKey(profile) => format!(in alloc;
+            "no key: set AWS_ACCESS_KEY_ID and AWS_SECRET_ACCESS_KEY, or give the profile '{profile}' aws_access_key_id and aws_secret_access_key"
+        )?,
+        SettingsFault::MissingSecret => String::from_str(
+            alloc,
+            "AWS_ACCESS_KEY_ID is set and AWS_SECRET_ACCESS_KEY isn't: set both, or neither",
+        )?,
+        SettingsFault::MissingRegion(profile) => format!(in alloc;
+            "no region: say --region, set AWS_REGION, or give the profile '{profile}' a region"
+        )?,
+        SettingsFault::NoMemory => String::from_str(alloc, "no memory")?,
+    };
     tool_line(alloc, text.as_str())
 }
 

@@ -2,16 +2,15 @@
 ghost use Rattle.std.specs.Prelude.{◌≡◌, ◌||◌, IfOk, codes, map, option_copied, option_map, string_bytes, true, false};
 ghost use Rattle.env_config.specs.Source.{file_of};
 ghost use Rattle.sigv4.specs.Settings.{settings_of};
-ghost use Rattle.awsign_run.specs.Chosen.{chosen_signer, profile_name, signs_for_of, profile_values};
+ghost use Rattle.awsign_run.specs.Chosen.{asked_profile, signs_for_of};
 ghost use Rattle.awsign_run.specs.Guess.{url_host};
 ghost use Rattle.awsign_run.specs.Signing.{IsAsked, IsPrinted, PrintsFor, PrintsSigned, SignsAsked, SignsPrinted, asked_case, asked_form, asked_payload, asked_settings, expiry, is_long, is_s3, default_payload, usual_settings};
 ghost use Rattle.awsign_words.specs.Words.{sign_wanted};
 
-use crate::chosen::{Signer, choose_signer};
+use crate::chosen::{Signer, signer_for};
 use crate::fault::Fault;
 use crate::guess::url_host;
 use crate::in_place::sign_in_place;
-use crate::profile::{ProfileValues, read_profile};
 use awsign_text::{Form, text_of};
 use awsign_words::{Asked, form_named};
 use env_config::Source;
@@ -42,8 +41,8 @@ const MOST_EXPIRY: u64 = 604_800;
 ///
 /// # Errors
 ///
-/// The first of these: [`Fault::LongExpiry`]; [`Fault::ParseError`]; [`Fault::MissingSecret`] or [`Fault::MissingKey`];
-/// [`Fault::MissingRegion`]; [`Fault::MissingService`]; and [`Fault::Signing`] with the first test that the request fails.
+/// The first of these: [`Fault::LongExpiry`]; [`Fault::Settings`]; [`Fault::MissingService`]; and [`Fault::Signing`] with the first test
+/// that the request fails.
 pub fn signed_text(
     alloc: Global,
     asked: &Asked<'_>,
@@ -52,31 +51,13 @@ pub fn signed_text(
     digest: Option<&str>,
     at: Moment,
 ) -> Result<Vec<u8>, Fault>
-    requires { string_bytes source.now.profile ≡ profile_name asked.now.options env.now }
+    requires { string_bytes source.now.profile ≡ asked_profile asked.now.options env.now }
     ensures { PrintsSigned (sign_wanted asked.now) env.now (map file_of source.now.files.items) (option_copied digest.entry) at result }
 {
     if is_long(&asked.options) {
         return Err(Fault::LongExpiry);
     }
-    match read_profile(alloc, source) {
-        Ok(profile) => print_by(alloc, asked, env, &profile, digest, at),
-        Err(fault) => Err(fault),
-    }
-}
-
-// The request that words, variables and a profile ask for, as it is printed.
-fn print_by(
-    alloc: Global,
-    asked: &Asked<'_>,
-    env: &Env,
-    profile: &ProfileValues,
-    digest: Option<&str>,
-    at: Moment,
-) -> Result<Vec<u8>, Fault>
-    ensures { PrintsFor (sign_wanted asked.now) (chosen_signer asked.now.options (url_host asked.now.url.now) env.now (profile_values profile.now)) (option_copied digest.entry) at result }
-{
-    let host = url_host(asked.url);
-    match choose_signer(alloc, &asked.options, host, env, profile) {
+    match signer_for(alloc, &asked.options, url_host(asked.url), env, source) {
         Ok(signer) => print_signed(alloc, asked, signer, digest, at),
         Err(fault) => Err(fault),
     }

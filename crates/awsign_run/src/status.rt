@@ -2,6 +2,7 @@
 ghost use Rattle.std.specs.Prelude.{◌≡◌};
 
 use crate::fault::Fault;
+use aws_settings::SettingsFault;
 use env_config::EnvConfigFileLoadError;
 use job_text::WordsFault;
 use smithy_core::{ReadFault, SinkError};
@@ -78,7 +79,9 @@ impl From<EnvConfigFileLoadError> for Status {
 
     fn from(fault: EnvConfigFileLoadError) -> Status {
         match fault {
-            EnvConfigFileLoadError::ParseError(error) => Status::Refused(Fault::ParseError(error)),
+            EnvConfigFileLoadError::ParseError(error) => {
+                Status::Refused(Fault::Settings(SettingsFault::Profile(error)))
+            },
             EnvConfigFileLoadError::CouldNotReadFile(fault) => Status::CouldNotReadFile(fault.path),
             EnvConfigFileLoadError::NoMemory => Status::NoMemory,
         }

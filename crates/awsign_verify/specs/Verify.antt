@@ -20,7 +20,8 @@ use Rattle.request_door.specs.declared.limits.Limits.{Limits}
 use Rattle.request_door.specs.declared.payload.DoorPayload.{DoorPayload}
 use Rattle.request_door.specs.declared.payload.DoorPayload.TheVariants.{Digest, Unsigned, UnsignedChunks, SignedChunks}
 use Rattle.awsign_words.specs.Words.{OptionValues}
-use Rattle.awsign_run.specs.Chosen.{SignRefusal, SignerKey, SignsFor, profile_name, profile_of, refusal_of, signer_by}
+use Rattle.aws_settings.specs.Choice.{ChosenKey, profile_of}
+use Rattle.awsign_run.specs.Chosen.{SignRefusal, SignsFor, asked_profile, refusal_of, signer_by}
 use Rattle.awsign_run.specs.Guess.{url_host}
 use Rattle.awsign_run.specs.Signing.{is_s3, usual_settings}
 use Rattle.awsign_run.specs.declared.fault.Fault.{Fault}
@@ -35,8 +36,8 @@ abbrev pub verify_limits : Limits
 verify_limits = record { skew = 900; expiry = 604800; names = 100 }
 
 -- the keys that are known: the one that options, variables or the profile give
-abbrev pub known_secrets : SignerKey → List ℕ → Option (List ℕ)
-known_secrets key key_id = first_value ((key.key_id, key.secret) ∷ []) key_id
+abbrev pub known_secrets : ChosenKey → List ℕ → Option (List ℕ)
+known_secrets key key_id = first_value ((key.id, key.secret) ∷ []) key_id
 
 -- the request at a service's door, with this body and at this moment; the service is the signer's, and so is the one key that it knows
 abbrev pub verify_input : OptionValues → SignsFor → HttpRequest → List ℕ → Instant → DoorInput
@@ -127,7 +128,7 @@ JudgesFor options (Err refusal) request body at result = ⊥
 -- who is chosen for a request, by options, variables and the texts of profile files
 abbrev pub verify_signer : OptionValues → List (List ℕ × List ℕ) → List FileText → HttpRequest → Result SignsFor SignRefusal
 verify_signer options env files request =
-    signer_by options (request_host request.headers (string_bytes request.target)) env (profile_of (sections files) (profile_name options env))
+    signer_by options (request_host request.headers (string_bytes request.target)) env (profile_of (sections files) (asked_profile options env))
 
 -- the same with the texts of profile files, at a moment that `moment` tells of
 abbrev pub JudgesBy : (Instant → Type 0) → OptionValues → List (List ℕ × List ℕ) → List FileText → HttpRequest → List ℕ → Result (Vec ℕ) VerifyFault → Type 0

@@ -1,4 +1,5 @@
 //! Why a request isn't verified.
+use aws_settings::SettingsFault;
 use awsign_run::Fault;
 use env_config::EnvConfigFileLoadError;
 use request_door::DoorFault;
@@ -59,7 +60,7 @@ impl From<EnvConfigFileLoadError> for VerifyFault {
     fn from(inner: EnvConfigFileLoadError) -> VerifyFault {
         match inner {
             EnvConfigFileLoadError::ParseError(error) => {
-                VerifyFault::Refused(Fault::ParseError(error))
+                VerifyFault::Refused(Fault::Settings(SettingsFault::Profile(error)))
             }
             EnvConfigFileLoadError::CouldNotReadFile(fault) => {
                 VerifyFault::CouldNotReadFile(fault.path)

@@ -4,7 +4,7 @@ ghost use Rattle.std.specs.String.{string_bytes};
 ghost use Rattle.smithy_core.specs.Given.{Gives};
 ghost use Rattle.env_config.specs.Source.{file_of};
 ghost use Rattle.request_door.specs.Doors.{AnswersDoor};
-ghost use Rattle.awsign_run.specs.Chosen.{profile_name, signs_for_of};
+ghost use Rattle.awsign_run.specs.Chosen.{asked_profile, signs_for_of};
 ghost use Rattle.awsign_run.specs.Run.{TakesAskedMoment, asked_moment};
 ghost use Rattle.awsign_verify.specs.Verify.{Judges, JudgesBy, JudgesFor, request_host, verify_input, verify_signer};
 
@@ -32,7 +32,7 @@ pub(crate) fn judge<C: Clock>(
     body: &[u8],
     clock: &mut C,
 ) -> Result<Vec<u8>, VerifyFault>
-    requires { string_bytes source.now.profile ≡ profile_name options.now env.now }
+    requires { string_bytes source.now.profile ≡ asked_profile options.now env.now }
     ensures { JudgesBy (TakesAskedMoment (λ taken. Gives C.Clock clock.old taken clock.new) (asked_moment options.now)) options.now env.now
         (map file_of source.now.files.items) request.now body.now result }
 {
@@ -50,7 +50,7 @@ fn judge_at(
     body: &[u8],
     at: Moment,
 ) -> Result<Vec<u8>, VerifyFault>
-    requires { string_bytes source.now.profile ≡ profile_name options.now env.now }
+    requires { string_bytes source.now.profile ≡ asked_profile options.now env.now }
     ensures { JudgesFor options.now (verify_signer options.now env.now (map file_of source.now.files.items) request.now) request.now body.now at result }
 {
     let host = request_host(request);
@@ -110,7 +110,7 @@ fn admit_for(
 
 // The key of a signer, as the one that a service knows.
 fn keys_of(alloc: Global, signer: &Signer) -> Mem<KeyList>
-    ensures { IfOk result (λ keys. keys ≡ ((signs_for_of signer.now).key.key_id, (signs_for_of signer.now).key.secret) ∷ []) }
+    ensures { IfOk result (λ keys. keys ≡ ((signs_for_of signer.now).key.id, (signs_for_of signer.now).key.secret) ∷ []) }
 {
     let mut keys = KeyList::new(alloc);
     keys.push(

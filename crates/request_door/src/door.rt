@@ -27,7 +27,7 @@ use smithy_core::{Headers, HttpRequest, Mem, Moment};
 use smithy_http::read_target;
 use std::alloc::Global;
 
-/// What a request is held against: its body, and what the service knows.
+/// A request with its body, and what the service knows of it.
 #[derive(Clone, Copy)]
 pub(crate) struct Asked<'a> {
     request: &'a HttpRequest,

@@ -1,8 +1,6 @@
 //! The command `chunk`.
-ghost use Rattle.std.specs.Prelude.{◌≡◌, ◌≤◌, ◌++◌, ◌<◌, None, [], ◌∷◌, length, IfOk, IsErrOf};
-ghost use Rattle.smithy_core.specs.FrameSource.{AreShort};
-ghost use Rattle.smithy_core.specs.declared.outside.frame_part.FramePart.TheVariants as frame;
-ghost use Rattle.aws_chunked.specs.Body.{IsBodyClosed, lines_length};
+ghost use Rattle.std.specs.Prelude.{◌≡◌, ◌≤◌, None, length, IfOk, IsErrOf};
+ghost use Rattle.aws_chunked.specs.Body.{lines_length};
 ghost use Rattle.aws_chunked.specs.Options.{declared_length};
 ghost use Rattle.aws_chunked.specs.SoundBody.{IsSoundBody, IsSoundBodyOf, text_left};
 ghost use Rattle.signed_stream.specs.Counts.{CountsFault};
@@ -17,11 +15,12 @@ use crate::chain::write_text;
 use crate::command::ChunkWords;
 use crate::status::{Status, StreamFault, status_of};
 use aws_auth::SigV4MessageSigner;
-use aws_chunked::{AwsChunkedBody, AwsChunkedBodyError, AwsChunkedBodyOptions, ChunkNext};
+use aws_chunked::parts::{frames_in_memory, next_in_memory};
+use aws_chunked::{AwsChunkedBody, AwsChunkedBodyOptions};
 use bytes::Bytes;
 use sigv4::{SignChunk, SigningSettings};
-use smithy_core::{ByteSink, CalmFrames, FramePart, FrameSource, Headers, Mem};
-use std::alloc::{AllocError, Global};
+use smithy_core::{ByteSink, CalmFrames, FrameSource, Headers, Mem};
+use std::alloc::Global;
 
 // A body in memory, which isn't signed: its signer's type is any one.
 type Chunks = AwsChunkedBody<CalmFrames, SigV4MessageSigner<SigningSettings>>;
@@ -64,29 +63,10 @@ fn send_body<K: ByteSink>(mut body: Chunks, out: &mut K) -> Result<(), StreamFau
     ensures counts { CountsFault (IsErrOf result StreamFault.SinkFault) (K.faults out.old) (K.faults out.new) }
 {
     'polls: while !body.is_end_stream() {
-        let bytes = next_bytes(&mut body)?;
+        let bytes = next_in_memory(&mut body)?;
         write_text(out, bytes.as_slice())?;
     }
     Ok(())
-}
-
-// The next bytes of the text of a body that isn't closed: one in memory neither waits nor has a fault.
-fn next_bytes(body: &mut Chunks) -> Mem<Bytes>
-    requires sound { IsSoundBody ⟦<CalmFrames as FrameSource>⟧ ⟦<SigV4MessageSigner<SigningSettings> as SignChunk>⟧ body.old }
-    requires going { IsBodyClosed body.old → ⊥ }
-    ensures { IfOk result (λ bytes. IsSoundBody ⟦<CalmFrames as FrameSource>⟧ ⟦<SigV4MessageSigner<SigningSettings> as SignChunk>⟧ body.new
-        × (text_left ⟦<CalmFrames as FrameSource>⟧ ⟦<SigV4MessageSigner<SigningSettings> as SignChunk>⟧ body.old ≡ bytes ++ text_left ⟦<CalmFrames as FrameSource>⟧ ⟦<SigV4MessageSigner<SigningSettings> as SignChunk>⟧ body.new) × (0 < length bytes)) }
-{
-    match body.poll_frame() {
-        Ok(ChunkNext::Frame(bytes)) => Ok(bytes),
-        Err(AwsChunkedBodyError::NoMemory) => Err(AllocError),
-        // An arm each: the prover's search doesn't get through them as one.
-        Ok(ChunkNext::NotYet) => unreachable!(),
-        Ok(ChunkNext::OutOfTurns) => unreachable!(),
-        Ok(ChunkNext::End) => unreachable!(),
-        Err(AwsChunkedBodyError::FailedToSign { .. }) => unreachable!(),
-        Err(_) => unreachable!(),
-    }
 }
 
 // The body of the bytes and the trailers, in chunks of the size that the words ask for.
@@ -96,7 +76,7 @@ fn body_of(alloc: Global, words: ChunkWords, bytes: Vec<u8>) -> Mem<Chunks>
 {
     let lengths = lengths_of(alloc, &words.trailers)?;
     let options = AwsChunkedBodyOptions::new(bytes.len() as u64, lengths);
-    let frames = frames_of(alloc, bytes, words.trailers)?;
+    let frames = frames_in_memory(alloc, Bytes::from_vec(bytes)?, words.trailers)?;
     Ok(AwsChunkedBody::new(
         alloc,
         CalmFrames::new(frames),
@@ -113,16 +93,4 @@ fn lengths_of(alloc: Global, trailers: &Headers) -> Mem<Vec<u64>>
         lengths.push((name.len() + 1 + value.len()) as u64)?;
     }
     Ok(lengths)
-}
-
-// The bytes in one frame, and the trailers in another.
-fn frames_of(alloc: Global, bytes: Vec<u8>, trailers: Headers) -> Mem<Vec<FramePart>>
-    requires { length bytes.items ≤ most_input }
-    ensures frames { IfOk result (λ frames. frames.items ≡ frame.Data bytes.items ∷ frame.Trailers trailers ∷ []) }
-    ensures short { IfOk result (λ frames. AreShort frames.items) }
-{
-    let mut frames = Vec::new(alloc);
-    frames.push(FramePart::Data(Bytes::from_vec(bytes)?))?;
-    frames.push(FramePart::Trailers(trailers))?;
-    Ok(frames)
 }

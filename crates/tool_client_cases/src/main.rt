@@ -21,6 +21,7 @@ mod parts;
 mod profiles;
 mod sections;
 mod sending;
+mod settings;
 mod skews;
 mod texts;
 mod traces;
@@ -57,6 +58,7 @@ fn answer(alloc: Global, subject: &str, call: &str, words: &[&str]) -> Result<St
         "files" => loading::answer(alloc, call, words),
         "faults" => faults::answer(alloc, call, words),
         "debugs" => debugs::answer(alloc, call, words),
+        "settings" => settings::answer(alloc, call, words),
         _ => client_answer(alloc, subject, call, words),
     }
 }

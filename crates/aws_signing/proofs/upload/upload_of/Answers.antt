@@ -11,6 +11,6 @@ returns c = λ before who t told years.
     let encoded = c.requires.encoded in
     let signed = ap (λ (o : Options). o.is_signed) encoded in
     new_upload calm.ghosts sealing.ghosts c.args.options c.args.content before c.args.trailers who t c.new-source.result c.args.signer c.new.result c.with_signer.result
-    (c.new-source.ensures.left ∙ ap Some c.in_ok-upload_frames.ensures.frames) c.new.ensures.starts c.new.ensures.parts c.new.ensures.total
+    (c.new-source.ensures.left ∙ ap Some c.in_ok-frames_in_memory.ensures.frames) c.new.ensures.starts c.new.ensures.parts c.new.ensures.total
     c.with_signer.ensures.signer c.with_signer.ensures.due told years signed (as_declared c.args.options c.args.trailers c.requires.announced)
     (ap (λ (o : Options). o.stream_length) encoded) c.requires.short

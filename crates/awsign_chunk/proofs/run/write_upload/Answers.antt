@@ -1,4 +1,3 @@
-use Rattle.std.proofs.Common.{inr, refl}
 use Rattle.awsign_chunk.proofs.ChunkRunLemmas.{head_written}
 use Rattle.awsign_chunk.proofs.run.write_upload.Goals as goal
 

@@ -1,7 +1,4 @@
-use Rattle.std.proofs.Common.{map, option_map}
-use Rattle.std.specs.Prelude.{string_bytes}
 use Rattle.smithy_core.specs.Given.{Gives}
-use Rattle.env_config.specs.Source.{file_of}
 use Rattle.env_config.specs.Loading.{Loaded, StopsAtFile}
 use Rattle.awsign_run.specs.Run.{Digests, TakesAskedMoment, asked_moment, asked_places}
 use Rattle.awsign_words.specs.Words.{sign_wanted}

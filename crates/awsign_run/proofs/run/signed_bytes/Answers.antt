@@ -1,9 +1,8 @@
-use Rattle.std.proofs.Common.{map, option_map}
-use Rattle.std.specs.Prelude.{string_bytes}
+use Rattle.std.proofs.Common.{map}
 use Rattle.smithy_core.specs.Given.{Gives}
 use Rattle.env_config.specs.Source.{file_of}
 use Rattle.env_config.specs.Loading.{Loaded, StopsAtFile}
-use Rattle.awsign_run.specs.Chosen.{profile_name}
+use Rattle.awsign_run.specs.Chosen.{asked_profile}
 use Rattle.awsign_run.specs.Run.{Digests, TakesAskedMoment, asked_moment, asked_places}
 use Rattle.awsign_words.specs.Words.{sign_wanted}
 use Rattle.awsign_run.proofs.RunLemmas.{files_given, files_unread}
@@ -26,4 +25,4 @@ returns-in-Err-clause-gives g c =
     (TakesAskedMoment (λ taken. Gives g.C.Clock c.args.clock.now taken c.args.clock.now) (asked_moment options)) (sign_wanted c.args.asked.now) c.args.env.now
     (Loaded g.D.Disk.answers g.D.Disk.faults (g.D.Disk.files c.args.disk.now) c.args.env.now (asked_places options) c.args.disk.now c.load_source.new.disk)
     (StopsAtFile g.D.Disk.answers g.D.Disk.faults (g.D.Disk.files c.args.disk.now) c.args.env.now (asked_places options) c.args.disk.now c.load_source.new.disk)
-    (profile_name options c.args.env.now) c.in-Err.fault c.in-Err.ensures.loads)
+    (asked_profile options c.args.env.now) c.in-Err.fault c.in-Err.ensures.loads)

@@ -1,7 +1,7 @@
 use Rattle.std.proofs.Common.{◌≡◌, inl, inr, map}
 use Rattle.env_config.specs.Loading.{Loaded, StopsAtFile}
 use Rattle.env_config.specs.Source.{file_of}
-use Rattle.awsign_run.specs.Chosen.{profile_name}
+use Rattle.awsign_run.specs.Chosen.{asked_profile}
 use Rattle.awsign_run.specs.Run.{asked_places}
 use Rattle.awsign_verify.specs.Message.{message_body}
 use Rattle.awsign_verify.proofs.VerifyRunLemmas.{files_lack}
@@ -18,4 +18,4 @@ returns-in-Err-clause-judges g c =
     rw c.from.ensures
     (inr (files_lack (Loaded g.D.Disk.answers g.D.Disk.faults (g.D.Disk.files c.args.disk.now) c.args.env.now (asked_places options) c.args.disk.now c.load_source.new.disk)
     (StopsAtFile g.D.Disk.answers g.D.Disk.faults (g.D.Disk.files c.args.disk.now) c.args.env.now (asked_places options) c.args.disk.now c.load_source.new.disk)
-    (profile_name options c.args.env.now) c.in-Err.fault c.in-Err.ensures.loads))
+    (asked_profile options c.args.env.now) c.in-Err.fault c.in-Err.ensures.loads))

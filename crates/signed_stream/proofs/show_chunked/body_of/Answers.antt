@@ -11,6 +11,6 @@ unfolding shown_chunks
 returns c =
     let body =
     new_body calm.ghosts sealing.ghosts c.with_chunk_size.result c.args.bytes.items c.args.words.trailers c.new.result c.new-2.result
-    (c.new.ensures.left ∙ ap Some c.in_ok-frames.ensures.frames) c.new-2.ensures.starts c.new-2.ensures.due c.new-2.ensures.parts c.new-2.ensures.total
+    (c.new.ensures.left ∙ ap Some (rw c.in_ok-from_vec.ensures.ok at c.in_ok-frames.ensures.frames)) c.new-2.ensures.starts c.new-2.ensures.due c.new-2.ensures.parts c.new-2.ensures.total
     (search rules) (search rules) (search rules) c.requires in
     (body.0, body.1 ∙ ap (λ n. chunked_text n c.args.bytes.items c.args.words.trailers) (search rules))

@@ -11,25 +11,25 @@ pub returns-in_err-write_text-clause-sends : goal.returns-in_err-write_text-clau
 returns-in_err-write_text-clause-sends g c =
     let exit = err_from_is_err_and c.from_residual-in_err-write_text.result c.from_residual-in_err-write_text.ensures.1 in
     rw (exit.1, exit.2)
-    (bytes_halted _ _ _ c.in_ok-bytes.bytes _ _ (Unit {0}) (Unit {0}) _ c.in_err-write_text.field-0.0 c.in_ok-bytes.ensures.1 c.polls.invariant.left
+    (bytes_halted _ _ _ c.in_ok-bytes.bytes _ _ (Unit {0}) (Unit {0}) _ c.in_err-write_text.field-0.0 c.in_ok-bytes.ensures.text.1 c.polls.invariant.left
     (rw c.as_slice.ensures at c.in_err-write_text.ensures.sends))
 
 pub polls-preserved-in_ok-write_text : goal.polls-preserved-in_ok-write_text
 polls-preserved-in_ok-write_text g c =
     let sends = rw c.as_slice.ensures at c.in_ok-write_text.ensures.sends in
     record {
-      sound = c.in_ok-bytes.ensures.0;
+      sound = c.in_ok-bytes.ensures.text.0;
       count = c.in_ok-write_text.ensures.counts.stayed (λ failed. cc) ∙ c.polls.invariant.count;
-      left = bytes_gained _ _ _ c.in_ok-bytes.bytes _ _ _ c.in_ok-bytes.ensures.1 c.polls.invariant.left sends.1;
+      left = bytes_gained _ _ _ c.in_ok-bytes.bytes _ _ _ c.in_ok-bytes.ensures.text.1 c.polls.invariant.left sends.1;
     }
 
 pub polls-preserved : goal.polls-preserved
 polls-preserved g c =
     let sends = rw c.as_slice.ensures at c.in_ok-write_text.ensures.sends in
     record {
-      sound = c.in_ok-bytes.ensures.0;
+      sound = c.in_ok-bytes.ensures.text.0;
       count = c.in_ok-write_text.ensures.counts.stayed (λ failed. cc) ∙ c.polls.invariant.count;
-      left = bytes_gained _ _ _ c.in_ok-bytes.bytes _ _ _ c.in_ok-bytes.ensures.1 c.polls.invariant.left sends.1;
+      left = bytes_gained _ _ _ c.in_ok-bytes.bytes _ _ _ c.in_ok-bytes.ensures.text.1 c.polls.invariant.left sends.1;
     }
 
 pub returns-clause-sends : goal.returns-clause-sends

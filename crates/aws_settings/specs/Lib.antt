@@ -1,0 +1,3 @@
+pub mod AwsSettings
+pub mod Choice
+pub mod Faults
