@@ -61,7 +61,8 @@ class Makers:
 def can_run(case):
     """Whether what is outside of a real program can give what the case asks for."""
     keys = [key for key, _ in case.get("env", [])]
-    return not any(key in case for key in ("needs", "fail_write", "fail_read", "fail_disk")) and len(set(keys)) == len(keys)
+    faults = any(key in case for key in ("fail_write", "fail_read", "fail_disk"))
+    return not case.get("needs") and not faults and len(set(keys)) == len(keys)
 
 
 def lay(files):
