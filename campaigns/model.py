@@ -29,17 +29,21 @@ from runs import Ended
 # How many cases of which kinds a batch has, by the program; without kinds they are those of `gen_cases`.
 BATCH = (("firuvaik", None, 2000), ("firuvaik", ["settings", "chunk"], 150), ("presigned", ["presign"], 200), ("operation", ["operation"], 150))
 SIZE = sum(count for _, _, count in BATCH)
-# What cases can meet: exits, and behind them the names of FORMATS.md.
+# The refusals of a request and the failed tests of a chain, by the names of docs/FORMATS.md.
+REFUSALS = (
+    "ParseError MissingCredentials MissingSigningRegion MomentOutOfRange InvalidUri InvalidHeaderName InvalidHeaderValue MissingHost "
+    "InvalidTokenName MissingExpires InvalidHeaderNameLength HeaderValueTooLong TimestampValueTooLarge HeadersTooLong PayloadTooLong "
+    "MessageTooLong"
+).split()
+TESTS = "NoSignature NotFrame Headers Date Inner Mismatch AfterClosing NoClosing".split()
+# What cases can meet: exits, and the names behind them.
 EXITS = {
-    "firuvaik": {
-        0: [], 2: [], 4: [], 6: [],
-        7: "ParseError MissingCredentials MissingSigningRegion MomentOutOfRange InvalidUri InvalidHeaderName InvalidHeaderValue MissingHost "
-           "InvalidTokenName MissingExpires InvalidHeaderNameLength HeaderValueTooLong TimestampValueTooLarge HeadersTooLong PayloadTooLong MessageTooLong".split(),
-        8: "NoSignature NotFrame Headers Date Inner Mismatch AfterClosing NoClosing".split(),
-    },
+    "firuvaik": {0: [], 2: [], 4: [], 6: [], 7: REFUSALS, 8: TESTS},
     "presigned": {0: [], 2: [], 4: [], 6: [], 7: [], 8: []},
     "operation": {0: [], 2: [], 4: [], 6: [], 7: [], 12: []},
 }
+# How lines begin that are no step of a definition.
+BEGINNINGS = ("def ", "class ", '"', "import ", "from ", "@")
 # The most lines that are printed for cases that differ.
 MOST_LINES = 20
 runner = runs.Runner()
@@ -140,9 +144,10 @@ def tell(done, makers):
         met.update(it["met"])
     never = []
     for program, exits in EXITS.items():
-        print(f"model.py: {program}:", ", ".join(f"{count} of {key.split(' ', 1)[1]}" for key, count in sorted(met.items()) if key.split()[0] == program))
-        for status, names in exits.items():
-            never += [key for key in [f"{program} {status} {name}".strip() for name in names or [""]] if not any(it.startswith(key) for it in met)]
+        ends = [f"{count} of {key.split(' ', 1)[1]}" for key, count in sorted(met.items()) if key.startswith(f"{program} ")]
+        print(f"model.py: {program}:", ", ".join(ends))
+        wanted = [f"{program} {status} {name}".strip() for status, names in exits.items() for name in names or [""]]
+        never += [key for key in wanted if not any(it.startswith(key) for it in met)]
     if never:
         print("model.py: not met:", ", ".join(never))
     total = {key: sum(it[key] for it in done) for key in ("cases", "runs", "left out", "differ")}
@@ -165,13 +170,14 @@ def run_lines(makers, count):
         name = os.path.relpath(path, makers.folder)
         if name.startswith((".", "gen_", "cli")):
             continue
-        lines = {line for line, _ in trace._find_executable_linenos(path).items()}
-        text = open(path, encoding="utf-8").read().split("\n")
-        never = [line for line in sorted(lines - set(ran[path])) if not text[line - 1].lstrip().startswith(("def ", "class ", '"', "import ", "from ", "@"))]
-        inner = [line for line in never if text[line - 1].startswith(" ")]
-        print(f"model.py: {name}: {len(set(ran[path]) & lines)} lines ran, {len(inner)} not")
-        for line in inner:
-            print(f"  {name}:{line}: {text[line - 1].strip()}")
+        with open(path, encoding="utf-8") as file:
+            text = [""] + file.read().split("\n")
+        lines = set(trace._find_executable_linenos(path))
+        # Lines that run as the module is read, and no case's, aren't counted.
+        never = [line for line in sorted(lines - set(ran[path])) if text[line].startswith(" ") and not text[line].lstrip().startswith(BEGINNINGS)]
+        print(f"model.py: {name}: {len(set(ran[path]) & lines)} lines ran, {len(never)} not")
+        for line in never:
+            print(f"  {name}:{line}: {text[line].strip()}")
     return 0
 
 

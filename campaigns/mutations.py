@@ -152,7 +152,8 @@ def main():
         if ends:
             print(f"mutations.py: {program}:", ", ".join(ends))
     left = f", {campaign.left_out} left out for time" if campaign.left_out else ""
-    print(f"mutations.py: {counts['cases']} cases of the programs by {makers}, {counts['of the model']} of them by the model too{left}; {counts['differ']} differ")
+    by = f"{counts['cases']} cases of the programs by {makers}, {counts['of the model']} of them by the model too"
+    print(f"mutations.py: {by}{left}; {counts['differ']} differ")
     return 1 if counts["differ"] else 0
 
 
