@@ -20,6 +20,7 @@ rate() {
   }'
 }
 rate requests 20000 sign 20000
+rate requests 20000 presign 20000
 rate requests 20000 kept-sign 20000
 rate requests 20000 kept-request 20000
 rate requests 20000 signer 20000

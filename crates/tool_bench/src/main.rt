@@ -2,6 +2,7 @@
 //!
 //! ```notrust
 //! bench sign COUNT            signs a small request: three headers and no body
+//! bench presign COUNT         presigns a small request: no headers and no body
 //! bench kept-sign COUNT       signs such a request each time under one key
 //! bench kept-request COUNT    makes such a request each time, signs it under one key, and puts the signature in
 //! bench signer COUNT          does so by a signer, each a second after the last one

@@ -7,7 +7,8 @@ use aws_auth::{
 };
 use sigv4::event_stream::{SigningParams as EventParams, sign_empty_message, sign_message};
 use sigv4::{
-    SignableBody, SignableRequest, SigningOutput, SigningParams, SigningSettings, sign, v4,
+    SignableBody, SignableRequest, SignatureLocation, SigningOutput, SigningParams,
+    SigningSettings, sign, v4,
 };
 use smithy_core::{
     Credentials, Headers, HttpRequest, Identity, Message, Moment, Region, SigningName,
@@ -20,10 +21,33 @@ pub fn signatures(alloc: Global, count: u32) -> anyhow::Result<Digest> {
     let headers = example_headers(alloc)?;
     let mut digest = Digest::new();
     for number in 0..count {
-        let signature = signature_at(alloc, &identity, &headers, number)?;
+        let settings = SigningSettings::new(alloc)?;
+        let signature = signature_at(alloc, &identity, &headers, settings, number)?;
         digest = digest.with(signature.as_bytes());
     }
     Ok(digest)
+}
+
+/// Presigns a request without headers so many times, each a second after the last one.
+pub fn presignatures(alloc: Global, count: u32) -> anyhow::Result<Digest> {
+    let identity = example_identity(alloc)?;
+    let headers = Headers::new(alloc);
+    let mut digest = Digest::new();
+    for number in 0..count {
+        let settings = presigning_settings(alloc)?;
+        let signature = signature_at(alloc, &identity, &headers, settings, number)?;
+        digest = digest.with(signature.as_bytes());
+    }
+    Ok(digest)
+}
+
+// The settings of a signature in the query that is good for fifteen minutes.
+fn presigning_settings(alloc: Global) -> Result<SigningSettings, AllocError> {
+    Ok(SigningSettings {
+        signature_location: SignatureLocation::QueryParams,
+        expires_in: Some(900),
+        ..SigningSettings::new(alloc)?
+    })
 }
 
 // The signature of a small request so many seconds after the first.
@@ -31,9 +55,9 @@ fn signature_at(
     alloc: Global,
     identity: &Identity,
     headers: &Headers,
+    settings: SigningSettings,
     number: u32,
 ) -> anyhow::Result<String> {
-    let settings = SigningSettings::new(alloc)?;
     let at = moment_of(number);
     let params = v4::SigningParams::new(identity, "us-east-1", "service", at, settings);
     signature_under(alloc, headers, &SigningParams::V4(params))

@@ -9,6 +9,7 @@ use std::fmt;
 #[derive(Clone, Copy, Debug, PartialEq, Eq)]
 pub enum Work {
     Sign { count: u32 },
+    Presign { count: u32 },
     KeptSign { count: u32 },
     KeptRequest { count: u32 },
     Signer { count: u32 },
@@ -47,6 +48,7 @@ impl Work {
     fn each(alloc: Global, count: u32) -> Result<Vec<Work>, AllocError> {
         let works = vec![in alloc;
             Work::Sign { count },
+            Work::Presign { count },
             Work::KeptSign { count },
             Work::KeptRequest { count },
             Work::Signer { count },
@@ -83,6 +85,7 @@ impl Work {
     fn counted(kind: &str, count: u32) -> Option<Work> {
         match kind {
             "sign" => Some(Work::Sign { count }),
+            "presign" => Some(Work::Presign { count }),
             "kept-sign" => Some(Work::KeptSign { count }),
             "kept-request" => Some(Work::KeptRequest { count }),
             "signer" => Some(Work::Signer { count }),
@@ -114,6 +117,7 @@ impl Work {
     pub fn answers(self, alloc: Global) -> anyhow::Result<Digest> {
         match self {
             Work::Sign { count } => signing::signatures(alloc, count),
+            Work::Presign { count } => signing::presignatures(alloc, count),
             Work::KeptSign { count } => kept::signatures(alloc, count),
             Work::KeptRequest { count } => requests::by_key(alloc, count),
             Work::Signer { count } => requests::by_signer(alloc, count),
@@ -139,6 +143,7 @@ impl fmt::Display for Work {
     fn fmt<W: fmt::Write>(&self, f: &mut fmt::Formatter<W>) -> fmt::Result {
         match self {
             Work::Sign { count } => write!(f, "sign {count}"),
+            Work::Presign { count } => write!(f, "presign {count}"),
             Work::KeptSign { count } => write!(f, "kept-sign {count}"),
             Work::KeptRequest { count } => write!(f, "kept-request {count}"),
             Work::Signer { count } => write!(f, "signer {count}"),

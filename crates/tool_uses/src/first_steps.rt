@@ -52,9 +52,9 @@ pub fn frames(alloc: Global, signer: &Signer, seed: &str, at: Moment) -> Result<
     signer.events(seed)?.all_frames(&events, at)
 }
 
-/// How many messages the frames hold, and how many events that were signed after this signature.
+/// How many signed messages the frames hold, and how many events that were signed after this signature.
 pub fn counts(alloc: Global, by: &Signer, seed: &str, sent: Vec<Bytes>) -> Result<(usize, usize)> {
     let events = by.check_events(seed, &sent)?;
-    let messages: Vec<Message> = received(alloc, sent)?.try_collect(alloc)?;
-    Ok((messages.len(), events.len()))
+    let signed: Vec<Message> = received(alloc, sent)?.try_collect(alloc)?;
+    Ok((signed.len(), events.len()))
 }
