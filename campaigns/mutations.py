@@ -1,8 +1,8 @@
 #!/usr/bin/env python3
 """Mutates the stored inputs of runs.py and the words of its runs: each byte is replaced by two others, removed and doubled, and each
 input is cut at each byte; where the input is empty, each file that the words name is mutated in its place. The programs of both
-compilers run on each. They have to agree in exit number, output and error, no signal may end one, and the exit number is 0 or 2
-to 10. A line for each run that doesn't, and then a line of counts; the status is 1 where there was one.
+compilers run on each. They have to agree in exit number, output and error, no signal may end one, and the exit number is one that
+the program may have. A line for each run that doesn't, and then a line of counts; the status is 1 where there was one.
   campaigns/mutations.py [--model FOLDER] [--seconds N] [WORD]    the runs whose names hold WORD, in N seconds (1800)
 
 FOLDER is a reference model in Python, to be imported as `model`, which then has to agree too: `run` of its `program` takes words,
@@ -23,7 +23,7 @@ from runs import Ended
 # The module and the function that stand for a program in the reference model.
 MODELS = {"firuvaik": ("program", "run"), "presigned": ("presign", "run_presigned"), "operation": ("operation", "run_operation")}
 # 12 is the fault of an operation's transport.
-EXITS = {0, *range(2, 11), 12}
+EXITS = {"firuvaik": {0, *range(2, 11)}, "presigned": {0, *range(2, 11)}, "operation": {0, *range(2, 8), 9, 10, 12}, "awsign": {0, 1, 2, 3}}
 # The second byte in place of one, by its place.
 SIGNS = b"\n \xff0:=\t[#A"
 # The most lines that are printed.
@@ -57,8 +57,8 @@ def is_text(words):
     return not any("\udc80" <= sign <= "\udcff" for word in words for sign in word)
 
 
-def asks_the_clock(words):
-    return words[:1] == ["stream"] and "--at" not in words
+def asks_the_clock(run, words):
+    return "--at" not in words and (run.program != "firuvaik" or words[:1] == ["stream"])
 
 
 class Campaign:
@@ -83,13 +83,13 @@ class Campaign:
         found = {compiler: self.runner.run(path, words, run.env(), data) for compiler, path in runs.built(run.program).items()}
         first = next(iter(found.values()))
         self.counts["cases"] += 1
-        self.exits[first.status] += 1
-        if asks_the_clock(words):
+        self.exits[run.program, first.status] += 1
+        if asks_the_clock(run, words):
             found = {compiler: it._replace(out=b"") for compiler, it in found.items()}
         elif is_text(words) and (model := self.model_of(run)):
             found["model"] = Ended(*model(words, list(run.env().items()), data, self.files, [(0, 0)]))
             self.counts["of the model"] += 1
-        if len(set(found.values())) > 1 or first.status not in EXITS:
+        if len(set(found.values())) > 1 or first.status not in EXITS[run.program]:
             self.tell(run, name, words, data, found)
 
     def tell(self, run, name, words, data, found):
@@ -104,7 +104,7 @@ class Campaign:
             self.case(run, name, other, data)
         for name, other in changes(data):
             self.case(run, name, run.argv(), other)
-        for path in [] if data else run.files():
+        for path in [] if data else run.files() + run.named("--data"):
             self.mutate_file(run, path)
 
     def mutate_file(self, run, path):
@@ -131,7 +131,8 @@ def main():
     parser.add_argument("--seconds", type=int, default=1800)
     parser.add_argument("only", nargs="?", default="")
     given = parser.parse_args()
-    makers = runs.makers("mutations.py")
+    table = runs.named(given.only)
+    makers = runs.makers("mutations.py", {run.program for run in table})
     model = None
     if given.model:
         folder = os.path.abspath(given.model)
@@ -142,13 +143,17 @@ def main():
         os.chdir(folder)
         runs.lay(folder)
         campaign.files = laid_files()
-        for run in runs.RUNS:
-            if given.only in run.name:
-                campaign.mutate(run)
+        for run in table:
+            campaign.mutate(run)
         os.chdir("/")
-    counts, exits = campaign.counts, ", ".join(f"{count} ended with {status}" for status, count in sorted(campaign.exits.items()))
+    counts = campaign.counts
+    for program in EXITS:
+        ends = [f"{count} ended with {status}" for (name, status), count in sorted(campaign.exits.items()) if name == program]
+        if ends:
+            print(f"mutations.py: {program}:", ", ".join(ends))
     left = f", {campaign.left_out} left out for time" if campaign.left_out else ""
-    print(f"mutations.py: {counts['cases']} cases of the programs by {makers}, {counts['of the model']} of them by the model too: {exits}{left}; {counts['differ']} differ")
+    by = f"{counts['cases']} cases of the programs by {makers}, {counts['of the model']} of them by the model too"
+    print(f"mutations.py: {by}{left}; {counts['differ']} differ")
     return 1 if counts["differ"] else 0
 
 

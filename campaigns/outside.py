@@ -3,7 +3,7 @@
 is interrupted, by a library that is loaded before the C library; and then real outputs, files, pipes, terminals and limits of the
 operating system. Each run has to end with the exit number and the line that docs/FORMATS.md states, and to hold a front of the
 whole output. A line for each run that did something else, and then a line of counts; the status is 1 where there was one.
-  campaigns/outside.py [WORD]    the runs whose names hold WORD alone
+  campaigns/outside.py [WORD]    the runs whose names hold WORD, or of the program WORD, alone
 
 It needs a C compiler, and the programs built. What no permission does is tried as the user nobody where it runs as root.
 """
@@ -24,12 +24,12 @@ import threading
 import time
 
 import runs
-from runs import Ended, built, lay, stored
+from runs import BODY, Ended, built, lay, stored, taken
 
 # The calls of the C library. FAULT is `CALL NUMBER HOW`: the call with this number, counted from 1, `N+` for it and each one after
 # it, `odd` for each call with an odd number. HOW is an error's number or `short` (one byte). `read NUMBER HOW PATH NAME` does
-# something else to the file at the path before a read of NAME: it does `grow`, `shrink` or `vanish`. NAME is `input` or the path of
-# a file. What was done is told on descriptor 3.
+# something else to the file at the path before a read of NAME: it does `grow`, `shrink` or `vanish`, or fails where the path is `-`.
+# NAME is `input` or the path of a file. What was done is told on descriptor 3.
 SHIM = r"""
 #define _GNU_SOURCE
 #include <dlfcn.h>
@@ -43,7 +43,7 @@ SHIM = r"""
 #include <time.h>
 #include <unistd.h>
 
-static char call[16], how[16], file[512], on[512], which[16], opened[64][512];
+static char call[16], how[16], file[512] = "-", on[512], which[16], opened[64][512];
 static long calls, number;
 
 static void ask(void) {
@@ -89,9 +89,9 @@ ssize_t read(int fd, void *into, size_t size) {
   static ssize_t (*next)(int, void *, size_t);
   if (!next) next = (ssize_t (*)(int, void *, size_t))dlsym(RTLD_NEXT, "read");
   if (!is_met("read", name_of(fd))) return next(fd, into, size);
-  if (*file) change();
+  if (strcmp(file, "-")) change();
   else if (strcmp(how, "short")) return errno = atoi(how), -1;
-  return next(fd, into, *file ? size : size > 0);
+  return next(fd, into, strcmp(file, "-") ? size : size > 0);
 }
 
 ssize_t write(int fd, const void *from, size_t size) {
@@ -146,8 +146,9 @@ ODD_FILES = {
     "endless": lambda path: os.symlink("/dev/zero", path),
     "one that can't be read": lambda path: os.symlink("/proc/self/mem", path),
 }
-# Paths that no file has.
-ODD_PATHS = ("", "a" * 256, "a/" * 3000, "config/", "/", "none\n%s", "é", "./none")
+# Paths that no file can have, and some that no file has.
+BAD_PATHS = ("", "a" * 256, "a/" * 3000, "config/", "/", "/no/such")
+ODD_PATHS = (*BAD_PATHS, "none\n%s", "é", "./none")
 # The most numbers that one call of one run is tried with.
 MOST_NUMBERS = 400
 # Seconds after which a run counts as one that doesn't end.
@@ -155,8 +156,6 @@ MOST_SECONDS = 60
 NOBODY = 65534
 # The number of Linux's call of fcntl that sets how much a pipe holds.
 F_SETPIPE_SZ = 1031
-READ_FAULT = Ended(5, b"", b"read fault\n")
-OUTPUT_FAULT = Ended(9, b"", b"output fault\n")
 
 runner = runs.Runner()
 counts = {"runs": 0, "failed": 0}
@@ -183,22 +182,30 @@ class Program:
     """A run of the table, by one compiler's program."""
 
     def __init__(self, run, path):
-        self.run, self.path = run, path
+        self.run, self.path, self.said, self.whole = run, path, run.said(), None
         self.name = f"{run.name} of {os.path.basename(path)}"
         self.data = stored(run.input)
         self.whole = self.end()
-        # Whether the run reads its input, and before its files: `watch` reads these first.
-        self.reads_first = self.end(f"read 1 {errno.EIO}").status == 5
+        # Whether the run reads its input, and before its files: `watch` and `awsign sign` read these first.
+        self.reads_input = self.end(f"read 1 {errno.EIO} - input") == self.said.read_fault
+        self.reads_first = self.reads_input and self.end(f"read 1 {errno.EIO}") == self.said.read_fault
+
+    def finished(self, found):
+        """An end without the note that comes first, and where it isn't the whole run's without a front of the file that this makes."""
+        is_cut = self.whole and found.status != self.whole.status and is_front(found.file, self.whole.file)
+        return found._replace(err=found.err.removeprefix(self.run.note.encode()), file=b"" if is_cut else found.file)
 
     def end(self, fault=None, words=None, data=None, told=None):
         """How the run ends, with a fault in `FAULT`'s form."""
         env = self.run.env()
         if fault:
             env.update(FAULT=fault, LD_PRELOAD=os.path.abspath("faults.so"))
-        return runner.run(self.path, self.run.argv() if words is None else words, env, self.data if data is None else data, told)
+        return self.finished(runner.run(self.path, self.run.argv() if words is None else words, env, self.data if data is None else data, told))
 
     def without(self, path):
         """How the run ends where the file at the path is absent."""
+        if not os.path.exists(path):
+            return self.whole
         os.rename(path, path + ".away")
         try:
             return self.end()
@@ -214,16 +221,16 @@ class Program:
             done = subprocess.run(words, timeout=MOST_SECONDS, check=False, **given, **how)
         except subprocess.TimeoutExpired:
             return Ended(-signal.SIGKILL, b"", b"it doesn't end")
-        return Ended(done.returncode, done.stdout or b"", done.stderr or b"")
-
-
-def could_not_read(path):
-    return Ended(6, b"", f"could not read file {path}\n".encode())
+        return self.finished(Ended(done.returncode, done.stdout or b"", done.stderr or b"", taken(BODY)))
 
 
 def of_file(program, path):
-    """What is wanted where the file at the path can't be read: a named one ends the run, a default one counts as absent."""
-    return could_not_read(path) if path in program.run.files() else program.without(path)
+    """What is wanted where the file at the path fails: a named one ends the run, a default one counts as absent."""
+    if path in program.run.named("--data"):
+        return program.said.data_fault
+    if path in program.run.named("--out"):
+        return program.said.file_fault
+    return program.said.could_not_read(path) if path in program.run.files() else program.without(path)
 
 
 def failed_call(program, met, found):
@@ -235,9 +242,9 @@ def failed_call(program, met, found):
     elif name == "error":
         expect(case, found._replace(err=b"") if is_front(found.err, program.whole.err) else found, program.whole._replace(err=b""))
     elif name == "input":
-        expect_front(case, found, READ_FAULT, program.whole)
+        expect_front(case, found, program.said.read_fault, program.whole)
     elif name == "output":
-        expect_front(case, found, OUTPUT_FAULT, program.whole)
+        expect_front(case, found, program.said.output_fault, program.whole)
     else:
         expect(case, found, of_file(program, name))
 
@@ -282,13 +289,15 @@ def calls_fail_from_then_on(program, told):
         met = runs.content_of(told).decode().split("\n")[0]
         if not met:
             break
-        wanted = OUTPUT_FAULT if met == "write output" else program.whole
+        # Behind a note that fails comes the output, which fails too.
+        met = "write output" if met == "write error" and program.run.note else met
+        wanted = {"write output": program.said.output_fault, f"write {BODY}": program.said.file_fault}.get(met, program.whole)
         expect_front(f"{program.name}: {met} and all after it fail", found, wanted._replace(err=b""), program.whole)
 
 
 def files_change(program):
     """A named file grows, shrinks or vanishes before one of its reads: what is read is the file before or after that."""
-    for path in program.run.files():
+    for path in program.run.files() + program.run.named("--data"):
         content = stored(path)
         for how, other in (("grow", content + b"region = grown\n"), ("shrink", b""), ("vanish", content)):
             with open(path, "wb") as file:
@@ -301,7 +310,7 @@ def files_change(program):
             with open(path, "wb") as file:
                 file.write(content)
         if program.reads_first:
-            expect(f"{program.name}: {path} does vanish before it is opened", program.end(f"read 1 vanish {path} input"), could_not_read(path))
+            expect(f"{program.name}: {path} does vanish before it is opened", program.end(f"read 1 vanish {path} input"), of_file(program, path))
             with open(path, "wb") as file:
                 file.write(content)
 
@@ -320,18 +329,18 @@ def input_changes(program):
 
 def outputs(program):
     """Full, closed and limited outputs."""
-    whole = program.whole
+    whole, fault = program.whole, program.said.output_fault
     if whole.out:
         with open("/dev/full", "wb") as full:
-            expect(f"{program.name}: a full output", program.over(stdout=full), OUTPUT_FAULT)
-        expect(f"{program.name}: no output", program.over(preexec_fn=lambda: os.close(1)), OUTPUT_FAULT)
+            expect(f"{program.name}: a full output", program.over(stdout=full), fault)
+        expect(f"{program.name}: no output", program.over(preexec_fn=lambda: os.close(1)), fault)
         for limit in {1, len(whole.out) // 2, len(whole.out) - 1}:
             with open("limited", "w+b") as file:
                 found = program.over(stdout=file, preexec_fn=lambda: limit_file(limit))
                 file.seek(0)
-                wanted = OUTPUT_FAULT._replace(out=whole.out[:limit])
+                wanted = fault._replace(out=whole.out[:limit]) if limit >= len(whole.file) else program.said.file_fault
                 expect(f"{program.name}: an output of at most {limit} bytes", found._replace(out=file.read()), wanted)
-        closed_pipe(program)
+        closed_pipe(program, fault)
     if whole.err:
         with open("/dev/full", "wb") as full:
             expect(f"{program.name}: a full error output", program.over(stderr=full), whole._replace(err=b""))
@@ -343,14 +352,14 @@ def limit_file(size):
     resource.setrlimit(resource.RLIMIT_FSIZE, (size, size))
 
 
-def closed_pipe(program):
+def closed_pipe(program, fault):
     """Nobody reads the output: the run ends with the output fault, whether or not the signal for that is ignored when it starts."""
     for ignored in (True, False):
         reader, writer = os.pipe()
         os.close(reader)
         found = program.over(stdout=writer, restore_signals=not ignored)
         os.close(writer)
-        expect(f"{program.name}: a closed pipe, its signal {'ignored' if ignored else 'not ignored'}", found, OUTPUT_FAULT)
+        expect(f"{program.name}: a closed pipe, its signal {'ignored' if ignored else 'not ignored'}", found, fault)
 
 
 def inputs(program):
@@ -362,7 +371,7 @@ def inputs(program):
         stack.callback(os.close, reader)
         stack.callback(os.close, writer)
         os.set_blocking(reader, False)
-        wanted = READ_FAULT if program.reads_first or program.run.argv()[0] == "watch" else program.whole
+        wanted = program.said.read_fault if program.reads_input else program.whole
         expect(f"{program.name}: a folder as the input", program.over(stdin=folder), wanted)
         expect(f"{program.name}: an empty pipe that doesn't wait", program.over(stdin=reader), wanted)
         expect(f"{program.name}: no input", program.over(stdin=None, preexec_fn=lambda: os.close(0)), wanted)
@@ -377,7 +386,7 @@ def in_pieces(program):
         for at in range(0, len(program.data), 97):
             process.stdin.write(program.data[at : at + 97])
     out, err = process.communicate(timeout=MOST_SECONDS)
-    expect(f"{program.name}: an input in pieces", Ended(process.returncode, out, err), program.whole)
+    expect(f"{program.name}: an input in pieces", program.finished(Ended(process.returncode, out, err, taken(BODY))), program.whole)
 
 
 def files(program):
@@ -385,7 +394,7 @@ def files(program):
     paths = program.run.files() or [path for path in ("home/.aws/config", "home/.aws/credentials") if program.without(path) != program.whole]
     for path in paths:
         os.rename(path, "kept")
-        wanted = could_not_read(path) if program.run.files() else program.end()
+        wanted = program.said.could_not_read(path) if program.run.files() else program.end()
         for case, make in ODD_FILES.items():
             make(path)
             expect(f"{program.name}: {path} is {case}", program.over(), wanted)
@@ -394,9 +403,54 @@ def files(program):
         without_permission(program, path, wanted)
         os.rename("kept", path)
     expect(f"{program.name}: no file can be opened", program.end(f"open 1+ {errno.EMFILE}"), program.whole if not paths else no_files(program))
-    for option in ("--config", "--credentials"):
-        if option in program.run.argv():
+    for option in ("--config", "--credentials", "--data", "--out"):
+        if program.run.named(option):
             odd_paths(program, option)
+    for path in program.run.named("--data"):
+        data_file(program, path)
+    for path in program.run.named("--out"):
+        written_file(program, path)
+
+
+def data_file(program, path):
+    """The data is something else than a file that can be read."""
+    os.rename(path, "kept")
+    for case, make in ODD_FILES.items():
+        if case != "endless":
+            make(path)
+            expect(f"{program.name}: {path} is {case}", program.over(), program.said.data_fault)
+            remove(path)
+    with_pipe(program, path)
+    without_permission(program, path, program.said.data_fault)
+    os.rename("kept", path)
+
+
+def written_file(program, path):
+    """The file that is written is full, no file, may not be written, or is there already."""
+    fault = program.said.file_fault
+    for case, make in {
+        "full": lambda: os.symlink("/dev/full", path),
+        "a folder": lambda: os.mkdir(path),
+        "a link to itself": lambda: os.symlink(os.path.basename(path), path),
+        "a link into no folder": lambda: os.symlink("/no/such", path),
+    }.items():
+        make()
+        expect(f"{program.name}: {path} is {case}", program.over(), fault)
+        remove(path)
+    for case, content in (("empty", b""), ("longer", bytes(100_000))):
+        with open(path, "wb") as file:
+            file.write(content)
+        expect(f"{program.name}: {path} is there, {case}", program.over(), program.whole)
+    with open(path, "wb"):
+        os.chmod(path, 0)
+    expect(f"{program.name}: {path} may not be written", program.over(**nobody()), fault)
+    for limit in {0, 1, len(program.whole.file) - 1}:
+        expect(f"{program.name}: {path} of at most {limit} bytes", program.over(preexec_fn=lambda: limit_file(limit)), fault)
+
+
+def nobody():
+    """How to run as a user who may do nothing, where that can be done."""
+    return {"user": NOBODY, "group": NOBODY, "extra_groups": []} if os.geteuid() == 0 else {}
 
 
 def remove(path):
@@ -407,9 +461,9 @@ def remove(path):
 
 
 def no_files(program):
-    """How a run ends that can open no file: at its first named one, or as without the default ones."""
-    if program.run.files():
-        return could_not_read(program.run.files()[0])
+    """How a run ends that can open no file: at its data, its first named one, or as without the default ones."""
+    for path in program.run.named("--data") + program.run.files():
+        return of_file(program, path)
     return program.over(env={**program.run.env(), "HOME": "none"})
 
 
@@ -433,7 +487,7 @@ def with_pipe(program, path):
 
 def without_permission(program, path, wanted):
     """The user may not read the file, or may not enter its folder."""
-    user = {"user": NOBODY, "group": NOBODY, "extra_groups": []} if os.geteuid() == 0 else {}
+    user = nobody()
     shutil.copyfile("kept", path)
     expect(f"{program.name}: as another user", program.over(**user), program.whole)
     os.chmod(path, 0)
@@ -449,16 +503,17 @@ def without_permission(program, path, wanted):
 
 
 def odd_paths(program, option):
-    """A named path that no file has."""
-    for path in ODD_PATHS:
+    """A named path that no file has, or that none can have, where the file is written."""
+    faults = {"--data": program.said.data_fault, "--out": program.said.file_fault}
+    for path in BAD_PATHS if option == "--out" else ODD_PATHS:
         words = program.run.argv()
         words[words.index(option) + 1] = path
-        expect(f"{program.name}: {option} {path[:20]!r}", program.end(words=words), could_not_read(path))
+        expect(f"{program.name}: {option} {path[:20]!r}", program.end(words=words), faults.get(option) or program.said.could_not_read(path))
 
 
 def terminal(program):
     """Input, output and error are one terminal; the input ends by Control-D."""
-    if b"\x00" in program.data or program.run.argv()[0] in ("watch", "chunk"):
+    if b"\x00" in program.data or b"\r" in program.data or program.run.argv()[0] in ("watch", "chunk"):
         return
     master, slave = pty.openpty()
     modes = termios.tcgetattr(slave)
@@ -470,7 +525,7 @@ def terminal(program):
     os.close(slave)
     shown = converse(master, process, program.data)
     os.close(master)
-    wanted = Ended(program.whole.status, program.whole.out + program.whole.err, b"")
+    wanted = Ended(program.whole.status, program.run.note.encode() + program.whole.out + program.whole.err, b"")
     expect(f"{program.name}: at a terminal", Ended(process.wait(MOST_SECONDS), shown, b""), wanted)
 
 
@@ -505,7 +560,7 @@ def large_output(compiler, path):
     for taken in (1, 4096, 100_000, len(whole) - 70_000):
         for ignored in (True, False):
             found = left_after(words, taken, ignored)
-            wanted = OUTPUT_FAULT._replace(out=whole[:taken])
+            wanted = runs.STREAMS.output_fault._replace(out=whole[:taken])
             expect(f"stream of {compiler}: a reader that leaves after {taken} bytes, its signal {'ignored' if ignored else 'not ignored'}", found, wanted)
     expect(f"stream of {compiler}: a slow reader", slow_reader(words) == whole, True)
 
@@ -537,13 +592,12 @@ def slow_reader(words):
     return b"".join(got)
 
 
-def clock(compiler, path):
+def clock(path, words, data):
     """Where the clock gives nothing, each moment is second 0."""
     env = {"HOME": "home", "LD_PRELOAD": os.path.abspath("faults.so")}
-    words = ["stream", "--name", "a"]
-    fixed = runner.run(path, [*words, "--at", "0"], env, stored("bare.job"))
-    found = runner.run(path, words, {**env, "FAULT": f"clock 1+ {errno.EINVAL}"}, stored("bare.job"))
-    expect(f"stream of {compiler}: a clock that fails", found, fixed)
+    fixed = runner.run(path, [*words, "--at", "0"], env, data)
+    found = runner.run(path, words, {**env, "FAULT": f"clock 1+ {errno.EINVAL}"}, data)
+    expect(f"{' '.join(words)} of {os.path.basename(path)}: a clock that fails", found, fixed)
 
 
 def tries(program, told):
@@ -559,22 +613,26 @@ def tries(program, told):
 
 
 def main():
-    makers = runs.makers("outside.py")
     only = sys.argv[1] if len(sys.argv) > 1 else ""
+    table = runs.named(only)
+    makers = runs.makers("outside.py", {run.program for run in table})
     with tempfile.TemporaryDirectory() as folder:
         os.chdir(folder)
-        os.chmod(folder, 0o755)
+        # So that `awsign chunk` can write there as another user.
+        os.chmod(folder, 0o777)
         lay(folder)
         subprocess.run(["cc", "-shared", "-fPIC", "-O1", "-w", "-x", "c", "-", "-o", "faults.so", "-ldl"], input=SHIM.encode(), check=True)
         told = os.memfd_create("told")
-        for run in runs.RUNS:
+        for run in table:
             for path in built(run.program).values():
-                if only in run.name:
-                    tries(Program(run, path), told)
-        for compiler, path in built("firuvaik").items():
-            if only in "stream":
+                tries(Program(run, path), told)
+        if only in "stream":
+            for compiler, path in built("firuvaik").items():
                 large_output(compiler, path)
-                clock(compiler, path)
+                clock(path, ["stream", "--name", "a"], stored("bare.job"))
+        if only in "sign":
+            for path in built("awsign").values():
+                clock(path, ["sign", "GET", "https://h.example/", "--service", "a"], b"")
         os.chdir("/")
     print(f"outside.py: {counts['runs']} runs of the programs by {makers}, {counts['failed']} failed")
     return 1 if counts["failed"] else 0

@@ -1,26 +1,32 @@
 #!/usr/bin/env python3
-"""Lets other programs read what `stream`, `stream --raw` and `chunk` write, and `check` and `watch` read what these write: requests,
-presigned requests, chains of signed events and bodies in chunks that are made up. A line for each that differs, and then a line
-of counts for each peer; the status is 1 where there was one.
-  campaigns/peers.py [COUNT] [SEED]    COUNT cases for each peer (1000), made from SEED (1)
+"""Lets other programs read what `stream`, `stream --raw` and `chunk` write, and `check`, `watch`, `presigned` and `awsign verify` read
+what these write: requests, presigned requests, chains of signed events and bodies in chunks that are made up. A line for each that
+differs, and then a line of counts for each peer; the status is 1 where there was one.
+  campaigns/peers.py [COUNT] [--seed N] [--first N] [--seconds N]    COUNT cases for each peer (1000), made from a seed (1), from the
+                                                                     case FIRST (0) on, in so many seconds (1200)
 
-The peers are those that are there: botocore, whose signers and whose decoder of event streams are called (it has no encoder and no
-signer of events, which are Python's here, over `hmac`); the SDK for Go, by peers/peer.go, with Debian's packages golang-go and
-golang-github-aws-aws-sdk-go-v2-dev; and the gem aws-sigv4, by peers/peer.rb, with Debian's package ruby-aws-sigv4.
+The peers are those that are there: botocore, whose signers, whose body in chunks and whose decoder of event streams are called (it has no
+encoder and no signer of events, which are Python's here, over `hmac`); the SDK for Go, by peers/peer.go, with Debian's packages golang-go
+and golang-github-aws-aws-sdk-go-v2-dev; and the gems aws-sigv4 and aws-sdk-core, by peers/peer.rb, with Debian's packages of these names.
+Chunks are read by the readers of HTTP that the three languages have.
 What the peers are known to do otherwise isn't made up: a path that ends in `.` or `..` (all), or has other empty or dotted pieces
 (Go, Ruby); a query whose names have escapes (Go sorts them before it escapes them) or repeat (botocore's presigner, Ruby); a
 header `user-agent` or `expect`, and headers `x-amz-` in a presigned request (Go puts them into the query); and white space other
 than U+0020. Ruby writes `:date` before `:chunk-signature`, which `watch` refuses, as docs/FORMATS.md has it: that is tried once a
 case, and then the other order.
 """
+import argparse
+import base64
 import contextlib
 import datetime
 import hashlib
 import hmac
+import http.client
 import io
 import json
 import os
 import random
+import shutil
 import subprocess
 import sys
 import tempfile
@@ -39,8 +45,8 @@ with contextlib.suppress(ImportError):
 PEERS = os.path.join(runs.HERE, "peers")
 UNSIGNED = "UNSIGNED-PAYLOAD"
 UNRESERVED = "ABCDEFGHIJKLMNOPQRSTUVWXYZabcdefghijklmnopqrstuvwxyz0123456789-._~"
-# Seconds that all peers together have.
-MOST_SECONDS = 1200
+SDK = "github.com/aws/aws-sdk-go-v2"
+CHECKSUM = "x-amz-checksum-crc32"
 runner = runs.Runner()
 
 
@@ -93,7 +99,7 @@ def request_of(rng, presigned, peer):
         "Secret": text(rng, UNRESERVED + "/+", 40, 1),
         "Token": rng.choice(["", "", text(rng, UNRESERVED + "/+=", 60, 1)]),
         "Region": rng.choice(["us-east-1", "eu-west-3", "r"]),
-        "Name": rng.choice(["service", "s3", "transcribe"]),
+        "Name": "s3" if presigned and once else rng.choice(["service", "s3", "transcribe"]),
         "At": rng.randrange(0, 4_000_000_000),
         "Expires": rng.randrange(1, 604_801),
     }
@@ -209,6 +215,21 @@ class Botocore:
         kind = botocore.auth.S3SigV4QueryAuth if task["Once"] else botocore.auth.SigV4QueryAuth
         return self.signed(task, lambda *given: kind(*given, expires=task["Expires"])).url
 
+    @staticmethod
+    def wrap(task):
+        body = io.BytesIO(bytes.fromhex(task["Body"]))
+        return b"".join(botocore.httpchecksum.AwsChunkedWrapper(body, botocore.httpchecksum.Crc32Checksum, CHECKSUM, task["Size"])).hex()
+
+    @staticmethod
+    def unwrap(task):
+        class Socket:
+            def makefile(self, _):
+                return io.BytesIO(b"HTTP/1.1 200 OK\r\ntransfer-encoding: chunked\r\n\r\n" + bytes.fromhex(task["Body"]))
+
+        response = http.client.HTTPResponse(Socket())
+        response.begin()
+        return response.read().hex()
+
     def link(self, task, signature, payload, milliseconds):
         """The signature of an event after another one, and the header `:date` in a frame."""
         moment = datetime.datetime.fromtimestamp(milliseconds // 1000, datetime.timezone.utc)
@@ -269,9 +290,14 @@ class Spoken:
 def go_peer(folder):
     """The SDK for Go, where its package is there and builds."""
     source = "/usr/share/gocode"
-    if not os.path.isdir(f"{source}/src/github.com/aws/aws-sdk-go-v2"):
+    # The SDK's own chunks are internal, so that their file is taken into a package of this one's.
+    chunks = f"{source}/src/{SDK}/service/internal/checksum/aws_chunked_encoding.go"
+    if not os.path.isfile(chunks):
         return None
-    env = {**os.environ, "GO111MODULE": "off", "GOPATH": source, "GOCACHE": f"{folder}/cache", "GOFLAGS": ""}
+    os.makedirs(f"{folder}/src/checksum")
+    for path in (chunks, f"{PEERS}/chunked.go"):
+        shutil.copy(path, f"{folder}/src/checksum")
+    env = {**os.environ, "GO111MODULE": "off", "GOPATH": f"{folder}:{source}", "GOCACHE": f"{folder}/cache", "GOFLAGS": ""}
     with contextlib.suppress(OSError):
         if subprocess.run(["go", "build", "-o", f"{folder}/peer", f"{PEERS}/peer.go"], env=env, check=False).returncode == 0:
             return Spoken("go", [f"{folder}/peer"], True)
@@ -281,7 +307,7 @@ def go_peer(folder):
 def ruby_peer():
     """The gems for Ruby, where they are there."""
     with contextlib.suppress(OSError):
-        if subprocess.run(["ruby", "-e", "require 'aws-sigv4'; require 'aws-eventstream'"], stderr=subprocess.DEVNULL, check=False).returncode == 0:
+        if subprocess.run(["ruby", "-e", "require 'aws-sigv4'; require 'aws-eventstream'; require 'aws-sdk-core'"], stderr=subprocess.DEVNULL, check=False).returncode == 0:
             return Spoken("ruby", ["ruby", f"{PEERS}/peer.rb"], False)
     return None
 
@@ -327,16 +353,54 @@ def compare_presigned(compared, path, rng):
     wanted = compared.peer.do(task)
     same = [sorted(parse_qsl(urlsplit(str(text)).query, keep_blank_values=True)) for text in (url, wanted)]
     compared.expect("presigned requests", same[0], same[1], task)
+    place = wanted.index("X-Amz-Signature=") + len("X-Amz-Signature=") + rng.randrange(64)
+    bad = wanted[:place] + ("1" if wanted[place] == "0" else "0") + wanted[place + 1 :]
+    until = task["At"] + task["Expires"]
+    if task["Once"]:
+        told = [line for line in verified(wanted, task).out.decode().split("\n") if line.startswith(("key", "payload", "until"))]
+        stamp = datetime.datetime.fromtimestamp(until, datetime.timezone.utc)
+        lines = [f"key {task['Key']}", f"until {stamp:%Y-%m-%dT%H:%M:%SZ}", "payload unsigned"]
+        compared.expect("URLs verified", told, lines, task)
+        compared.expect("forged URLs verified", verified(bad, task).status, 1, task)
+    else:
+        found, forged_url = (checked(url, task) for url in (wanted, bad))
+        compared.expect("URLs checked", (found.status, found.out), (0, b"valid until %d\n" % until), task)
+        compared.expect("forged URLs checked", (forged_url.status, forged_url.err), (8, b"check failed Mismatch\n"), task)
+
+
+def checked(url, task):
+    """How `presigned` ends over a URL."""
+    path = compiled("presigned")
+    return runner.run(path, ["--name", task["Name"], "--at", str(task["At"])], {}, job_of({**task, "Url": url}, []))
+
+
+def verified(url, task):
+    """How `awsign verify` ends over a URL, by the rules of Amazon S3."""
+    path = compiled("awsign")
+    headers = [word for name, value in task["Headers"] for word in ("-H", f"{name}: {value}")]
+    env = {"AWS_ACCESS_KEY_ID": task["Key"], "AWS_SECRET_ACCESS_KEY": task["Secret"], "AWS_REGION": task["Region"], "HOME": "none"}
+    if task["Token"]:
+        env["AWS_SESSION_TOKEN"] = task["Token"]
+    return runner.run(path, ["verify", task["Method"], url, "--s3", "--at", str(task["At"]), *headers], env, b"")
+
+
+def compiled(program):
+    """The path of a program, by LLVM where that made it."""
+    return next(iter(runs.built(program).values()))
 
 
 def compare_read(compared, path, rng):
     """A chain that `stream --raw` wrote: the peer finds each signature right, and each event as it was given."""
     task = {"Do": "read", **request_of(rng, False, compared.peer)}
     events = [event_of(rng) for _ in range(rng.randrange(5))]
-    head = head_of(stream(path, task, []))
-    seed = [line.rsplit("Signature=", 1)[1] for line in head if line.startswith("authorization: ")][0]
-    raw = stream(path, task, ["--raw"], [lines for lines, _ in events])
-    task.update(Seed=seed, Frames=[frame.hex() for frame in split_frames(raw.out)])
+    lines = [lines for lines, _ in events]
+    found = stream(path, task, [], lines)
+    frames = found.out.decode().split("\n\n", 1)[1].split()
+    # Each second time the frames are those of `--raw`.
+    if compared.number % 2:
+        frames = [frame.hex() for frame in split_frames(stream(path, task, ["--raw"], lines).out)]
+    seed = [line.rsplit("Signature=", 1)[1] for line in head_of(found) if line.startswith("authorization: ")][0]
+    task.update(Seed=seed, Frames=frames)
     compared.expect("chains read", compared.peer.do(task), [frame.hex() for _, frame in events], task)
     compared.expect("frames in a chain", len(task["Frames"]), len(events) + 1, task)
 
@@ -380,16 +444,13 @@ def compare_written(compared, path, rng, folder):
 
 
 def compare_chunks(compared, path, rng):
-    """A body in chunks: the text of botocore's wrapper, whose lengths are in lower case."""
-    if compared.peer.name != "botocore":
-        return
+    """A body in chunks: the text that the peer writes, whose lengths are in lower case, and the body that it reads of ours."""
     body, size = rng.randbytes(rng.choice([0, 1, 15, 16, 17, 100, 5000])), rng.choice([1, 15, 16, 17, 26, 1000])
-    wrapper = botocore.httpchecksum.AwsChunkedWrapper(io.BytesIO(body), botocore.httpchecksum.Crc32Checksum, "x-amz-checksum-crc32", size)
-    wanted = b"".join(wrapper)
-    checksum = botocore.httpchecksum.Crc32Checksum()
-    checksum.update(body)
-    found = runner.run(path, ["chunk", "--size", str(size), "--trailer", "x-amz-checksum-crc32", checksum.b64digest()], {}, body)
-    compared.expect("bodies in chunks", lower_lengths(found.out, size), wanted, {"body": body.hex(), "size": size})
+    task = {"Do": "wrap", "Body": body.hex(), "Size": size}
+    checksum = base64.b64encode(zlib.crc32(body).to_bytes(4, "big")).decode()
+    found = runner.run(path, ["chunk", "--size", str(size), "--trailer", CHECKSUM, checksum], {}, body)
+    compared.expect("bodies in chunks", lower_lengths(found.out, size).hex(), compared.peer.do(task), task)
+    compared.expect("bodies read", compared.peer.do({"Do": "unwrap", "Body": found.out.hex()}), body.hex(), task)
 
 
 def lower_lengths(chunked, size):
@@ -403,10 +464,10 @@ def lower_lengths(chunked, size):
     return out
 
 
-def compare(peer, paths, count, seed, folder, end):
-    """As many cases as asked for, or as the time allows."""
-    compared = Compared(peer, seed)
-    for compared.number in range(count):
+def compare(peer, paths, numbers, seed, folder, seconds):
+    """The cases that are asked for, or as many as the time allows."""
+    compared, end = Compared(peer, seed), datetime.datetime.now().timestamp() + seconds
+    for compared.number in numbers:
         if datetime.datetime.now().timestamp() > end:
             break
         rng = random.Random(f"{seed}/{peer.name}/{compared.number}")
@@ -421,13 +482,18 @@ def compare(peer, paths, count, seed, folder, end):
 
 
 def main():
-    makers = runs.makers("peers.py")
-    count, seed = (int(word) for word in (sys.argv[1:] + ["1000", "1"][len(sys.argv) - 1 :])[:2])
-    end = datetime.datetime.now().timestamp() + MOST_SECONDS
+    parser = argparse.ArgumentParser()
+    parser.add_argument("count", type=int, nargs="?", default=1000)
+    parser.add_argument("--seed", type=int, default=1)
+    parser.add_argument("--first", type=int, default=0)
+    parser.add_argument("--seconds", type=float, default=1200)
+    given = parser.parse_args()
+    makers = runs.makers("peers.py", ["firuvaik", "presigned", "awsign"])
     with tempfile.TemporaryDirectory() as folder:
         peers = [peer for peer in ([Botocore()] if Botocore.is_there() else []) + [go_peer(folder), ruby_peer()] if peer]
         paths = list(runs.built("firuvaik").values())
-        failed = sum(compare(peer, paths, count, seed, folder, end) for peer in peers)
+        numbers, seconds = range(given.first, given.first + given.count), given.seconds / max(1, len(peers))
+        failed = sum(compare(peer, paths, numbers, given.seed, folder, seconds) for peer in peers)
     print(f"peers.py: {len(peers)} peers, the programs by {makers}, {failed} differ")
     return 1 if failed or not peers else 0
 

@@ -1,7 +1,7 @@
 #!/bin/sh
 # Runs all campaigns one after another, and prints what they print: a line for each run that is wrong, and each campaign's line of
 # counts. The status is 1 where one of them found something, and the last line names it. `campaigns/build.sh` builds the programs.
-#   campaigns/run.sh [MODEL]    with the reference model in the folder MODEL, which campaigns/model.sh says more of
+#   campaigns/run.sh [MODEL]    with the reference model in the folder MODEL, which campaigns/model.py says more of
 model=
 [ $# -eq 0 ] || model=$(cd "$1" && pwd) || exit 1
 cd "$(dirname "$0")" || exit 1
@@ -12,11 +12,11 @@ try() {
   "$@" || found="$found $1"
 }
 
-try ./memory.sh
+try ./memory.py
 try ./outside.py
 try ./sizes.sh
 try ./mutations.py ${model:+--model "$model"}
-[ -z "$model" ] || try ./model.sh "$model" 20000 "$(date +%s)"
+[ -z "$model" ] || try ./model.py "$model" --seconds 1800
 try ./peers.py
 if [ -n "$found" ]; then
   echo "campaigns/run.sh: found something:$found"

@@ -1,8 +1,8 @@
 #!/usr/bin/env bash
 # Runs the built programs at and around each limit of docs/FORMATS.md, under a hard limit of memory (`ulimit -v`, which counts what
-# is mapped) and of processor time: four times the input for a job or a record, some copies of the largest frame for `watch`, and the
-# text's own length for a profile file, each and 20 MB for the program itself. A line for each run that ends with another exit
-# number, line or length of its output, and then a line of counts; the status is 1 where there was one.
+# is mapped) and of processor time: four times the input for a job, a record, a request or data in chunks, some copies of the largest
+# frame for `watch`, and the text's own length for a profile file, each and 20 MB for the program itself. A line for each run that
+# ends with another exit number, line or length of its output, and then a line of counts; the status is 1 where there was one.
 #   campaigns/sizes.sh [WORD]    the cases whose names hold WORD alone
 set -u
 crates=$(cd "$(dirname "$0")/../crates" && pwd)
@@ -43,7 +43,9 @@ frames() {
   compare "$1" "$2" "$3" "$4" "$5" job firuvaik stream --name a --at 0 --raw
 }
 
-[ -x "$crates/firuvaik/out/firuvaik" ] || { echo "sizes.sh: firuvaik isn't built: campaigns/build.sh does that"; exit 1; }
+for program in firuvaik presigned operation awsign; do
+  [ -x "$crates/$program/out/$program" ] || { echo "sizes.sh: $program isn't built: campaigns/build.sh does that"; exit 1; }
+done
 printf 'config [default]\nconfig region = r\ncredentials [default]\ncredentials aws_access_key_id = K\ncredentials aws_secret_access_key = S\n' > profile
 { printf 'method GET\ntarget https://h/\n' && cat profile; } > front
 : > nothing
@@ -194,6 +196,77 @@ python3 chain.py $file $file $file $file 83 > chain
 watched 'a chain of 67108947 bytes' 3 'input over 67108864 bytes' $((4 * (2 * (file - 83) + 1)))
 make chain "(lambda front: front + __import__('zlib').crc32(front).to_bytes(4, 'big'))(b'\x01\0\0\x01' + bytes(4))"
 watched 'a frame that announces 16777217 bytes' 8 'check failed at frame 1 NotFrame' 0
+
+# The inputs of `presigned` and `operation`, and the target that the latter sends.
+crate=$crates/presigned
+make job "open('$crate/stdin', 'rb').read().ljust($input, b'\n')"
+compare 'a presigned job of 67108864 bytes' 0 '' "$(wc -c < "$crate/stdout")" $((4 * input / kilo)) job presigned --name service --at 1440938160
+echo >> job
+compare 'a presigned job of 67108865 bytes' 3 'input over 67108864 bytes' 0 $((4 * input / kilo)) job presigned --name service --at 1440938160
+crate=$crates/operation
+make job "open('$crate/stdin', 'rb').read().ljust($input, b'\n')"
+compare 'an operation of 67108864 bytes' 0 '' "$(wc -c < "$crate/stdout")" $((4 * input / kilo)) job operation --name service --at 1440938160
+echo >> job
+compare 'an operation of 67108865 bytes' 3 'input over 67108864 bytes' 0 $((4 * input / kilo)) job operation --name service --at 1440938160
+# The head of the one request, which is longer by as much as its target.
+replied() {
+  target "$1"
+  echo 'reply 200 -' >> job
+}
+replied 10
+added=$(env -i "$crate/out/operation" --name a --at 0 < job | wc -c)
+replied 65534
+compare 'an operation to a target of 65534 bytes' 0 '' $((added + 65524)) $((4 * mega / kilo)) job operation --name a --at 0
+replied 65535
+compare 'an operation to a target of 65535 bytes' 7 'refused 5 InvalidUri' 0 $((4 * mega / kilo)) job operation --name a --at 0
+make job "open('front', 'rb').read() + b'reply 503 a\n' * 699050"
+added=$(head -20 job | env -i "$crate/out/operation" --name a --at 0 | wc -c)
+compare '699050 replies' 0 '' "$added" "$many" job operation --name a --at 0
+
+# The words, the data and the requests of `awsign`, whose options of profiles stand last.
+tool() {
+  compare "$1" "$2" "$3" "$4" "$5" "$6" awsign "${@:7}" --credentials keys
+}
+address() {
+  python3 -c "print('https://h/'.ljust($1, 'a'))"
+}
+printf '[default]\nregion = r\naws_access_key_id = K\naws_secret_access_key = S\n' > keys
+few=$((4 * mega / kilo)) unsigned="awsign: the request can't be signed: "
+asked='sign GET https://h/ --service a --at'
+links='--service a --at 0 --expires'
+tool 'a URL of 65534 bytes' 0 '' 65535 $few nothing sign GET "$(address 65534)" --service a --at 0 --as url
+tool 'a URL of 65535 bytes' 1 "${unsigned}invalid target" 0 $few nothing sign GET "$(address 65535)" --service a --at 0 --as url
+added=$(($(env -i "$crates/awsign/out/awsign" presign GET https://h/ $links 9 --credentials keys | wc -c) - 11))
+tool 'a presigned URL of 65534 bytes' 0 '' 65535 $few nothing presign GET "$(address $((65534 - added)))" $links 9
+tool 'a presigned URL of 65535 bytes' 1 "${unsigned}invalid target" 0 $few nothing presign GET "$(address $((65535 - added)))" $links 9
+tool 'a header of 65535 bytes' 0 '' 131282 $few nothing $asked 0 --as headers -H "$(head -c 65535 /dev/zero | tr '\0' n): v"
+tool 'a header of 65536 bytes' 1 "${unsigned}invalid name of header 1" 0 $few nothing $asked 0 -H "$(head -c 65536 /dev/zero | tr '\0' n): v"
+tool 'an expiry of 604800 seconds' 0 '' $((11 + added + 5)) $few nothing presign GET https://h/ $links 604800
+tool 'an expiry of 604801 seconds' 1 'awsign: the URL would be good for over 604800 seconds, which AWS refuses; --long makes it all the same' 0 $few nothing presign GET https://h/ $links 604801
+tool 'an expiry of 64 bits for awsign' 0 '' $((11 + added + 19)) $few nothing presign GET https://h/ --long $links 18446744073709551615
+tool 'an expiry over 64 bits for awsign' 2 "awsign: word 10 isn't understood here: 18446744073709551616; awsign --help lists the words" 0 $few nothing presign GET https://h/ --long $links 18446744073709551616
+tool 'the last second for awsign' 0 '' 11 $few nothing $asked 253402300799 --as url
+tool 'the second after the last for awsign' 1 "${unsigned}moment 253402300800 is outside the years 0 to 9999" 0 $few nothing $asked 253402300800
+# Data is hashed piece by piece: a file of 256 MiB takes no more memory than one of a byte.
+truncate -s 256M sparse
+tool 'data of 256 MiB' 0 '' 11 $few nothing $asked 0 --as url --data sparse
+rm sparse
+# `chunk` keeps the data and the body; endless data ends as the memory does.
+make data "bytes($file)"
+upload='chunk PUT https://h/ --service a --at 0 --as url --out chunked'
+tool 'data of 16777216 bytes in chunks' 0 '' 11 $((4 * file / kilo)) nothing $upload --data data --signed
+tool 'data of 16777216 bytes in one chunk' 0 '' 11 $((4 * file / kilo)) nothing $upload --data data --size 67108864
+tool 'a chunk size of 67108865 for awsign' 2 "awsign: word 13 isn't understood here: 67108865; awsign --help lists the words" 0 $few nothing $upload --size 67108865
+tool 'endless data' 3 'awsign: no memory' 0 $((4 * file / kilo)) nothing $upload --data /dev/zero
+# A request of 67,108,864 bytes, head and body, one more, and one of many headers.
+env -i "$crates/awsign/out/awsign" sign PUT https://h/ --s3 --at 0 --unsigned --as http --credentials keys > head
+told=$(env -i "$crates/awsign/out/awsign" verify --s3 --at 0 --credentials keys < head | wc -c)
+make request "open('head', 'rb').read().ljust($input, b'0')"
+tool 'a request of 67108864 bytes' 0 '' "$told" $((4 * input / kilo)) request verify --s3 --at 0
+printf 0 >> request
+tool 'a request of 67108865 bytes' 3 'awsign: the request has over 67108864 bytes' 0 $((4 * input / kilo)) request verify --s3 --at 0
+make request "open('head', 'rb').read()[:-2] + b'a:\r\n' * 2097152 + b'\r\n'"
+tool 'a request of 2097152 headers' 0 '' "$told" "$many" request verify --s3 --at 0
 
 echo "sizes.sh: $ran runs, $failed failed"
 [ "$failed" -eq 0 ]

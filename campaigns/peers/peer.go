@@ -1,9 +1,10 @@
-// Signs, presigns, writes and reads by the SDK for Go: a line of JSON in and one out for each task, as peers.py has them.
+// Signs, presigns, writes and reads events and chunks by the SDK for Go: a line of JSON in and one out for each task, as peers.py has them.
 package main
 
 import (
 	"bufio"
 	"bytes"
+	"checksum"
 	"context"
 	"encoding/hex"
 	"encoding/json"
@@ -20,9 +21,10 @@ import (
 )
 
 type task struct {
-	Do, Method, Url, Key, Secret, Token, Region, Name, Digest, Seed string
+	Do, Method, Url, Key, Secret, Token, Region, Name, Digest, Seed, Body string
 	Headers                                                         [][2]string
 	At, Expires                                                     int64
+	Size                                                            int
 	Once                                                            bool
 	Frames                                                          []string
 }
@@ -170,8 +172,39 @@ func read(t *task) (interface{}, error) {
 	return out, nil
 }
 
+// The body in chunks.
+func wrap(t *task) (interface{}, error) {
+	body, err := hex.DecodeString(t.Body)
+	if err != nil {
+		return nil, err
+	}
+	text, err := checksum.Chunked(body, t.Size)
+	return hex.EncodeToString(text), err
+}
+
+// The body that chunks hold, by the reader of HTTP's, where the trailer has its checksum.
+func unwrap(t *task) (interface{}, error) {
+	text, err := hex.DecodeString(t.Body)
+	if err != nil {
+		return nil, err
+	}
+	head := "PUT / HTTP/1.1\r\nHost: h\r\nTransfer-Encoding: chunked\r\nTrailer: x-amz-checksum-crc32\r\n\r\n"
+	request, err := http.ReadRequest(bufio.NewReader(io.MultiReader(strings.NewReader(head), bytes.NewReader(text))))
+	if err != nil {
+		return nil, err
+	}
+	body, err := io.ReadAll(request.Body)
+	if err != nil {
+		return nil, err
+	}
+	if request.Trailer.Get("x-amz-checksum-crc32") != checksum.Of(body) {
+		return nil, fmt.Errorf("trailer")
+	}
+	return hex.EncodeToString(body), nil
+}
+
 func main() {
-	tasks := map[string]func(*task) (interface{}, error){"sign": sign, "presign": sign, "write": write, "read": read}
+	tasks := map[string]func(*task) (interface{}, error){"sign": sign, "presign": sign, "write": write, "read": read, "wrap": wrap, "unwrap": unwrap}
 	in, out := bufio.NewReader(os.Stdin), json.NewEncoder(os.Stdout)
 	for {
 		line, err := in.ReadBytes('\n')

@@ -1,9 +1,11 @@
-# Signs, presigns, writes and reads by the gems aws-sigv4 and aws-eventstream: a line of JSON in and one out for each task, as
-# peers.py has them.
+# Signs, presigns, writes and reads events and chunks by the gems aws-sigv4, aws-eventstream and aws-sdk-core: a line of JSON in and one
+# out for each task, as peers.py has them.
 require 'json'
 require 'stringio'
 require 'aws-sigv4'
 require 'aws-eventstream'
+require 'aws-sdk-core'
+require 'net/http'
 
 # The clock of the gems.
 class << Time
@@ -71,6 +73,25 @@ def read(task)
 
     again(inner).unpack1('H*') unless inner.empty?
   end
+end
+
+# The body in chunks, each as long as what is read at once.
+def wrap(task)
+  body = StringIO.new([task['Body']].pack('H*'))
+  chunked = Aws::Plugins::ChecksumAlgorithm::AwsChunkedTrailerDigestIO.new(body, 'CRC32', 'x-amz-checksum-crc32')
+  text = ''.b
+  while (piece = chunked.read(task['Size'], ''.b))
+    text << piece
+  end
+  text.unpack1('H*')
+end
+
+# The body that chunks hold, by the reader of HTTP's.
+def unwrap(task)
+  text = "HTTP/1.1 200 OK\r\ntransfer-encoding: chunked\r\n\r\n".b + [task['Body']].pack('H*')
+  socket = Net::BufferedIO.new(StringIO.new(text))
+  response = Net::HTTPResponse.read_new(socket)
+  response.reading_body(socket, true) { response.body }.to_s.unpack1('H*')
 end
 
 $stdin.each_line do |line|
