@@ -216,6 +216,8 @@ def chunked(at, at_body):
                        ("the trailers' signature", "s/^x-amz-trailer-signature:./x-amz-trailer-signature:x/")):
         shell(f"chunks with another {task}", f"{sent} > head; LC_ALL=C sed -i '{edit}' body; cat head | {curl}", "403")
     shell("chunks behind another head", f"{sent} > head; {sent} --at 1440938160 > other; cat head | {curl}", "403")
+    says("an upload to a closed output", f"awsign chunk PUT {at}/b/x --s3 --data word --out closed >&-; code=$?; grep -ac authorization closed; exit $code", 3, "0\n",
+         "awsign: the output failed")
     says("a refused upload", f"awsign chunk PUT {at}/b/x --s3 --data word --out kept --trailer 'x y: z'", 1, "", "awsign: a trailer can't be sent")
     says("an upload without a key", f"env -u AWS_ACCESS_KEY_ID awsign chunk PUT {at}/b/x --s3 --data word --out kept", 1, "", "awsign: no key")
     shell("a file that a refused upload leaves", "cat kept", "kept")

@@ -24,7 +24,7 @@ fn main(rt: HostRuntime) -> ExitCode {
             write_text(b"awsign: a word isn't UTF-8\n".as_slice(), &mut err);
             Status::BadWord(1).code()
         }
-        Err(StartFault::NoMemory) => Status::NoMemory.code(),
+        Err(StartFault::NoMemory) => said(&rt, &[], &Status::NoMemory),
     };
     ExitCode::from(code)
 }
@@ -129,8 +129,10 @@ fn chunk_over<S: ByteSource>(
     }
 }
 
-// Writes an upload: its body to the file at a path, and its head to the output.
+// Writes an upload: its body to the file at a path, and its head to the output. A standard input or output that is closed leaves its
+// number to the next file that is opened: two others take those, or the head would follow the body.
 fn write_out(rt: &HostRuntime, upload: &ChunkedUpload, path: &str) -> ChunkStatus {
+    let _taken = (File::open(rt, "/dev/null"), File::open(rt, "/dev/null"));
     match File::create(rt, path) {
         Ok(file) => {
             let mut body = StdSink::new(file);
