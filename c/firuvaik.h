@@ -26,7 +26,7 @@ typedef struct firuvaik_text {
     size_t length;
 } firuvaik_text;
 
-/* A header: its name and its value. */
+/* A header or a variable: its name and its value. A file: its path and its bytes. */
 typedef struct firuvaik_field {
     firuvaik_text name;
     firuvaik_text value;
@@ -147,6 +147,48 @@ typedef struct firuvaik_settings {
     size_t excluded_count;
 } firuvaik_settings;
 
+/* Where settings come from: the texts of the two profile files, and variables, of which are read AWS_ACCESS_KEY_ID,
+   AWS_SECRET_ACCESS_KEY, AWS_SESSION_TOKEN, AWS_PROFILE, AWS_REGION and AWS_DEFAULT_REGION. */
+typedef struct firuvaik_sources {
+    firuvaik_text config;            /* the text of the config file, as ~/.aws/config */
+    firuvaik_text credentials;       /* the text of the credentials file, as ~/.aws/credentials */
+    const firuvaik_field *variables; /* of equal names the last one counts */
+    size_t variable_count;
+} firuvaik_sources;
+
+/* Where a text stands in the room, in bytes from the first one on. */
+typedef struct firuvaik_span {
+    size_t start;
+    size_t length;
+} firuvaik_span;
+
+/* Where the texts of settings stand in the room. */
+typedef struct firuvaik_selection {
+    firuvaik_span key_id;
+    firuvaik_span secret;
+    firuvaik_span token; /* of no bytes: there is none */
+    firuvaik_span region;
+    firuvaik_span profile; /* the name of the profile that the variables select */
+} firuvaik_selection;
+
+/* What the program firuvaik gets: its words, variables and files, what it reads, and the moment at which it runs. */
+typedef struct firuvaik_invocation {
+    const firuvaik_text *words; /* those after the program's name */
+    size_t word_count;
+    const firuvaik_field *variables; /* of equal names the last one counts */
+    size_t variable_count;
+    const firuvaik_field *files; /* each by its path; of equal paths the last one counts */
+    size_t file_count;
+    firuvaik_text input;
+    long seconds; /* the moment, in seconds since 1970-01-01T00:00:00Z */
+} firuvaik_invocation;
+
+/* How the program ended. */
+typedef struct firuvaik_outcome {
+    unsigned int code;    /* its exit number: 0 where all was done */
+    size_t output_length; /* how many bytes it wrote; behind them stands the line that it said of its end */
+} firuvaik_outcome;
+
 /* How a call went. */
 typedef struct firuvaik_answer {
     unsigned int status;
@@ -218,6 +260,11 @@ typedef struct firuvaik_answer {
 #define FIRUVAIK_UNKNOWN_KEY 83u         /* no key has its id */
 #define FIRUVAIK_OTHER_PAYLOAD 84u       /* that header isn't the digest of the body */
 #define FIRUVAIK_MISMATCH 85u            /* it has another signature than the one that it carries */
+#define FIRUVAIK_BAD_CONFIG 90u          /* the line at this place of the config text isn't one of a profile file */
+#define FIRUVAIK_BAD_CREDENTIALS 91u     /* the line at this place of the credentials text isn't one */
+#define FIRUVAIK_NO_KEY 92u              /* no variable has a key id, and the profile has no key id or no secret */
+#define FIRUVAIK_NO_SECRET 93u           /* AWS_ACCESS_KEY_ID has a value, and AWS_SECRET_ACCESS_KEY has none */
+#define FIRUVAIK_NO_REGION 94u           /* neither a variable nor the profile has a region */
 
 /* Signs a request at a moment, in seconds since 1970-01-01T00:00:00Z.
 
@@ -338,6 +385,27 @@ firuvaik_answer firuvaik_next_chunk(const firuvaik_signer *signer, long seconds,
    a trailer, and for each trailer in order FIRUVAIK_BAD_HEADER_NAME and FIRUVAIK_BAD_HEADER_VALUE. */
 firuvaik_answer firuvaik_trailers(const firuvaik_signer *signer, long seconds, const firuvaik_field *trailers, size_t trailer_count,
                                   char *signature, char *out, size_t out_room);
+
+/* Selects what there is to sign with, by variables and by profile files, in this order: the key of AWS_ACCESS_KEY_ID,
+   AWS_SECRET_ACCESS_KEY and AWS_SESSION_TOKEN, or else that of the profile that AWS_PROFILE names, or of default; the region of
+   AWS_REGION or AWS_DEFAULT_REGION, or else the profile's. The profile is what both texts have of it together. An empty value counts
+   as none.
+
+   The texts are written one behind the other, and selection says where each stands. They are for a firuvaik_signer, beside the name of
+   a service. The secret is among them: the caller overwrites the room once they aren't needed.
+
+   FIRUVAIK_DONE, FIRUVAIK_ROOM, FIRUVAIK_NO_MEMORY, and else the first of FIRUVAIK_NOT_TEXT, FIRUVAIK_BAD_CONFIG,
+   FIRUVAIK_BAD_CREDENTIALS, FIRUVAIK_NO_SECRET or FIRUVAIK_NO_KEY, and FIRUVAIK_NO_REGION. */
+firuvaik_answer firuvaik_select(const firuvaik_sources *sources, firuvaik_selection *selection, char *out, size_t out_room);
+
+/* Runs the program firuvaik on what is lent, as its page has it, but for the words --help and --version: it reads no other file, and
+   its clock has the one moment. Profile files are named by --config and --credentials, or lie at the default paths below HOME.
+
+   The text is what the program writes, and behind that the line that it says of its end, where there is one. With FIRUVAIK_DONE the
+   program ran, and outcome says how it ended; the program's own want of memory is its exit number 10.
+
+   FIRUVAIK_DONE, FIRUVAIK_ROOM, FIRUVAIK_NO_MEMORY, and FIRUVAIK_NOT_TEXT for a word, a variable or a path that isn't UTF-8. */
+firuvaik_answer firuvaik_run(const firuvaik_invocation *invocation, firuvaik_outcome *outcome, char *out, size_t out_room);
 
 /* Writes what a status means, in English. FIRUVAIK_DONE, FIRUVAIK_ROOM. */
 firuvaik_answer firuvaik_status_text(unsigned int status, char *out, size_t out_room);

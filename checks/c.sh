@@ -44,7 +44,8 @@ if has nm "the names"; then
 fi
 if has cc "the callers in C"; then
   strict="-std=c89 -pedantic -Wall -Wextra -Werror -g -Ic"
-  for source in c/examples/sign.c c/examples/stream.c c/examples/watch.c c/examples/door.c c/tests/hostile.c; do
+  for source in c/examples/sign.c c/examples/stream.c c/examples/watch.c c/examples/door.c c/examples/select.c c/examples/run.c \
+    c/tests/hostile.c; do
     name=$(basename "$source" .c)
     # shellcheck disable=SC2086
     tries "$source" cc $strict "$source" "$out/libfiruvaik.a" -o "$folder/$name"
@@ -57,6 +58,14 @@ if has cc "the callers in C"; then
   tr w v < "$folder/frames" | "$folder/watch" > /dev/null 2>&1 && { echo "checks/c.sh: watch.c takes another event"; failed=1; }
   finds door.c '^let in: key 1, until 1440939060, signed: host$' "$folder/door"
   finds door.c '^refused: the request has another signature' "$folder/door"
+  printf '[profile p]\nregion = us-east-1\n' > "$folder/config"
+  printf '[p]\naws_access_key_id = AKIDEXAMPLE\naws_secret_access_key = wJalrXUtnFEMI/K7MDENG+bPxRfiCYEXAMPLEKEY\n' > "$folder/keys"
+  vanilla='Signature=5fa00fa31553b73ebf1942676e86291e8372ff2a2260956d9b8aae1d763fbf31'
+  finds select.c "$vanilla" env -i AWS_PROFILE=p "$folder/select" "$folder/config" "$folder/keys"
+  finds select.c '^no variable and no profile has a key$' env -i "$folder/select" "$folder/config" "$folder/keys"
+  finds select.c '^a line of the credentials text isn.t one of a profile file: 1$' env -i "$folder/select" /dev/null c/firuvaik.h
+  finds run.c "$vanilla" "$folder/run"
+  finds run.c '^[0-9a-f]\{166\}$' "$folder/run"
   tries hostile.c "$folder/hostile"
   # shellcheck disable=SC2086
   tries "the header in C++" cc -x c++ -Wall -Wextra -Werror -Ic -fsyntax-only c/examples/sign.c

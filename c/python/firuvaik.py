@@ -12,8 +12,9 @@ import time
 import uuid
 
 __all__ = [
-    "Admitted", "Byte", "Error", "Int", "Long", "Message", "Service", "Short", "Signer", "Stream", "Timestamp", "Upload", "Watch", "check",
-    "event", "frame", "frame_length", "presign", "read_frame", "sign", "sign_text", "signing_key", "version",
+    "Admitted", "Byte", "Error", "Int", "Long", "Message", "Outcome", "Selected", "Service", "Short", "Signer", "Stream", "Timestamp",
+    "Upload", "Watch", "check", "event", "frame", "frame_length", "presign", "read_frame", "run", "select", "sign", "sign_text",
+    "signing_key", "version",
 ]
 
 _QUERY, _SINGLE_ENCODE, _KEEP_PATH, _SHA256_HEADER, _UNSIGNED_TOKEN, _PAYLOAD_TEXT, _EXCLUDED = (1 << n for n in range(7))
@@ -23,12 +24,14 @@ _PARTS = ("algorithm", "credential", "date", "expiry", "signed headers", "signat
 
 def _place(status, place):
     """What stands at a place."""
+    if status in (90, 91):
+        return f"line {place}"
     return _PARTS[place - 1] if status in (63, 64) else f"header {place}"
 
 
 class Error(ValueError):
-    """What was asked for isn't possible. `status` is the number of c/firuvaik.h, `place` that of the header or the part of a
-    signature at fault, or 0."""
+    """What was asked for isn't possible. `status` is the number of c/firuvaik.h, `place` that of the header, the line or
+    the part of a signature at fault, or 0."""
 
     def __init__(self, status, place):
         meaning = _written(lambda out, room: _lib.firuvaik_status_text(status, out, room), 100).decode()
@@ -114,6 +117,40 @@ class _Admission(ctypes.Structure):
     ]
 
 
+class _Sources(ctypes.Structure):
+    _fields_ = [
+        ("config", _Text),
+        ("credentials", _Text),
+        ("variables", ctypes.POINTER(_Field)),
+        ("variable_count", ctypes.c_size_t),
+    ]
+
+
+class _Span(ctypes.Structure):
+    _fields_ = [(name, ctypes.c_size_t) for name in ("start", "length")]
+
+
+class _Selection(ctypes.Structure):
+    _fields_ = [(name, _Span) for name in ("key_id", "secret", "token", "region", "profile")]
+
+
+class _Invocation(ctypes.Structure):
+    _fields_ = [
+        ("words", ctypes.POINTER(_Text)),
+        ("word_count", ctypes.c_size_t),
+        ("variables", ctypes.POINTER(_Field)),
+        ("variable_count", ctypes.c_size_t),
+        ("files", ctypes.POINTER(_Field)),
+        ("file_count", ctypes.c_size_t),
+        ("input", _Text),
+        ("seconds", ctypes.c_long),
+    ]
+
+
+class _Outcome(ctypes.Structure):
+    _fields_ = [("code", ctypes.c_uint), ("output_length", ctypes.c_size_t)]
+
+
 class _Answer(ctypes.Structure):
     _fields_ = [("status", ctypes.c_uint), ("place", ctypes.c_size_t), ("length", ctypes.c_size_t)]
 
@@ -143,6 +180,8 @@ for _name, _types in {
     "check_frame": (ctypes.POINTER(_Signer), *_BYTES, ctypes.c_char_p, ctypes.POINTER(_FrameParts)),
     "next_chunk": (*_LINK, *_BYTES, ctypes.c_char_p, *_BYTES),
     "trailers": (*_LINK, ctypes.POINTER(_Field), ctypes.c_size_t, ctypes.c_char_p, *_BYTES),
+    "select": (ctypes.POINTER(_Sources), ctypes.POINTER(_Selection), *_BYTES),
+    "run": (ctypes.POINTER(_Invocation), ctypes.POINTER(_Outcome), *_BYTES),
     "status_text": (ctypes.c_uint, *_BYTES),
     "version": _BYTES,
 }.items():
@@ -296,6 +335,61 @@ def check(service, method, target, headers, body=b"", *, at=None):
     names = _written(lambda out, room: _lib.firuvaik_admit(lent, request, seconds, told, signature, out, room), 256)
     return Admitted(ids[told.key], told.at, told.until, told.place == 1, names.decode().split(";"), _PAYLOADS[told.payload],
                     signature.raw.decode())
+
+
+@dataclasses.dataclass(frozen=True)
+class Selected:
+    """What there is to sign with: a key's id, its secret and the session token, the region, and the name of the profile that the
+    variables select. It shows no secret."""
+
+    key_id: str
+    secret: str = dataclasses.field(repr=False)
+    token: str = dataclasses.field(repr=False)
+    region: str
+    profile: str
+
+    def signer(self, service):
+        """The signer for a service, by its signing name."""
+        return Signer(self.key_id, self.secret, self.region, service, self.token)
+
+
+def select(config="", credentials="", variables=()):
+    """What there is to sign with, by variables and by the texts of the two profile files, in this order, as Selected.
+
+    `variables` is a mapping, as os.environ, or an iterable of pairs. Of them are read AWS_ACCESS_KEY_ID, AWS_SECRET_ACCESS_KEY,
+    AWS_SESSION_TOKEN, AWS_PROFILE, AWS_REGION and AWS_DEFAULT_REGION; an empty one counts as none. Raises Error for a line that isn't
+    one of a profile file, and where a key or a region is missing.
+    """
+    fields = _fields(variables)
+    lent = _Sources(_text(config), _text(credentials), fields, len(fields))
+    spans = _Selection()
+    text = _written(lambda out, room: _lib.firuvaik_select(lent, spans, out, room), 512)
+    found = (getattr(spans, name) for name in ("key_id", "secret", "token", "region", "profile"))
+    return Selected(*(text[span.start : span.start + span.length].decode() for span in found))
+
+
+@dataclasses.dataclass(frozen=True)
+class Outcome:
+    """How the program ended: its exit number, what it wrote, and the line that it said of its end, or no text."""
+
+    code: int
+    output: bytes
+    said: str
+
+
+def run(words, input=b"", *, variables=(), files=(), at=None):
+    """Runs the program firuvaik on what is given, and returns its Outcome.
+
+    `words` are those after the program's name; `variables` and `files` are mappings or iterables of pairs, `files` of a path and the
+    file's text or bytes; `at` is the moment of its clock: a second, a datetime, or None for now. It reads no other file and no other
+    variable.
+    """
+    texts = [_text(word) for word in words]
+    fields, lent_files = _fields(variables), _fields(files)
+    lent = _Invocation((_Text * len(texts))(*texts), len(texts), fields, len(fields), lent_files, len(lent_files), _text(input), _seconds(at))
+    ended = _Outcome()
+    text = _written(lambda out, room: _lib.firuvaik_run(lent, ended, out, room), 4096)
+    return Outcome(ended.code, text[: ended.output_length], text[ended.output_length :].decode())
 
 
 def signing_key(signer, at=None):

@@ -466,6 +466,180 @@ static void every_door(void)
     shuts(FIRUVAIK_BAD_TARGET, 0, 0, "a service and a request of nothing");
 }
 
+static firuvaik_sources sources;
+static firuvaik_selection selection;
+static firuvaik_field variables[2];
+
+static void profiles(void)
+{
+    memset(&sources, 0, sizeof sources);
+    memset(&selection, '-', sizeof selection);
+    sources.config = text("[profile p]\nregion = r1\n");
+    sources.credentials = text("[p]\naws_access_key_id = id\naws_secret_access_key = secret\n");
+    variables[0].name = text("AWS_REGION");
+    variables[0].value = text("r22");
+    variables[1].name = text("AWS_PROFILE");
+    variables[1].value = text("p");
+    sources.variables = variables;
+    sources.variable_count = 2;
+}
+
+/* A refusal of settings with this status and place, after which nothing is written. */
+static void lacks(unsigned int status, size_t place, const char *what)
+{
+    char room[100];
+    firuvaik_answer answer;
+    memset(room, '-', sizeof room);
+    answer = firuvaik_select(&sources, &selection, room, sizeof room);
+    want(answer.status == status && answer.place == place && answer.length == 0, what);
+    want(is_untouched(room, sizeof room) && is_untouched((char *)&selection, sizeof selection), what);
+    profiles();
+}
+
+static int spans(const char *room, firuvaik_span span, size_t length, const char *wanted)
+{
+    return span.start + span.length <= length && span.length == strlen(wanted) && memcmp(room + span.start, wanted, span.length) == 0;
+}
+
+static void every_profile(void)
+{
+    size_t length;
+    profiles();
+    for (length = 0; length <= 14; length++) {
+        char *room = room_of(length);
+        firuvaik_answer answer = firuvaik_select(&sources, &selection, room, length);
+        want(answer.length == 12 && answer.place == 0, "the settings have another length");
+        if (length < 12)
+            want(answer.status == FIRUVAIK_ROOM && is_untouched(room, length) && is_untouched((char *)&selection, sizeof selection), "a small room is written");
+        else
+            want(answer.status == FIRUVAIK_DONE && spans(room, selection.key_id, 12, "id") && spans(room, selection.secret, 12, "secret")
+                && spans(room, selection.token, 12, "") && spans(room, selection.region, 12, "r22") && spans(room, selection.profile, 12, "p")
+                && is_untouched(room + 12, length - 12), "the settings are others");
+        free(room);
+    }
+    profiles();
+    sources.config = text("[a]\n\xc3");
+    lacks(FIRUVAIK_NOT_TEXT, 0, "the config text isn't UTF-8");
+    sources.credentials = text("\xff");
+    lacks(FIRUVAIK_NOT_TEXT, 0, "the credentials text isn't UTF-8");
+    variables[0].name = text("\xff");
+    lacks(FIRUVAIK_NOT_TEXT, 0, "a variable's name isn't UTF-8");
+    variables[1].value = text("\xff");
+    lacks(FIRUVAIK_NOT_TEXT, 0, "a variable's value isn't UTF-8");
+    sources.config = text("[a]\n\n[b");
+    sources.credentials = text("[");
+    lacks(FIRUVAIK_BAD_CONFIG, 3, "a heading of the config text isn't closed");
+    sources.credentials = text("[\n");
+    lacks(FIRUVAIK_BAD_CREDENTIALS, 1, "a heading of the credentials text isn't closed");
+    variables[1].value = text("q");
+    lacks(FIRUVAIK_NO_KEY, 0, "there is another profile");
+    variables[0].name = text("AWS_ACCESS_KEY_ID");
+    lacks(FIRUVAIK_NO_SECRET, 0, "the variables have half a key");
+    sources.credentials.length -= 9;
+    lacks(FIRUVAIK_BAD_CREDENTIALS, 3, "a property without a value");
+    sources.config.length = 0;
+    sources.variables = variables + 1;
+    sources.variable_count = 1;
+    lacks(FIRUVAIK_NO_REGION, 0, "there is a region");
+    memset(&sources, 0, sizeof sources);
+    lacks(FIRUVAIK_NO_KEY, 0, "nothing has a key");
+}
+
+static firuvaik_invocation invocation;
+static firuvaik_outcome outcome;
+static firuvaik_text words[3];
+
+static void program(void)
+{
+    memset(&invocation, 0, sizeof invocation);
+    memset(&outcome, '-', sizeof outcome);
+    words[0] = text("chunk");
+    words[1] = text("--size");
+    words[2] = text("3");
+    invocation.words = words;
+    invocation.word_count = 3;
+    invocation.input = text("a\xff\0bcd");
+    invocation.input.length = 6;
+}
+
+/* A run that ends so, in each room from none to one byte more than is wanted. */
+static void runs(unsigned int code, size_t output_length, const char *output, const char *what)
+{
+    size_t wanted = firuvaik_run(&invocation, &outcome, NULL, 0).length;
+    size_t length;
+    want(wanted == strlen(output), what);
+    memset(&outcome, '-', sizeof outcome);
+    for (length = 0; length <= wanted + 1; length++) {
+        char *room = room_of(length);
+        firuvaik_answer answer = firuvaik_run(&invocation, &outcome, room, length);
+        want(answer.length == wanted && answer.place == 0, what);
+        if (length < wanted)
+            want(answer.status == FIRUVAIK_ROOM && is_untouched(room, length) && is_untouched((char *)&outcome, sizeof outcome), what);
+        else
+            want(answer.status == FIRUVAIK_DONE && memcmp(room, output, wanted) == 0 && is_untouched(room + wanted, length - wanted)
+                && outcome.code == code && outcome.output_length == output_length, what);
+        free(room);
+    }
+    program();
+}
+
+/* A run that isn't made, after which nothing is written. */
+static void stays(const char *what)
+{
+    char room[100];
+    firuvaik_answer answer;
+    memset(room, '-', sizeof room);
+    answer = firuvaik_run(&invocation, &outcome, room, sizeof room);
+    want(answer.status == FIRUVAIK_NOT_TEXT && answer.place == 0 && answer.length == 0, what);
+    want(is_untouched(room, sizeof room) && is_untouched((char *)&outcome, sizeof outcome), what);
+    program();
+}
+
+static void every_program(void)
+{
+    firuvaik_field field;
+    program();
+    invocation.input = text("abcdef");
+    runs(0, 21, "3\r\nabc\r\n3\r\ndef\r\n0\r\n\r\n", "two chunks");
+    invocation.input.bytes = NULL;
+    invocation.input.length = 0;
+    runs(0, 5, "0\r\n\r\n", "no chunk");
+    invocation.word_count = 2;
+    runs(2, 0, "bad word 3\n", "a word is missing");
+    memset(&invocation, 0, sizeof invocation);
+    runs(2, 0, "bad word 1\n", "nothing is asked");
+    words[0] = text("settings");
+    invocation.word_count = 1;
+    runs(4, 0, "bad line 1\n", "the input isn't UTF-8");
+    words[0] = text("settings");
+    invocation.word_count = 1;
+    invocation.input.length = 0;
+    invocation.seconds = LONG_MIN;
+    runs(7, 0, "refused 2 MissingCredentials\n", "there are no files");
+    words[1] = text("\xff");
+    stays("a word isn't UTF-8");
+    memset(&field, 0, sizeof field);
+    field.name = text("\xff");
+    invocation.variables = &field;
+    invocation.variable_count = 1;
+    stays("a variable's name isn't UTF-8");
+    invocation.files = &field;
+    invocation.file_count = 1;
+    stays("a path isn't UTF-8");
+    field.name = text("a");
+    field.value = text("\xff");
+    invocation.variables = &field;
+    invocation.variable_count = 1;
+    stays("a variable's value isn't UTF-8");
+    words[0] = text("settings");
+    words[1] = text("--config");
+    words[2] = text("a");
+    invocation.files = &field;
+    invocation.file_count = 1;
+    invocation.input.length = 0;
+    runs(7, 0, "refused 2 MissingCredentials\n", "a file that isn't UTF-8 isn't empty");
+}
+
 int main(void)
 {
     plain();
@@ -481,5 +655,7 @@ int main(void)
     checked();
     chunks();
     every_door();
+    every_profile();
+    every_program();
     return failed;
 }

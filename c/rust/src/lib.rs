@@ -120,6 +120,50 @@ mod sys {
     }
 
     #[repr(C)]
+    pub struct Sources<'a> {
+        pub config: Text<'a>,
+        pub credentials: Text<'a>,
+        pub variables: *const Field<'a>,
+        pub variable_count: usize,
+    }
+
+    #[repr(C)]
+    #[derive(Clone, Copy, Default)]
+    pub struct Span {
+        pub start: usize,
+        pub length: usize,
+    }
+
+    #[repr(C)]
+    #[derive(Clone, Copy, Default)]
+    pub struct Selection {
+        pub key_id: Span,
+        pub secret: Span,
+        pub token: Span,
+        pub region: Span,
+        pub profile: Span,
+    }
+
+    #[repr(C)]
+    pub struct Invocation<'a> {
+        pub words: *const Text<'a>,
+        pub word_count: usize,
+        pub variables: *const Field<'a>,
+        pub variable_count: usize,
+        pub files: *const Field<'a>,
+        pub file_count: usize,
+        pub input: Text<'a>,
+        pub seconds: c_long,
+    }
+
+    #[repr(C)]
+    #[derive(Clone, Copy, Default)]
+    pub struct Outcome {
+        pub code: c_uint,
+        pub output_length: usize,
+    }
+
+    #[repr(C)]
     pub struct Answer {
         pub status: c_uint,
         pub place: usize,
@@ -207,6 +251,20 @@ mod sys {
             out_room: usize,
         ) -> Answer;
 
+        pub fn firuvaik_select(
+            sources: *const Sources<'_>,
+            selection: *mut Selection,
+            out: *mut c_char,
+            out_room: usize,
+        ) -> Answer;
+
+        pub fn firuvaik_run(
+            invocation: *const Invocation<'_>,
+            outcome: *mut Outcome,
+            out: *mut c_char,
+            out_room: usize,
+        ) -> Answer;
+
         pub fn firuvaik_status_text(status: c_uint, out: *mut c_char, out_room: usize) -> Answer;
 
         pub fn firuvaik_version(out: *mut c_char, out_room: usize) -> Answer;
@@ -285,7 +343,8 @@ impl Settings<'_> {
     }
 }
 
-/// Why nothing is made: the status of `c/firuvaik.h`, and the place of the header or the part of a signature at fault, or 0.
+/// Why nothing is made: the status of `c/firuvaik.h`, and the place of the header, the line or the part of a signature at
+/// fault, or 0.
 #[derive(Clone, Copy, Debug, PartialEq, Eq)]
 pub struct Error {
     /// The status.
@@ -302,6 +361,7 @@ impl fmt::Display for Error {
         match (self.status, self.place) {
             (_, 0) => Ok(()),
             (63 | 64, part) => write!(f, ": part {part}"),
+            (90 | 91, line) => write!(f, ": line {line}"),
             (_, place) => write!(f, ": header {place}"),
         }
     }
@@ -479,6 +539,125 @@ pub fn admit<'a>(service: &Service<'a>, request: &Request<'_>, seconds: i64) -> 
         payload: [Payload::Body, Payload::Unsigned, Payload::UnsignedChunks, Payload::SignedChunks][told.payload as usize],
         signature,
     })
+}
+
+/// Where settings come from.
+#[derive(Clone, Copy, Default)]
+pub struct Sources<'a> {
+    /// The text of the config file.
+    pub config: &'a str,
+    /// The text of the credentials file.
+    pub credentials: &'a str,
+    /// The variables, each with its name and its value. Those of a key, `AWS_PROFILE`, `AWS_REGION` and `AWS_DEFAULT_REGION` are read.
+    pub variables: &'a [(&'a str, &'a str)],
+}
+
+/// What there is to sign with. It shows no secret.
+#[derive(Clone, PartialEq, Eq)]
+pub struct Selected {
+    /// The access key id.
+    pub key_id: String,
+    /// The secret access key.
+    pub secret: String,
+    /// The session token, or an empty text.
+    pub token: String,
+    /// The region.
+    pub region: String,
+    /// The name of the profile that the variables select.
+    pub profile: String,
+}
+
+impl Selected {
+    /// The signer for a service, by its signing name.
+    pub fn signer<'a>(&'a self, service: &'a str) -> Signer<'a> {
+        Signer { key_id: &self.key_id, secret: &self.secret, token: &self.token, region: &self.region, service }
+    }
+}
+
+impl fmt::Debug for Selected {
+    fn fmt(&self, f: &mut fmt::Formatter<'_>) -> fmt::Result {
+        write!(f, "Selected({}, {}, {})", self.profile, self.key_id, self.region)
+    }
+}
+
+/// What there is to sign with: key and region, each of the variables or else of the profile that these select.
+///
+/// # Errors
+///
+/// A line that isn't one of a profile file; a missing key; a missing region.
+pub fn select(sources: &Sources<'_>) -> Result<Selected, Error> {
+    let fields: Vec<_> = sources.variables.iter().map(|(name, value)| field(name, value)).collect();
+    let asked = sys::Sources {
+        config: text(sources.config),
+        credentials: text(sources.credentials),
+        variables: fields.as_ptr(),
+        variable_count: fields.len(),
+    };
+    let mut told = sys::Selection::default();
+    let out = written(512, |out| unsafe { sys::firuvaik_select(&asked, &mut told, out.as_mut_ptr().cast(), out.len()) })?;
+    let found = |span: sys::Span| {
+        let bytes = &out[span.start..span.start + span.length];
+        String::from_utf8(bytes.to_vec()).expect("what is read of texts is a text")
+    };
+    Ok(Selected {
+        key_id: found(told.key_id),
+        secret: found(told.secret),
+        token: found(told.token),
+        region: found(told.region),
+        profile: found(told.profile),
+    })
+}
+
+/// What the program `firuvaik` gets.
+#[derive(Clone, Copy, Default)]
+pub struct Invocation<'a> {
+    /// The words after the program's name.
+    pub words: &'a [&'a str],
+    /// The variables, each with its name and its value.
+    pub variables: &'a [(&'a str, &'a str)],
+    /// The files, each with its path and its bytes.
+    pub files: &'a [(&'a str, &'a [u8])],
+    /// What it reads.
+    pub input: &'a [u8],
+    /// The moment of its clock, in seconds since 1970-01-01T00:00:00Z.
+    pub seconds: i64,
+}
+
+/// How the program ended.
+#[derive(Clone, Debug, PartialEq, Eq)]
+pub struct Outcome {
+    /// Its exit number.
+    pub code: u32,
+    /// What it wrote.
+    pub output: Vec<u8>,
+    /// The line that it said of its end, or an empty text.
+    pub said: String,
+}
+
+/// Runs the program `firuvaik` on what is given. It reads no other file and no other variable.
+///
+/// # Errors
+///
+/// Memory ran out.
+pub fn run(invocation: &Invocation<'_>) -> Result<Outcome, Error> {
+    let words: Vec<_> = invocation.words.iter().map(|word| text(word)).collect();
+    let variables: Vec<_> = invocation.variables.iter().map(|(name, value)| field(name, value)).collect();
+    let file = |&(path, bytes)| sys::Field { name: text(path), value: sys::Text::new(bytes) };
+    let files: Vec<_> = invocation.files.iter().map(file).collect();
+    let lent = sys::Invocation {
+        words: words.as_ptr(),
+        word_count: words.len(),
+        variables: variables.as_ptr(),
+        variable_count: variables.len(),
+        files: files.as_ptr(),
+        file_count: files.len(),
+        input: sys::Text::new(invocation.input),
+        seconds: invocation.seconds,
+    };
+    let mut ended = sys::Outcome::default();
+    let mut output = written(4096, |out| unsafe { sys::firuvaik_run(&lent, &mut ended, out.as_mut_ptr().cast(), out.len()) })?;
+    let said = String::from_utf8_lossy(&output.split_off(ended.output_length)).into_owned();
+    Ok(Outcome { code: ended.code, output, said })
 }
 
 /// The signing key of a signer for the day of a moment.

@@ -1,5 +1,6 @@
 mod DoorLemmas
 mod FrameLemmas
 mod LinkLemmas
+mod ProgramLemmas
 mod SignLemmas
 mod WatchLemmas

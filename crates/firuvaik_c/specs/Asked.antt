@@ -33,6 +33,10 @@ abbrev pub given_text : List ℕ → Option (List ℕ)
 given_text [] = None
 given_text (byte ∷ text) = Some (byte ∷ text)
 
+-- name and value as they are lent
+abbrev pub lent_pair : Field → List ℕ × List ℕ
+lent_pair field = (field.name.now, field.value.now)
+
 -- a header as it is lent, its name in lower case
 abbrev pub lent_header : Field → List ℕ × List ℕ
 lent_header header = (lower header.name.now, header.value.now)

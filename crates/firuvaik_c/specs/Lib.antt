@@ -8,6 +8,8 @@ pub mod Frames
 pub mod Keys
 pub mod Links
 pub mod Messages
+pub mod Programs
+pub mod Selecting
 pub mod Signing
 pub mod Statuses
 pub mod Watching

@@ -79,10 +79,21 @@ door_status n =
     else if n == 85 then codes "the request has another signature than the one that it carries"
     else codes "there is no such status"
 
+-- the statuses of settings
+abbrev pub settings_status : ℕ → List ℕ
+settings_status n =
+    if n == 90 then codes "a line of the config text isn't one of a profile file"
+    else if n == 91 then codes "a line of the credentials text isn't one of a profile file"
+    else if n == 92 then codes "no variable and no profile has a key"
+    else if n == 93 then codes "AWS_ACCESS_KEY_ID is set and AWS_SECRET_ACCESS_KEY isn't"
+    else if n == 94 then codes "no variable and no profile has a region"
+    else codes "there is no such status"
+
 -- what a status means
 abbrev pub status_text : ℕ → List ℕ
 status_text n =
     if nat_le n 19 then request_status n
     else if nat_le 20 n && nat_le n 59 then frame_status n
     else if nat_le 60 n && nat_le n 89 then door_status n
+    else if nat_le 90 n && nat_le n 99 then settings_status n
     else codes "there is no such status"

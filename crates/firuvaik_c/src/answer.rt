@@ -9,7 +9,7 @@ use crate::fault::Fault;
 pub struct Answer {
     /// 0 where all was written, 1 where more room is wanted, and else why nothing was.
     pub status: u32,
-    /// The place of the header at fault, counted from 1, or else 0.
+    /// The place of the header or the line at fault, counted from 1, or else 0.
     pub place: usize,
     /// How many bytes were written, or are wanted.
     pub length: usize,

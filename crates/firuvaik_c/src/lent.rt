@@ -105,6 +105,34 @@ pub struct Service<'a> {
     pub keys: &'a [Key<'a>],
 }
 
+/// Where settings come from: the texts of the two profile files, and variables.
+#[repr(C)]
+#[derive(Clone, Copy)]
+pub struct Sources<'a> {
+    /// The text of the config file.
+    pub config: &'a [u8],
+    /// The text of the credentials file.
+    pub credentials: &'a [u8],
+    /// The variables. Of equal names the last one counts.
+    pub variables: &'a [Field<'a>],
+}
+
+/// What the program gets: words, variables and files, what it reads, and the moment at which it runs.
+#[repr(C)]
+#[derive(Clone, Copy)]
+pub struct Invocation<'a> {
+    /// The words after the program's name.
+    pub words: &'a [Text<'a>],
+    /// The variables. Of equal names the last one counts.
+    pub variables: &'a [Field<'a>],
+    /// The files, each by its path and its bytes. Of equal paths the last one counts.
+    pub files: &'a [Field<'a>],
+    /// What it reads.
+    pub input: &'a [u8],
+    /// The moment, in seconds since 1970-01-01T00:00:00Z.
+    pub seconds: i64,
+}
+
 /// The signature goes into the target's query.
 pub(crate) const QUERY: u32 = 1;
 /// The path is escaped once.

@@ -18,6 +18,8 @@ mod key;
 mod lent;
 mod link;
 mod message;
+mod program;
+mod select;
 mod sign;
 mod status;
 mod texts;
@@ -30,8 +32,12 @@ pub use crate::events::firuvaik_next_frame;
 pub use crate::fault::Fault;
 pub use crate::frames::{FrameParts, HeaderPlace, firuvaik_frame_length, firuvaik_read_frame};
 pub use crate::key::{firuvaik_signature, firuvaik_signing_key};
-pub use crate::lent::{EventHeader, Field, Key, Request, Service, Settings, Signer, Text};
+pub use crate::lent::{
+    EventHeader, Field, Invocation, Key, Request, Service, Settings, Signer, Sources, Text,
+};
 pub use crate::message::{firuvaik_event, firuvaik_frame};
+pub use crate::program::{Outcome, firuvaik_run};
+pub use crate::select::{Selection, Span, firuvaik_select};
 pub use crate::sign::firuvaik_sign;
 pub use crate::status::{firuvaik_status_text, firuvaik_version};
 pub use crate::watch::firuvaik_check_frame;

@@ -1,7 +1,7 @@
 //! What the statuses mean, and the version.
 ghost use Rattle.std.specs.Prelude.{◌≡◌, Ok, codes};
 ghost use Rattle.firuvaik_c.specs.Answers.{Lends};
-ghost use Rattle.firuvaik_c.specs.Statuses.{door_status, frame_status, request_status, status_text};
+ghost use Rattle.firuvaik_c.specs.Statuses.{door_status, frame_status, request_status, settings_status, status_text};
 
 use crate::answer::{Answer, lend};
 
@@ -28,6 +28,7 @@ fn status_text(status: u32) -> &'static str
         0..=19 => request_status(status),
         20..=59 => frame_status(status),
         60..=89 => door_status(status),
+        90..=99 => settings_status(status),
         _ => "there is no such status",
     }
 }
@@ -118,6 +119,20 @@ fn door_status(status: u32) -> &'static str
         83 => "the key isn't known",
         84 => "the body has another digest than the one that is shown",
         85 => "the request has another signature than the one that it carries",
+        _ => "there is no such status",
+    }
+}
+
+// The statuses of settings.
+fn settings_status(status: u32) -> &'static str
+    ensures { result.now ≡ settings_status status }
+{
+    match status {
+        90 => "a line of the config text isn't one of a profile file",
+        91 => "a line of the credentials text isn't one of a profile file",
+        92 => "no variable and no profile has a key",
+        93 => "AWS_ACCESS_KEY_ID is set and AWS_SECRET_ACCESS_KEY isn't",
+        94 => "no variable and no profile has a region",
         _ => "there is no such status",
     }
 }

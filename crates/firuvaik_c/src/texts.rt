@@ -3,12 +3,12 @@ ghost use Rattle.std.specs.Prelude.{◌≡◌, ◌⊎◌, ◌++◌, ◌∷◌, [
 ghost use Rattle.std.specs.Str.{is_utf8};
 ghost use Rattle.std.specs.List.{list_all};
 ghost use Rattle.smithy_core.specs.Civil.{is_in_years};
-ghost use Rattle.firuvaik_c.specs.Asked.{is_text_field, lent_header};
+ghost use Rattle.firuvaik_c.specs.Asked.{is_text_field, lent_header, lent_pair};
 ghost use Rattle.firuvaik_c.specs.Faults.{beyond_years, no_memory, not_text};
 
 use crate::fault::{Fault, plain};
 use crate::lent::{Field, Text};
-use smithy_core::{Headers, Mem, Moment, is_in_years};
+use smithy_core::{Env, Headers, Mem, Moment, is_in_years};
 use std::alloc::Global;
 
 /// The text of bytes that are UTF-8.
@@ -46,6 +46,22 @@ pub(crate) fn headers_of(alloc: Global, fields: &[Field<'_>]) -> Result<Headers,
         headers.append(name, value)?;
     }
     Ok(headers)
+}
+
+/// The variables of fields that are texts.
+#[tactic(auto, using(std::proofs::lemmas::List::Folds::list_all_more, std::proofs::lemmas::List::Folds::list_all_at))]
+pub(crate) fn variables_of(alloc: Global, fields: &[Field<'_>]) -> Result<Env, Fault>
+    ensures { MatchResult result
+        (λ env. (list_all is_text_field fields.now ≡ true) × (env ≡ map lent_pair fields.now))
+        (λ fault. ((list_all is_text_field fields.now ≡ false) × (fault ≡ not_text)) ⊎ (fault ≡ no_memory)) }
+{
+    let mut env = Env::new(alloc);
+    for field in fields {
+        let name = text_of(field.name)?;
+        let value = text_of(field.value)?;
+        env.set(name, value)?;
+    }
+    Ok(env)
 }
 
 /// Copies of the names, where they are texts.
