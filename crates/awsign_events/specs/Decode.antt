@@ -1,5 +1,5 @@
 -- How frames are decoded: which messages the bytes begin with, and what the output gained.
-use Rattle.std.specs.Prelude.{◌≡◌, ◌⊎◌, ℕ, ◌<◌, Bool, true, false, List, [], ◌++◌, length, Option, Result, Ok, Err}
+use Rattle.std.specs.Prelude.{◌≡◌, ◌⊎◌, ℕ, ◌<◌, Bool, true, false, List, [], length, Option, Result, Ok, Err}
 use Rattle.std.specs.List.{list_all}
 use Rattle.smithy_core.specs.Calls.{one_more}
 use Rattle.smithy_core.specs.Message.{Parts}

@@ -1,5 +1,5 @@
 -- How events are encoded: which messages lines spell, and their frames.
-use Rattle.std.specs.Prelude.{◌≡◌, ◌⊎◌, IsErrAnd, ℕ, ◌+◌, ◌-◌, ◌==◌, Bool, true, false, ◌||◌, is_none, if◌then◌else◌, List, [], ◌∷◌, ◌++◌, length, codes, bytes_eq, Option, Some, None, Result, Ok, Err}
+use Rattle.std.specs.Prelude.{◌≡◌, ◌⊎◌, IsErrAnd, ℕ, ◌+◌, ◌-◌, ◌==◌, Bool, true, false, ◌||◌, is_none, if◌then◌else◌, List, [], ◌∷◌, ◌++◌, length, codes, bytes_eq, Option, Some, Result, Ok, Err}
 use Rattle.std.specs.Global.{Vec}
 use Rattle.std.specs.List.{flat_map, list_all, starts_with}
 use Rattle.hex.specs.Hex.{encode_lower}

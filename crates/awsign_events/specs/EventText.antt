@@ -2,11 +2,11 @@
 use Rattle.std.specs.Prelude.{ℕ, ◌==◌, Bool, true, false, not, ◌&&◌, nat_lt, if◌then◌else◌, List, [], ◌∷◌, ◌++◌, length, codes}
 use Rattle.std.specs.Fmt.{decimal, signed_decimal}
 use Rattle.std.specs.Int.{w128, to_be_bytes}
-use Rattle.std.specs.List.{flat_map, list_all}
+use Rattle.std.specs.List.{flat_map, join_by, list_all}
 use Rattle.hex.specs.Hex.{encode_lower}
 use Rattle.smithy_core.specs.Header.{Header}
 use Rattle.smithy_core.specs.Message.{Parts}
-use Rattle.smithy_core.specs.Text.{line, line_feed, space}
+use Rattle.smithy_core.specs.Text.{line_feed, space}
 use Rattle.smithy_core.specs.declared.header.HeaderValue.{HeaderValue}
 use Rattle.smithy_core.specs.declared.header.HeaderValue.TheVariants.{Bool as Truth, Byte, Int16, Int32, Int64, ByteArray, String as Text, Timestamp, Uuid}
 use Rattle.awsign_words.specs.declared.events.EventForm.{EventForm}
@@ -89,10 +89,9 @@ json_string text = codes "\"" ++ (flat_map json_byte text ++ codes "\"")
 unfoldable pub json_triple : Header → List ℕ
 json_triple h = codes "[" ++ (json_string h.name ++ (codes "," ++ (json_string (kind_word h.value) ++ (codes "," ++ (json_string (spelled_value h.value) ++ codes "]")))))
 
--- headers, the first behind a lead and each other one behind a comma
-abbrev pub json_triples : List ℕ → List Header → List ℕ
-json_triples lead [] = []
-json_triples lead (h ∷ hs) = (lead ++ json_triple h) ++ json_triples (codes ",") hs
+-- headers, with commas between them
+abbrev pub json_triples : List Header → List ℕ
+json_triples headers = join_by json_triple (codes ",") headers
 
 -- a payload, behind the headers: in hexadecimal
 unfoldable pub json_payload : List ℕ → List ℕ
@@ -100,7 +99,7 @@ json_payload payload = codes "],\"payload\":" ++ (json_string (encode_lower payl
 
 -- a message, as an object on a line: its headers in order, and its payload
 unfoldable pub json_message : Parts → List ℕ
-json_message m = codes "{\"headers\":[" ++ (json_triples [] m.headers ++ json_payload m.payload)
+json_message m = codes "{\"headers\":[" ++ (json_triples m.headers ++ json_payload m.payload)
 
 -- ## Either
 

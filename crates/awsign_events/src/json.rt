@@ -30,7 +30,7 @@ fn push_payload(alloc: Global, text: &mut Vec<u8>, payload: &[u8]) -> Mem<()>
 }
 
 fn push_triples(alloc: Global, text: &mut Vec<u8>, headers: &[Header]) -> Mem<()>
-    ensures { OnOk result (text.new.items ≡ text.old.items ++ json_triples [] headers.now) }
+    ensures { OnOk result (text.new.items ≡ text.old.items ++ json_triples headers.now) }
 {
     let mut lead: &[u8] = b"";
     for header in headers {

@@ -1,4 +1,4 @@
-use Rattle.std.proofs.Common.{[], ◌++◌, take, Ok, ap, refl, arith}
+use Rattle.std.proofs.Common.{[], ◌++◌, take, Ok, ap, arith}
 use Rattle.std.proofs.lemmas.Result.{err_from_is_err_and}
 use Rattle.smithy_core.proofs.CutLemmas.{cut_at_start, cut_more}
 use Rattle.awsign_events.proofs.ShowLemmas.{no_more, start_few, start_shown, start_unfinished, stops_ends}

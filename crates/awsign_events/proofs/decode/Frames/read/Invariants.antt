@@ -1,4 +1,4 @@
-use Rattle.std.proofs.Common.{◌≡◌, ◌<◌, ◌≤◌, ℕ, List, length}
+use Rattle.std.proofs.Common.{◌<◌, ◌≤◌, ℕ, List, length}
 use Rattle.smithy_core.specs.Outside.{IsCutOf}
 use Rattle.eventstream.specs.Frame.{most_frame}
 use Rattle.awsign_events.specs.Decode.{ShowsUpTo, WaitsUnfinished}
