@@ -1,11 +1,13 @@
 ghost use Rattle.std.specs.Prelude.{◌≡◌, IfOk, MatchResult, None, OnErr, OnOk, Some};
+ghost use Rattle.mac_core.specs.Crc.{after_bytes, before_any};
 ghost use Rattle.sigv4.specs.Params.{signer_of, v4_identity, v4_time};
 ghost use Rattle.sigv4.specs.KeptKey.{no_key};
 ghost use Rattle.aws_auth.specs.MessageSigner.{GivesKey, IsSameSigner, SignsBytes, derivations, own_key, running_signature, signer_from, signer_in, unsigned_by};
 
-use eventstream::{SignMessage, SignMessageError, write_message_to};
+use eventstream::{SignMessage, SignMessageError, write_summed_message_to};
+use mac_core::Crc;
 use sigv4::KeptKey;
-use sigv4::event_stream::{SigningParams, sign_bytes_with_key};
+use sigv4::event_stream::{SigningParams, sign_summed_bytes_with_key};
 use smithy_core::{Identity, Mem, Message, Moment, Region, SigningName, is_in_years};
 use std::fmt;
 use std::marker::Model;
@@ -120,14 +122,21 @@ impl SigV4MessageSigner<()> {
     }
 
     // The message of the bytes, whose signature is the last one then.
-    fn sign_bytes(&mut self, bytes: Vec<u8>, now: Moment) -> Result<Message, SignMessageError>
+    fn sign_bytes(
+        &mut self,
+        bytes: Vec<u8>,
+        checksum: Crc,
+        now: Moment,
+    ) -> Result<Message, SignMessageError>
+        requires { checksum ≡ after_bytes before_any bytes.items }
         ensures { SignsBytes (unsigned_by self.old.parts.identity now) self.old bytes.items now result self.new }
     {
         let key = self.key_at(now)?;
         let alloc = *self.running_signature.allocator();
         let params = self.params_at(now);
         // With a key there is no refusal, so that an error is `NoMemory`.
-        match sign_bytes_with_key(alloc, bytes, self.running_signature(), &params, &key) {
+        let signature = self.running_signature();
+        match sign_summed_bytes_with_key(alloc, bytes, checksum, signature, &params, &key) {
             Ok(signed) => {
                 let (message, signature) = signed.into_parts();
                 self.running_signature = signature;
@@ -203,14 +212,14 @@ impl SignMessage for SigV4MessageSigner<()> {
     fn sign(&mut self, message: Message, now: Moment) -> Result<Message, SignMessageError> {
         let alloc = *self.running_signature.allocator();
         let mut bytes = Vec::new(alloc);
-        write_message_to(alloc, &message, &mut bytes)?;
-        self.sign_bytes(bytes, now)
+        let checksum = write_summed_message_to(alloc, &message, &mut bytes)?;
+        self.sign_bytes(bytes, checksum, now)
     }
 
     #[tactic(auto, using(crate::proofs::MessageSignerLemmas::end_told))]
     fn sign_empty(&mut self, now: Moment) -> Option<Result<Message, SignMessageError>> {
         let alloc = *self.running_signature.allocator();
-        Some(self.sign_bytes(Vec::new(alloc), now))
+        Some(self.sign_bytes(Vec::new(alloc), Crc::new(), now))
     }
 }
 

@@ -52,4 +52,4 @@ pub use crate::sign::{NoOpSigner, SignMessage};
 pub use crate::sign_error::SignMessageError;
 pub use crate::size_hint::MessageSizeHint;
 pub use crate::unmarshall::{IdentityUnmarshaller, UnmarshallMessage, UnmarshalledMessage};
-pub use crate::write::{frame_of, write_headers_to, write_message_to};
+pub use crate::write::{frame_of, write_headers_to, write_message_to, write_summed_message_to};

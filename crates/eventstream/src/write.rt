@@ -1,14 +1,14 @@
 ghost use Rattle.std.specs.Prelude.{◌≡◌, ℕ, ◌+◌, ◌≤◌, ◌<◌, ◌^◌, ◌++◌, ◌∷◌, length, drop, None, Some, OnOk, IfOk, MatchResult};
 ghost use Rattle.std.specs.Int.{w16, to_be_bytes};
 ghost use Rattle.std.specs.Vec.{vec_capacity, vec_len};
-ghost use Rattle.mac_core.specs.Crc.{remainder};
+ghost use Rattle.mac_core.specs.Crc.{after_bytes, before_any, remainder};
 ghost use Rattle.seg_buf.specs.Segments.{prelude_len};
 ghost use Rattle.eventstream.specs.Frame.{be32, block, first_unspelled, frame, frame_lengths, least_frame, most_frame, most_value, spelling, summed, unfit_lengths, unframed, unspelled, unspelled_value, value_spelling};
-ghost use Rattle.eventstream.specs.Write.{Writes};
+ghost use Rattle.eventstream.specs.Write.{Writes, WritesSummed};
 
 use crate::error::{Error, ErrorKind};
 use crate::kind;
-use mac_core::crc32;
+use mac_core::{Crc, crc32};
 use smithy_core::{Header, HeaderValue, Mem, Message};
 use std::alloc::Global;
 
@@ -63,9 +63,28 @@ pub fn write_headers_to(
 /// As [`write_headers_to`], and then, in this order, [`ErrorKind::HeadersTooLong`] for a header block of over 131,072 bytes,
 /// [`ErrorKind::PayloadTooLong`] for a payload of over 16,777,200 and [`ErrorKind::MessageTooLong`] for a frame of over
 /// 16,777,216. A refused call appends nothing.
-#[tactic(auto, unfolding(crate::specs::Frame::frame, crate::specs::Frame::unframed))]
 pub fn write_message_to(alloc: Global, message: &Message, buffer: &mut Vec<u8>) -> Result<(), Error>
     ensures { Writes (unframed message.now) (frame message.now) buffer.old.items buffer.new.items result }
+{
+    let _checksum = write_summed_message_to(alloc, message, buffer)?;
+    Ok(())
+}
+
+/// Appends the frame of the message as [`write_message_to`] does, and answers the checksum that took the bytes of the frame
+/// alone. The SDK has no such call.
+///
+/// This is for a caller that makes the frame the payload of another message: see [`Message::with_checksums`].
+///
+/// # Errors
+///
+/// Those of [`write_message_to`].
+#[tactic(auto, unfolding(crate::specs::Frame::frame, crate::specs::Frame::unframed))]
+pub fn write_summed_message_to(
+    alloc: Global,
+    message: &Message,
+    buffer: &mut Vec<u8>,
+) -> Result<Crc, Error>
+    ensures { WritesSummed (unframed message.now) (frame message.now) buffer.old.items buffer.new.items result }
 {
     if let Err(kind) = test_headers(message.headers()) {
         return Err(Error::from(kind));
@@ -76,8 +95,7 @@ pub fn write_message_to(alloc: Global, message: &Message, buffer: &mut Vec<u8>) 
         return Err(Error::from(kind));
     }
     buffer.reserve(LEAST_FRAME + headers.len() + message.payload().len())?;
-    push_frame(buffer, headers.as_slice(), message.payload().as_slice());
-    Ok(())
+    Ok(push_frame(buffer, headers.as_slice(), message))
 }
 
 /// The frame of a message, which has to have one: where that isn't known, [`write_message_to`] answers why there is none.
@@ -90,7 +108,7 @@ pub fn frame_of(alloc: Global, message: &Message) -> Mem<Vec<u8>>
     push_headers(&mut headers, message.headers())?;
     let len = LEAST_FRAME + headers.len() + message.payload().len();
     let mut frame = Vec::with_capacity(alloc, len)?;
-    push_frame(&mut frame, headers.as_slice(), message.payload().as_slice());
+    let _checksum = push_frame(&mut frame, headers.as_slice(), message);
     Ok(frame)
 }
 
@@ -230,19 +248,38 @@ fn push_counted(buffer: &mut Vec<u8>, tag: u8, bytes: &[u8]) -> Mem<()>
     buffer.extend_from_slice(bytes)
 }
 
-// The frame of these bytes of headers and this payload, where there is room for it.
-fn push_frame(buffer: &mut Vec<u8>, headers: &[u8], payload: &[u8])
-    requires fits { least_frame + length headers.now + length payload.now ≤ most_frame }
-    requires room { vec_len buffer.old + (least_frame + length headers.now + length payload.now) ≤ vec_capacity buffer.old }
-    ensures { buffer.new.items ≡ buffer.old.items ++ summed (summed (frame_lengths
-        (least_frame + length headers.now + length payload.now) (length headers.now)) ++ headers.now ++ payload.now) }
+// The frame of a message with this header block, where there is room for it, and the checksum of its bytes. What is before the
+// payload is summed where it stands, since the payload may be summed already.
+#[tactic(auto, unfolding(crate::specs::Frame::frame))]
+fn push_frame(buffer: &mut Vec<u8>, headers: &[u8], message: &Message) -> Crc
+    requires block { headers.now ≡ block message.now.headers }
+    requires fits { least_frame + length headers.now + length message.now.payload ≤ most_frame }
+    requires room { vec_len buffer.old + (least_frame + length headers.now + length message.now.payload) ≤ vec_capacity buffer.old }
+    ensures items { buffer.new.items ≡ buffer.old.items ++ frame message.now }
+    ensures checksum { result ≡ after_bytes before_any (frame message.now) }
 {
     let start = buffer.len();
-    let total = LEAST_FRAME + headers.len() + payload.len();
+    let total = LEAST_FRAME + headers.len() + message.payload().len();
     push_prelude(buffer, total as u32, headers.len() as u32);
     push_bytes(buffer, headers);
-    push_bytes(buffer, payload);
-    push_checksum(buffer, start);
+    let mut checksum = Crc::new();
+    checksum.update(&buffer[start..]);
+    message.sum_payload(&mut checksum);
+    push_bytes(buffer, message.payload().as_slice());
+    push_closing(buffer, checksum)
+}
+
+// The closing checksum of a frame, and the checksum of its bytes with these four.
+fn push_closing(buffer: &mut Vec<u8>, checksum: Crc) -> Crc
+    requires room { vec_len buffer.old + 4 ≤ vec_capacity buffer.old }
+    ensures items { buffer.new.items ≡ buffer.old.items ++ be32 (0xFFFFFFFF - checksum) }
+    ensures checksum { result ≡ after_bytes checksum (be32 (0xFFFFFFFF - checksum)) }
+{
+    let value = checksum.value();
+    push_u32(buffer, value);
+    let mut closed = checksum;
+    closed.update(value.to_be_bytes().as_slice());
+    closed
 }
 
 fn push_prelude(buffer: &mut Vec<u8>, total: u32, headers: u32)

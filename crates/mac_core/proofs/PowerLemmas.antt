@@ -6,7 +6,7 @@ use Rattle.std.proofs.Math.Pow.{pow_mono}
 use Rattle.std.proofs.lemmas.Nat.{mul-le, pow_pos, xor_block, xor_lt, xor_comm}
 use Rattle.std.proofs.lemmas.Grind.{pow_more}
 use lib.Bits.{xor_assoc, xor_self, xor_zero_r}
-use Rattle.mac_core.specs.Crc.{after_bit, after_bits, after_bytes, before_any}
+use Rattle.mac_core.specs.Crc.{after_bit, after_bits, after_bytes}
 use Rattle.mac_core.specs.declared.powers.TheConstants.{POWERS}
 use Rattle.mac_core.proofs.LinearLemmas.{bytes_linear, even_bit, in_place, joined, linear, none_left, odd_bit, parity}
 
@@ -156,13 +156,13 @@ next_powers power rest left =
     times : (p q rest half bit : ℕ) → q ≡ 2 * p → rest ≡ 2 * half + bit → 8 * (p * rest) ≡ 8 * (p * bit) + 8 * (q * half)
     times p q rest half bit e f = rw (e, f) (omega arith)
 
--- what bytes leave of a register, from what they leave of the first register
-pub joined_bytes : (s t past count : ℕ) (bytes : List ℕ) → past ≡ after_bits (8 * count) (bit_xor s 0xFFFFFFFF) 0 → length bytes ≡ count
-    → t ≡ after_bytes before_any bytes → bit_xor past t ≡ after_bytes s bytes
-joined_bytes s t past count bytes p l e =
+-- what bytes leave of a register, from what they leave of another one
+pub joined_bytes : (s b t past count : ℕ) (bytes : List ℕ) → past ≡ after_bits (8 * count) (bit_xor s b) 0 → length bytes ≡ count
+    → t ≡ after_bytes b bytes → bit_xor past t ≡ after_bytes s bytes
+joined_bytes s b t past count bytes p l e =
     rw (p, e)
-    (sym (bytes_linear (8 * count) (bit_xor s 0xFFFFFFFF) 0xFFFFFFFF bytes (omega (arith, l)))
-    ∙ ap (λ (x : ℕ). after_bytes x bytes) (xor_assoc s 0xFFFFFFFF 0xFFFFFFFF ∙ ap (bit_xor s) (xor_self 0xFFFFFFFF) ∙ xor_zero_r s))
+    (sym (bytes_linear (8 * count) (bit_xor s b) b bytes (omega (arith, l)))
+    ∙ ap (λ (x : ℕ). after_bytes x bytes) (xor_assoc s b b ∙ ap (bit_xor s) (xor_self b) ∙ xor_zero_r s))
 
 -- a power of which a number that fits is a multiple is one of 64
 pub power_fits : (power rest count : ℕ) → 2 ^ power * rest ≤ count → 0 < rest → count < 2 ^ 64 → power < 64

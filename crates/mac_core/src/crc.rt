@@ -8,7 +8,7 @@ use std::marker::Model;
 /// A CRC-32 that takes its bytes in pieces.
 ///
 /// Contracts see it as the number that the bits so far have left.
-#[derive(Clone, Debug, Drop)]
+#[derive(Clone, Copy, Debug)]
 pub struct Crc {
     register: u32,
 }
@@ -17,6 +17,8 @@ impl Model for Crc {
     ghost Value = { ℕ };
 
     ghost view = { λ crc. crc.register };
+
+    ghost inverse = { λ register. record { register = register } };
 }
 
 impl Crc {
@@ -48,11 +50,18 @@ impl Crc {
     /// joined.join(&other, second.len());
     /// // joined.value() is crc32(first followed by second)
     /// ```
-    #[tactic(auto, using(crate::proofs::PowerLemmas::joined_bytes))]
     pub fn join(&mut self, second: &Crc, count: usize)
         ensures { (bytes : List ℕ) → length bytes ≡ count → second.now ≡ after_bytes before_any bytes → self.new ≡ after_bytes self.old bytes }
     {
-        self.register = past_zeros(self.register ^ 0xFFFF_FFFF, count) ^ second.register;
+        self.join_between(&Crc::new(), second, count);
+    }
+
+    /// Takes the bytes that another checksum took between these two states of it, so many, as [`Crc::join`] does.
+    #[tactic(auto, using(crate::proofs::PowerLemmas::joined_bytes))]
+    pub fn join_between(&mut self, before: &Crc, after: &Crc, count: usize)
+        ensures { (bytes : List ℕ) → length bytes ≡ count → after.now ≡ after_bytes before.now bytes → self.new ≡ after_bytes self.old bytes }
+    {
+        self.register = past_zeros(self.register ^ before.register, count) ^ after.register;
     }
 
     /// The CRC-32 of all bytes taken so far.

@@ -3,6 +3,7 @@
 ghost use Rattle.std.specs.Prelude.{◌≡◌, ◌⊎◌, [], ◌∷◌, codes, IfOk, None, Some, MatchResult, option_map};
 ghost use Rattle.sha2.specs.Sha256.{sha256};
 ghost use Rattle.hex.specs.Hex.{encode_lower};
+ghost use Rattle.mac_core.specs.Crc.{after_bytes, before_any};
 ghost use Rattle.smithy_core.specs.Civil.{IsInYears};
 ghost use Rattle.smithy_core.specs.Moment.{floor_secs};
 ghost use Rattle.eventstream.specs.Frame.{frame, spelling, unframed};
@@ -19,8 +20,8 @@ use crate::output::SigningOutput;
 use crate::signature::begun_string_to_sign;
 use crate::signing_time::SigningTime;
 use bytes::Bytes;
-use eventstream::{ErrorKind, write_headers_to, write_message_to};
-use mac_core::hmac_sha256;
+use eventstream::{ErrorKind, write_headers_to, write_summed_message_to};
+use mac_core::{Crc, hmac_sha256};
 use smithy_core::{Header, HeaderValue, Mem, Message, Moment, StrBytes, push_line};
 use std::alloc::{AllocError, Global};
 
@@ -56,9 +57,9 @@ pub fn sign_message(
     ensures { Links (message_refusal message.now (v4_identity params.now) (v4_time params.now))
         params.now last_signature.now (frame message.now) result }
 {
-    let bytes = framed(alloc, message)?;
+    let Framed { bytes, checksum } = framed(alloc, message)?;
     let key = signing_key_of(params)?;
-    sign_bytes_with_key(alloc, bytes, last_signature, params, &key)
+    sign_summed_bytes_with_key(alloc, bytes, checksum, last_signature, params, &key)
 }
 
 /// Signs a message as [`sign_message`] does, under a signing key that is at hand.
@@ -81,7 +82,8 @@ pub fn sign_message_with_key(
     ensures { Links (message_refusal message.now (v4_identity params.now) (v4_time params.now))
         params.now last_signature.now (frame message.now) result }
 {
-    sign_bytes_with_key(alloc, framed(alloc, message)?, last_signature, params, key)
+    let Framed { bytes, checksum } = framed(alloc, message)?;
+    sign_summed_bytes_with_key(alloc, bytes, checksum, last_signature, params, key)
 }
 
 /// Signs no bytes over the signature before them: the message that ends a stream, and the new signature.
@@ -147,6 +149,35 @@ pub fn sign_bytes_with_key(
     Ok(link(alloc, bytes, params.time(), code.as_slice())?)
 }
 
+/// Signs the bytes of a frame as [`sign_bytes_with_key`] does, whose checksum is at hand, so that they aren't summed again when the
+/// signed message is written. The SDK has no such public call.
+///
+/// The checksum has to be the one that took the bytes alone, as
+/// [`write_summed_message_to`](eventstream::write_summed_message_to) answers it. The condition on the key is that of
+/// [`sign_message_with_key`].
+///
+/// # Errors
+///
+/// Those of [`sign_empty_message`].
+pub fn sign_summed_bytes_with_key(
+    alloc: Global,
+    bytes: Vec<u8>,
+    checksum: Crc,
+    last_signature: &str,
+    params: &SigningParams<'_>,
+    key: &[u8; 32],
+) -> Result<SigningOutput<Message>, SigningError>
+    requires key { IsKeyOf params.now key.now }
+    requires checksum { checksum ≡ after_bytes before_any bytes.items }
+    ensures { Links (unsignable (v4_identity params.now) (v4_time params.now))
+        params.now last_signature.now bytes.items result }
+{
+    let signed = sign_bytes_with_key(alloc, bytes, last_signature, params, key)?;
+    let (message, signature) = signed.into_parts();
+    let message = message.with_checksums(Crc::new(), checksum);
+    Ok(SigningOutput::new(message, signature))
+}
+
 /// The HMAC that [`sign_bytes_with_key`] signs the bytes of a frame with, alone. The SDK has no such public call.
 ///
 /// This is for a caller that compares it with one that came, which needs no message. The condition on the key is that of
@@ -173,15 +204,22 @@ pub fn link_code_with_key(
     Ok(hmac_sha256(key.as_slice(), text.as_slice()))
 }
 
+// The bytes of a frame, and the checksum that took them alone.
+#[derive(Drop)]
+struct Framed {
+    bytes: Vec<u8>,
+    checksum: Crc,
+}
+
 // The frame of a message.
-fn framed(alloc: Global, message: &Message) -> Result<Vec<u8>, SigningError>
+fn framed(alloc: Global, message: &Message) -> Result<Framed, SigningError>
     ensures { MatchResult result
-        (λ bytes. (unframed message.now ≡ None) × (bytes.items ≡ frame message.now))
+        (λ framed. (unframed message.now ≡ None) × (framed.bytes.items ≡ frame message.now) × (framed.checksum ≡ after_bytes before_any (frame message.now)))
         (λ error. (option_map failed_encoding (unframed message.now) ≡ Some error) ⊎ (error ≡ SigningError.NoMemory)) }
 {
     let mut bytes = Vec::new(alloc);
-    write_message_to(alloc, message, &mut bytes)?;
-    Ok(bytes)
+    let checksum = write_summed_message_to(alloc, message, &mut bytes)?;
+    Ok(Framed { bytes, checksum })
 }
 
 // The whole second of the parameters, or why their identity doesn't sign at their moment.

@@ -1,8 +1,10 @@
 ghost use Rattle.std.specs.Prelude.{◌≡◌, List, [], ◌∷◌, ◌++◌, IfOk};
+ghost use Rattle.mac_core.specs.Crc.{after_bytes};
 
 use crate::header::Header;
 use crate::memory::Mem;
 use bytes::Bytes;
+use mac_core::Crc;
 use std::alloc::Global;
 use std::fmt;
 use std::marker::Model;
@@ -15,14 +17,26 @@ use std::marker::Model;
 pub struct Message {
     headers: Vec<Header>,
     payload: Bytes,
+    summed: Option<Summed>,
+}
+
+// A checksum before it took the payload, and after.
+#[derive(Clone, Copy, Debug)]
+struct Summed {
+    before: Crc,
+    after: Crc,
 }
 
 impl Model for Message {
+    ghost use Rattle.std.specs.Prelude.{◌≡◌, IfSome};
+    ghost use Rattle.mac_core.specs.Crc.{after_bytes};
     ghost use Rattle.smithy_core.specs.Message.{Parts};
 
     ghost Value = { Parts };
 
     ghost view = { λ message. record { headers = message.headers.items; payload = message.payload } };
+
+    ghost invariant = { λ message. IfSome message.summed (λ summed. summed.after ≡ after_bytes summed.before message.payload) };
 }
 
 impl Message {
@@ -30,17 +44,34 @@ impl Message {
     pub fn new(alloc: Global, payload: Bytes) -> Message
         ensures { result ≡ record { headers = []; payload = payload } }
     {
-        Message {
-            headers: Vec::new(alloc),
-            payload,
-        }
+        Message::new_from_parts(Vec::new(alloc), payload)
     }
 
     /// The message of these headers and this payload.
     pub fn new_from_parts(headers: Vec<Header>, payload: Bytes) -> Message
         ensures { result ≡ record { headers = headers.items; payload = payload } }
     {
-        Message { headers, payload }
+        Message {
+            headers,
+            payload,
+            summed: None,
+        }
+    }
+
+    /// The same message, of whose payload is known from now on what it leaves of a checksum: what was before it, and what is
+    /// after it. Each byte of a frame in a frame then goes through the checksum once.
+    pub fn with_checksums(self, before: Crc, after: Crc) -> Message
+        requires { after ≡ after_bytes before self.payload }
+        ensures { result ≡ self }
+    {
+        let Message {
+            headers, payload, ..
+        } = self;
+        Message {
+            headers,
+            payload,
+            summed: Some(Summed { before, after }),
+        }
     }
 
     /// The message with one header more, at the end.
@@ -50,9 +81,14 @@ impl Message {
         let Message {
             mut headers,
             payload,
+            summed,
         } = self;
         headers.push(header)?;
-        Ok(Message { headers, payload })
+        Ok(Message {
+            headers,
+            payload,
+            summed,
+        })
     }
 
     /// An equal message.
@@ -66,6 +102,7 @@ impl Message {
         Ok(Message {
             headers,
             payload: self.payload.clone()?,
+            summed: self.summed,
         })
     }
 
@@ -81,6 +118,18 @@ impl Message {
         ensures { result.now ≡ self.now.payload }
     {
         &self.payload
+    }
+
+    /// Takes the bytes of its payload into a checksum, without looking at them, where is known what they leave of one.
+    pub fn sum_payload(&self, checksum: &mut Crc)
+        ensures { checksum.new ≡ after_bytes checksum.old self.now.payload }
+    {
+        match &self.summed {
+            Some(summed) => {
+                checksum.join_between(&summed.before, &summed.after, self.payload.len());
+            }
+            None => checksum.update(self.payload.as_slice()),
+        }
     }
 }
 
