@@ -7,7 +7,7 @@ ghost use Rattle.chain_watch.specs.Walk.{carried, carried_code, carried_date, fr
 use crate::chain_fault::{ChainFault, ChainPart};
 use crate::chain_signer::ChainSigner;
 use bytes::Bytes;
-use eventstream::{Error, ErrorKind, read_message_from, write_message_to};
+use eventstream::{Error, ErrorKind, read_held_message, write_message_to};
 use mac_core::constant_time_eq;
 use smithy_core::{Header, HeaderValue, Message, Moment, is_in_years};
 use std::alloc::Global;
@@ -45,7 +45,7 @@ pub(crate) fn test_frame(
             part: ChainPart::Date,
         });
     }
-    let event = held_event(alloc, message.payload(), frame)?;
+    let event = held_event(alloc, message, frame)?;
     let recomputed = signer.link_code(message.payload().as_slice(), signature, date)?;
     if !constant_time_eq(&carried, &recomputed) {
         return Err(ChainFault::Mismatch {
@@ -116,25 +116,25 @@ fn is_signed_moment(date: Moment) -> bool
 }
 
 // The event whose frame the payload of the frame at a place is. An empty one holds none.
-fn held_event(alloc: Global, payload: &Bytes, frame: usize) -> Result<Option<Message>, ChainFault>
-    ensures { HoldsEvent frame payload.now result }
+fn held_event(alloc: Global, message: &Message, frame: usize) -> Result<Option<Message>, ChainFault>
+    ensures { HoldsEvent frame message.now.payload result }
 {
-    if payload.is_empty() {
+    if message.payload().is_empty() {
         return Ok(None);
     }
-    let event = read_event(alloc, payload, frame)?;
-    test_again(alloc, &event, payload, frame)?;
+    let event = read_event(alloc, message, frame)?;
+    test_again(alloc, &event, message.payload(), frame)?;
     Ok(Some(event))
 }
 
 // The message that a payload begins with.
 #[tactic(auto, using(crate::proofs::FrameLemmas::unread_fault))]
-fn read_event(alloc: Global, payload: &Bytes, frame: usize) -> Result<Message, ChainFault>
-    requires { 0 < length payload.now }
-    ensures { ReadsEvent frame payload.now result }
+fn read_event(alloc: Global, message: &Message, frame: usize) -> Result<Message, ChainFault>
+    requires { 0 < length message.now.payload }
+    ensures { ReadsEvent frame message.now.payload result }
 {
-    match read_message_from(alloc, &mut payload.clone()?) {
-        Ok(event) => Ok(event),
+    match read_held_message(alloc, message) {
+        Ok((event, _)) => Ok(event),
         Err(error) => Err(fault_of(&error, frame, ChainPart::Inner)),
     }
 }

@@ -4,8 +4,7 @@ ghost use Rattle.eventstream.specs.Error.{error_kind};
 ghost use Rattle.eventstream.specs.Texts.{Tells};
 ghost use Rattle.event_io.specs.SignedEvent.{IsSignedEventCopy, TakesHeld, UnwrapsHeld, date_in, dated, signed_date};
 
-use bytes::Bytes;
-use eventstream::{Error, UnmarshallMessage, UnmarshalledMessage, read_message_from};
+use eventstream::{Error, UnmarshallMessage, UnmarshalledMessage, read_held_message};
 use smithy_core::{Header, HeaderValue, Mem, Message, Moment};
 use std::alloc::Global;
 use std::marker::Model;
@@ -102,7 +101,7 @@ impl<U: UnmarshallMessage> UnmarshallMessage for SignedUnmarshaller<U> {
         if message.payload().is_empty() {
             return Ok(UnmarshalledMessage::Event(SignedEvent::Closing { date }));
         }
-        self.unwrap_held(message.payload(), date)
+        self.unwrap_held(message, date)
     }
 }
 
@@ -110,12 +109,12 @@ impl<U: UnmarshallMessage> SignedUnmarshaller<U> {
     // What the other unmarshaller makes of the message that a payload holds.
     fn unwrap_held(
         &self,
-        payload: &Bytes,
+        message: &Message,
         date: Moment,
     ) -> Result<UnmarshalledMessage<SignedEvent<U::Output>, U::Error>, Error>
-        ensures { UnwrapsHeld (U.answers self.now) date payload.now result }
+        ensures { UnwrapsHeld (U.answers self.now) date message.now.payload result }
     {
-        let held = held_message(self.alloc, payload)?;
+        let held = held_message(self.alloc, message)?;
         let made = self.unmarshaller.unmarshall(&held)?;
         Ok(dated(date, made))
     }
@@ -137,13 +136,12 @@ fn dated<T, E>(
 }
 
 // The message whose frame a payload is.
-fn held_message(alloc: Global, payload: &Bytes) -> Result<Message, Error>
-    ensures { TakesHeld payload.now result }
+fn held_message(alloc: Global, message: &Message) -> Result<Message, Error>
+    ensures { TakesHeld message.now.payload result }
 {
-    let mut rest = payload.clone()?;
-    let message = read_message_from(alloc, &mut rest)?;
-    if rest.is_empty() {
-        Ok(message)
+    let (held, len) = read_held_message(alloc, message)?;
+    if len == message.payload().len() {
+        Ok(held)
     } else {
         let text = "expected the payload of a signed message to be one frame";
         Err(refused(alloc, text))

@@ -3,7 +3,7 @@ use Rattle.std.specs.Prelude.{◌≡◌, ◌⊎◌, ◌≤◌, ℕ, zero, suc, �
 use Rattle.std.specs.Global.{Vec}
 use Rattle.std.specs.Int.{Width, w8, w16, w32, w64, w128, byte_len, from_be_bytes, cast_signed}
 use Rattle.std.specs.Str.{is_utf8}
-use Rattle.mac_core.specs.Crc.{remainder}
+use Rattle.mac_core.specs.Crc.{after_bytes, before_any, remainder}
 use Rattle.smithy_core.specs.Moment.{at_ms}
 use Rattle.smithy_core.specs.Message.{Parts}
 use Rattle.smithy_core.specs.Header.{Header}
@@ -135,6 +135,10 @@ pub record AreFit (lengths : Lengths) : Type 0 where
   pub most : lengths.total ≤ most_frame
   pub block : lengths.headers ≤ most_block
   pub room : lengths.headers + least_frame ≤ lengths.total
+
+-- the checksum of a frame of this length, with its prelude and the bytes after it
+abbrev pub IsSumOf : ℕ → List ℕ → List ℕ → ℕ → Type 0
+IsSumOf total prelude rest checksum = checksum ≡ after_bytes before_any (prelude ++ take (total - prelude_len) rest)
 
 -- the payload behind these headers, where the closing checksum is that of all bytes before it
 unfoldable pub checked_message : Lengths → List ℕ → List ℕ → List Header → Result Parts ErrorKind

@@ -46,7 +46,7 @@ pub use crate::laws::{
 };
 pub use crate::marshall::{IdentityMarshaller, MarshallMessage};
 pub use crate::peek::peek_message;
-pub use crate::read::read_message_from;
+pub use crate::read::{read_held_message, read_message_from};
 pub use crate::response_headers::{ResponseHeaders, parse_response_headers};
 pub use crate::sign::{NoOpSigner, SignMessage};
 pub use crate::sign_error::SignMessageError;

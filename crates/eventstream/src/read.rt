@@ -1,7 +1,7 @@
-ghost use Rattle.std.specs.Prelude.{◌≡◌, ℕ, ◌+◌, ◌-◌, ◌≤◌, ◌<◌, ◌^◌, ◌++◌, length, take, drop, OnOk};
-ghost use Rattle.mac_core.specs.Crc.{remainder};
+ghost use Rattle.std.specs.Prelude.{◌≡◌, ℕ, ◌+◌, ◌-◌, ◌≤◌, ◌<◌, ◌^◌, ◌++◌, length, take, drop, IfOk, IfSome, OnOk};
+ghost use Rattle.mac_core.specs.Crc.{after_bytes, before_any};
 ghost use Rattle.seg_buf.specs.Segments.{prelude_len};
-ghost use Rattle.eventstream.specs.Read.{AreFit, headers_of, checked_message, read, read_frame, u32_at, GivesRead, GivesMessage, TakesMessage};
+ghost use Rattle.eventstream.specs.Read.{AreFit, IsSumOf, headers_of, checked_message, read, read_frame, u32_at, GivesRead, GivesMessage, TakesMessage};
 
 mod header;
 mod headers;
@@ -42,6 +42,41 @@ pub fn read_message_from(alloc: Global, buffer: &mut Bytes) -> Result<Message, E
     Ok(message)
 }
 
+/// The message whose frame the payload of another message begins with, and the length of that frame: as
+/// [`read_message_from`] reads the payload, and where the payload is this frame alone, without summing its bytes again.
+///
+/// # Errors
+///
+/// Those of [`read_message_from`].
+#[tactic(auto, using(crate::proofs::FrontLemmas::announced_prelude), unfolding(crate::specs::Read::read, crate::specs::Read::read_after))]
+pub fn read_held_message(alloc: Global, message: &Message) -> Result<(Message, usize), Error>
+    ensures read { GivesRead (read message.now.payload) result }
+    ensures len { IfOk result (λ held. held.1 ≡ announced message.now.payload) }
+{
+    let payload = message.payload();
+    let Some((prelude, _)) = payload.as_slice().split_first_chunk::<PRELUDE>() else {
+        return Err(Error::from(ErrorKind::InvalidMessageLength));
+    };
+    let prelude = *prelude;
+    let lengths = read_prelude(&prelude)?;
+    let rest = payload.slice(PRELUDE..)?;
+    let whole = checksum_of_payload(message, lengths.total);
+    let held = read_summed_frame(alloc, lengths, prelude, &rest, whole)?;
+    Ok((held, lengths.total))
+}
+
+// The checksum of the payload, where it has this length.
+fn checksum_of_payload(message: &Message, len: usize) -> Option<Crc>
+    ensures { IfSome result (λ whole. (length message.now.payload ≡ len) × (whole ≡ after_bytes before_any message.now.payload)) }
+{
+    if message.payload().len() != len {
+        return None;
+    }
+    let mut whole = Crc::new();
+    message.sum_payload(&mut whole);
+    Some(whole)
+}
+
 /// The message of the frame of these lengths, with its prelude and the bytes after it.
 ///
 /// # Errors
@@ -58,11 +93,28 @@ pub fn read_frame(
     ensures read { GivesMessage (read_frame lengths prelude rest.now) lengths.total result }
     ensures there { OnOk result (lengths.total ≤ prelude_len + length rest.now) }
 {
+    read_summed_frame(alloc, lengths, prelude, rest, None)
+}
+
+// The same, where the checksum of the whole frame may be known.
+#[tactic(auto, unfolding(crate::specs::Read::read_frame))]
+fn read_summed_frame(
+    alloc: Global,
+    lengths: Lengths,
+    prelude: [u8; PRELUDE],
+    rest: &Bytes,
+    whole: Option<Crc>,
+) -> Result<Message, Error>
+    requires fit { AreFit lengths }
+    requires known { IfSome whole (IsSumOf lengths.total prelude rest.now) }
+    ensures read { GivesMessage (read_frame lengths prelude rest.now) lengths.total result }
+    ensures there { OnOk result (lengths.total ≤ prelude_len + length rest.now) }
+{
     if PRELUDE + rest.len() < lengths.total {
         return Err(Error::from(ErrorKind::InvalidMessageLength));
     }
     let headers = read_headers(alloc, lengths.headers, rest.clone()?)?;
-    read_message(lengths, prelude, rest, headers)
+    read_message(lengths, prelude, rest, headers, whole)
 }
 
 // The message of these headers and the payload behind them, where the closing checksum is right.
@@ -72,28 +124,59 @@ fn read_message(
     prelude: [u8; PRELUDE],
     rest: &Bytes,
     headers: Vec<Header>,
+    whole: Option<Crc>,
 ) -> Result<Message, Error>
     requires fit { AreFit lengths }
     requires there { lengths.total ≤ prelude_len + length rest.now }
+    requires known { IfSome whole (IsSumOf lengths.total prelude rest.now) }
     ensures { GivesRead (checked_message lengths prelude rest.now headers.items) result }
 {
     let end = lengths.total - LEAST_FRAME;
-    let computed = checksum_of(prelude.as_slice(), &rest.as_slice()[..end]);
     let carried = u32_at(rest.as_slice(), end);
+    let before = before_payload(prelude.as_slice(), &rest.as_slice()[..lengths.headers]);
+    let payload = rest.slice(lengths.headers..end)?;
+    let closing = &rest.as_slice()[end..end + 4];
+    let after = after_payload(before, payload.as_slice(), closing, carried, whole);
+    let computed = after.value();
     if computed != carried {
         return Err(Error::from(ErrorKind::MessageChecksumMismatch(computed, carried)));
     }
-    let payload = rest.slice(lengths.headers..end)?;
-    Ok(Message::new_from_parts(headers, payload))
+    Ok(Message::new_from_parts(headers, payload).with_checksums(before, after))
 }
 
-// The checksum of two pieces.
-#[tactic(auto, using(mac_core::proofs::CrcLemmas::remainder_pieces))]
-fn checksum_of(first: &[u8], second: &[u8]) -> u32
-    ensures { result ≡ remainder (first.now ++ second.now) }
+// The checksum of what is before a payload.
+fn before_payload(prelude: &[u8], headers: &[u8]) -> Crc
+    ensures { result ≡ after_bytes (after_bytes before_any prelude.now) headers.now }
 {
-    let mut crc = Crc::new();
-    crc.update(first);
-    crc.update(second);
-    crc.value()
+    let mut checksum = Crc::new();
+    checksum.update(prelude);
+    checksum.update(headers);
+    checksum
+}
+
+// The checksum behind a payload, where it was this before. If is known what it is behind the closing checksum too, and this is the
+// one carried, then the payload isn't looked at: there is but one checksum that the last four bytes bring there.
+#[tactic(auto, using(mac_core::proofs::InjectiveLemmas::once))]
+fn after_payload(
+    before: Crc,
+    payload: &[u8],
+    closing: &[u8],
+    carried: u32,
+    whole: Option<Crc>,
+) -> Crc
+    requires below { before < 2 ^ 32 }
+    requires known { IfSome whole (λ whole. whole ≡ after_bytes (after_bytes before payload.now) closing.now) }
+    ensures { result ≡ after_bytes before payload.now }
+{
+    if let Some(whole) = whole {
+        let right = Crc::of_value(carried);
+        let mut closed = right;
+        closed.update(closing);
+        if closed == whole {
+            return right;
+        }
+    }
+    let mut after = before;
+    after.update(payload);
+    after
 }

@@ -8,7 +8,8 @@ use Rattle.std.proofs.lemmas.Grind.{pow_more}
 use lib.Bits.{xor_assoc, xor_self, xor_zero_r}
 use Rattle.mac_core.specs.Crc.{after_bit, after_bits, after_bytes}
 use Rattle.mac_core.specs.declared.powers.TheConstants.{POWERS}
-use Rattle.mac_core.proofs.LinearLemmas.{bytes_linear, even_bit, in_place, joined, linear, none_left, odd_bit, parity}
+use Rattle.mac_core.proofs.CrcLemmas.{bits_below}
+use Rattle.mac_core.proofs.LinearLemmas.{bytes_linear, in_place, joined, linear, none_left}
 
 -- the entry of a digit at a place of the table of a power
 abbrev pub power_entry : ℕ → ℕ → ℕ → ℕ
@@ -41,18 +42,6 @@ others_checked = refl
 at_each : (test : ℕ → ℕ → Bool) (place digit : ℕ) → each_digit test ≡ true → place < 8 → digit < 16 → test place digit ≡ true
 at_each test place digit checked p d =
     agree_below_at (test place) (λ _. true) 16 digit (agree_below_at (λ place. agree_below (test place) (λ _. true) 16) (λ _. true) 8 place checked p) d
-
--- steps keep a register within its 32 bits
-bits_below : (k r : ℕ) → r < 2 ^ 32 → after_bits k r 0 < 2 ^ 32
-unfolding after_bits
-bits_below zero r l = l
-bits_below (suc k) r l = bits_below k (after_bit r 0) (bit_below r l)
-  where
-    bit_below : (r : ℕ) → r < 2 ^ 32 → after_bit r 0 < 2 ^ 32
-    bit_below r l = elim (parity r) [
-      | inl i ↦ rw (even_bit r 0 (omega arith)) (omega arith)
-      | inr i ↦ rw (odd_bit r 0 (omega arith)) (xor_lt 32 (r / 2) 0xEDB88320 (omega arith) (omega arith))
-    ]
 
 -- a part of a register and what lies below it, each alone
 part_past : (n w z a s : ℕ) → z ≡ a * 2 ^ w + s → s < 2 ^ w → after_bits n z 0 ≡ bit_xor (after_bits n s 0) (after_bits n (a * 2 ^ w) 0)
@@ -118,7 +107,7 @@ power_at (suc power) place digit p d =
     ∙ eqb-true _ _ (at_each (is_next here) place digit checked p d)
     ∙ ap (digits_past (power_entry here)) (power_at power place digit p d)
     ∙ same_digits (power_entry here) (λ place digit. after_bits n (digit * 2 ^ (4 * place)) 0) before (power_at power)
-    ∙ sym (digits n before (bits_below n _ (digit_below place digit p d)))
+    ∙ sym (digits n before (bits_below n _ 0 (digit_below place digit p d)))
     ∙ sym (joined (8 * 2 ^ suc power) n n (digit * 2 ^ (4 * place)) (omega arith))
 
 -- what a power leaves of a register, by its digits

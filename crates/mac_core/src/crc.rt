@@ -8,7 +8,7 @@ use std::marker::Model;
 /// A CRC-32 that takes its bytes in pieces.
 ///
 /// Contracts see it as the number that the bits so far have left.
-#[derive(Clone, Copy, Debug)]
+#[derive(Clone, Copy, Debug, PartialEq, Eq)]
 pub struct Crc {
     register: u32,
 }
@@ -28,6 +28,15 @@ impl Crc {
     {
         Crc {
             register: 0xFFFF_FFFF,
+        }
+    }
+
+    /// The checksum of bytes that have this CRC-32.
+    pub fn of_value(value: u32) -> Crc
+        ensures { result ≡ 0xFFFFFFFF - value }
+    {
+        Crc {
+            register: 0xFFFF_FFFF - value,
         }
     }
 

@@ -65,7 +65,9 @@ impl Message {
         ensures { result ≡ self }
     {
         let Message {
-            headers, payload, ..
+            headers,
+            payload,
+            ..
         } = self;
         Message {
             headers,
