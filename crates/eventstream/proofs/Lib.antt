@@ -9,5 +9,6 @@ pub mod LinkLemmas
 pub mod ReadingLemmas
 pub mod RoundLemmas
 pub mod SizeHintLemmas
+pub mod SumLemmas
 pub mod TestLemmas
 pub mod UnframedLemmas

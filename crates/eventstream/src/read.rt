@@ -118,7 +118,7 @@ fn read_summed_frame(
 }
 
 // The message of these headers and the payload behind them, where the closing checksum is right.
-#[tactic(auto, unfolding(crate::specs::Read::checked_message))]
+#[tactic(auto, using(crate::proofs::SumLemmas::before_closing, crate::proofs::SumLemmas::whole_by_parts, crate::proofs::SumLemmas::two_below), unfolding(crate::specs::Read::checked_message))]
 fn read_message(
     lengths: Lengths,
     prelude: [u8; PRELUDE],
@@ -156,7 +156,7 @@ fn before_payload(prelude: &[u8], headers: &[u8]) -> Crc
 
 // The checksum behind a payload, where it was this before. If is known what it is behind the closing checksum too, and this is the
 // one carried, then the payload isn't looked at: there is but one checksum that the last four bytes bring there.
-#[tactic(auto, using(mac_core::proofs::InjectiveLemmas::once))]
+#[tactic(auto, using(mac_core::proofs::InjectiveLemmas::bytes_once, mac_core::proofs::CrcLemmas::bytes_below))]
 fn after_payload(
     before: Crc,
     payload: &[u8],

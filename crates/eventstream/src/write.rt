@@ -1,4 +1,4 @@
-ghost use Rattle.std.specs.Prelude.{◌≡◌, ℕ, ◌+◌, ◌≤◌, ◌<◌, ◌^◌, ◌++◌, ◌∷◌, length, drop, None, Some, OnOk, IfOk, MatchResult};
+ghost use Rattle.std.specs.Prelude.{◌≡◌, ℕ, List, ◌+◌, ◌≤◌, ◌<◌, ◌^◌, ◌++◌, ◌∷◌, length, drop, None, Some, OnOk, IfOk, MatchResult};
 ghost use Rattle.std.specs.Int.{w16, to_be_bytes};
 ghost use Rattle.std.specs.Vec.{vec_capacity, vec_len};
 ghost use Rattle.mac_core.specs.Crc.{after_bytes, before_any, remainder};
@@ -269,16 +269,17 @@ fn push_frame(buffer: &mut Vec<u8>, headers: &[u8], message: &Message) -> Crc
     push_closing(buffer, checksum)
 }
 
-// The closing checksum of a frame, and the checksum of its bytes with these four.
+// The closing checksum of bytes that were summed, and the checksum with these four.
+#[tactic(auto, using(mac_core::proofs::CrcLemmas::after_bytes-append), unfolding(crate::specs::Frame::be32, mac_core::specs::Crc::remainder))]
 fn push_closing(buffer: &mut Vec<u8>, checksum: Crc) -> Crc
     requires room { vec_len buffer.old + 4 ≤ vec_capacity buffer.old }
-    ensures items { buffer.new.items ≡ buffer.old.items ++ be32 (0xFFFFFFFF - checksum) }
-    ensures checksum { result ≡ after_bytes checksum (be32 (0xFFFFFFFF - checksum)) }
+    ensures items { (bytes : List ℕ) → checksum ≡ after_bytes before_any bytes → buffer.new.items ≡ buffer.old.items ++ be32 (remainder bytes) }
+    ensures checksum { (bytes : List ℕ) → checksum ≡ after_bytes before_any bytes → result ≡ after_bytes before_any (summed bytes) }
 {
-    let value = checksum.value();
-    push_u32(buffer, value);
+    let closing = checksum.value().to_be_bytes();
+    push_bytes(buffer, closing.as_slice());
     let mut closed = checksum;
-    closed.update(value.to_be_bytes().as_slice());
+    closed.update(closing.as_slice());
     closed
 }
 
