@@ -1,7 +1,7 @@
 ghost use Rattle.std.specs.Prelude.{◌≡◌, ℕ, ◌+◌, ◌-◌, ◌≤◌, ◌<◌, ◌^◌, ◌++◌, length, take, drop, IfOk, IfSome, OnOk};
 ghost use Rattle.mac_core.specs.Crc.{after_bytes, before_any};
 ghost use Rattle.seg_buf.specs.Segments.{prelude_len};
-ghost use Rattle.eventstream.specs.Read.{AreFit, IsSumOf, headers_of, checked_message, read, read_frame, u32_at, GivesRead, GivesMessage, TakesMessage};
+ghost use Rattle.eventstream.specs.Read.{AreFit, IsSumOf, headers_of, announced, checked_message, read, read_frame, u32_at, GivesRead, GivesMessage, TakesMessage};
 
 mod header;
 mod headers;
@@ -52,6 +52,7 @@ pub fn read_message_from(alloc: Global, buffer: &mut Bytes) -> Result<Message, E
 pub fn read_held_message(alloc: Global, message: &Message) -> Result<(Message, usize), Error>
     ensures read { GivesRead (read message.now.payload) result }
     ensures len { IfOk result (λ held. held.1 ≡ announced message.now.payload) }
+    ensures there { IfOk result (λ held. held.1 ≤ length message.now.payload) }
 {
     let payload = message.payload();
     let Some((prelude, _)) = payload.as_slice().split_first_chunk::<PRELUDE>() else {

@@ -270,7 +270,7 @@ fn push_frame(buffer: &mut Vec<u8>, headers: &[u8], message: &Message) -> Crc
 }
 
 // The closing checksum of bytes that were summed, and the checksum with these four.
-#[tactic(auto, using(mac_core::proofs::CrcLemmas::after_bytes-append), unfolding(crate::specs::Frame::be32, mac_core::specs::Crc::remainder))]
+#[tactic(auto, using(mac_core::proofs::CrcLemmas::joins), unfolding(crate::specs::Frame::be32, mac_core::specs::Crc::remainder))]
 fn push_closing(buffer: &mut Vec<u8>, checksum: Crc) -> Crc
     requires room { vec_len buffer.old + 4 ≤ vec_capacity buffer.old }
     ensures items { (bytes : List ℕ) → checksum ≡ after_bytes before_any bytes → buffer.new.items ≡ buffer.old.items ++ be32 (remainder bytes) }
