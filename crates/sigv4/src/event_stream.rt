@@ -57,7 +57,7 @@ pub fn sign_message(
     ensures { Links (message_refusal message.now (v4_identity params.now) (v4_time params.now))
         params.now last_signature.now (frame message.now) result }
 {
-    let Framed { bytes, checksum } = framed(alloc, message)?;
+    let SummedFrame { bytes, checksum } = framed(alloc, message)?;
     let key = signing_key_of(params)?;
     sign_summed_bytes_with_key(alloc, bytes, checksum, last_signature, params, &key)
 }
@@ -82,7 +82,7 @@ pub fn sign_message_with_key(
     ensures { Links (message_refusal message.now (v4_identity params.now) (v4_time params.now))
         params.now last_signature.now (frame message.now) result }
 {
-    let Framed { bytes, checksum } = framed(alloc, message)?;
+    let SummedFrame { bytes, checksum } = framed(alloc, message)?;
     sign_summed_bytes_with_key(alloc, bytes, checksum, last_signature, params, key)
 }
 
@@ -206,20 +206,20 @@ pub fn link_code_with_key(
 
 // The bytes of a frame, and the checksum that took them alone.
 #[derive(Drop)]
-struct Framed {
+struct SummedFrame {
     bytes: Vec<u8>,
     checksum: Crc,
 }
 
 // The frame of a message.
-fn framed(alloc: Global, message: &Message) -> Result<Framed, SigningError>
+fn framed(alloc: Global, message: &Message) -> Result<SummedFrame, SigningError>
     ensures { MatchResult result
         (λ framed. (unframed message.now ≡ None) × (framed.bytes.items ≡ frame message.now) × (framed.checksum ≡ after_bytes before_any (frame message.now)))
         (λ error. (option_map failed_encoding (unframed message.now) ≡ Some error) ⊎ (error ≡ SigningError.NoMemory)) }
 {
     let mut bytes = Vec::new(alloc);
     let checksum = write_summed_message_to(alloc, message, &mut bytes)?;
-    Ok(Framed { bytes, checksum })
+    Ok(SummedFrame { bytes, checksum })
 }
 
 // The whole second of the parameters, or why their identity doesn't sign at their moment.
