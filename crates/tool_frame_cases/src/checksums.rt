@@ -9,6 +9,7 @@ pub fn answer(alloc: Global, call: &[&str]) -> Result<String, AllocError> {
     match call {
         ["crc32", bytes] => checksum_told(alloc, crc32(bytes_of(alloc, bytes)?.as_slice())),
         ["crc32_appended", bytes] => crc32_appended(alloc, bytes),
+        ["crc32_joined", first, second] => crc32_joined(alloc, first, second),
         ["crc32_pieces", pieces @ ..] => answers_of(alloc, &mut Crc::new(), pieces),
         ["sha256", bytes] => sha256_hex(alloc, bytes_of(alloc, bytes)?.as_slice()),
         ["hmac", key, text] => hmac(alloc, key, text),
@@ -23,6 +24,16 @@ fn crc32_appended(alloc: Global, bytes: &str) -> Result<String, AllocError> {
     let checksum = crc32(bytes.as_slice());
     bytes.extend_from_slice(checksum.to_be_bytes().as_slice())?;
     digits(alloc, bytes.as_slice())
+}
+
+// The checksum of the first bytes and then the second, each of which is summed alone.
+fn crc32_joined(alloc: Global, first: &str, second: &str) -> Result<String, AllocError> {
+    let second = bytes_of(alloc, second)?;
+    let mut alone = Crc::new();
+    alone.update(second.as_slice());
+    let mut joined = Crc::of_value(crc32(bytes_of(alloc, first)?.as_slice()));
+    joined.join(&alone, second.len());
+    checksum_told(alloc, joined.value())
 }
 
 impl Steps for Crc {

@@ -2,8 +2,10 @@ use crate::shown::{digits, message, quoted};
 use crate::words::{bytes_of, headers_of, message_of, shared};
 use bytes::Bytes;
 use eventstream::{
-    Error, MessageSizeHint, frame_of, read_message_from, write_headers_to, write_message_to,
+    Error, MessageSizeHint, frame_of, read_held_message, read_message_from, write_headers_to,
+    write_message_to, write_summed_message_to,
 };
+use mac_core::Crc;
 use smithy_core::{Mem, Message};
 use std::alloc::Global;
 use tool_case_lines::unknown;
@@ -11,6 +13,7 @@ use tool_case_lines::unknown;
 pub fn answer(alloc: Global, call: &[&str]) -> Mem<String> {
     match call {
         ["read", bytes] => read(alloc, &shared(alloc, bytes)?),
+        ["read_held", bytes] => read_held(alloc, &mut shared(alloc, bytes)?),
         ["write_headers", list, headers @ ..] => write_headers(alloc, list, headers),
         ["write", list, headers @ .., payload] => {
             write(alloc, list, &message_of(alloc, headers, payload)?)
@@ -26,6 +29,7 @@ fn of_message(alloc: Global, call: &str, message: &Message) -> Mem<String> {
     match call {
         "frame_of" => whole(alloc, message),
         "read_back" => read_back(alloc, message),
+        "write_held" => write_held(alloc, message),
         "size_hint" => format!(in alloc; "{}", message.size_hint()),
         "write_hinted" => write_hinted(alloc, message),
         _ => unknown(alloc),
@@ -49,6 +53,36 @@ fn read_part(alloc: Global, bytes: &[u8], rest: &mut Bytes) -> Mem<String> {
 fn read_from(alloc: Global, rest: &mut Bytes) -> Mem<String> {
     match read_message_from(alloc, rest) {
         Ok(read) => message(alloc, &read),
+        Err(error) => error.to_string(alloc),
+    }
+}
+
+// The message that the payload of the message that the bytes begin with begins with, and the length of its frame.
+fn read_held(alloc: Global, bytes: &mut Bytes) -> Mem<String> {
+    match read_message_from(alloc, bytes) {
+        Ok(outer) => held_by(alloc, &outer),
+        Err(error) => error.to_string(alloc),
+    }
+}
+
+fn held_by(alloc: Global, outer: &Message) -> Mem<String> {
+    match read_held_message(alloc, outer) {
+        Ok((held, len)) => {
+            let held = message(alloc, &held)?;
+            format!(in alloc; "{held} | {len}")
+        }
+        Err(error) => error.to_string(alloc),
+    }
+}
+
+// The frame of a message with the frame of this one as its payload, whose bytes were summed.
+fn write_held(alloc: Global, message: &Message) -> Mem<String> {
+    let mut held = Vec::new(alloc);
+    match write_summed_message_to(alloc, message, &mut held) {
+        Ok(checksum) => {
+            let outer = Message::new(alloc, Bytes::from_vec(held)?);
+            write(alloc, "", &outer.with_checksums(Crc::new(), checksum))
+        }
         Err(error) => error.to_string(alloc),
     }
 }
