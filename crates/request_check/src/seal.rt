@@ -47,6 +47,34 @@ impl Model for Seal {
 }
 
 impl Seal {
+    /// A seal of these parts. That they are as [`seal_of`] reads them isn't tested.
+    pub fn new(
+        place: SignatureLocation,
+        key_id: String,
+        at: Moment,
+        names: String,
+        signature: String,
+        expires: Option<u64>,
+    ) -> Seal
+        ensures { result ≡ record {
+          place = place;
+          key_id = string_bytes key_id;
+          at = at;
+          names = string_bytes names;
+          signature = string_bytes signature;
+          expires = expires;
+        } }
+    {
+        Seal {
+            place,
+            key_id,
+            at,
+            names,
+            signature,
+            expires,
+        }
+    }
+
     /// Where the request carries it: in headers, or in the parameters of its target.
     pub fn place(&self) -> SignatureLocation
         ensures { result ≡ self.now.place }
