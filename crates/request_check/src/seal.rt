@@ -154,9 +154,9 @@ impl fmt::Debug for Seal {
     }
 }
 
-/// The seal that a signed request carries for a region and a service's name, where it carries one: in the first `authorization`
-/// and the first `x-amz-date` of its headers, or, where these make none, in the first of each of a signature's parameters in
-/// its target's query.
+/// The seal that a signed request carries for a region and a service's name, where it carries one: in the first `authorization`,
+/// which has one space after each comma, and the first `x-amz-date` of its headers, or, where these make none, in the first of each
+/// of a signature's parameters in its target's query.
 ///
 /// ```rust
 /// match seal_of(alloc, &request, "us-east-1", "transcribe")? {

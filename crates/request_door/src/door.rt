@@ -41,10 +41,10 @@ pub(crate) struct Asked<'a> {
 /// A service's door: who signed a request that passes each of its tests at a moment, and else exactly the first test
 /// that is met (`specs/Doors.antt`).
 ///
-/// The signature stands in the `authorization` header or in the parameters of a presigned target. The region and the service's name
-/// are the service's own, and so are the settings: of these are read the two on the path, `payload_checksum_kind`, by which the
-/// body of a presigned request without the header `x-amz-content-sha256` is taken as unsigned, as S3 takes it, and
-/// `session_token_mode`, by which a token may be added after signing.
+/// The signature stands in the `authorization` header, where any spaces and tabs may follow a comma, or in the parameters of a
+/// presigned target. The region and the service's name are the service's own, and so are the settings: of these are read the two on
+/// the path, `payload_checksum_kind`, by which the body of a presigned request without the header `x-amz-content-sha256` is taken as
+/// unsigned, as S3 takes it, and `session_token_mode`, by which a token may be added after signing.
 ///
 /// ```rust
 /// match admit(alloc, &request, body, &settings, "us-east-1", "s3", &keys, now, &Limits::new()) {
