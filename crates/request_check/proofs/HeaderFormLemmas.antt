@@ -1,5 +1,5 @@
 -- The signed request of a case in header form has the case's signature by its own seal.
-use Rattle.std.proofs.Common.{◌≡◌, ℕ, Bool, true, false, ◌||◌, cond, not, List, [], ◌∷◌, ◌++◌, Option, Some, None, inl, is_some, refl, sym, ap, ◌∙◌, subst, true≢false, unwrap_or}
+use Rattle.std.proofs.Common.{◌≡◌, ℕ, Bool, true, false, ◌||◌, cond, not, List, [], ◌∷◌, ◌++◌, Option, Some, None, is_some, refl, sym, ap, ◌∙◌, subst, true≢false, unwrap_or}
 use Rattle.std.specs.Prelude.{bytes_eq, codes}
 use Rattle.std.specs.List.{flat_map, join_with_byte, list_any}
 use Rattle.std.specs.Option.{option_or}
@@ -338,11 +338,11 @@ module _ (c : Case) (is : SignsHeaders c) where
 
   pub authorization_read : IsAuthorization (authorization c) (sealed_credential c.signer.region c.signer.name own_seal) (joined_names (names c)) (signature_of c)
   unfolding authorization
-  authorization_read = inl (record {
+  authorization_read = record {
     digits = signature_digits c;
     one_reading = names_whole c all_named;
     parts = ap (λ (text : List ℕ). authorization_text text (joined_names (names c)) (signature_of c)) credential_same;
-  })
+  }
 
   pub sealed_by : SealsHeaders (signed_headers c) c.signer.region c.signer.name own_seal
   unfolding stamp civil_of

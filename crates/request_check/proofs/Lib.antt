@@ -6,9 +6,7 @@ pub mod EscapedLemmas
 pub mod HeaderFormLemmas
 pub mod HeaderLineLemmas
 pub mod HostLemmas
-pub mod LabelLemmas
 pub mod NamesLemmas
-pub mod OtherReadingLemmas
 pub mod QueryFormLemmas
 pub mod ReadingLemmas
 pub mod SealLemmas

@@ -21,7 +21,7 @@ use Rattle.request_check.specs.Cuts.{CutsEnd}
 use Rattle.request_check.specs.Sealed.{HasOneSeal, IsSealedAt, IsUnsealed, SealParts, SealsHeaders, SealsParameters, FindsSeal, sealed_credential}
 use Rattle.request_check.specs.Stamped.{ReadsStamp}
 use Rattle.request_check.specs.declared.seal.Carried.{Carried}
-use Rattle.request_check.proofs.OtherReadingLemmas.{read_once}
+use Rattle.request_check.proofs.ReadingLemmas.{read_once}
 use Rattle.request_check.proofs.StampLemmas.{stamped_once}
 
 some_same : {A : Type 0} {x y : A} → Some x ≡ Some y → x ≡ y

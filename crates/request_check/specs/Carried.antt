@@ -9,7 +9,7 @@ use Rattle.sigv4.specs.Query.{Pair}
 use Rattle.sigv4.specs.declared.settings.SignatureLocation.{SignatureLocation}
 use Rattle.sigv4.specs.declared.settings.SignatureLocation.TheVariants.{Headers, QueryParams}
 use Rattle.sigv4.specs.Signature.{is_signature}
-use Rattle.request_check.specs.Authorization.{IsAuthorization, IsLabelled, IsNotOwn, IsOtherAuthorization, IsOwnAuthorization}
+use Rattle.request_check.specs.Authorization.{IsAuthorization}
 use Rattle.request_check.specs.Sealed.{IsUnsealed, SealParts, SealsHeaders, SealsParameters, SealsTarget, sealed_credential, told_expiry}
 use Rattle.request_check.specs.Stamped.{IsWholeSecond}
 use Rattle.request_check.specs.declared.authorization.Authorization.{Authorization}
@@ -19,21 +19,6 @@ use Rattle.request_check.specs.declared.seal.Carried.{Carried}
 abbrev pub ReadsAuthorization : List ℕ → Option Authorization → Type 0
 ReadsAuthorization text None = (credential names signature : List ℕ) → IsAuthorization text credential names signature → ⊥
 ReadsAuthorization text (Some read) = IsAuthorization text read.credential.now read.names.now read.signature.now
-
--- the parts of an authorization as it is made here, or that the text is none
-abbrev pub ReadsOwn : List ℕ → Option Authorization → Type 0
-ReadsOwn text None = IsNotOwn text
-ReadsOwn text (Some read) = IsOwnAuthorization text read.credential.now read.names.now read.signature.now
-
--- the parts of an authorization as others make it, or that the text is none
-abbrev pub ReadsOther : List ℕ → Option Authorization → Type 0
-ReadsOther text None = (credential names signature : List ℕ) → IsOtherAuthorization text credential names signature → ⊥
-ReadsOther text (Some read) = IsOtherAuthorization text read.credential.now read.names.now read.signature.now
-
--- what stands behind blanks and a label, or that the text isn't so
-abbrev pub CutsLabel : List ℕ → List ℕ → Option (Bor (List ℕ)) → Type 0
-CutsLabel label text None = (labelled : List ℕ) → IsLabelled label labelled text → ⊥
-CutsLabel label text (Some labelled) = IsLabelled label labelled.now text
 
 -- what stands before a slash and a scope, or that these aren't the end
 abbrev pub CutsScope : List ℕ → List ℕ → Option (Bor (List ℕ)) → Type 0

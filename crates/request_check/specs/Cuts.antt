@@ -8,12 +8,6 @@ CutsLast mark text None = (front back : List ℕ) → text ≡ front ++ (mark ++
 CutsLast mark text (Some parts) =
     (text ≡ parts.0.now ++ (mark ++ parts.1.now)) × ((front back : List ℕ) → text ≡ front ++ (mark ++ back) → length front ≤ length parts.0.now)
 
--- the text before and after the first place of a mark, or that it has none
-abbrev pub CutsFirst : List ℕ → List ℕ → Option (Bor (List ℕ) × Bor (List ℕ)) → Type 0
-CutsFirst mark text None = (front back : List ℕ) → text ≡ front ++ (mark ++ back) → ⊥
-CutsFirst mark text (Some parts) =
-    (text ≡ parts.0.now ++ (mark ++ parts.1.now)) × ((front back : List ℕ) → text ≡ front ++ (mark ++ back) → length parts.0.now ≤ length front)
-
 -- what stands before an end, or that the text doesn't have this end
 abbrev pub CutsEnd : List ℕ → List ℕ → Option (Bor (List ℕ)) → Type 0
 CutsEnd end text None = (front : List ℕ) → text ≡ front ++ end → ⊥

@@ -1,11 +1,12 @@
 ghost use Rattle.std.specs.Prelude.{◌≡◌, bytes_eq, Ok, Err, IfOk, string_bytes};
+ghost use Rattle.smithy_core.specs.Civil.{IsInYears};
 ghost use Rattle.smithy_http.specs.Target.{target_of};
 ghost use Rattle.sigv4.specs.Body.{payload_text};
 ghost use Rattle.sigv4.specs.Digest.{HoldsText};
 ghost use Rattle.sigv4.specs.Settings.{settings_of};
 ghost use Rattle.request_check.specs.Faults.{IsSameCheckFault};
 ghost use Rattle.request_check.specs.Recomputation.{Recomputes};
-ghost use Rattle.request_check.specs.Recomputed.{ChecksRequest, ReadsSent, sent_text};
+ghost use Rattle.request_check.specs.Recomputed.{ChecksRequest, ReadsSent, recomputed, sent_text};
 
 use crate::header_lines::push_header_lines;
 use crate::seal::{Seal, seal_of};
@@ -132,7 +133,7 @@ impl CheckRequestFault {
 /// for each header in order [`SigningError::InvalidHeaderName`] and [`SigningError::InvalidHeaderValue`] with its place, and
 /// [`SigningError::MissingHost`] where neither the target nor a header has a host, and [`SigningError::InvalidHeaderValue`]
 /// where its text is no header's value.
-#[tactic(auto, using(crate::proofs::UnfitLemmas::sealed_in_years, crate::proofs::AlikeLemmas::recomputes), unfolding(crate::specs::Recomputed::recomputed))]
+#[tactic(auto, using(crate::proofs::UnfitLemmas::sealed_in_years, crate::proofs::AlikeLemmas::recomputes))]
 pub fn check_request(
     alloc: Global,
     sent: &HttpRequest,
@@ -151,15 +152,42 @@ pub fn check_request(
         return Err(CheckRequestFault::NoSignature);
     };
     let uri = readable_target(alloc, sent)?;
-    let payload = payload_text(alloc, body)?;
-    let text = sent_digest(alloc, sent, &uri, settings, payload.as_str(), &seal)?;
-    let recomputed = digest_signature(alloc, text, secret, seal.at(), region, name)?;
+    let recomputed = recomputed_signature(
+        alloc, sent, &uri, settings, region, name, body, secret, &seal,
+    )?;
     let carried = String::from_str(alloc, seal.signature())?;
     Ok(Checked {
         carried,
         recomputed,
         seal,
     })
+}
+
+/// The signature of a request by a seal, for who read the seal itself: the moment, the place and the names are the seal's, and
+/// `uri` is the request's target.
+///
+/// The moment has to lie in the years 0 to 9999. Whether the request carries the seal, and whether its headers and its host are fit
+/// for signing, isn't tested.
+#[tactic(auto, unfolding(crate::specs::Recomputed::recomputed))]
+pub fn recomputed_signature(
+    alloc: Global,
+    sent: &HttpRequest,
+    uri: &Uri,
+    settings: &SigningSettings,
+    region: &str,
+    name: &str,
+    body: &SignableBody<'_>,
+    secret: &str,
+    seal: &Seal,
+) -> Mem<String>
+    requires { IsInYears seal.now.at }
+    ensures { IfOk result (λ text. string_bytes text
+        ≡ recomputed (string_bytes sent.now.method) (target_of uri.now) sent.now.headers (settings_of settings.now) (payload_text body.now)
+        (record { secret = secret.now; region = region.now; name = name.now }) seal.now) }
+{
+    let payload = payload_text(alloc, body)?;
+    let text = sent_digest(alloc, sent, uri, settings, payload.as_str(), seal)?;
+    digest_signature(alloc, text, secret, seal.at(), region, name)
 }
 
 // The target of a request whose headers and host can be signed.

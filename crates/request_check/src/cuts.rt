@@ -1,19 +1,11 @@
-ghost use Rattle.request_check.specs.Cuts.{CutsEnd, CutsFirst, CutsLast};
+ghost use Rattle.request_check.specs.Cuts.{CutsEnd, CutsLast};
 
 /// The text before and after the last place of a mark.
 #[tactic(auto, using(crate::proofs::CutLemmas::cuts_last))]
-pub(crate) fn cut_last<'a>(text: &'a str, mark: &str) -> Option<(&'a str, &'a str)>
+pub fn cut_last<'a>(text: &'a str, mark: &str) -> Option<(&'a str, &'a str)>
     ensures { CutsLast mark.now text.now result }
 {
     text.rsplit_once(mark)
-}
-
-/// The text before and after the first place of a mark.
-#[tactic(auto, using(crate::proofs::CutLemmas::cuts_first))]
-pub(crate) fn cut_first<'a>(text: &'a str, mark: &str) -> Option<(&'a str, &'a str)>
-    ensures { CutsFirst mark.now text.now result }
-{
-    text.split_once(mark)
 }
 
 /// What stands before the end of a text, where it has this end.

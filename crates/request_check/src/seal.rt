@@ -47,6 +47,34 @@ impl Model for Seal {
 }
 
 impl Seal {
+    /// A seal of these parts. That they are as [`seal_of`] reads them isn't tested.
+    pub fn new(
+        place: SignatureLocation,
+        key_id: String,
+        at: Moment,
+        names: String,
+        signature: String,
+        expires: Option<u64>,
+    ) -> Seal
+        ensures { result ≡ record {
+          place = place;
+          key_id = string_bytes key_id;
+          at = at;
+          names = string_bytes names;
+          signature = string_bytes signature;
+          expires = expires;
+        } }
+    {
+        Seal {
+            place,
+            key_id,
+            at,
+            names,
+            signature,
+            expires,
+        }
+    }
+
     /// Where the request carries it: in headers, or in the parameters of its target.
     pub fn place(&self) -> SignatureLocation
         ensures { result ≡ self.now.place }
@@ -126,9 +154,9 @@ impl fmt::Debug for Seal {
     }
 }
 
-/// The seal that a signed request carries for a region and a service's name, where it carries one: in the first `authorization`
-/// and the first `x-amz-date` of its headers, or, where these make none, in the first of each of a signature's parameters in
-/// its target's query.
+/// The seal that a signed request carries for a region and a service's name, where it carries one: in the first `authorization`,
+/// which has one space after each comma, and the first `x-amz-date` of its headers, or, where these make none, in the first of each
+/// of a signature's parameters in its target's query.
 ///
 /// ```rust
 /// match seal_of(alloc, &request, "us-east-1", "transcribe")? {

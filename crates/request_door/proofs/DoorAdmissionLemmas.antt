@@ -33,6 +33,7 @@ use Rattle.presign_check.proofs.AcceptanceLemmas.{late_enough}
 use Rattle.presign_check.proofs.PresignedCaseLemmas.{own_texts, stand_once}
 use Rattle.request_door.specs.DoorAcceptance.{IsSignedForDoor}
 use Rattle.request_door.specs.DoorAdmission.{IsDueAtDoor, IsLetIn, LetsSignedIn, ShowsOneForm, case_expires, case_seconds, case_terms, case_texts}
+use Rattle.request_door.specs.DoorAuthorization.{IsDoorAuthorization}
 use Rattle.request_door.specs.DoorCarried.{CarriesAt, IsInForm, MeetsCarried, MeetsDoorForm, are_several, form_tests, has_parameters, is_parameter, tests_of}
 use Rattle.request_door.specs.DoorNames.{MeetsName, name_tests}
 use Rattle.request_door.specs.DoorOrder.{NoneMet}
@@ -74,7 +75,7 @@ authorization_rest c = refl
 
 request_in_headers : (c : Case) (limits : Limits) (is : header.SignsHeaders c) → has_parameters (decoded c.target) ≡ false → ShowsRequest c limits Headers c.target
 request_in_headers c limits is none =
-    let read = subst (λ (t : List ℕ). IsAuthorization (authorization c) t (joined_names (names c)) (signature_of c)) (sym (header.credential_same c is)) (header.authorization_read c is) in
+    let read : IsDoorAuthorization (authorization c) (credential c) (joined_names (names c)) (signature_of c) = inl (subst (λ (t : List ℕ). IsAuthorization (authorization c) t (joined_names (names c)) (signature_of c)) (sym (header.credential_same c is)) (header.authorization_read c is)) in
     record {
       parts = ap (with_params c.target) (no_parameters c is.form);
       names_are = shows_in_headers c is;

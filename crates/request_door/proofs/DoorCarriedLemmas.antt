@@ -5,11 +5,10 @@ use Rattle.sigv4.specs.Query.{Pair}
 use Rattle.sigv4.specs.Signature.{is_signature}
 use Rattle.sigv4.specs.declared.settings.SignatureLocation.{SignatureLocation}
 use Rattle.sigv4.specs.declared.settings.SignatureLocation.TheVariants.{Headers, QueryParams}
-use Rattle.request_check.specs.Authorization.{IsAuthorization}
-use Rattle.request_check.specs.Carried.{ReadsAuthorization}
 use Rattle.presign_check.specs.Terms.{algorithm_name}
 use Rattle.presign_check.specs.declared.part.PresignPart.{PresignPart}
 use Rattle.presign_check.specs.declared.part.PresignPart.TheVariants.{Algorithm, Credential, Date, Expires, SignedHeaders, Signature}
+use Rattle.request_door.specs.DoorAuthorization.{IsDoorAuthorization, ReadsDoorAuthorization}
 use Rattle.request_door.specs.DoorCarried.{CarriesAt, IsInForm, LacksFront, MeetsCarried, MeetsDoorForm, ReadsCarried, ReadsCarriedAt, are_several, first_text, form_tests, has_authorization, has_parameters, part_values, tests_of, texts_carried}
 use Rattle.request_door.specs.DoorOrder.{IsFirstMet, NoneMet}
 use Rattle.request_door.specs.declared.carried.Carried.{Carried}
@@ -109,16 +108,16 @@ module _ (headers pairs : List Pair) where
       has_algorithm : (rest : List ℕ) → text ≡ codes "AWS4-HMAC-SHA256 " ++ rest → LacksFront (codes "AWS4-HMAC-SHA256 ") (first_text (part_values Headers headers pairs Signature)) → ⊥
       has_algorithm rest e lacks = lacks rest (ap first_text once ∙ e)
 
-      pub malformed : (rest : List ℕ) → text ≡ codes "AWS4-HMAC-SHA256 " ++ rest → ReadsAuthorization text None → HeaderFirst Malformed
+      pub malformed : (rest : List ℕ) → text ≡ codes "AWS4-HMAC-SHA256 " ++ rest → ReadsDoorAuthorization text None → HeaderFirst Malformed
       malformed rest e none =
-          behind Malformed (inr (has_algorithm rest e, inl (subst (λ (values : List (List ℕ)). ReadsAuthorization (first_text values) None) (sym once) none, refl)))
+          behind Malformed (inr (has_algorithm rest e, inl (subst (λ (values : List (List ℕ)). ReadsDoorAuthorization (first_text values) None) (sym once) none, refl)))
 
-      pub whole_header : (rest credential names signature : List ℕ) → text ≡ codes "AWS4-HMAC-SHA256 " ++ rest → IsAuthorization text credential names signature
+      pub whole_header : (rest credential names signature : List ℕ) → text ≡ codes "AWS4-HMAC-SHA256 " ++ rest → IsDoorAuthorization text credential names signature
           → NoneMet (MeetsCarried Headers headers pairs) (tests_of Headers)
       whole_header rest credential names signature e read =
           part_whole Headers headers pairs Signature text (Missing Date ∷ Repeated Date ∷ OtherAlgorithm ∷ Malformed ∷ []) once
           (part_whole Headers headers pairs Date date (OtherAlgorithm ∷ Malformed ∷ []) dated
-          (has_algorithm rest e, (λ none. none credential names signature (subst (λ (t : List ℕ). IsAuthorization t credential names signature) (sym (ap first_text once)) read), tt)))
+          (has_algorithm rest e, (λ none. none credential names signature (subst (λ (t : List ℕ). IsDoorAuthorization t credential names signature) (sym (ap first_text once)) read), tt)))
 
 -- ---- in parameters
 

@@ -11,11 +11,10 @@ use Rattle.sigv4.specs.Query.{Pair, decoded}
 use Rattle.sigv4.specs.declared.settings.SignatureLocation.{SignatureLocation}
 use Rattle.sigv4.specs.declared.settings.SignatureLocation.TheVariants.{Headers, QueryParams}
 use Rattle.request_check.specs.Recomputed.{carried_names, recomputed, unfit_sent}
-use Rattle.request_check.proofs.OtherReadingLemmas.{read_once}
 use Rattle.request_check.proofs.SealLemmas.{absent}
 use Rattle.request_check.proofs.StampLemmas.{stamped_once}
-use Rattle.request_check.specs.Authorization.{IsAuthorization}
 use Rattle.presign_check.proofs.SignatureLemmas.{one_target, spelled_once}
+use Rattle.request_door.specs.DoorAuthorization.{IsDoorAuthorization}
 use Rattle.request_door.specs.DoorCarried.{CarriesAt, DoorTexts, IsInForm, MeetsCarried, MeetsDoorForm, form_tests, tests_of}
 use Rattle.request_door.specs.DoorNames.{MeetsName, name_tests}
 use Rattle.request_door.specs.DoorOneAnswer.{HasOneDoorAnswer, IsToldSame}
@@ -26,6 +25,7 @@ use Rattle.request_door.specs.Doors.{DoorInput, DoorReading, HasForm, HasKey, Ha
 use Rattle.request_door.specs.declared.admitted.Admitted.{Admitted}
 use Rattle.request_door.specs.declared.fault.DoorFault.{DoorFault}
 use Rattle.request_door.specs.declared.payload.DoorPayload.{DoorPayload}
+use Rattle.request_door.proofs.DoorReadingLemmas.{door_once}
 
 -- ---- one list of tests
 
@@ -74,8 +74,8 @@ one_carried : (place : SignatureLocation) (headers pairs : List Pair) (a b : Doo
     → CarriesAt place headers pairs b → a ≡ b
 one_carried Headers headers pairs a b place p q =
     let same : p.authorization ≡ q.authorization = head_same p.authorization q.authorization (sym p.once ∙ q.once) in
-    let read = subst (λ (t : List ℕ). IsAuthorization t a.credential a.names a.signature) same p.read in
-    let parts = read_once q.authorization a.credential a.names a.signature b.credential b.names b.signature read q.read in
+    let read = subst (λ (t : List ℕ). IsDoorAuthorization t a.credential a.names a.signature) same p.read in
+    let parts = door_once q.authorization a.credential a.names a.signature b.credential b.names b.signature read q.read in
     texts_are a b place parts.0 (head_same a.date b.date (sym p.date ∙ q.date)) (p.no_expiry ∙ sym q.no_expiry) parts.1 parts.2
 one_carried QueryParams headers pairs a b place p q =
     texts_are a b place (head_same a.credential b.credential (sym p.credential ∙ q.credential)) (head_same a.date b.date (sym p.date ∙ q.date))

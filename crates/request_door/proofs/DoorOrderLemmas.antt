@@ -14,7 +14,6 @@ use Rattle.request_check.specs.Recomputed.{carried_names}
 use Rattle.request_door.specs.DoorCarried.{DoorTexts, ReadsCarried, texts_carried}
 use Rattle.request_door.specs.DoorNames.{PassesNames}
 use Rattle.request_door.specs.DoorPayloads.{ReadsPayload}
-use Rattle.request_door.specs.DoorSignature.{IsSealedSo, SomeSeal}
 use Rattle.request_door.specs.DoorTerms.{DoorTerms, ReadsDoorTerms, TestsTime, door_seal, told_terms}
 use Rattle.request_door.specs.Doors.{AcceptsTarget, AnswersDoor, CarriesTerms, DoorInput, DoorReading, FindsSecret, HasForm, HasKey, HasNames, HasPayload, HasTarget, HasCarriedTexts, HasTold, IsTimely, TellsRequest, TestsLast}
 use Rattle.request_door.specs.declared.admitted.Admitted.{Admitted}
@@ -25,7 +24,6 @@ use Rattle.request_door.specs.declared.payload.DoorPayload.{DoorPayload}
 use Rattle.request_door.specs.declared.payload.DoorPayload.TheVariants.{Unsigned}
 use Rattle.request_door.specs.declared.terms.Terms.{Terms}
 use Rattle.request_door.proofs.DoorCarriedLemmas.{in_one_form}
-use Rattle.request_door.proofs.DoorLemmas.{sealed_at}
 
 -- what is asked, of the arguments
 abbrev pub input : HttpRequest → List ℕ → Settings → List ℕ → List ℕ → (List ℕ → Option (List ℕ)) → Instant → Limits → DoorInput
@@ -87,27 +85,13 @@ module _ (asked : DoorInput) (uri : Uri) (accepted : AcceptsTarget asked.request
 
 -- ---- what is left behind the terms
 
-module _ (asked : DoorInput) (read : Carried) (told : Terms) (carries : CarriesTerms asked.request asked.region asked.name asked.limits read told) where
-  abbrev uri : Uri
-  uri = carries.texts.uri
-
+module _ (asked : DoorInput) (uri : Uri) (read : Carried) (told : Terms) (carries : CarriesTerms asked.request uri asked.region asked.name asked.limits read told) where
   left_told : (form : DoorPayload) (secret : List ℕ) → HasTold asked (read_so_far uri (texts_carried read) (told_terms told) form secret)
   left_told form secret = record {
     texts = left_texts asked uri carries.texts.accepted read carries.texts.reads (told_terms told) form secret;
     good = carries.tells.0;
     told = carries.tells.1;
   }
-
-  -- the request carries a seal, and is fit for signing
-  pub sealed_so : IsSealedSo asked.request asked.region asked.name (door_seal (texts_carried read) (told_terms told)) uri
-  sealed_so = record {
-    sealed = sealed_at asked.request asked.region asked.name uri (texts_carried read) (told_terms told) read.place refl carries.texts.accepted.0 carries.texts.reads.1 carries.texts.reads.3 carries.tells.1;
-    spelled = carries.texts.accepted.0;
-    fit = carries.texts.accepted.1;
-  }
-
-  pub some_seal : SomeSeal asked.request asked.region asked.name
-  some_seal = record { seal = door_seal (texts_carried read) (told_terms told); uri = uri; so = sealed_so }
 
   -- the names aren't as they have to be
   pub refused_names : (fault : DoorFault)

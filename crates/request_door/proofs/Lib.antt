@@ -1,9 +1,12 @@
 pub mod DoorAcceptanceLemmas
 pub mod DoorAdmissionLemmas
 pub mod DoorCarriedLemmas
+pub mod DoorCutLemmas
+pub mod DoorLabelLemmas
 pub mod DoorLawLemmas
 pub mod DoorLemmas
 pub mod DoorNameLemmas
 pub mod DoorOneAnswerLemmas
 pub mod DoorOrderLemmas
+pub mod DoorReadingLemmas
 pub mod DoorTermLemmas

@@ -8,12 +8,11 @@ use Rattle.sigv4.specs.Query.{Pair}
 use Rattle.sigv4.specs.Signature.{is_signature}
 use Rattle.sigv4.specs.declared.settings.SignatureLocation.{SignatureLocation}
 use Rattle.sigv4.specs.declared.settings.SignatureLocation.TheVariants.{Headers, QueryParams}
-use Rattle.request_check.specs.Authorization.{IsAuthorization}
-use Rattle.request_check.specs.Carried.{ReadsAuthorization}
 use Rattle.presign_check.specs.Parameters.{all_parts, parameter_name, parameter_values}
 use Rattle.presign_check.specs.Terms.{algorithm_name}
 use Rattle.presign_check.specs.declared.part.PresignPart.{PresignPart}
 use Rattle.presign_check.specs.declared.part.PresignPart.TheVariants.{Algorithm, Credential, Date, Expires, SignedHeaders, Signature}
+use Rattle.request_door.specs.DoorAuthorization.{IsDoorAuthorization, ReadsDoorAuthorization}
 use Rattle.request_door.specs.DoorOrder.{IsFirstMet, NoneMet}
 use Rattle.request_door.specs.declared.carried.Carried.{Carried}
 use Rattle.request_door.specs.declared.fault.DoorFault.{DoorFault}
@@ -87,7 +86,7 @@ IsOfOtherAlgorithm QueryParams headers pairs = first_text (part_values QueryPara
 
 -- a signature isn't in its form: the header isn't of credential, names and signature, or the parameter hasn't 64 lower-case digits
 abbrev pub IsMalformed : SignatureLocation → List Pair → List Pair → Type 0
-IsMalformed Headers headers pairs = ReadsAuthorization (first_text (part_values Headers headers pairs Signature)) None
+IsMalformed Headers headers pairs = ReadsDoorAuthorization (first_text (part_values Headers headers pairs Signature)) None
 IsMalformed QueryParams headers pairs = is_signature (first_text (part_values QueryParams headers pairs Signature)) ≡ false
 
 -- a test of what is carried
@@ -120,7 +119,7 @@ pub record CarriesHeaders (headers : List Pair) (texts : DoorTexts) : Type 0 whe
   pub once : named_values headers (codes "authorization") ≡ authorization ∷ []
   pub date : named_values headers (codes "x-amz-date") ≡ texts.date ∷ []
   pub no_expiry : texts.expires ≡ []
-  pub read : IsAuthorization authorization texts.credential texts.names texts.signature
+  pub read : IsDoorAuthorization authorization texts.credential texts.names texts.signature
 
 -- the parameters carry these texts
 pub record CarriesParameters (pairs : List Pair) (texts : DoorTexts) : Type 0 where

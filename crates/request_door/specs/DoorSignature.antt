@@ -1,27 +1,14 @@
 -- The signature of a request with a seal, computed again.
-use Rattle.std.specs.Prelude.{◌≡◌, ◌≢◌, ◌⊎◌, ℕ, List, None, Result, Ok, Err, string_bytes}
+use Rattle.std.specs.Prelude.{◌≡◌, ◌≢◌, ◌⊎◌, ℕ, List, Result, Ok, Err, string_bytes}
 use Rattle.http_uri.specs.declared.uri.Uri.{Uri}
 use Rattle.smithy_core.specs.declared.request.HttpRequest.{HttpRequest}
-use Rattle.smithy_http.specs.QueryWriter.{SpellsTarget}
 use Rattle.smithy_http.specs.Target.{target_of}
 use Rattle.eventstream.specs.Key.{Signer}
 use Rattle.sigv4.specs.Settings.{Settings}
-use Rattle.request_check.specs.Recomputed.{recomputed, unfit_sent}
-use Rattle.request_check.specs.Sealed.{IsSealed, SealParts}
+use Rattle.request_check.specs.Recomputed.{recomputed}
+use Rattle.request_check.specs.Sealed.{SealParts}
 use Rattle.request_door.specs.declared.fault.DoorFault.{DoorFault}
 use Rattle.request_door.specs.declared.fault.DoorFault.TheVariants.{Mismatch, NoMemory}
-
--- the request carries this seal, has this target, and is fit for signing
-pub record IsSealedSo (request : HttpRequest) (region name : List ℕ) (seal : SealParts) (uri : Uri) : Type 0 where
-  pub sealed : IsSealed request region name seal
-  pub spelled : SpellsTarget (string_bytes request.target) uri
-  pub fit : unfit_sent (target_of uri) request.headers ≡ None
-
--- the request carries a seal, and is fit for signing
-pub record SomeSeal (request : HttpRequest) (region name : List ℕ) : Type 0 where
-  pub seal : SealParts
-  pub uri : Uri
-  pub so : IsSealedSo request region name seal uri
 
 -- the signature of the request by a seal
 abbrev pub seal_signature : HttpRequest → Settings → List ℕ → Signer → SealParts → Uri → List ℕ

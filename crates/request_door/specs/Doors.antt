@@ -230,19 +230,17 @@ TestsLast request settings body signer form seal uri (Err fault) =
     × (seal.signature ≢ seal_signature request settings (signed_payload (shown_payload request.headers) form body) signer seal uri) × (fault ≡ Mismatch))
     ⊎ (fault ≡ NoMemory))
 
--- the pairs are those of the request's target, which is accepted
-pub record HasPairs (request : HttpRequest) (pairs : List Pair) : Type 0 where
-  pub uri : Uri
+-- the request's target is accepted, and these are its pairs
+pub record HasPairs (request : HttpRequest) (uri : Uri) (pairs : List Pair) : Type 0 where
   pub accepted : AcceptsTarget request (Ok uri)
   pub pairs_are : pairs ≡ decoded (target_of uri)
 
--- the request carries these texts, in a target that is accepted
-pub record CarriesTexts (request : HttpRequest) (read : Carried) : Type 0 where
-  pub uri : Uri
+-- the request's target is accepted, and it carries these texts
+pub record CarriesTexts (request : HttpRequest) (uri : Uri) (read : Carried) : Type 0 where
   pub accepted : AcceptsTarget request (Ok uri)
   pub reads : ReadsCarried request.headers (decoded (target_of uri)) (Ok read)
 
 -- and they tell these terms
-pub record CarriesTerms (request : HttpRequest) (region name : List ℕ) (limits : Limits) (read : Carried) (told : Terms) : Type 0 where
-  pub texts : CarriesTexts request read
+pub record CarriesTerms (request : HttpRequest) (uri : Uri) (region name : List ℕ) (limits : Limits) (read : Carried) (told : Terms) : Type 0 where
+  pub texts : CarriesTexts request uri read
   pub tells : ReadsDoorTerms region name limits (texts_carried read) (Ok told)

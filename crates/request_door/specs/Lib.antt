@@ -1,5 +1,6 @@
 pub mod DoorAcceptance
 pub mod DoorAdmission
+pub mod DoorAuthorization
 pub mod DoorCarried
 pub mod DoorCodes
 pub mod DoorFaults

@@ -4,9 +4,9 @@ ghost use Rattle.sigv4.specs.Query.{Pair};
 ghost use Rattle.sigv4.specs.declared.settings.SignatureLocation.TheVariants.{Headers as InHeaders, QueryParams as InParameters};
 ghost use Rattle.request_door.specs.DoorCarried.{FindsPart, ReadsCarried, ReadsCarriedAt, are_several, first_shown, has_parameters, header_of_part, is_parameter};
 
+use crate::authorization::door_authorization;
 use crate::fault::DoorFault;
 use presign_check::PresignPart;
-use request_check::parts::read_authorization;
 use sigv4::SignatureLocation;
 use sigv4::parts::is_signature;
 use smithy_core::Headers;
@@ -88,7 +88,7 @@ fn read_headers<'a>(
     let Some(_rest) = authorization.strip_prefix("AWS4-HMAC-SHA256 ") else {
         return Err(DoorFault::OtherAlgorithm);
     };
-    let Some(read) = read_authorization(authorization) else {
+    let Some(read) = door_authorization(authorization) else {
         return Err(DoorFault::Malformed);
     };
     Ok(Carried {

@@ -1,13 +1,11 @@
 ghost use Rattle.std.specs.Prelude.{ℕ, List, None, IsSome, IfOk, MatchBool, ◌≡◌, string_bytes};
-ghost use Rattle.http_uri.specs.declared.uri.Uri.{Uri as Target};
+ghost use Rattle.smithy_core.specs.Civil.{IsInYears};
 ghost use Rattle.smithy_core.specs.TextPairs.{text_pairs};
 ghost use Rattle.smithy_http.specs.Target.{target_of};
 ghost use Rattle.sigv4.specs.Settings.{settings_of};
 ghost use Rattle.request_check.specs.Recomputed.{unfit_sent};
-ghost use Rattle.request_check.specs.Sealed.{SealParts};
 ghost use Rattle.request_door.specs.DoorCarried.{texts_carried};
-ghost use Rattle.request_door.specs.DoorSignature.{IsSealedSo, SomeSeal};
-ghost use Rattle.request_door.specs.DoorTerms.{told_terms};
+ghost use Rattle.request_door.specs.DoorTerms.{door_seal, told_terms};
 ghost use Rattle.request_door.specs.Doors.{AcceptsTarget, AnswersDoor, CarriesTerms, CarriesTexts, FindsSecret, HasPairs, TellsRequest, TestsLast, door_input};
 
 use crate::admitted::Admitted;
@@ -17,7 +15,7 @@ use crate::keys::Keys;
 use crate::limits::Limits;
 use crate::names::test_names;
 use crate::payload::{DoorPayload, read_payload, shown_payload, signed_payload};
-use crate::signature::test_signature;
+use crate::signature::{test_signature, told_seal};
 use crate::terms::{Terms, read_terms, timely_until};
 use http_uri::Uri;
 use request_check::parts::query_pairs;
@@ -27,10 +25,11 @@ use smithy_core::{Headers, HttpRequest, Mem, Moment};
 use smithy_http::read_target;
 use std::alloc::Global;
 
-/// A request with its body, and what the service knows of it.
+/// A request with its target and its body, and what the service knows of it.
 #[derive(Clone, Copy)]
 pub(crate) struct Asked<'a> {
     request: &'a HttpRequest,
+    uri: &'a Uri,
     body: &'a [u8],
     settings: &'a SigningSettings,
     region: &'a str,
@@ -42,10 +41,10 @@ pub(crate) struct Asked<'a> {
 /// A service's door: who signed a request that passes each of its tests at a moment, and else exactly the first test
 /// that is met (`specs/Doors.antt`).
 ///
-/// The signature stands in the `authorization` header or in the parameters of a presigned target. The region and the service's name
-/// are the service's own, and so are the settings: of these are read the two on the path, `payload_checksum_kind`, by which the
-/// body of a presigned request without the header `x-amz-content-sha256` is taken as unsigned, as S3 takes it, and
-/// `session_token_mode`, by which a token may be added after signing.
+/// The signature stands in the `authorization` header, where any spaces and tabs may follow a comma, or in the parameters of a
+/// presigned target. The region and the service's name are the service's own, and so are the settings: of these are read the two on
+/// the path, `payload_checksum_kind`, by which the body of a presigned request without the header `x-amz-content-sha256` is taken as
+/// unsigned, as S3 takes it, and `session_token_mode`, by which a token may be added after signing.
 ///
 /// ```rust
 /// match admit(alloc, &request, body, &settings, "us-east-1", "s3", &keys, now, &Limits::new()) {
@@ -106,6 +105,7 @@ pub fn admit<K: Keys>(
     let pairs = query_pairs(alloc, &uri)?;
     let asked = Asked {
         request,
+        uri: &uri,
         body,
         settings,
         region,
@@ -123,7 +123,7 @@ fn admit_pairs<K: Keys>(
     keys: &K,
     pairs: &[(String, String)],
 ) -> Result<Admitted, DoorFault>
-    requires { HasPairs asked.now.request.now (text_pairs pairs.now) }
+    requires { HasPairs asked.now.request.now asked.now.uri.now (text_pairs pairs.now) }
     ensures { AnswersDoor (door_input (K.secrets keys.now) asked.entry.now) result }
 {
     match read_carried(&asked.request.headers, pairs) {
@@ -139,7 +139,7 @@ fn admit_texts<K: Keys>(
     keys: &K,
     texts: &Carried<'_>,
 ) -> Result<Admitted, DoorFault>
-    requires { CarriesTexts asked.now.request.now texts.now }
+    requires { CarriesTexts asked.now.request.now asked.now.uri.now texts.now }
     ensures { AnswersDoor (door_input (K.secrets keys.now) asked.entry.now) result }
 {
     match read_terms(alloc, texts, asked.region, asked.name, asked.limits) {
@@ -156,7 +156,7 @@ fn admit_terms<K: Keys>(
     texts: &Carried<'_>,
     terms: &Terms<'_>,
 ) -> Result<Admitted, DoorFault>
-    requires { CarriesTerms asked.now.request.now asked.now.region.now asked.now.name.now asked.now.limits.now texts.now terms.now }
+    requires { CarriesTerms asked.now.request.now asked.now.uri.now asked.now.region.now asked.now.name.now asked.now.limits.now texts.now terms.now }
     ensures { AnswersDoor (door_input (K.secrets keys.now) asked.entry.now) result }
 {
     let (headers, settings) = (&asked.request.headers, asked.settings);
@@ -166,7 +166,7 @@ fn admit_terms<K: Keys>(
     let form = read_payload(place, settings.payload_checksum_kind, headers)?;
     let secret = known_secret(alloc, keys, terms.key_id)?;
     let secret = secret.as_str();
-    test_last(alloc, asked, form, secret)?;
+    test_last(alloc, asked, texts, terms, form, secret)?;
     let admitted = told(alloc, texts, terms, until, form)?;
     Ok(admitted)
 }
@@ -207,25 +207,30 @@ fn known_secret<K: Keys>(alloc: Global, keys: &K, key_id: &str) -> Result<String
 fn test_last(
     alloc: Global,
     asked: &Asked<'_>,
+    texts: &Carried<'_>,
+    terms: &Terms<'_>,
     form: DoorPayload,
     secret: &str,
 ) -> Result<(), DoorFault>
-    requires { SomeSeal asked.now.request.now asked.now.region.now asked.now.name.now }
-    ensures { (seal : SealParts) (uri : Target) → IsSealedSo asked.entry.now.request.now asked.entry.now.region.now asked.entry.now.name.now seal uri
-        → TestsLast asked.entry.now.request.now (settings_of asked.entry.now.settings.now) asked.entry.now.body.now
-        (record { secret = secret.now; region = asked.entry.now.region.now; name = asked.entry.now.name.now }) form seal uri result }
+    requires { IsInYears terms.now.at }
+    ensures { TestsLast asked.entry.now.request.now (settings_of asked.entry.now.settings.now) asked.entry.now.body.now
+        (record { secret = secret.now; region = asked.entry.now.region.now; name = asked.entry.now.name.now }) form
+        (door_seal (texts_carried texts.now) (told_terms terms.now)) asked.entry.now.uri.now result }
 {
     let (request, settings) = (asked.request, asked.settings);
     let payload = signed_payload(alloc, shown_payload(&request.headers), form, asked.body)?;
     let payload = SignableBody::Precomputed(payload);
+    let seal = told_seal(alloc, texts, terms)?;
     test_signature(
         alloc,
         request,
+        asked.uri,
         settings,
         asked.region,
         asked.name,
         &payload,
         secret,
+        &seal,
     )
 }
 

@@ -5,6 +5,7 @@
 #![tactic(auto)]
 
 mod admitted;
+mod authorization;
 mod carried;
 mod code;
 mod door;

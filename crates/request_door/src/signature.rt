@@ -1,44 +1,71 @@
-ghost use Rattle.std.specs.Prelude.{string_bytes};
-ghost use Rattle.http_uri.specs.declared.uri.Uri.{Uri as Target};
+ghost use Rattle.std.specs.Prelude.{◌≡◌, IfOk};
+ghost use Rattle.smithy_core.specs.Civil.{IsInYears};
 ghost use Rattle.sigv4.specs.Body.{payload_text};
 ghost use Rattle.sigv4.specs.Settings.{settings_of};
-ghost use Rattle.request_check.specs.Sealed.{SealParts};
-ghost use Rattle.request_door.specs.DoorSignature.{ComparesSeals, IsSealedSo, SomeSeal, TestsSeal};
+ghost use Rattle.request_door.specs.DoorCarried.{texts_carried};
+ghost use Rattle.request_door.specs.DoorSignature.{ComparesSeals, TestsSeal};
+ghost use Rattle.request_door.specs.DoorTerms.{door_seal, seal_expiry, told_terms};
 
+use crate::carried::Carried;
 use crate::fault::DoorFault;
-use request_check::{CheckRequestFault, Checked, check_request};
-use sigv4::{SignableBody, SigningSettings};
-use smithy_core::HttpRequest;
+use crate::terms::Terms;
+use http_uri::Uri;
+use mac_core::constant_time_eq;
+use request_check::Seal;
+use request_check::parts::recomputed_signature;
+use sigv4::{SignableBody, SignatureLocation, SigningSettings};
+use smithy_core::{HttpRequest, Mem};
 use std::alloc::Global;
 
-/// Tests that the signature which a request carries is its own, under the secret.
+/// The seal that these texts are, with these terms.
+pub(crate) fn told_seal(alloc: Global, texts: &Carried<'_>, terms: &Terms<'_>) -> Mem<Seal>
+    ensures { IfOk result (λ seal. seal ≡ door_seal (texts_carried texts.now) (told_terms terms.now)) }
+{
+    let key_id = String::from_str(alloc, terms.key_id)?;
+    let names = String::from_str(alloc, texts.names)?;
+    let signature = String::from_str(alloc, texts.signature)?;
+    let expires = seal_expiry(texts.place, terms);
+    Ok(Seal::new(texts.place, key_id, terms.at, names, signature, expires))
+}
+
+// The expiry of a seal with these terms.
+fn seal_expiry(place: SignatureLocation, terms: &Terms<'_>) -> Option<u64>
+    ensures { result ≡ seal_expiry place (told_terms terms.now) }
+{
+    match place {
+        SignatureLocation::Headers => None,
+        SignatureLocation::QueryParams => Some(terms.seconds),
+    }
+}
+
+/// Tests that the signature of a seal is that of the request, under the secret.
+#[tactic(auto, using(crate::proofs::DoorLemmas::tested))]
 pub(crate) fn test_signature(
     alloc: Global,
     request: &HttpRequest,
+    uri: &Uri,
     settings: &SigningSettings,
     region: &str,
     name: &str,
     body: &SignableBody<'_>,
     secret: &str,
+    seal: &Seal,
 ) -> Result<(), DoorFault>
-    requires { SomeSeal request.now region.now name.now }
-    ensures { (seal : SealParts) (uri : Target) → IsSealedSo request.now region.now name.now seal uri
-        → TestsSeal request.now (settings_of settings.now) (payload_text body.now)
-        (record { secret = secret.now; region = region.now; name = name.now }) seal uri result }
+    requires { IsInYears seal.now.at }
+    ensures { TestsSeal request.now (settings_of settings.now) (payload_text body.now)
+        (record { secret = secret.now; region = region.now; name = name.now }) seal.now uri.now result }
 {
-    match check_request(alloc, request, settings, region, name, body, secret) {
-        Ok(checked) => compared(&checked),
-        Err(CheckRequestFault::NoSignature) => unreachable!(),
-        Err(CheckRequestFault::Signing(_error)) => unreachable!(),
-        Err(CheckRequestFault::NoMemory) => Err(DoorFault::NoMemory),
-    }
+    let own = recomputed_signature(
+        alloc, request, uri, settings, region, name, body, secret, seal,
+    )?;
+    compared(seal.signature(), own.as_str())
 }
 
-// Whether the two signatures are the same.
-fn compared(checked: &Checked) -> Result<(), DoorFault>
-    ensures { ComparesSeals (string_bytes checked.now.carried) (string_bytes checked.now.recomputed) result }
+// Whether the two signatures are the same. Each of their bytes is looked at, also behind the first that differs.
+fn compared(carried: &str, own: &str) -> Result<(), DoorFault>
+    ensures { ComparesSeals carried.now own.now result }
 {
-    if checked.is_same() {
+    if constant_time_eq(carried.as_bytes(), own.as_bytes()) {
         Ok(())
     } else {
         Err(DoorFault::Mismatch)

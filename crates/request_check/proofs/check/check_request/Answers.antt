@@ -1,12 +1,9 @@
-use Rattle.std.proofs.Common.{ℕ, List, None, Ok, Err, ap, refl, ◌∙◌}
+use Rattle.std.proofs.Common.{None, Ok, Err, refl, ◌∙◌}
 use Rattle.std.proofs.lemmas.Result.{err_from_is_err_and}
-use Rattle.std.specs.Prelude.{string_bytes}
 use Rattle.eventstream.specs.Key.{Signer}
-use Rattle.smithy_http.specs.Target.{target_of}
 use Rattle.sigv4.specs.Body.{payload_text}
 use Rattle.sigv4.specs.Settings.{settings_of}
-use Rattle.sigv4.specs.Signature.{signature}
-use Rattle.request_check.specs.Recomputed.{ChecksRequest, recomputed, sent_text}
+use Rattle.request_check.specs.Recomputed.{ChecksRequest}
 use Rattle.request_check.specs.Sealed.{FindsSeal}
 use Rattle.request_check.specs.declared.check.CheckRequestFault.TheVariants.{NoSignature}
 use Rattle.request_check.specs.declared.check.Checked.{Checked}
@@ -15,17 +12,12 @@ use Rattle.request_check.proofs.UnfitLemmas.{unchecked}
 use Rattle.request_check.proofs.check.check_request.Goals as goal
 
 pub returns : goal.returns
-unfolding recomputed
 returns c =
     let sent = c.args.sent.now in
     let seal = c.in-Some.seal in
-    let target = target_of c.in_ok-uri.uri in
     let settings = settings_of c.args.settings.now in
     let payload = payload_text c.args.body.now in
     let signer : Signer = record { secret = c.args.secret.now; region = c.args.region.now; name = c.args.name.now } in
-    let text_of = λ (text : List ℕ). sent_text (string_bytes sent.method) target sent.headers settings text seal in
-    let text = ap text_of (c.as_str.ensures.value ∙ c.in_ok-payload.ensures) in
-    let signed = c.in_ok-recomputed.ensures (text_of c.as_str.result.now) c.in_ok-text.ensures in
     let answer : Checked = record { carried = c.in_ok-carried.carried; recomputed = c.in_ok-recomputed.recomputed; seal = seal } in
     let checks : ChecksRequest sent settings payload signer (Ok answer) = record {
       seal = seal;
@@ -35,7 +27,7 @@ returns c =
       fit = c.in_ok-uri.ensures.1;
       carried = c.in_ok-carried.ensures.ok ∙ c.signature.ensures;
       seal_is = refl;
-      recomputed_is = rw c.at.ensures at signed ∙ ap (signature signer seal.at) text;
+      recomputed_is = c.in_ok-recomputed.ensures;
     } in
     record { checks = checks; recomputes = recomputes sent settings payload signer (Ok answer) checks }
 

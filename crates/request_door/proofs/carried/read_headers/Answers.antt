@@ -22,26 +22,26 @@ returns-in_default c =
     other_algorithm c.args.headers.now pairs c.in_ok-authorization.authorization.now (c.in_ok-authorization.ensures pairs) c.in_ok-date.date.now
     (c.in_ok-date.ensures pairs) c.in_default.ensures.cases
 
-pub returns-in_default-read_authorization : goal.returns-in_default-read_authorization
-returns-in_default-read_authorization c =
+pub returns-in_default-door_authorization : goal.returns-in_default-door_authorization
+returns-in_default-door_authorization c =
     let pairs = text_pairs c.args.pairs.now in
     malformed c.args.headers.now pairs c.in_ok-authorization.authorization.now (c.in_ok-authorization.ensures pairs) c.in_ok-date.date.now
-    (c.in_ok-date.ensures pairs) (drop c.in-Some.ensures.cases.0 c.in_ok-authorization.authorization.now) c.in-Some.ensures.cases.1.1 c.in_default-read_authorization.ensures
+    (c.in_ok-date.ensures pairs) (drop c.in-Some.ensures.cases.0 c.in_ok-authorization.authorization.now) c.in-Some.ensures.cases.1.1 c.in_default-door_authorization.ensures
 
 pub returns : goal.returns
 returns c =
     let pairs = text_pairs c.args.pairs.now in
     let once = c.in_ok-authorization.ensures pairs in
     let dated = c.in_ok-date.ensures pairs in
-    let read = c.in-Some-read_authorization.read in (
+    let read = c.in-Some-door_authorization.read in (
       whole_header c.args.headers.now pairs c.in_ok-authorization.authorization.now once c.in_ok-date.date.now dated (drop c.in-Some.ensures.cases.0 c.in_ok-authorization.authorization.now) read.credential.now
-          read.names.now read.signature.now c.in-Some.ensures.cases.1.1 c.in-Some-read_authorization.ensures,
+          read.names.now read.signature.now c.in-Some.ensures.cases.1.1 c.in-Some-door_authorization.ensures,
       refl,
       record {
         authorization = c.in_ok-authorization.authorization.now;
         once = once;
         date = dated;
         no_expiry = refl;
-        read = c.in-Some-read_authorization.ensures;
+        read = c.in-Some-door_authorization.ensures;
       },
     )

@@ -14,4 +14,4 @@ returns-in_err-uri g c =
 
 pub admit_pairs-requires : goal.admit_pairs-requires
 admit_pairs-requires g c =
-    record { uri = c.in_ok-uri.uri; accepted = c.in_ok-uri.ensures; pairs_are = ap text_pairs c.as_slice.ensures.value ∙ c.in_ok-pairs.ensures }
+    record { accepted = c.in_ok-uri.ensures; pairs_are = ap text_pairs c.as_slice.ensures.value ∙ c.in_ok-pairs.ensures }

@@ -8,4 +8,4 @@ admit_terms-requires g c = record { texts = c.requires; tells = c.in-Ok.ensures 
 pub returns-in-Err : goal.returns-in-Err
 returns-in-Err g c =
     let asked = door_input (g.K.Keys.secrets c.args.keys.now) c.args.asked.now in
-    refused_terms asked c.requires.uri c.requires.accepted c.args.texts.now c.requires.reads _ c.in-Err.ensures
+    refused_terms asked c.args.asked.now.uri.now c.requires.accepted c.args.texts.now c.requires.reads _ c.in-Err.ensures

@@ -3,10 +3,8 @@ use Rattle.std.proofs.Common.{◌≡◌, ℕ, ◌≤◌, true, false, List, [], 
 use Rattle.std.specs.List.{list_all}
 use Rattle.std.proofs.lemmas.Bool.{and_parts, cases_lt}
 use Rattle.std.proofs.lemmas.List.{append_cancel_left}
-use Rattle.request_check.specs.Authorization.{IsLabelled, begins_blank, is_optional_whitespace}
-use Rattle.request_check.specs.Carried.{CutsLabel}
-use Rattle.request_check.specs.Cuts.{CutsFirst}
 use Rattle.request_check.proofs.CutLemmas.{heads, tails}
+use Rattle.request_door.specs.DoorAuthorization.{CutsFirst, CutsLabel, IsLabelled, begins_blank, is_optional_whitespace}
 
 -- of two places of a label, the one with blanks alone before it isn't behind the other
 pub same_label : (byte : ℕ) (label front back f b : List ℕ) → is_optional_whitespace byte ≡ false → list_all is_optional_whitespace f ≡ true → length front ≤ length f

@@ -1,6 +1,6 @@
 use Rattle.std.proofs.Common.{sym, ◌∙◌}
-use Rattle.request_check.proofs.LabelLemmas.{label_behind}
-use Rattle.request_check.proofs.authorization.labelled.Goals as goal
+use Rattle.request_door.proofs.DoorLabelLemmas.{label_behind}
+use Rattle.request_door.proofs.authorization.labelled.Goals as goal
 
 pub returns-else-are_blank : goal.returns-else-are_blank
 returns-else-are_blank c =

@@ -1,4 +1,4 @@
--- The one reading of an authorization as others make it.
+-- The one reading of an authorization with any blanks after its commas.
 use Rattle.std.proofs.Common.{◌≡◌, ℕ, ◌==◌, Bool, Bor, true, false, ◌&&◌, ◌||◌, not, List, [], ◌∷◌, ◌++◌, Option, Some, None, inl, inr, refl, sym, ap, ◌∙◌, subst, append_assoc, true≢false}
 use Rattle.std.specs.Prelude.{codes}
 use Rattle.std.specs.List.{list_all, list_any}
@@ -7,14 +7,15 @@ use Rattle.std.proofs.lemmas.Bool.{and_parts, eqb-true, or_parts}
 use Rattle.std.proofs.lemmas.List.{append_cancel_left}
 use Rattle.std.proofs.lemmas.List.Folds.{list_any-append}
 use Rattle.sigv4.specs.Signature.{is_lower_digit, is_signature}
-use Rattle.request_check.specs.Authorization.{IsAuthorization, IsLabelled, IsOtherAuthorization, is_optional_whitespace}
-use Rattle.request_check.specs.Carried.{CutsLabel, ReadsAuthorization, ReadsOther, ReadsOwn}
+use Rattle.request_check.specs.Authorization.{IsAuthorization}
+use Rattle.request_check.specs.Carried.{ReadsAuthorization}
 use Rattle.request_check.specs.Cuts.{CutsLast}
-use Rattle.request_check.specs.SealTexts.{has_comma, has_space}
+use Rattle.request_check.specs.SealTexts.{has_space}
 use Rattle.request_check.specs.declared.authorization.Authorization.{Authorization}
-use Rattle.request_check.proofs.CutLemmas.{last_comma, one_comma, same_comma}
-use Rattle.request_check.proofs.LabelLemmas.{one_label}
-use Rattle.request_check.proofs.ReadingLemmas.{is_none, read_own_once, unwhole}
+use Rattle.request_check.proofs.ReadingLemmas.{is_none, read_once, unfit}
+use Rattle.request_door.specs.DoorAuthorization.{CutsLabel, IsDoorAuthorization, IsLabelled, IsSpacedAuthorization, ReadsDoorAuthorization, ReadsSpaced, has_comma, is_optional_whitespace}
+use Rattle.request_door.proofs.DoorCutLemmas.{last_comma, one_comma, same_comma}
+use Rattle.request_door.proofs.DoorLabelLemmas.{one_label}
 
 abbrev label : List ℕ
 label = codes "AWS4-HMAC-SHA256 Credential="
@@ -90,15 +91,15 @@ behind_front : (credential named signed : List ℕ) → (label ++ credential) ++
 unfolding front_of
 behind_front credential named signed = sym (append_assoc (label ++ credential) (44 ∷ named) (44 ∷ signed))
 
-signed_lacks : (text credential names signature : List ℕ) (is : IsOtherAuthorization text credential names signature) → has_comma is.signed ≡ false
+signed_lacks : (text credential names signature : List ℕ) (is : IsSpacedAuthorization text credential names signature) → has_comma is.signed ≡ false
 signed_lacks text credential names signature is =
     labelled_lacks signature_label is.signed signature signature_label_lacks (signature_lacks signature is.digits) is.signature_is
 
-named_lacks : (text credential names signature : List ℕ) (is : IsOtherAuthorization text credential names signature) → has_comma is.named ≡ false
+named_lacks : (text credential names signature : List ℕ) (is : IsSpacedAuthorization text credential names signature) → has_comma is.named ≡ false
 named_lacks text credential names signature is = labelled_lacks names_label is.named names names_label_lacks is.one_reading is.names_are
 
 module _ (text : List ℕ) (p : Bor (List ℕ) × Bor (List ℕ)) (cut : CutsLast (44 ∷ []) text (Some p)) (credential names signature : List ℕ)
-    (is : IsOtherAuthorization text credential names signature) where
+    (is : IsSpacedAuthorization text credential names signature) where
   first_cut : (front_of credential is.named ≡ p.0.now) × (is.signed ≡ p.1.now)
   first_cut =
       let e : text ≡ front_of credential is.named ++ 44 ∷ is.signed = is.parts ∙ behind_front credential is.named is.signed in
@@ -118,36 +119,36 @@ module _ (text : List ℕ) (p : Bor (List ℕ) × Bor (List ℕ)) (cut : CutsLas
   names_at : (q : Bor (List ℕ) × Bor (List ℕ)) → CutsLast (44 ∷ []) p.0.now (Some q) → IsLabelled names_label names q.1.now
   names_at q again = subst (IsLabelled names_label names) (second_cut q again).1 is.names_are
 
-pub other_unmarked : (text : List ℕ) → CutsLast (44 ∷ []) text None → ReadsOther text None
-other_unmarked text none = λ credential names signature is.
+pub spaced_unmarked : (text : List ℕ) → CutsLast (44 ∷ []) text None → ReadsSpaced text None
+spaced_unmarked text none = λ credential names signature is.
     none (front_of credential is.named) is.signed (is.parts ∙ behind_front credential is.named is.signed)
 
 module _ (text : List ℕ) (p : Bor (List ℕ) × Bor (List ℕ)) (cut : CutsLast (44 ∷ []) text (Some p)) where
-  pub other_unnamed : CutsLast (44 ∷ []) p.0.now None → ReadsOther text None
+  pub spaced_unnamed : CutsLast (44 ∷ []) p.0.now None → ReadsSpaced text None
   unfolding front_of
-  other_unnamed none = λ credential names signature is.
+  spaced_unnamed none = λ credential names signature is.
       none (label ++ credential) is.named (sym (first_cut text p cut credential names signature is).0)
 
   module _ (q : Bor (List ℕ) × Bor (List ℕ)) (again : CutsLast (44 ∷ []) p.0.now (Some q)) where
-    pub other_unlabelled : LacksTextAt label q.0.now 0 → ReadsOther text None
-    other_unlabelled lacks = λ credential names signature is. lacks credential (sym (second_cut text p cut credential names signature is q again).0)
+    pub spaced_unlabelled : LacksTextAt label q.0.now 0 → ReadsSpaced text None
+    spaced_unlabelled lacks = λ credential names signature is. lacks credential (sym (second_cut text p cut credential names signature is q again).0)
 
-    pub other_nameless : CutsLabel names_label q.1.now None → ReadsOther text None
-    other_nameless none = λ credential names signature is. none names (names_at text p cut credential names signature is q again)
+    pub spaced_nameless : CutsLabel names_label q.1.now None → ReadsSpaced text None
+    spaced_nameless none = λ credential names signature is. none names (names_at text p cut credential names signature is q again)
 
-    pub other_unsigned : CutsLabel signature_label p.1.now None → ReadsOther text None
-    other_unsigned none = λ credential names signature is. none signature (signature_at text p cut credential names signature is)
+    pub spaced_unsigned : CutsLabel signature_label p.1.now None → ReadsSpaced text None
+    spaced_unsigned none = λ credential names signature is. none signature (signature_at text p cut credential names signature is)
 
     module _ (n g : Bor (List ℕ)) (named : CutsLabel names_label q.1.now (Some n)) (signed : CutsLabel signature_label p.1.now (Some g)) where
-      pub other_unwhole : (is_signature g.now && not (has_space n.now)) ≡ false → ReadsOther text None
-      other_unwhole other = λ credential names signature is.
+      pub spaced_unfit : (is_signature g.now && not (has_space n.now)) ≡ false → ReadsSpaced text None
+      spaced_unfit other = λ credential names signature is.
           let same_names : names ≡ n.now = one_label 83 (codes "ignedHeaders=") q.1.now names n.now refl (names_at text p cut credential names signature is q again) named in
           let same_signature : signature ≡ g.now = one_label 83 (codes "ignature=") p.1.now signature g.now refl (signature_at text p cut credential names signature is) signed in
-          unwhole (is_signature g.now) (has_space n.now) other (ap is_signature (sym same_signature) ∙ is.digits) (ap has_space (sym same_names) ∙ is.whole)
+          unfit (is_signature g.now) (has_space n.now) other (ap is_signature (sym same_signature) ∙ is.digits) (ap has_space (sym same_names) ∙ is.whole)
 
-      pub other_so : (credential : List ℕ) → q.0.now ≡ label ++ credential → (is_signature g.now && not (has_space n.now)) ≡ true
-          → IsOtherAuthorization text credential n.now g.now
-      other_so credential labelled whole =
+      pub spaced_so : (credential : List ℕ) → q.0.now ≡ label ++ credential → (is_signature g.now && not (has_space n.now)) ≡ true
+          → IsSpacedAuthorization text credential n.now g.now
+      spaced_so credential labelled whole =
           let parts = and_parts (is_signature g.now) (not (has_space n.now)) whole in
           record {
             digits = parts.0;
@@ -164,20 +165,20 @@ module _ (text : List ℕ) (p : Bor (List ℕ) × Bor (List ℕ)) (cut : CutsLas
 
 -- ---- either reading
 
-pub read_own : (text : List ℕ) (read : Authorization) → ReadsOwn text (Some read) → ReadsAuthorization text (Some read)
-read_own text read own = inl own
+pub door_first : (text : List ℕ) (read : Authorization) → ReadsAuthorization text (Some read) → ReadsDoorAuthorization text (Some read)
+door_first text read is = inl is
 
-pub read_other : (text : List ℕ) (found : Option Authorization) → ReadsOwn text None → ReadsOther text found → ReadsAuthorization text found
-read_other text None no_own none = λ credential names signature is. by credential names signature is
+pub door_second : (text : List ℕ) (found : Option Authorization) → ReadsAuthorization text None → ReadsSpaced text found → ReadsDoorAuthorization text found
+door_second text None none other = λ credential names signature is. by credential names signature is
   where
-    by : (credential names signature : List ℕ) → IsAuthorization text credential names signature → ⊥
-    by credential names signature (inl own) = no_own credential names signature own
-    by credential names signature (inr (not_own, other)) = none credential names signature other
-read_other text (Some read) no_own other = inr (no_own, other)
+    by : (credential names signature : List ℕ) → IsDoorAuthorization text credential names signature → ⊥
+    by credential names signature (inl is) = none credential names signature is
+    by credential names signature (inr (none_too, spaced)) = other credential names signature spaced
+door_second text (Some read) none spaced = inr (none, spaced)
 
-other_once : (text c n g d m h : List ℕ) → IsOtherAuthorization text c n g → IsOtherAuthorization text d m h → (c ≡ d) × (n ≡ m) × (g ≡ h)
+spaced_once : (text c n g d m h : List ℕ) → IsSpacedAuthorization text c n g → IsSpacedAuthorization text d m h → (c ≡ d) × (n ≡ m) × (g ≡ h)
 unfolding front_of
-other_once text c n g d m h a b =
+spaced_once text c n g d m h a b =
     let front = one_comma (front_of d b.named) b.signed (front_of c a.named) a.signed (signed_lacks text d m h b) (signed_lacks text c n g a)
     (sym (behind_front c a.named a.signed) ∙ (sym a.parts ∙ (b.parts ∙ behind_front d b.named b.signed))) in
     let named = one_comma (label ++ d) b.named (label ++ c) a.named (named_lacks text d m h b) (named_lacks text c n g a) front.0 in (
@@ -187,8 +188,13 @@ other_once text c n g d m h a b =
     )
 
 -- a text has one reading
-pub read_once : (text c n g d m h : List ℕ) → IsAuthorization text c n g → IsAuthorization text d m h → (c ≡ d) × (n ≡ m) × (g ≡ h)
-read_once text c n g d m h (inl a) (inl b) = read_own_once text c n g d m h a b
-read_once text c n g d m h (inl a) (inr (not_own, b)) = absurd (not_own c n g a)
-read_once text c n g d m h (inr (not_own, a)) (inl b) = absurd (not_own d m h b)
-read_once text c n g d m h (inr (_, a)) (inr (other, b)) = other_once text c n g d m h a b
+pub door_once : (text c n g d m h : List ℕ) → IsDoorAuthorization text c n g → IsDoorAuthorization text d m h → (c ≡ d) × (n ≡ m) × (g ≡ h)
+door_once text c n g d m h (inl a) (inl b) = read_once text c n g d m h a b
+door_once text c n g d m h (inl a) (inr (none, b)) = absurd (none c n g a)
+door_once text c n g d m h (inr (none, a)) (inl b) = absurd (none d m h b)
+door_once text c n g d m h (inr (_, a)) (inr (none, b)) = spaced_once text c n g d m h a b
+
+-- what has one space after each comma is read so
+pub read_strictly : (text c n g d m h : List ℕ) → IsAuthorization text c n g → IsDoorAuthorization text d m h → IsAuthorization text d m h
+read_strictly text c n g d m h a (inl b) = b
+read_strictly text c n g d m h a (inr (none, b)) = absurd (none c n g a)
