@@ -6,13 +6,13 @@ use Rattle.smithy_core.specs.Given.{Gives}
 use Rattle.smithy_core.specs.Moment.{Instant}
 use Rattle.smithy_core.specs.declared.outside.clock.Clock as Clock
 use Rattle.smithy_core.proofs.GivenLemmas.{given_last}
+use Rattle.smithy_core.specs.Outside.{CountsFault}
 use Rattle.env_config.specs.Files.{Place}
 use Rattle.env_config.specs.Loading.{selected_profile}
 use Rattle.env_config.specs.Sections.{FileText}
 use Rattle.signed_stream.specs.Carriers.{GoesForJob, GoesForRecord, GoesForTexts, IsAfterTexts}
 use Rattle.signed_stream.specs.CheckRecord.{CarriesSeal, check_signer, sealed_plan}
 use Rattle.signed_stream.specs.Command.{CheckWanted, Wanted}
-use Rattle.signed_stream.specs.Counts.{CountsFault}
 use Rattle.signed_stream.specs.Halt.{Sends, ended}
 use Rattle.job_text.specs.Job.{JobParts}
 use Rattle.signed_stream.specs.Options.{IsOptionsOf, wanted_of}

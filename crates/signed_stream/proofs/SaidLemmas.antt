@@ -1,9 +1,9 @@
 -- A run that says how it ended: the end stays, or that memory ran out takes its place.
 use Rattle.std.proofs.Common.{◌≡◌, ℕ, ◌⊎◌, inl, inr, Bool, true, false, List, Option, refl, sym, ◌∙◌}
 use Rattle.smithy_core.proofs.GainLemmas.{prefix_at_start, prefix_from_whole}
+use Rattle.smithy_core.specs.Outside.{CountsFault}
 use Rattle.env_config.specs.Files.{Place}
 use Rattle.signed_stream.specs.Command.{Command}
-use Rattle.signed_stream.specs.Counts.{CountsFault}
 use Rattle.signed_stream.specs.Plan.{FilesRead, GainsAsPlanned, GoesAsPlanned, Plan, Supplied, stops, writes}
 use Rattle.signed_stream.specs.Running.{CountsReads, CountsWrites, EndsAsAsked, KeepsOutput, RunsAsPlanned, When, command_plan}
 use Rattle.signed_stream.specs.Status.{Ending, RunFault, done, no_memory, output_fault, read_fault, refused}

@@ -4,6 +4,7 @@ use Rattle.std.proofs.Math.Seq.{take-suc}
 use Rattle.std.proofs.lemmas.List.{map-append}
 use Rattle.std.specs.Prelude.{Result, Ok, Err, string_bytes}
 use Rattle.std.specs.Global.{Vec}
+use Rattle.smithy_core.specs.Outside.{CountsFault}
 use Rattle.smithy_core.specs.declared.outside.disk.DiskError.{DiskError}
 use Rattle.env_config.specs.Files.{Place, Usual, added_places, chosen_places, defaults_of, usual_if}
 use Rattle.env_config.specs.Loading.{Loads, StopsAtFile}
@@ -15,7 +16,6 @@ use Rattle.env_config.specs.declared.source.EnvConfigFileKind.{EnvConfigFileKind
 use Rattle.env_config.specs.declared.source.EnvConfigFileKind.TheVariants.{Config, Credentials}
 use Rattle.env_config.specs.declared.source.Source.{Source}
 use Rattle.signed_stream.specs.Carriers.{IsAfterTexts}
-use Rattle.signed_stream.specs.Counts.{CountsFault}
 use Rattle.signed_stream.specs.Plan.{FilesRead, loaded, unloaded, unreadable}
 use Rattle.signed_stream.specs.ProfileOptions.{place_of}
 use Rattle.job_text.specs.ProfileTexts.{ProfileTexts}

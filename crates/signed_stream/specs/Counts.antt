@@ -1,14 +1,8 @@
--- What calls promise of a count of faults.
-use Rattle.std.specs.Prelude.{◌≡◌, ℕ, ◌≤◌, Result, Ok, Err}
-use Rattle.smithy_core.specs.Outside.{RoseOrStands}
+-- What the steps of a run promise of a count of faults.
+use Rattle.std.specs.Prelude.{◌≡◌, ℕ, Result, Ok, Err}
+use Rattle.smithy_core.specs.Outside.{CountsFault}
 use Rattle.signed_stream.specs.Status.{Ending, ending_of}
 use Rattle.signed_stream.specs.declared.status.Status.{Status}
-
--- a count over a call that may fail for a fault: where it failed so the count rose, or is saturated; else it stayed; and it never falls
-pub record CountsFault (failed : Type 0) (before now : ℕ) : Type 0 where
-  pub rose : failed → RoseOrStands before now
-  pub stayed : (failed → ⊥) → now ≡ before
-  pub grew : before ≤ now
 
 -- a count over a step of a run, which stays where the run goes on, and else as for how it ended
 abbrev pub CountsStep : {T : Type 0} → Ending → Result T Status → ℕ → ℕ → Type 0

@@ -1,12 +1,12 @@
 ghost use Rattle.std.specs.Prelude.{◌≡◌, ◌+◌, ◌++◌, List, None, IsErrOf, length};
 ghost use Rattle.smithy_core.specs.Given.{GivesEach};
 ghost use Rattle.smithy_core.specs.Moment.{Instant};
+ghost use Rattle.smithy_core.specs.Outside.{CountsFault};
 ghost use Rattle.eventstream.specs.Told.{signs_over};
 ghost use Rattle.eventstream.specs.Write.{IsFrameFault};
 ghost use Rattle.event_io.specs.Adapter.{adapter_signer, item_source_of};
 ghost use Rattle.event_io.specs.Chain.{Chains};
 ghost use Rattle.aws_auth.specs.MessageSigner.{running_signature, signer_in, told_of};
-ghost use Rattle.signed_stream.specs.Counts.{CountsFault};
 ghost use Rattle.signed_stream.specs.Chain.{fault_at, frame_text};
 ghost use Rattle.signed_stream.specs.Halt.{Sends};
 ghost use Rattle.signed_stream.specs.Status.{refused, stream_ending};

@@ -1,6 +1,6 @@
 //! The command `check`.
 ghost use Rattle.std.specs.Prelude.{◌≡◌, ◌≤◌, ℕ, List, None, IsErrOf};
-ghost use Rattle.signed_stream.specs.Counts.{CountsFault};
+ghost use Rattle.smithy_core.specs.Outside.{CountsFault};
 ghost use Rattle.signed_stream.specs.Carriers.{GoesForRecord, IsAfterTexts};
 ghost use Rattle.signed_stream.specs.CheckRecord.{ChecksRecord, GoesForSeal, shown_events};
 ghost use Rattle.signed_stream.specs.Command.{check_record};

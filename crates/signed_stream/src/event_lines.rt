@@ -1,7 +1,7 @@
 //! The lines that show events: their frames in hexadecimal, and how many there are.
 ghost use Rattle.std.specs.Prelude.{◌≡◌, None, IfOk, IsErrOf};
+ghost use Rattle.smithy_core.specs.Outside.{CountsFault};
 ghost use Rattle.eventstream.specs.Frame.{frame, unframed};
-ghost use Rattle.signed_stream.specs.Counts.{CountsFault};
 ghost use Rattle.signed_stream.specs.EventLines.{AreFramed, count_line, event_line, event_lines};
 ghost use Rattle.signed_stream.specs.Halt.{Sends};
 

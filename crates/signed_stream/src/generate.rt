@@ -1,9 +1,9 @@
 //! The command `gen`.
 ghost use Rattle.std.specs.Prelude.{◌≡◌, ◌≤◌, ◌-◌, None, IfOk, IsErrOf, drop, length, take};
 ghost use Rattle.std.specs.String.{string_bytes};
+ghost use Rattle.smithy_core.specs.Outside.{CountsFault};
 ghost use Rattle.hex.specs.Hex.{encode_lower};
 ghost use Rattle.sigv4.specs.Signed.{signature_of};
-ghost use Rattle.signed_stream.specs.Counts.{CountsFault};
 ghost use Rattle.signed_stream.specs.Generate.{AreDrawn, AreGeneratedOptions, IsGeneratedIdentity, generate_plan, generated_case, generated_moment, generated_stream, shown_stream};
 ghost use Rattle.signed_stream.specs.Generator.{drawn_events};
 ghost use Rattle.signed_stream.specs.Halt.{Sends};

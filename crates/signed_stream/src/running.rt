@@ -1,7 +1,6 @@
 ghost use Rattle.std.specs.Prelude.{◌≡◌, ◌≤◌, ℕ, List, length, map, option_map};
 ghost use Rattle.std.specs.String.{string_bytes};
-ghost use Rattle.smithy_core.specs.Outside.{IsAtEnd, IsRestOf};
-ghost use Rattle.signed_stream.specs.Counts.{CountsFault};
+ghost use Rattle.smithy_core.specs.Outside.{CountsFault, IsAtEnd, IsRestOf};
 ghost use Rattle.signed_stream.specs.Carriers.{GoesForBytes, GoesForInput, IsAfterInput};
 ghost use Rattle.signed_stream.specs.Command.{command};
 ghost use Rattle.signed_stream.specs.Options.{input_commanded};

@@ -1,9 +1,9 @@
 //! The command `chunk`.
 ghost use Rattle.std.specs.Prelude.{◌≡◌, ◌≤◌, None, length, IfOk, IsErrOf};
+ghost use Rattle.smithy_core.specs.Outside.{CountsFault};
 ghost use Rattle.aws_chunked.specs.Body.{lines_length};
 ghost use Rattle.aws_chunked.specs.Options.{declared_length};
 ghost use Rattle.aws_chunked.specs.SoundBody.{IsSoundBody, IsSoundBodyOf, text_left};
-ghost use Rattle.signed_stream.specs.Counts.{CountsFault};
 ghost use Rattle.signed_stream.specs.ChunkJob.{chunk_plan, shown_chunks};
 ghost use Rattle.signed_stream.specs.ChunkWords.{chunk_wanted};
 ghost use Rattle.signed_stream.specs.Halt.{Sends};

@@ -1,5 +1,5 @@
 ghost use Rattle.std.specs.Prelude.{◌≡◌, ◌≤◌, ℕ, List, None, IsErrOf};
-ghost use Rattle.signed_stream.specs.Counts.{CountsFault};
+ghost use Rattle.smithy_core.specs.Outside.{CountsFault};
 ghost use Rattle.signed_stream.specs.Carriers.{GoesForTexts, IsAfterTexts};
 ghost use Rattle.signed_stream.specs.Command.{show_settings};
 ghost use Rattle.signed_stream.specs.Halt.{Sends};

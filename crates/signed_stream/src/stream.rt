@@ -1,8 +1,8 @@
 ghost use Rattle.std.specs.Prelude.{◌≡◌, ◌≤◌, ℕ, List, IfOk, IsErrOf, map};
 ghost use Rattle.std.specs.String.{string_bytes};
 ghost use Rattle.smithy_core.specs.Given.{Gives};
+ghost use Rattle.smithy_core.specs.Outside.{CountsFault};
 ghost use Rattle.env_config.specs.Source.{file_of};
-ghost use Rattle.signed_stream.specs.Counts.{CountsFault};
 ghost use Rattle.signed_stream.specs.Carriers.{GoesForJob, IsAfterTexts};
 ghost use Rattle.signed_stream.specs.Command.{stream};
 ghost use Rattle.job_text.specs.Draft.{job_parts};

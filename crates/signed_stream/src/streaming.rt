@@ -1,8 +1,8 @@
 ghost use Rattle.std.specs.Prelude.{None, IfOk, IsErrOf, map};
 ghost use Rattle.std.specs.String.{string_bytes};
 ghost use Rattle.smithy_core.specs.Given.{Gives, GivesEach};
+ghost use Rattle.smithy_core.specs.Outside.{CountsFault};
 ghost use Rattle.env_config.specs.Source.{file_of};
-ghost use Rattle.signed_stream.specs.Counts.{CountsFault};
 ghost use Rattle.signed_stream.specs.Halt.{Sends, ended};
 ghost use Rattle.signed_stream.specs.Settings.{selected_in};
 ghost use Rattle.signed_stream.specs.Streaming.{IsSameStreamOptions, IsSentSigned, SignsAndStreams, Streams, job_with, stream_wanted};

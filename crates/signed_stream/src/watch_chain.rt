@@ -1,9 +1,10 @@
 //! The command `watch`.
 ghost use Rattle.std.specs.Prelude.{◌≡◌, ◌≤◌, ℕ, List, [], IfOk, OnOk, map};
 ghost use Rattle.std.specs.String.{string_bytes};
+ghost use Rattle.smithy_core.specs.Outside.{CountsFault};
 ghost use Rattle.job_text.specs.Pieces.{taken_from};
 ghost use Rattle.chain_watch.specs.declared.chain_fault.ChainFault.TheVariants.{NoMemory};
-ghost use Rattle.signed_stream.specs.Counts.{CountsFault, CountsStep};
+ghost use Rattle.signed_stream.specs.Counts.{CountsStep};
 ghost use Rattle.signed_stream.specs.Plan.{unreadable};
 ghost use Rattle.signed_stream.specs.Settings.{selected_in};
 ghost use Rattle.signed_stream.specs.Sources.{DiskGives};

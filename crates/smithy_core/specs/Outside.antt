@@ -6,6 +6,12 @@ use Rattle.smithy_core.specs.TextPairs.{last_value}
 abbrev pub RoseOrStands : ℕ → ℕ → Type 0
 RoseOrStands before now = (before < now) ⊎ (now ≡ 2 ^ 64 - 1)
 
+-- a count over a call that may fail for a fault: where it failed so the count rose, or is saturated; else it stayed; and it never falls
+pub record CountsFault (failed : Type 0) (before now : ℕ) : Type 0 where
+  pub rose : failed → RoseOrStands before now
+  pub stayed : (failed → ⊥) → now ≡ before
+  pub grew : before ≤ now
+
 -- the first n bytes of what was left are the first n of the buffer, and are gone
 abbrev pub TakesFront : ℕ → List ℕ → Option (List ℕ) → Option (List ℕ) → Type 0
 TakesFront n into None now = now ≡ None
