@@ -2,6 +2,7 @@ pub mod Chosen
 pub mod Faults
 pub mod Guess
 pub mod InPlace
+pub mod Progress
 pub mod Run
 pub mod Saying
 pub mod Signing

@@ -12,7 +12,6 @@ use Rattle.smithy_core.specs.TextPairs.{last_value}
 use Rattle.smithy_core.specs.declared.request.HttpRequest.{HttpRequest}
 use Rattle.smithy_http.specs.QueryWriter.{SpellsNoTarget, SpellsTarget}
 use Rattle.smithy_http.specs.Target.{Target, target_of}
-use Rattle.job_text.specs.Numbers.{natural_below}
 use Rattle.env_config.specs.Sections.{FileText, sections}
 use Rattle.sigv4.specs.Host.{host_text}
 use Rattle.sigv4.specs.Refusal.{unfit, unfit_signed_target}
@@ -29,6 +28,7 @@ use Rattle.aws_settings.specs.Choice.{profile_of}
 use Rattle.awsign_run.specs.Chosen.{SignRefusal, SignsFor, asked_profile, long_expiry, refusal_of, signer_by, unsigned}
 use Rattle.awsign_run.specs.Guess.{url_host}
 use Rattle.awsign_run.specs.declared.signing.SignedRequest.{SignedRequest}
+use Rattle.awsign_words.specs.Expiry.{expiry_named}
 use Rattle.awsign_words.specs.Words.{OptionValues, SignWanted, form_named, has}
 use Rattle.awsign_run.specs.declared.fault.Fault.{Fault}
 use Rattle.awsign_run.specs.declared.fault.Fault.TheVariants.{NoMemory}
@@ -41,7 +41,7 @@ is_s3 options service = has options (codes "--s3") || bytes_eq service (codes "s
 
 -- for how many seconds a presigned URL is good
 abbrev pub expiry : OptionValues → Option ℕ
-expiry options = option_and_then (natural_below 18446744073709551616) (last_value options (codes "--expires"))
+expiry options = option_and_then expiry_named (last_value options (codes "--expires"))
 
 -- a presigned URL would be good for more than seven days, which no option asks for
 abbrev pub is_long : OptionValues → Bool

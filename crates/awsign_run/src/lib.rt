@@ -11,6 +11,7 @@ mod digest;
 mod fault;
 mod guess;
 mod in_place;
+mod progress;
 mod run;
 mod saying;
 mod signing;
@@ -21,6 +22,7 @@ pub use crate::digest::digest_of;
 pub use crate::fault::Fault;
 pub use crate::guess::{guessed_service, tell_service, url_host};
 pub use crate::in_place::sign_in_place;
+pub use crate::progress::ProgressSource;
 pub use crate::run::{load_source, moment_asked, moment_of, run_signing, write_text};
 pub use crate::saying::{fault_line, say, tool_line, write_some};
 pub use crate::signing::{

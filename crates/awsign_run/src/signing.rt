@@ -12,10 +12,9 @@ use crate::fault::Fault;
 use crate::guess::url_host;
 use crate::in_place::sign_in_place;
 use awsign_text::{Form, text_of};
-use awsign_words::{Asked, form_named};
+use awsign_words::{Asked, expiry_named, form_named};
 use env_config::Source;
 use http_uri::Uri;
-use job_text::parse_u64;
 use mac_core::sha256_hex;
 use sigv4::parts::host_text;
 use sigv4::{SignableBody, SignatureLocation, SigningParams, SigningSettings, v4};
@@ -248,7 +247,7 @@ fn expiry(options: &Env) -> Option<u64>
     ensures { result ≡ expiry options.now }
 {
     match options.get("--expires") {
-        Some(text) => parse_u64(text),
+        Some(word) => expiry_named(word),
         None => None,
     }
 }

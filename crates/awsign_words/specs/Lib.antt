@@ -1,2 +1,4 @@
 pub mod EventWords
+pub mod Expiry
+pub mod RawPath
 pub mod Words

@@ -6,13 +6,15 @@ use Rattle.http_header.specs.Token.{is_token_byte}
 use Rattle.smithy_core.specs.TextPairs.{last_value, lower}
 use Rattle.job_text.specs.ChunkSize.{spelled_size}
 use Rattle.job_text.specs.Lines.{header_of_line, texts_of_pair}
-use Rattle.job_text.specs.Numbers.{natural_below, number}
+use Rattle.job_text.specs.Numbers.{number}
 use Rattle.job_text.specs.Pieces.{after_pieces, taken_from}
 use Rattle.job_text.specs.declared.words.WordsFault.{WordsFault}
 use Rattle.job_text.specs.declared.words.WordsFault.TheVariants.{BadWord, NoMemory}
 use Rattle.awsign_text.specs.declared.forms.Form.{Form}
 use Rattle.awsign_text.specs.declared.forms.Form.TheVariants.{Curl, Headers, Json, Http, Url}
 use Rattle.awsign_words.specs.EventWords.{EventsWanted, events_wanted, events_words}
+use Rattle.awsign_words.specs.Expiry.{expiry_named}
+use Rattle.awsign_words.specs.RawPath.{encoded_url}
 use Rattle.awsign_words.specs.declared.command.Command.{Command}
 use Rattle.awsign_words.specs.declared.command.Command.TheVariants.{Sign, Presign, Verify, Settings, Chunk}
 use Rattle.awsign_words.specs.declared.words.Asked.{Asked}
@@ -90,6 +92,10 @@ is_chunk Verify = false
 is_chunk Settings = false
 is_chunk Chunk = true
 
+-- the command prints a signed request, whatever else it writes
+abbrev pub signs_request : Command → Bool
+signs_request command = prints command || is_chunk command
+
 -- the command is about a request, and not about settings alone
 abbrev pub is_request : Command → Bool
 is_request Sign = true
@@ -131,7 +137,7 @@ takes_value command word =
 abbrev pub is_flag : Command → List ℕ → Bool
 is_flag command word =
     (is_request command && bytes_eq word (codes "--s3")) || (prints command && bytes_eq word (codes "--unsigned")) || (is_presign command && bytes_eq word (codes "--long"))
-    || (is_chunk command && bytes_eq word (codes "--signed"))
+    || (is_chunk command && bytes_eq word (codes "--signed")) || (signs_request command && bytes_eq word (codes "--encode-path"))
 
 -- an option of this name stood
 abbrev pub has : OptionValues → List ℕ → Bool
@@ -170,11 +176,11 @@ form_named word =
 abbrev pub checksum_named : List ℕ → Option Checksum
 checksum_named word = if bytes_eq word (codes "crc32") then Some Crc32 else if bytes_eq word (codes "sha256") then Some Sha256 else None
 
--- whether the value fits its option: a moment is a number of seconds, an expiry a number of seconds too
+-- whether the value fits its option: a moment is a number of seconds, an expiry a length of time
 abbrev pub is_fit : List ℕ → List ℕ → Bool
 is_fit option value =
     if bytes_eq option (codes "--at") then is_some (number w64 value)
-    else if bytes_eq option (codes "--expires") then is_some (natural_below 18446744073709551616 value)
+    else if bytes_eq option (codes "--expires") then is_some (expiry_named value)
     else if bytes_eq option (codes "--as") then is_some (form_named value)
     else if bytes_eq option (codes "--size") then is_some (spelled_size value)
     else if bytes_eq option (codes "--checksum") then is_some (checksum_named value)
@@ -342,6 +348,10 @@ sign_wanted asked = record {
   method = asked.method.now;
   url = asked.url.now;
 }
+
+-- the URL that goes out: its path encoded, where an option asks for that
+abbrev pub asked_url : SignWanted → List ℕ
+asked_url wanted = if has wanted.options (codes "--encode-path") then encoded_url wanted.url else wanted.url
 
 -- this is what is asked, or the word at this place is bad; or memory ran out
 abbrev pub ReadsAsked : Result SignWanted ℕ → Result Asked WordsFault → Type 0

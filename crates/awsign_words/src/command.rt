@@ -1,6 +1,6 @@
 //! The commands of the tool.
 ghost use Rattle.std.specs.Prelude.{◌≡◌};
-ghost use Rattle.awsign_words.specs.Words.{is_chunk, is_presign, is_request, prints};
+ghost use Rattle.awsign_words.specs.Words.{is_chunk, is_presign, is_request, prints, signs_request};
 
 /// A command of the tool.
 #[derive(Clone, Copy, Debug, PartialEq, Eq)]
@@ -46,6 +46,13 @@ impl Command {
             Command::Chunk => true,
             Command::Sign | Command::Presign | Command::Verify | Command::Settings => false,
         }
+    }
+
+    /// Whether it prints a signed request, whatever else it writes.
+    pub fn signs_request(self) -> bool
+        ensures { result ≡ signs_request self }
+    {
+        self.prints() || self.is_chunk()
     }
 
     /// Whether it is about a request, and not about settings alone.

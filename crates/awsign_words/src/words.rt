@@ -1,19 +1,21 @@
 //! The words of the tool.
-ghost use Rattle.std.specs.Prelude.{◌≡◌, ◌==◌, None, map, slice_index};
+ghost use Rattle.std.specs.Prelude.{◌≡◌, ◌==◌, None, IfOk, map, slice_index};
 ghost use Rattle.std.specs.List.{list_all};
 ghost use Rattle.std.specs.String.{string_bytes};
 ghost use Rattle.http_header.specs.Token.{is_token_byte};
 ghost use Rattle.job_text.specs.Words.{TakesWord};
-ghost use Rattle.awsign_words.specs.Words.{ReadsAsked, ReadsCommand, ReadsOptions, ReadsVerify, all_settings_words, all_verify_words, all_words, checksum_named, command_words, form_named, given_words, has, has_payload, is_chunk_option, is_fit, is_flag, is_method, is_no_operand, is_payload, is_payload_option, is_printing_option, is_request_option, is_source_option, is_spent, lacks_option, minus, no_words, take_header, take_operand, take_other, take_trailer, take_value, takes_value, telling_words, to_chunk, to_sign, to_stream, to_tell, to_verify, verify_words, words_behind};
+ghost use Rattle.awsign_words.specs.Words.{ReadsAsked, ReadsCommand, ReadsOptions, ReadsVerify, all_settings_words, all_verify_words, all_words, asked_url, checksum_named, command_words, form_named, given_words, has, has_payload, is_chunk_option, is_fit, is_flag, is_method, is_no_operand, is_payload, is_payload_option, is_printing_option, is_request_option, is_source_option, is_spent, lacks_option, minus, no_words, sign_wanted, take_header, take_operand, take_other, take_trailer, take_value, takes_value, telling_words, to_chunk, to_sign, to_stream, to_tell, to_verify, verify_words, words_behind};
 ghost use Rattle.job_text.specs.Lines.{header_of_line};
 ghost use Rattle.awsign_words.specs.EventWords.{events_words};
 
 use crate::command::Command;
 use crate::events::{EventsAsked, read_events};
+use crate::expiry::expiry_named;
+use crate::raw_path::encoded_url;
 use awsign_text::Form;
 use http_header::is_token_char;
-use job_text::{ChunkSize, TakeWord, WordsFault, cut_pair, parse_i64, parse_u64, take_words};
-use smithy_core::{Env, Headers};
+use job_text::{ChunkSize, TakeWord, WordsFault, cut_pair, parse_i64, take_words};
+use smithy_core::{Env, Headers, Mem};
 use std::alloc::Global;
 
 /// What the words ask for.
@@ -66,6 +68,26 @@ pub struct Asked<'a> {
     pub method: &'a str,
     /// The URL.
     pub url: &'a str,
+}
+
+impl<'a> Asked<'a> {
+    /// The URL that goes out: with its path encoded, where an option asks for that.
+    pub fn url_sent(&self, alloc: Global) -> Mem<String>
+        ensures { IfOk result (λ url. string_bytes url ≡ asked_url (sign_wanted self.now)) }
+    {
+        if has(&self.options, "--encode-path") {
+            encoded_url(alloc, self.url)
+        } else {
+            String::from_str(alloc, self.url)
+        }
+    }
+
+    /// The same with another URL.
+    pub fn with_url(self, url: &'a str) -> Asked<'a>
+        ensures { sign_wanted result ≡ record (sign_wanted self.entry) { url = url.now } }
+    {
+        Asked { url, ..self }
+    }
 }
 
 /// What the words so far gave, and the option that waits for its value.
@@ -330,6 +352,7 @@ fn is_flag(command: Command, word: &str) -> bool
         || (command.prints() && word == "--unsigned")
         || (command.is_presign() && word == "--long")
         || (command.is_chunk() && word == "--signed")
+        || (command.signs_request() && word == "--encode-path")
 }
 
 fn is_no_operand(command: Command, word: &str) -> bool
@@ -366,7 +389,7 @@ fn is_fit(option: &str, value: &str) -> bool
 {
     match option {
         "--at" => parse_i64(value).is_some(),
-        "--expires" => parse_u64(value).is_some(),
+        "--expires" => expiry_named(value).is_some(),
         "--as" => form_named(value).is_some(),
         "--size" => ChunkSize::parse(value).is_some(),
         "--checksum" => checksum_named(value).is_some(),

@@ -1,4 +1,4 @@
-ghost use Rattle.std.specs.Prelude.{◌≡◌, ◌≤◌, None, length, IfOk};
+ghost use Rattle.std.specs.Prelude.{◌≡◌, ◌≤◌, ◌<◌, None, length, IfOk, IsTrue};
 ghost use Rattle.smithy_core.specs.Host.{failed_files, failed_reads, failed_writes};
 
 use crate::moment::Moment;
@@ -66,6 +66,7 @@ fn read_uninterrupted<R: Read>(reader: &mut R, into: &mut [u8]) -> Result<usize,
 pub struct StdSink<W> {
     writer: W,
     faults: u64,
+    lost_reader: bool,
 }
 
 impl<W: Write> StdSink<W> {
@@ -74,7 +75,18 @@ impl<W: Write> StdSink<W> {
         ensures held { ⟦<StdSink<W> as ByteSink>⟧.held result ≡ None }
         ensures faults { ⟦<StdSink<W> as ByteSink>⟧.faults result ≡ 0 }
     {
-        StdSink { writer, faults: 0 }
+        StdSink {
+            writer,
+            faults: 0,
+            lost_reader: false,
+        }
+    }
+
+    /// Whether the last fault was a broken pipe: whoever read what was written has left. A program then needs to say nothing.
+    pub fn has_lost_reader(&self) -> bool
+        ensures { IsTrue result → 0 < ⟦<StdSink<W> as ByteSink>⟧.faults self.now }
+    {
+        self.faults > 0 && self.lost_reader
     }
 }
 
@@ -88,38 +100,44 @@ impl<W: Write> ByteSink for StdSink<W> {
         let flushed = flush_uninterrupted(&mut self.writer);
         match (written, flushed) {
             (Ok(n), Ok(())) if n > 0 || piece.is_empty() => Ok(n),
-            _ => {
+            (written, flushed) => {
                 self.faults = self.faults.saturating_add(1);
+                self.lost_reader = is_broken_pipe(&written) || is_broken_pipe(&flushed);
                 Err(SinkError::Failed)
             }
         }
     }
 }
 
-// Writes, and again where a signal interrupted the write.
-fn write_uninterrupted<W: Write>(writer: &mut W, piece: &[u8]) -> Result<usize, Failed>
+// Whether a write or a flush found that nothing reads any more.
+fn is_broken_pipe<T>(answer: &Result<T, ErrorKind>) -> bool {
+    matches!(answer, Err(ErrorKind::BrokenPipe))
+}
+
+// Writes, and again where a signal interrupted the write; else the kind of the fault.
+fn write_uninterrupted<W: Write>(writer: &mut W, piece: &[u8]) -> Result<usize, ErrorKind>
     ensures { IfOk result (λ n. n ≤ length piece.now) }
 {
     for _ in 0..u64::MAX {
         match writer.write(piece) {
             Ok(n) => return Ok(n),
             Err(e) if e.kind() == ErrorKind::Interrupted => (),
-            Err(_) => return Err(Failed),
+            Err(e) => return Err(e.kind()),
         }
     }
-    Err(Failed)
+    Err(ErrorKind::Interrupted)
 }
 
 // Flushes, and again where a signal interrupted the flush.
-fn flush_uninterrupted<W: Write>(writer: &mut W) -> Result<(), Failed> {
+fn flush_uninterrupted<W: Write>(writer: &mut W) -> Result<(), ErrorKind> {
     for _ in 0..u64::MAX {
         match writer.flush() {
             Ok(()) => return Ok(()),
             Err(e) if e.kind() == ErrorKind::Interrupted => (),
-            Err(_) => return Err(Failed),
+            Err(e) => return Err(e.kind()),
         }
     }
-    Err(Failed)
+    Err(ErrorKind::Interrupted)
 }
 
 /// The most bytes of a file that a [`HostDisk`] reads.
