@@ -15,7 +15,6 @@ use std::marker::Model;
 /// A signer of what follows a signed request, each part over the signature before it: messages, or chunks and trailers.
 ///
 /// Contracts see the last signature, what is signed for, and the key that is kept for the day, if any.
-#[derive(Drop)]
 pub struct SigV4MessageSigner<S> {
     pub(crate) running_signature: String,
     pub(crate) identity: Identity,
@@ -24,6 +23,27 @@ pub struct SigV4MessageSigner<S> {
     pub(crate) time: Moment,
     settings: S,
     kept: Option<KeptKey>,
+}
+
+// Written out: a derived drop would be taken apart in the proof of each function that drops one.
+impl<S: Drop> Drop for SigV4MessageSigner<S> {
+    fn drop(self) {
+        let SigV4MessageSigner {
+            running_signature,
+            identity,
+            region,
+            name,
+            time: _,
+            settings,
+            kept,
+        } = self;
+        drop(running_signature);
+        drop(identity);
+        drop(region);
+        drop(name);
+        drop(settings);
+        drop(kept);
+    }
 }
 
 impl<S> Model for SigV4MessageSigner<S> {

@@ -130,7 +130,7 @@ impl SigningOptions {
 }
 
 /// The region, the name and the options with which the requests of an operation are signed.
-#[derive(Debug, Drop)]
+#[derive(Debug)]
 pub struct SigV4OperationSigningConfig {
     /// The region, where neither the endpoint nor the inputs have one.
     pub region: Option<Region>,
@@ -138,6 +138,20 @@ pub struct SigV4OperationSigningConfig {
     pub name: Option<SigningName>,
     /// How the requests are signed.
     pub signing_options: SigningOptions,
+}
+
+// Written out: a derived drop would be taken apart in the proof of each function that drops one.
+impl Drop for SigV4OperationSigningConfig {
+    fn drop(self) {
+        let SigV4OperationSigningConfig {
+            region,
+            name,
+            signing_options,
+        } = self;
+        drop(region);
+        drop(name);
+        drop(signing_options);
+    }
 }
 
 impl Default for SigV4OperationSigningConfig {

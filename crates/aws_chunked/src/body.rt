@@ -49,7 +49,6 @@ impl ChunkNext {
 }
 
 /// A body in the encoding aws-chunked, over a source of frames. Use one of its two polls for a body, and not both.
-#[derive(Drop)]
 pub struct AwsChunkedBody<F, G> {
     pub(crate) alloc: Global,
     pub(crate) options: AwsChunkedBodyOptions,
@@ -60,6 +59,24 @@ pub struct AwsChunkedBody<F, G> {
     pub(crate) chunks: ChunkEngine<G>,
     // The text for HTTP 0.x.
     pub(crate) pieces: PieceEngine,
+}
+
+// Written out: a derived drop would be taken apart in the proof of each function that drops one.
+impl<F: Drop, G: Drop> Drop for AwsChunkedBody<F, G> {
+    fn drop(self) {
+        let AwsChunkedBody {
+            alloc: _,
+            options,
+            source,
+            came,
+            chunks,
+            pieces: _,
+        } = self;
+        drop(options);
+        drop(source);
+        drop(came);
+        drop(chunks);
+    }
 }
 
 impl<F: FrameSource, G: SignChunk> AwsChunkedBody<F, G> {

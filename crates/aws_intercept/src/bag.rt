@@ -13,7 +13,7 @@ use smithy_core::{AppName, Mem, Moment, RetryConfig, TimeoutConfig, copied_text}
 use std::alloc::Global;
 
 /// What the interceptors of one operation share. The four lists stand newest first.
-#[derive(Debug, Drop)]
+#[derive(Debug)]
 pub struct ConfigBag {
     /// How often the operation is tried.
     pub retry: Option<RetryConfig>,
@@ -45,6 +45,38 @@ pub struct ConfigBag {
     pub aws_features: Vec<AwsSdkFeature>,
     /// Where the credentials come from.
     pub credential_features: Vec<AwsCredentialFeature>,
+}
+
+// Written out: a derived drop would be taken apart in the proof of each function that drops one.
+impl Drop for ConfigBag {
+    fn drop(self) {
+        let ConfigBag {
+            retry: _,
+            timeout: _,
+            attempts: _,
+            attempt_skew: _,
+            time_sent: _,
+            disable_skew: _,
+            api_metadata,
+            user_agent,
+            app_name,
+            invocation_id,
+            connector,
+            frameworks,
+            smithy_features,
+            aws_features,
+            credential_features,
+        } = self;
+        drop(api_metadata);
+        drop(user_agent);
+        drop(app_name);
+        drop(invocation_id);
+        drop(connector);
+        drop(frameworks);
+        drop(smithy_features);
+        drop(aws_features);
+        drop(credential_features);
+    }
 }
 
 impl ConfigBag {

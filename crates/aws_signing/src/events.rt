@@ -19,10 +19,18 @@ use std::marker::Model;
 /// A stream of events that is signed: each frame over the signature before it, the first over that of the request.
 ///
 /// Contracts see the last signature, and the kept key with who signs.
-#[derive(Drop)]
 pub struct SignedEvents {
     holder: KeyHolder,
     signature: String,
+}
+
+// Written out: a derived drop would be taken apart in the proof of each function that drops one.
+impl Drop for SignedEvents {
+    fn drop(self) {
+        let SignedEvents { holder, signature } = self;
+        drop(holder);
+        drop(signature);
+    }
 }
 
 impl Model for SignedEvents {

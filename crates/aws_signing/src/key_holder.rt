@@ -22,12 +22,27 @@ use std::marker::Model;
 /// Who signs, for which region and service, and the signing key that is kept for its day.
 ///
 /// Contracts see a `HeldKey`: what goes out of the credentials, and the kept key, which knows who signs.
-#[derive(Drop)]
 pub(crate) struct KeyHolder {
     identity: Identity,
     region: String,
     name: String,
     kept: KeptKey,
+}
+
+// Written out: a derived drop would be taken apart in the proof of each function that drops one.
+impl Drop for KeyHolder {
+    fn drop(self) {
+        let KeyHolder {
+            identity,
+            region,
+            name,
+            kept,
+        } = self;
+        drop(identity);
+        drop(region);
+        drop(name);
+        drop(kept);
+    }
 }
 
 impl Model for KeyHolder {

@@ -33,10 +33,18 @@ const S3_NAME: &str = "s3";
 ///
 /// Contracts see a `SigningState`: the key's id, the token, the kept key with who signs, for which region and service, and how
 /// requests are signed.
-#[derive(Drop)]
 pub struct Signer {
     pub(crate) holder: KeyHolder,
     pub(crate) settings: SigningSettings,
+}
+
+// Written out: a derived drop would be taken apart in the proof of each function that drops one.
+impl Drop for Signer {
+    fn drop(self) {
+        let Signer { holder, settings } = self;
+        drop(holder);
+        drop(settings);
+    }
 }
 
 impl Model for Signer {

@@ -11,12 +11,27 @@ use std::marker::Model;
 // Who signs a chain, and for which region and service, with the signing key of the day of the last frame.
 //
 // Contracts see who signs.
-#[derive(Drop)]
 pub(crate) struct ChainSigner {
     identity: Identity,
     region: String,
     name: String,
     kept: KeptKey,
+}
+
+// Written out: a derived drop would be taken apart in the proof of each function that drops one.
+impl Drop for ChainSigner {
+    fn drop(self) {
+        let ChainSigner {
+            identity,
+            region,
+            name,
+            kept,
+        } = self;
+        drop(identity);
+        drop(region);
+        drop(name);
+        drop(kept);
+    }
 }
 
 impl Model for ChainSigner {

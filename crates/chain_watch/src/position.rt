@@ -19,11 +19,23 @@ pub(crate) enum Phase {
 }
 
 // Where a walk is that goes on: over a signature, behind the frames that passed, with bytes left over.
-#[derive(Drop)]
 pub(crate) struct Position {
     pub(crate) signature: String,
     pub(crate) passed: usize,
     pub(crate) left: SegBuf,
+}
+
+// Written out: a derived drop would be taken apart in the proof of each function that drops one.
+impl Drop for Position {
+    fn drop(self) {
+        let Position {
+            signature,
+            passed: _,
+            left,
+        } = self;
+        drop(signature);
+        drop(left);
+    }
 }
 
 impl Position {

@@ -44,13 +44,27 @@ pub enum Watched {
 ///
 /// Contracts see how many bytes it took, who signs, for which region and service, and the point that its walk is at
 /// (`specs/Walk.antt`, `specs/Watch.antt`).
-#[derive(Drop)]
 pub struct ChainWatch {
     alloc: Global,
     signer: ChainSigner,
     fed: u64,
     phase: Phase,
     position: Position,
+}
+
+// Written out: a derived drop would be taken apart in the proof of each function that drops one.
+impl Drop for ChainWatch {
+    fn drop(self) {
+        let ChainWatch {
+            alloc: _,
+            signer,
+            fed: _,
+            phase: _,
+            position,
+        } = self;
+        drop(signer);
+        drop(position);
+    }
 }
 
 impl Model for ChainWatch {

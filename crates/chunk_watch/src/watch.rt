@@ -46,7 +46,6 @@ pub(crate) enum Phase {
 /// ```
 ///
 /// Contracts see who signs, the moment, the limits, and the point that the walk over the chunks is at (`specs/Walk.antt`).
-#[derive(Drop)]
 pub struct ChunkWatch {
     alloc: Global,
     signer: ChunkSigner,
@@ -57,6 +56,26 @@ pub struct ChunkWatch {
     taken: u64,
     signature: String,
     left: Left,
+}
+
+// Written out: a derived drop would be taken apart in the proof of each function that drops one.
+impl Drop for ChunkWatch {
+    fn drop(self) {
+        let ChunkWatch {
+            alloc: _,
+            signer,
+            limits: _,
+            declared: _,
+            phase: _,
+            place: _,
+            taken: _,
+            signature,
+            left,
+        } = self;
+        drop(signer);
+        drop(signature);
+        drop(left);
+    }
 }
 
 impl Model for ChunkWatch {

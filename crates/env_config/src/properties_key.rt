@@ -150,12 +150,28 @@ impl fmt::Display for PropertiesKey {
 }
 
 /// The parts of a [`PropertiesKey`].
-#[derive(Debug, Drop)]
+#[derive(Debug)]
 pub struct PropertiesKeyBuilder {
     section_key: Option<String>,
     section_name: Option<String>,
     property_name: Option<String>,
     sub_property_name: Option<String>,
+}
+
+// Written out: a derived drop would be taken apart in the proof of each function that drops one.
+impl Drop for PropertiesKeyBuilder {
+    fn drop(self) {
+        let PropertiesKeyBuilder {
+            section_key,
+            section_name,
+            property_name,
+            sub_property_name,
+        } = self;
+        drop(section_key);
+        drop(section_name);
+        drop(property_name);
+        drop(sub_property_name);
+    }
 }
 
 impl PropertiesKeyBuilder {

@@ -16,9 +16,16 @@ use std::marker::Model;
 /// The properties of a section by their keys.
 ///
 /// Contracts see under each key a key of the property's own and its value.
-#[derive(Drop)]
 pub struct SectionProperties {
     held: Held,
+}
+
+// Written out: a derived drop would be taken apart in the proof of each function that drops one.
+impl Drop for SectionProperties {
+    fn drop(self) {
+        let SectionProperties { held } = self;
+        drop(held);
+    }
 }
 
 #[derive(Drop)]

@@ -7,10 +7,19 @@ use std::alloc::AllocError;
 use std::fmt;
 
 /// A value that was refused, and where it was found.
-#[derive(Debug, Drop)]
+#[derive(Debug)]
 pub struct EnvConfigError<E> {
     source: EnvConfigSource,
     err: E,
+}
+
+// Written out: a derived drop would be taken apart in the proof of each function that drops one.
+impl<E: Drop> Drop for EnvConfigError<E> {
+    fn drop(self) {
+        let EnvConfigError { source, err } = self;
+        drop(source);
+        drop(err);
+    }
 }
 
 impl<E> EnvConfigError<E> {

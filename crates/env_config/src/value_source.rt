@@ -5,11 +5,25 @@ use smithy_core::Mem;
 use std::fmt;
 
 /// Where a value was found: whether it is the service's own, in which place, and under which key.
-#[derive(Debug, Drop)]
+#[derive(Debug)]
 pub struct EnvConfigSource {
     key: String,
     location: Location,
     scope: Scope,
+}
+
+// Written out: a derived drop would be taken apart in the proof of each function that drops one.
+impl Drop for EnvConfigSource {
+    fn drop(self) {
+        let EnvConfigSource {
+            key,
+            location,
+            scope,
+        } = self;
+        drop(key);
+        drop(location);
+        drop(scope);
+    }
 }
 
 /// Whether a value is for all services.

@@ -20,7 +20,6 @@ use std::alloc::Global;
 const MOST_IDLE: u32 = 65_536;
 
 /// Makes events of the frames of a source, however these cut the stream.
-#[derive(Drop)]
 pub struct Receiver<F, U> {
     alloc: Global,
     unmarshaller: U,
@@ -31,6 +30,24 @@ pub struct Receiver<F, U> {
     kept: Option<Message>,
     // Nothing more is read.
     pub(crate) over: bool,
+}
+
+// Written out: a derived drop would be taken apart in the proof of each function that drops one.
+impl<F: Drop, U: Drop> Drop for Receiver<F, U> {
+    fn drop(self) {
+        let Receiver {
+            alloc: _,
+            unmarshaller,
+            source,
+            buffer,
+            kept,
+            over: _,
+        } = self;
+        drop(unmarshaller);
+        drop(source);
+        drop(buffer);
+        drop(kept);
+    }
 }
 
 impl<F, U> Receiver<F, U> {

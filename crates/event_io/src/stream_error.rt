@@ -5,11 +5,20 @@ use smithy_core::{ErrorMetadata, Mem};
 use std::fmt;
 
 /// An error in a stream of messages.
-#[derive(Debug, Drop)]
+#[derive(Debug)]
 pub struct MessageStreamError {
     source: ErrorMetadata,
     // In place of the source, if nothing else is known of it.
     told: Option<ErrorMetadata>,
+}
+
+// Written out: a derived drop would be taken apart in the proof of each function that drops one.
+impl Drop for MessageStreamError {
+    fn drop(self) {
+        let MessageStreamError { source, told } = self;
+        drop(source);
+        drop(told);
+    }
 }
 
 impl MessageStreamError {

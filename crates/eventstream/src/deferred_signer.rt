@@ -7,9 +7,16 @@ use smithy_core::{Message, Moment};
 
 /// Signs as the signer does that it was handed last; before that it leaves messages as they are. A deferred signer isn't put
 /// into a box itself.
-#[derive(Drop)]
 pub struct DeferredSigner {
     signer: Option<Box<dyn SignMessage>>,
+}
+
+// Written out: a derived drop would be taken apart in the proof of each function that drops one.
+impl Drop for DeferredSigner {
+    fn drop(self) {
+        let DeferredSigner { signer } = self;
+        drop(signer);
+    }
 }
 
 impl DeferredSigner {

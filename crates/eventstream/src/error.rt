@@ -74,9 +74,17 @@ impl ErrorKind {
 }
 
 /// The error of this crate: an [`ErrorKind`].
-#[derive(Debug, Drop)]
+#[derive(Debug)]
 pub struct Error {
     kind: ErrorKind,
+}
+
+// Written out: a derived drop would be taken apart in the proof of each function that drops one.
+impl Drop for Error {
+    fn drop(self) {
+        let Error { kind } = self;
+        drop(kind);
+    }
 }
 
 impl Error {

@@ -48,10 +48,18 @@ pub extern "C" fn firuvaik_run(
 }
 
 // What the program wrote and said, and how it ended.
-#[derive(Drop)]
 struct ProgramText {
     text: Vec<u8>,
     outcome: Outcome,
+}
+
+// Written out: a derived drop would be taken apart in the proof of each function that drops one.
+impl Drop for ProgramText {
+    fn drop(self) {
+        let ProgramText { text, outcome } = self;
+        drop(text);
+        drop(outcome);
+    }
 }
 
 // Writes text and outcome, where the text fits.

@@ -8,9 +8,16 @@ use smithy_core::Headers;
 
 /// Signs chunks as the signer does that it was handed last; before that it refuses with [`SigningError::SignerNotWired`]. A deferred
 /// signer isn't put into a box itself.
-#[derive(Drop)]
 pub struct ChunkDeferredSigner {
     signer: Option<Box<dyn SignChunk>>,
+}
+
+// Written out: a derived drop would be taken apart in the proof of each function that drops one.
+impl Drop for ChunkDeferredSigner {
+    fn drop(self) {
+        let ChunkDeferredSigner { signer } = self;
+        drop(signer);
+    }
 }
 
 impl ChunkDeferredSigner {

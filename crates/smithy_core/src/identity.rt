@@ -6,12 +6,26 @@ use crate::moment::Moment;
 use crate::text::copied_text;
 
 /// Credentials of an account. There is no [`Debug`](std::fmt::Debug), so that no secret is printed.
-#[derive(Drop)]
 pub struct Credentials {
     key_id: String,
     secret: String,
     token: Option<String>,
     expiry: Option<Moment>,
+}
+
+// Written out: a derived drop would be taken apart in the proof of each function that drops one.
+impl Drop for Credentials {
+    fn drop(self) {
+        let Credentials {
+            key_id,
+            secret,
+            token,
+            expiry: _,
+        } = self;
+        drop(key_id);
+        drop(secret);
+        drop(token);
+    }
 }
 
 impl Credentials {

@@ -16,11 +16,23 @@ use std::marker::Model;
 /// Writes pairs into the query of a target.
 ///
 /// Contracts see the target that is written so far.
-#[derive(Drop)]
 pub struct QueryWriter {
     base: Uri,
     query: String,
     has_query: bool,
+}
+
+// Written out: a derived drop would be taken apart in the proof of each function that drops one.
+impl Drop for QueryWriter {
+    fn drop(self) {
+        let QueryWriter {
+            base,
+            query,
+            has_query: _,
+        } = self;
+        drop(base);
+        drop(query);
+    }
 }
 
 impl Model for QueryWriter {

@@ -9,7 +9,6 @@ use smithy_core::{
 use std::alloc::Global;
 
 /// The words, the variables and what else a run reads.
-#[derive(Drop)]
 pub struct Given<S, D, C> {
     words: Vec<String>,
     env: Env,
@@ -17,6 +16,25 @@ pub struct Given<S, D, C> {
     input: S,
     disk: D,
     clock: C,
+}
+
+// Written out: a derived drop would be taken apart in the proof of each function that drops one.
+impl<S: Drop, D: Drop, C: Drop> Drop for Given<S, D, C> {
+    fn drop(self) {
+        let Given {
+            words,
+            env,
+            len: _,
+            input,
+            disk,
+            clock,
+        } = self;
+        drop(words);
+        drop(env);
+        drop(input);
+        drop(disk);
+        drop(clock);
+    }
 }
 
 impl Given<FaultySource, FaultyDisk, ListClock> {

@@ -20,7 +20,7 @@ use std::marker::Model;
 /// What a client says of itself in the headers `user-agent` and `x-amz-user-agent`.
 ///
 /// Contracts see its parts.
-#[derive(Debug, Drop)]
+#[derive(Debug)]
 pub struct AwsUserAgent {
     core_version: String,
     agent_version: String,
@@ -34,6 +34,37 @@ pub struct AwsUserAgent {
     additional: Vec<AdditionalMetadata>,
     app_name: Option<AppName>,
     build: Option<AdditionalMetadata>,
+}
+
+// Written out: a derived drop would be taken apart in the proof of each function that drops one.
+impl Drop for AwsUserAgent {
+    fn drop(self) {
+        let AwsUserAgent {
+            core_version,
+            agent_version,
+            api,
+            os_family: _,
+            os_version,
+            language_version,
+            execution_environment,
+            metrics,
+            frameworks,
+            additional,
+            app_name,
+            build,
+        } = self;
+        drop(core_version);
+        drop(agent_version);
+        drop(api);
+        drop(os_version);
+        drop(language_version);
+        drop(execution_environment);
+        drop(metrics);
+        drop(frameworks);
+        drop(additional);
+        drop(app_name);
+        drop(build);
+    }
 }
 
 impl Model for AwsUserAgent {

@@ -10,9 +10,17 @@ use std::marker::Model;
 /// A value of the configuration, printed as `cfg/NAME` or `cfg/NAME/VERSION`. No agent keeps it.
 ///
 /// Contracts see its name and its version.
-#[derive(Debug, Drop)]
+#[derive(Debug)]
 pub struct ConfigMetadata {
     named: NameVersion,
+}
+
+// Written out: a derived drop would be taken apart in the proof of each function that drops one.
+impl Drop for ConfigMetadata {
+    fn drop(self) {
+        let ConfigMetadata { named } = self;
+        drop(named);
+    }
 }
 
 impl Model for ConfigMetadata {

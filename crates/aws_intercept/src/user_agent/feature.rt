@@ -13,10 +13,19 @@ use std::marker::Model;
 /// keeps it.
 ///
 /// Contracts see its name, its version and the additional values.
-#[derive(Debug, Drop)]
+#[derive(Debug)]
 pub struct FeatureMetadata {
     named: NameVersion,
     additional: Vec<AdditionalMetadata>,
+}
+
+// Written out: a derived drop would be taken apart in the proof of each function that drops one.
+impl Drop for FeatureMetadata {
+    fn drop(self) {
+        let FeatureMetadata { named, additional } = self;
+        drop(named);
+        drop(additional);
+    }
 }
 
 impl Model for FeatureMetadata {

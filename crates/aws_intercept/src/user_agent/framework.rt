@@ -10,9 +10,17 @@ use std::marker::Model;
 /// A framework that stands on the SDK, printed as `lib/NAME` or `lib/NAME/VERSION`.
 ///
 /// Contracts see its name and its version.
-#[derive(Debug, Drop)]
+#[derive(Debug)]
 pub struct FrameworkMetadata {
     named: NameVersion,
+}
+
+// Written out: a derived drop would be taken apart in the proof of each function that drops one.
+impl Drop for FrameworkMetadata {
+    fn drop(self) {
+        let FrameworkMetadata { named } = self;
+        drop(named);
+    }
 }
 
 impl Model for FrameworkMetadata {

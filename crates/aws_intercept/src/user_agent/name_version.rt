@@ -7,10 +7,19 @@ use std::fmt;
 use std::marker::Model;
 
 /// A name, and a version where there is one, printed as `NAME` or `NAME/VERSION`.
-#[derive(Debug, Drop)]
+#[derive(Debug)]
 pub(crate) struct NameVersion {
     name: String,
     version: Option<String>,
+}
+
+// Written out: a derived drop would be taken apart in the proof of each function that drops one.
+impl Drop for NameVersion {
+    fn drop(self) {
+        let NameVersion { name, version } = self;
+        drop(name);
+        drop(version);
+    }
 }
 
 impl Model for NameVersion {

@@ -9,7 +9,6 @@ use std::alloc::Global;
 use tool_case_lines::{has_part, number, part};
 
 /// All that the inputs lend.
-#[derive(Drop)]
 pub struct Given {
     config: Option<SigV4OperationSigningConfig>,
     endpoint: Option<Document>,
@@ -17,6 +16,25 @@ pub struct Given {
     region: Option<Region>,
     payload: Option<PayloadSigningOverride>,
     skew_millis: Option<i64>,
+}
+
+// Written out: a derived drop would be taken apart in the proof of each function that drops one.
+impl Drop for Given {
+    fn drop(self) {
+        let Given {
+            config,
+            endpoint,
+            name,
+            region,
+            payload,
+            skew_millis: _,
+        } = self;
+        drop(config);
+        drop(endpoint);
+        drop(name);
+        drop(region);
+        drop(payload);
+    }
 }
 
 impl Given {
