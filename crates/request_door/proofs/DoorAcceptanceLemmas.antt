@@ -1,5 +1,5 @@
 -- A request that was signed carries its own signature.
-use Rattle.std.proofs.Common.{◌≡◌, ℕ, Bool, true, false, List, [], Option, Some, None, refl, sym, ap, ◌∙◌, subst, true≢false}
+use Rattle.std.proofs.Common.{◌≡◌, ℕ, false, List, [], Option, Some, None, refl, sym, ap, ◌∙◌, subst, true≢false}
 use Rattle.std.specs.Prelude.{codes, is_some, option_and_then, string_bytes}
 use Rattle.http_uri.specs.declared.uri.Uri.{Uri}
 use Rattle.smithy_core.specs.TextPairs.{first_value}

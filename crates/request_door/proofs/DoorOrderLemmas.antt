@@ -1,5 +1,5 @@
 -- The first test of a service's door that is met, of those of each step.
-use Rattle.std.proofs.Common.{ℕ, List, [], Option, Ok, Err, ℤ, pos, inl, inr, refl, ◌∙◌}
+use Rattle.std.proofs.Common.{ℕ, List, [], Option, Ok, Err, ℤ, pos, inl, inr, ◌∙◌}
 use Rattle.std.specs.Prelude.{Result, String, string_bytes}
 use Rattle.std.specs.declared.alloc.Global.{Global}
 use Rattle.http_uri.specs.declared.uri.Uri.{Uri}

@@ -39,7 +39,6 @@ fn seal_expiry(place: SignatureLocation, terms: &Terms<'_>) -> Option<u64>
 }
 
 /// Tests that the signature of a seal is that of the request, under the secret.
-#[tactic(auto, using(crate::proofs::DoorLemmas::tested))]
 pub(crate) fn test_signature(
     alloc: Global,
     request: &HttpRequest,

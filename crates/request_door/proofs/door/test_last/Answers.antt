@@ -1,8 +1,14 @@
+use Rattle.std.proofs.Common.{subst, sym}
+use Rattle.smithy_core.specs.Civil.{IsInYears}
 use Rattle.sigv4.specs.Settings.{settings_of}
+use Rattle.request_check.specs.Sealed.{SealParts}
 use Rattle.request_door.specs.DoorCarried.{texts_carried}
 use Rattle.request_door.specs.DoorTerms.{door_seal, told_terms}
 use Rattle.request_door.proofs.DoorLemmas.{last_tested}
 use Rattle.request_door.proofs.door.test_last.Goals as goal
+
+pub test_signature-requires : goal.test_signature-requires
+test_signature-requires c = subst (λ (seal : SealParts). IsInYears seal.at) (sym c.in_ok-seal.ensures) c.requires
 
 pub returns : goal.returns
 returns c =
