@@ -1,5 +1,6 @@
 -- The checksum of a frame, piece by piece.
-use Rattle.std.proofs.Common.{◌≡◌, ℕ, ◌+◌, ◌-◌, ◌≤◌, ◌<◌, ◌^◌, List, ◌++◌, take, drop, ap, ◌∙◌, arith}
+use Rattle.std.proofs.Common.{◌≡◌, ℕ, ◌+◌, ◌-◌, ◌≤◌, ◌<◌, ◌^◌, List, ◌++◌, take, drop, Option, Some, None, ap, ◌∙◌, arith}
+use Rattle.std.specs.Prelude.{IfSome}
 use Rattle.std.proofs.Math.Seq.{take-add}
 use Rattle.mac_core.specs.Crc.{after_bytes, before_any, remainder}
 use Rattle.mac_core.proofs.CrcLemmas.{after_bytes-append, bytes_below, remainder_pieces}
@@ -32,6 +33,14 @@ whole_by_parts total headers checksum prelude rest l is =
     ∙ ap (after_bytes register) (behind total rest (omega arith))
     ∙ after_bytes-append register (take (total - 16) rest) (take 4 (drop (total - 16) rest))
     ∙ ap (λ (r : ℕ). after_bytes r (take 4 (drop (total - 16) rest))) (summed_front register (total - 16) headers rest (omega arith))
+
+-- the same, where the checksum may be known
+pub known_behind : (total headers : ℕ) (prelude rest payload closing : List ℕ) (before : ℕ) (whole : Option ℕ) → headers + 16 ≤ total
+    → before ≡ after_bytes (after_bytes before_any prelude) (take headers rest) → payload ≡ take (total - 16 - headers) (drop headers rest)
+    → closing ≡ take 4 (drop (total - 16) rest) → IfSome whole (IsSumOf total prelude rest)
+    → IfSome whole (λ whole. whole ≡ after_bytes (after_bytes before payload) closing)
+known_behind total headers prelude rest payload closing before None l b p c is = tt
+known_behind total headers prelude rest payload closing before (Some whole) l b p c is = rw (b, p, c) (whole_by_parts total headers whole prelude rest l is)
 
 -- a checksum of two pieces has 32 bits
 pub two_below : (xs ys : List ℕ) → after_bytes (after_bytes before_any xs) ys < 2 ^ 32

@@ -1,5 +1,6 @@
 ghost use Rattle.std.specs.Prelude.{◌≡◌, ℕ, ◌+◌, ◌-◌, ◌≤◌, ◌<◌, ◌^◌, ◌++◌, length, take, drop, IfOk, IfSome, OnOk};
-ghost use Rattle.mac_core.specs.Crc.{after_bytes, before_any};
+ghost use Rattle.mac_core.specs.Crc.{after_bytes, before_any, remainder};
+ghost use Rattle.eventstream.specs.Frame.{least_frame};
 ghost use Rattle.seg_buf.specs.Segments.{prelude_len};
 ghost use Rattle.eventstream.specs.Read.{AreFit, IsSumOf, headers_of, announced, checked_message, read, read_frame, u32_at, GivesRead, GivesMessage, TakesMessage};
 
@@ -119,7 +120,7 @@ fn read_summed_frame(
 }
 
 // The message of these headers and the payload behind them, where the closing checksum is right.
-#[tactic(auto, using(crate::proofs::SumLemmas::before_closing, crate::proofs::SumLemmas::whole_by_parts, crate::proofs::SumLemmas::two_below), unfolding(crate::specs::Read::checked_message))]
+#[tactic(auto, unfolding(crate::specs::Read::checked_message))]
 fn read_message(
     lengths: Lengths,
     prelude: [u8; PRELUDE],
@@ -133,16 +134,31 @@ fn read_message(
     ensures { GivesRead (checked_message lengths prelude rest.now headers.items) result }
 {
     let end = lengths.total - LEAST_FRAME;
-    let carried = u32_at(rest.as_slice(), end);
-    let before = before_payload(prelude.as_slice(), &rest.as_slice()[..lengths.headers]);
-    let payload = rest.slice(lengths.headers..end)?;
-    let closing = &rest.as_slice()[end..end + 4];
-    let after = after_payload(before, payload.as_slice(), closing, carried, whole);
+    let (before, after) = sum_around(lengths, prelude.as_slice(), rest.as_slice(), whole);
     let computed = after.value();
+    let carried = u32_at(rest.as_slice(), end);
     if computed != carried {
         return Err(Error::from(ErrorKind::MessageChecksumMismatch(computed, carried)));
     }
+    let payload = rest.slice(lengths.headers..end)?;
     Ok(Message::new_from_parts(headers, payload).with_checksums(before, after))
+}
+
+// The checksums before and after the payload of a frame, with its prelude and the bytes after it.
+#[tactic(auto, using(crate::proofs::SumLemmas::before_closing, crate::proofs::SumLemmas::two_below))]
+fn sum_around(lengths: Lengths, prelude: &[u8], rest: &[u8], whole: Option<Crc>) -> (Crc, Crc)
+    requires fit { AreFit lengths }
+    requires there { lengths.total ≤ prelude_len + length rest.now }
+    requires known { IfSome whole (IsSumOf lengths.total prelude.now rest.now) }
+    ensures payload { result.1 ≡ after_bytes result.0 (take (lengths.total - least_frame - lengths.headers) (drop lengths.headers rest.now)) }
+    ensures closing { remainder (prelude.now ++ take (lengths.total - least_frame) rest.now) ≡ 0xFFFFFFFF - result.1 }
+{
+    let end = lengths.total - LEAST_FRAME;
+    let carried = u32_at(rest, end);
+    let before = before_payload(prelude, &rest[..lengths.headers]);
+    let payload = &rest[lengths.headers..end];
+    let after = after_payload(before, payload, &rest[end..end + 4], carried, whole);
+    (before, after)
 }
 
 // The checksum of what is before a payload.

@@ -248,25 +248,44 @@ fn push_counted(buffer: &mut Vec<u8>, tag: u8, bytes: &[u8]) -> Mem<()>
     buffer.extend_from_slice(bytes)
 }
 
-// The frame of a message with this header block, where there is room for it, and the checksum of its bytes. What is before the
-// payload is summed where it stands, since the payload may be summed already.
-#[tactic(auto, unfolding(crate::specs::Frame::frame))]
+// The frame of these bytes of headers and the message's payload, where there is room for it, and the checksum of its bytes.
 fn push_frame(buffer: &mut Vec<u8>, headers: &[u8], message: &Message) -> Crc
-    requires block { headers.now ≡ block message.now.headers }
     requires fits { least_frame + length headers.now + length message.now.payload ≤ most_frame }
     requires room { vec_len buffer.old + (least_frame + length headers.now + length message.now.payload) ≤ vec_capacity buffer.old }
-    ensures items { buffer.new.items ≡ buffer.old.items ++ frame message.now }
-    ensures checksum { result ≡ after_bytes before_any (frame message.now) }
+    ensures items { buffer.new.items ≡ buffer.old.items ++ summed (summed (frame_lengths
+        (least_frame + length headers.now + length message.now.payload) (length headers.now)) ++ headers.now ++ message.now.payload) }
+    ensures checksum { result ≡ after_bytes before_any (summed (summed (frame_lengths
+        (least_frame + length headers.now + length message.now.payload) (length headers.now)) ++ headers.now ++ message.now.payload)) }
 {
     let start = buffer.len();
     let total = LEAST_FRAME + headers.len() + message.payload().len();
     push_prelude(buffer, total as u32, headers.len() as u32);
     push_bytes(buffer, headers);
-    let mut checksum = Crc::new();
-    checksum.update(&buffer[start..]);
-    message.sum_payload(&mut checksum);
+    push_payload(buffer, start, message)
+}
+
+// The message's payload, and the checksum of the bytes from `start` on; and the checksum with these four. What is before the
+// payload is summed where it stands, since the payload may be summed already.
+fn push_payload(buffer: &mut Vec<u8>, start: usize, message: &Message) -> Crc
+    requires place { start ≤ length buffer.old.items }
+    requires room { vec_len buffer.old + (length message.now.payload + 4) ≤ vec_capacity buffer.old }
+    ensures items { buffer.new.items ≡ (buffer.old.items ++ message.now.payload) ++ be32 (remainder (drop start buffer.old.items ++ message.now.payload)) }
+    ensures checksum { result ≡ after_bytes before_any (summed (drop start buffer.old.items ++ message.now.payload)) }
+{
+    let checksum = sum_frame(&buffer[start..], message);
     push_bytes(buffer, message.payload().as_slice());
     push_closing(buffer, checksum)
+}
+
+// The checksum of these bytes and the message's payload.
+#[tactic(auto, using(mac_core::proofs::CrcLemmas::joins))]
+fn sum_frame(front: &[u8], message: &Message) -> Crc
+    ensures { result ≡ after_bytes before_any (front.now ++ message.now.payload) }
+{
+    let mut checksum = Crc::new();
+    checksum.update(front);
+    message.sum_payload(&mut checksum);
+    checksum
 }
 
 // The closing checksum of bytes that were summed, and the checksum with these four.
