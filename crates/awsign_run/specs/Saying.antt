@@ -29,9 +29,9 @@ faulty_text error = string_bytes error.path ++ (codes ", line " ++ (decimal erro
 abbrev pub settings_reason : SettingsFault → List ℕ
 settings_reason (set.Profile error) = faulty_text error
 settings_reason (set.MissingKey profile) =
-    codes "no key: set AWS_ACCESS_KEY_ID and AWS_SECRET_ACCESS_KEY, or give the profile '" ++ (string_bytes profile ++ codes "' aws_access_key_id and aws_secret_access_key")
+    codes "no key: set AWS_ACCESS_KEY_ID and AWS_SECRET_ACCESS_KEY, or give the profile '" ++ (string_bytes profile ++ codes "' aws_access_key_id and aws_secret_access_key; awsign settings says where they are looked for")
 settings_reason set.MissingSecret = codes "AWS_ACCESS_KEY_ID is set and AWS_SECRET_ACCESS_KEY isn't: set both, or neither"
-settings_reason (set.MissingRegion profile) = codes "no region: say --region, set AWS_REGION, or give the profile '" ++ (string_bytes profile ++ codes "' a region")
+settings_reason (set.MissingRegion profile) = codes "no region: say --region, set AWS_REGION, or give the profile '" ++ (string_bytes profile ++ codes "' a region; awsign settings says where it is looked for")
 settings_reason set.NoMemory = codes "no memory"
 
 -- why nothing is signed, and what to do

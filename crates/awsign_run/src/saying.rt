@@ -125,14 +125,14 @@ fn settings_line(alloc: Global, fault: &SettingsFault) -> Mem<String>
     let text = match fault {
         SettingsFault::Profile(error) => return faulty_line(alloc, error),
         SettingsFault::MissingKey(profile) => format!(in alloc;
-            "no key: set AWS_ACCESS_KEY_ID and AWS_SECRET_ACCESS_KEY, or give the profile '{profile}' aws_access_key_id and aws_secret_access_key"
+            "no key: set AWS_ACCESS_KEY_ID and AWS_SECRET_ACCESS_KEY, or give the profile '{profile}' aws_access_key_id and aws_secret_access_key; awsign settings says where they are looked for"
         )?,
         SettingsFault::MissingSecret => String::from_str(
             alloc,
             "AWS_ACCESS_KEY_ID is set and AWS_SECRET_ACCESS_KEY isn't: set both, or neither",
         )?,
         SettingsFault::MissingRegion(profile) => format!(in alloc;
-            "no region: say --region, set AWS_REGION, or give the profile '{profile}' a region"
+            "no region: say --region, set AWS_REGION, or give the profile '{profile}' a region; awsign settings says where it is looked for"
         )?,
         SettingsFault::NoMemory => String::from_str(alloc, "no memory")?,
     };
