@@ -248,6 +248,9 @@ def manners(at):
         says(f"{words} without a reader", f"(sleep 0.2; printf 'event\n' > job; awsign {words} 2> said; echo $? > code) | true; cat code said", 0, "141\n")
         says(f"{words} without a word", "cat said", 0)
         says(f"{words} to a full device", f"awsign {words} > /dev/full", 3, "", "awsign: the output failed")
+    says("a file that isn't there", f"awsign sign PUT {at}/b/k --s3 -H 'x-a: --data' --data 'no where'", 3, "", "could not read the file that --data names: no where\n")
+    says("a key that isn't there", f"env -u AWS_ACCESS_KEY_ID awsign sign PUT {at}/b/k --s3", 1, "", "the profile 'default' aws_access_key_id and aws_secret_access_key; awsign settings says")
+    says("a region that isn't there", f"env -u AWS_REGION awsign sign PUT {at}/b/k --s3", 1, "", "the profile 'default' a region; awsign settings says")
     shown = on_terminal(f"awsign sign PUT {at}/b/big --s3 --data big > said")
     if BIG and (re.sub(rb"\rawsign: \d+ MiB read", b"", shown).strip(b" \r") or shown.count(b"MiB read") != (BIG - 1) // (1 << 26)):
         failed.append(f"a big file shows {shown[:300]!r} on a terminal")
@@ -280,7 +283,7 @@ def chunked(at, at_body):
     says("a refused upload", f"awsign chunk PUT {at}/b/x --s3 --data word --out kept --trailer 'x y: z'", 1, "", "awsign: a trailer can't be sent")
     says("an upload without a key", f"env -u AWS_ACCESS_KEY_ID awsign chunk PUT {at}/b/x --s3 --data word --out kept", 1, "", "awsign: no key")
     shell("a file that a refused upload leaves", "cat kept", "kept")
-    says("an upload of no file", f"awsign chunk PUT {at}/b/x --s3 --data nowhere --out body", 3, "", "could not read the file that --data names")
+    says("an upload of no file", f"awsign chunk PUT {at}/b/x --s3 --data nowhere --out body", 3, "", "could not read the file that --data names: nowhere\n")
     says("an upload to a full device", f"awsign chunk PUT {at}/b/x --s3 --data word --out /dev/full", 3, "", "could not write the file that --out names")
     says("an upload's head to a full device", f"awsign chunk PUT {at}/b/x --s3 --data word --out body > /dev/full", 3, "", "awsign: the output failed")
     for task, words in (("no file", "--data word"), ("no data", "--out body"), ("size 0", "--data word --out body --size 0"), ("another checksum", "--data word --out body --checksum md5"),
