@@ -6,4 +6,4 @@ use Rattle.awsign_run.proofs.saying.word_behind.Given as goal
 -- the words to come, behind those so far, have the word that all have
 abbrev pub invariant-loop-word : goal.invariant-loop-word
 invariant-loop-word l =
-    behind_word l.name.now l.stood (map string_bytes (drop l.word-index l.words)) ≡ behind_word l.name.now false (map string_bytes l.words)
+    behind_word l.name l.stood (map string_bytes (drop l.word-index l.words)) ≡ behind_word l.name false (map string_bytes l.words)
