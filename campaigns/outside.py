@@ -227,13 +227,13 @@ class Program:
 def of_file(program, path):
     """What is wanted where the file at the path fails: a named one ends the run, a default one counts as absent."""
     if path in program.run.named("--data"):
-        return program.said.data_fault
+        return runs.data_fault(path)
     if path in program.run.named("--out"):
         return program.said.file_fault
     return program.said.could_not_read(path) if path in program.run.files() else program.without(path)
 
 
-def failed_call(program, met, found):
+def failed_call(program, met, found, error):
     """Compares a run in which a call failed for good with what the docs state; `met` is the call and what it was on."""
     call, name = met
     case = f"{program.name}: {call} of {name} fails"
@@ -244,7 +244,7 @@ def failed_call(program, met, found):
     elif name == "input":
         expect_front(case, found, program.said.read_fault, program.whole)
     elif name == "output":
-        expect_front(case, found, program.said.output_fault, program.whole)
+        expect_front(case, found, program.said.lost_reader if error == errno.EPIPE else program.said.output_fault, program.whole)
     else:
         expect(case, found, of_file(program, name))
 
@@ -265,7 +265,7 @@ def calls_fail_in_turn(program, told):
     for call, errors in ERRORS.items():
         for error in errors:
             for met, found in faults_of(program, call, error, told):
-                failed_call(program, met, found)
+                failed_call(program, met, found, error)
 
 
 def calls_come_short(program, told):
@@ -340,7 +340,7 @@ def outputs(program):
                 file.seek(0)
                 wanted = fault._replace(out=whole.out[:limit]) if limit >= len(whole.file) else program.said.file_fault
                 expect(f"{program.name}: an output of at most {limit} bytes", found._replace(out=file.read()), wanted)
-        closed_pipe(program, fault)
+        closed_pipe(program)
     if whole.err:
         with open("/dev/full", "wb") as full:
             expect(f"{program.name}: a full error output", program.over(stderr=full), whole._replace(err=b""))
@@ -352,14 +352,14 @@ def limit_file(size):
     resource.setrlimit(resource.RLIMIT_FSIZE, (size, size))
 
 
-def closed_pipe(program, fault):
-    """Nobody reads the output: the run ends with the output fault, whether or not the signal for that is ignored when it starts."""
+def closed_pipe(program):
+    """Nobody reads the output: the run ends as it does then, whether or not the signal for that is ignored when it starts."""
     for ignored in (True, False):
         reader, writer = os.pipe()
         os.close(reader)
         found = program.over(stdout=writer, restore_signals=not ignored)
         os.close(writer)
-        expect(f"{program.name}: a closed pipe, its signal {'ignored' if ignored else 'not ignored'}", found, fault)
+        expect(f"{program.name}: a closed pipe, its signal {'ignored' if ignored else 'not ignored'}", found, program.said.lost_reader)
 
 
 def inputs(program):
@@ -418,10 +418,10 @@ def data_file(program, path):
     for case, make in ODD_FILES.items():
         if case != "endless":
             make(path)
-            expect(f"{program.name}: {path} is {case}", program.over(), program.said.data_fault)
+            expect(f"{program.name}: {path} is {case}", program.over(), runs.data_fault(path))
             remove(path)
     with_pipe(program, path)
-    without_permission(program, path, program.said.data_fault)
+    without_permission(program, path, runs.data_fault(path))
     os.rename("kept", path)
 
 
@@ -504,10 +504,10 @@ def without_permission(program, path, wanted):
 
 def odd_paths(program, option):
     """A named path that no file has, or that none can have, where the file is written."""
-    faults = {"--data": program.said.data_fault, "--out": program.said.file_fault}
     for path in BAD_PATHS if option == "--out" else ODD_PATHS:
         words = program.run.argv()
         words[words.index(option) + 1] = path
+        faults = {"--data": runs.data_fault(path), "--out": program.said.file_fault}
         expect(f"{program.name}: {option} {path[:20]!r}", program.end(words=words), faults.get(option) or program.said.could_not_read(path))
 
 

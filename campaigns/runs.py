@@ -39,31 +39,37 @@ class Ended(NamedTuple):
 
 
 class Said(NamedTuple):
-    """How a program ends that wants memory, whose input can't be read, whose output fails, for which a file of profiles or of data
-    can't be read, or whose file can't be written."""
+    """How a program ends that wants memory, whose input can't be read, whose output fails or has no reader, for which a file of
+    profiles can't be read, or whose file can't be written."""
 
     no_memory: Ended
     read_fault: Ended
     output_fault: Ended
+    lost_reader: Ended
     unread: str
-    data_fault: Ended = None
     file_fault: Ended = None
 
     def could_not_read(self, path):
-        return Ended(self.output_fault.status if self.data_fault else 6, b"", self.unread.format(path).encode())
+        return Ended(self.output_fault.status if self.file_fault else 6, b"", self.unread.format(path).encode())
 
 
 def said_by_awsign(line):
     return Ended(3, b"", f"awsign: {line}\n".encode())
 
 
-STREAMS = Said(Ended(10, b"", b"no memory\n"), Ended(5, b"", b"read fault\n"), Ended(9, b"", b"output fault\n"), "could not read file {}\n")
+def data_fault(path):
+    """How `awsign` ends where the data at the path can't be read."""
+    return said_by_awsign(f"could not read the file that --data names: {path}")
+
+
+OUTPUT_FAULT = Ended(9, b"", b"output fault\n")
+STREAMS = Said(Ended(10, b"", b"no memory\n"), Ended(5, b"", b"read fault\n"), OUTPUT_FAULT, OUTPUT_FAULT, "could not read file {}\n")
 AWSIGN = Said(
     said_by_awsign("no memory"),
-    said_by_awsign("could not read the file that --data names"),
+    data_fault("-"),
     said_by_awsign("the output failed"),
+    Ended(141, b"", b""),
     "awsign: could not read the profile file {}\n",
-    said_by_awsign("could not read the file that --data names"),
     said_by_awsign("could not write the file that --out names"),
 )
 SAID = {"firuvaik": STREAMS, "presigned": STREAMS, "operation": STREAMS, "awsign": AWSIGN}

@@ -1,8 +1,9 @@
 #!/usr/bin/env python3
 """Tasks from the shell with the built program `awsign`: it signs, curl sends, and a listener on loopback asks botocore what the
 signature has to be and keeps the objects; of a body in chunks the listener computes every signature again; it verifies what it signed,
-and what botocore presigned; it tells the settings that `aws configure list` does, where that is there; and it prints event stream
-frames that botocore reads. For each task that goes wrong there is a line; the status is then 1. Without botocore or curl it checks nothing.
+and what botocore presigned; it tells the settings that `aws configure list` does, where that is there; it prints event stream
+frames that botocore reads; and it ends quietly where its reader leaves, and shows its progress on a terminal. For each task that goes
+wrong there is a line; the status is then 1. Without botocore or curl it checks nothing.
 AWSIGN_BIG is how many bytes the big file has."""
 import base64
 import hashlib
@@ -10,6 +11,8 @@ import hmac
 import http.server
 import json
 import os
+import pty
+import re
 import shutil
 import socket
 import struct
@@ -183,6 +186,23 @@ def wire(task, port, command, body, wanted):
         failed.append(f"{task}: answered {got!r} to {head[:300]!r}")
 
 
+def on_terminal(command):
+    """What a command of a shell shows on a terminal, which is its standard error alone."""
+    env = {"PATH": os.environ["PATH"], "HOME": os.getcwd(), "AWS_ACCESS_KEY_ID": KEY, "AWS_SECRET_ACCESS_KEY": SECRET, "AWS_REGION": REGION}
+    ours, theirs = pty.openpty()
+    run = subprocess.Popen(["sh", "-c", command], stdout=subprocess.DEVNULL, stderr=theirs, env=env)
+    os.close(theirs)
+    shown = b""
+    try:
+        while piece := os.read(ours, 1 << 16):
+            shown += piece
+    except OSError:  # the terminal has no writer any more
+        pass
+    os.close(ours)
+    run.wait(timeout=600)
+    return shown
+
+
 def heads(at, port):
     """Heads as they go over the wire, and services that hosts name."""
     wire("a head", port, f"awsign sign GET {at}/b/a%20b --s3 --as http", b"", "200")
@@ -197,6 +217,48 @@ def heads(at, port):
     says("a named service", "awsign sign GET https://iam.amazonaws.com/ --service sts --as headers 2>&1", 0, "/sts/aws4_request")
     for host in ("example.com", "us-east-1.amazonaws.com", "amazonaws.com", "iam.amazonaws.com.example.com", "u@iam.amazonaws.com"):
         says(f"no service of {host}", f"awsign sign GET https://{host}/", 1, "", "no service")
+
+
+def manners(at):
+    """Lengths of time and raw paths as words give them, outputs whose reader leaves, and what a terminal is shown."""
+    curl = "curl -sS -K - -w '%{http_code}'"
+    for time, seconds in (("1", 1), ("90s", 90), ("10m", 600), ("12h", 43200), ("7d", 604800), ("604800", 604800)):
+        says(f"good for {time}", f"awsign presign GET {at}/b/k --s3 --expires {time}", 0, f"&X-Amz-Expires={seconds}&")
+    for time in ("0", "0d", "m", "10 m", "1m30s", "10M", "1w", "1.5h", "-1", "+1", "010", "", "18446744073709551616", "213503982334602d"):
+        says(f"good for {time!r}", f'awsign presign GET {at}/b/k --s3 --expires "$TIME"', 2, "", f"awsign: word 6 isn't understood here: {time};", TIME=time)
+    for time in ("604801", "8d", "169h"):
+        says(f"good for {time}", f"awsign presign GET {at}/b/k --s3 --expires {time}", 1, "", "over 604800 seconds")
+    says("good for long", f"awsign presign GET {at}/b/k --s3 --expires 8d --long", 0, "&X-Amz-Expires=691200&")
+    says("good for the most", f"awsign presign GET {at}/b/k --s3 --expires 213503982334601d --long", 0, "&X-Amz-Expires=18446744073709526400&")
+    for key in ("odd key+ü", "a%20b", "a#b", "a//../b", " \"<>\\^`{|}", "(a)!$&'*,;=:@~[]", "日本/€.txt"):
+        spelled = urllib.parse.quote(key, safe="/")
+        shell(f"raw key {key}", f"""awsign sign PUT "$URL/b/$KEY" --s3 --data word --encode-path | {curl}""", "200", URL=at, KEY=key)
+        shell(f"raw key {key}, spelled", """awsign sign GET "$URL/b/$KEY" --s3 | curl -sS -K -""", "hello", URL=at, KEY=spelled)
+        says(f"raw key {key} in a URL", 'awsign presign GET "$URL/b/$KEY?list-type=2&a=%20" --s3 --expires 10m --encode-path', 0, f"{at}/b/{spelled}?list-type=2&a=%20&X-Amz-", URL=at, KEY=key)
+    says("a raw path of another service", "awsign sign GET 'https://h.example/a b' --service x --encode-path --at 0 --as json", 0, '"url":"https://h.example/a%20b"')
+    says("a raw path alone", "awsign sign GET '/a b%?c' -H 'host: h.example' --service x --encode-path --at 0 --as json", 0, '"url":"/a%20b%25?c"')
+    says("a raw query", "awsign sign GET 'https://h.example/a?b c' --service x --encode-path", 1, "", "invalid target")
+    says("an upload to a raw key", f"awsign chunk PUT '{at}/b/odd key' --s3 --data small --out body --encode-path | {curl}", 0, "200")
+    for words in ("", "sign ", "presign ", "verify ", "settings ", "chunk ", "events "):
+        says(f"{words}--help", f"awsign {words}--help", 0, "awsign presign GET https://bucket.s3.amazonaws.com/key --expires 10m\n")
+    for words in (f"verify GET {at}/ --encode-path", "settings --encode-path", f"sign GET {at}/ --s3 --encode-path --encode-path", f"sign GET {at}/ --s3 --expires 10m"):
+        says(words, f"awsign {words}", 2, "", "isn't understood here: --e")
+    for words in ("--help", "settings", f"sign GET {at}/b/k --s3", f"presign GET {at}/b/k --s3 --expires 10m", "events encode < job",
+                  f"chunk PUT {at}/b/k --s3 --data small --out body"):
+        says(f"{words} without a reader", f"(sleep 0.2; printf 'event\n' > job; awsign {words} 2> said; echo $? > code) | true; cat code said", 0, "141\n")
+        says(f"{words} without a word", "cat said", 0)
+        says(f"{words} to a full device", f"awsign {words} > /dev/full", 3, "", "awsign: the output failed")
+    says("a file that isn't there", f"awsign sign PUT {at}/b/k --s3 -H 'x-a: --data' --data 'no where'", 3, "", "could not read the file that --data names: no where\n")
+    says("a key that isn't there", f"env -u AWS_ACCESS_KEY_ID awsign sign PUT {at}/b/k --s3", 1, "", "the profile 'default' aws_access_key_id and aws_secret_access_key; awsign settings says")
+    says("a region that isn't there", f"env -u AWS_REGION awsign sign PUT {at}/b/k --s3", 1, "", "the profile 'default' a region; awsign settings says")
+    shown = on_terminal(f"awsign sign PUT {at}/b/big --s3 --data big > said")
+    if BIG and (re.sub(rb"\rawsign: \d+ MiB read", b"", shown).strip(b" \r") or shown.count(b"MiB read") != (BIG - 1) // (1 << 26)):
+        failed.append(f"a big file shows {shown[:300]!r} on a terminal")
+    for task, command in (("a small file", f"awsign sign PUT {at}/b/s --s3 --data small"), ("a big file without a terminal", f"awsign sign PUT {at}/b/big --s3 --data big 2> said; cat said >&2")):
+        if b"MiB" in (shown := on_terminal(command)):
+            failed.append(f"{task} shows {shown[:300]!r} on a terminal")
+    if BIG:
+        os.remove("big")
 
 
 def chunked(at, at_body):
@@ -221,7 +283,7 @@ def chunked(at, at_body):
     says("a refused upload", f"awsign chunk PUT {at}/b/x --s3 --data word --out kept --trailer 'x y: z'", 1, "", "awsign: a trailer can't be sent")
     says("an upload without a key", f"env -u AWS_ACCESS_KEY_ID awsign chunk PUT {at}/b/x --s3 --data word --out kept", 1, "", "awsign: no key")
     shell("a file that a refused upload leaves", "cat kept", "kept")
-    says("an upload of no file", f"awsign chunk PUT {at}/b/x --s3 --data nowhere --out body", 3, "", "could not read the file that --data names")
+    says("an upload of no file", f"awsign chunk PUT {at}/b/x --s3 --data nowhere --out body", 3, "", "could not read the file that --data names: nowhere\n")
     says("an upload to a full device", f"awsign chunk PUT {at}/b/x --s3 --data word --out /dev/full", 3, "", "could not write the file that --out names")
     says("an upload's head to a full device", f"awsign chunk PUT {at}/b/x --s3 --data word --out body > /dev/full", 3, "", "awsign: the output failed")
     for task, words in (("no file", "--data word"), ("no data", "--out body"), ("size 0", "--data word --out body --size 0"), ("another checksum", "--data word --out body --checksum md5"),
@@ -450,7 +512,6 @@ def tasks(at, at_body):
         with open("big", "wb") as it:
             it.truncate(BIG)
         shell("put a big file", f"awsign sign PUT {at}/b/big --s3 --data big | {curl}", "200")
-        os.remove("big")
     shell("get", f"awsign sign GET {at}/b/small --s3 | curl -sS -K - | sha256sum | cut -c1-64", at_body + "\n")
     shell("list with a query", f"awsign sign GET '{at}/b?list-type=2&prefix=a%20b%2F&delimiter=%2F&empty=' --s3 | {curl} | tail -c 3", "200")
     for key in ("a%20b", "a+b", "a%2Bb", "a//b", "x/../b", "x/./b", "%C3%A4%E2%82%AC", "(a)!$&'*,;=:@~", "[a]{1,2}"):
@@ -464,6 +525,7 @@ def tasks(at, at_body):
     shell("an altered request", f"awsign sign PUT {at}/b/small --s3 --data word | sed 's,/b/small,/b/other,' | {curl}", "403")
     shell("an altered body", f"awsign sign PUT {at}/b/small --s3 --data word | sed 's,\"word\",\"small\",' | {curl}", "403")
     heads(at, int(at.rsplit(":", 1)[1]))
+    manners(at)
     verified(at)
     settings()
     chunked(at, at_body)

@@ -2,6 +2,11 @@
 _awsign() {
   local word=${COMP_WORDS[COMP_CWORD]} before=${COMP_WORDS[COMP_CWORD - 1]} words
   case $before in
+    '<' | '>' | '>>')
+      # The file of a redirection: bash's own completion finds it.
+      COMPREPLY=()
+      return
+      ;;
     --data | --out | --config | --credentials)
       mapfile -t COMPREPLY < <(compgen -f -- "$word")
       return
@@ -24,7 +29,11 @@ _awsign() {
       mapfile -t COMPREPLY < <(compgen -W 'GET PUT POST HEAD DELETE PATCH' -- "$word")
       return
       ;;
-    -H | --payload-hash | --payload-text | --expires | --service | --region | --profile | --at | --size | --trailer)
+    --expires)
+      mapfile -t COMPREPLY < <(compgen -W '10m 1h 12h 7d' -- "$word")
+      return
+      ;;
+    -H | --payload-hash | --payload-text | --service | --region | --profile | --at | --size | --trailer)
       COMPREPLY=()
       return
       ;;
@@ -34,8 +43,8 @@ _awsign() {
     words='--region --profile --config --credentials'
   fi
   case ${COMP_WORDS[1]} in
-    sign | presign) words="$words --data --payload-hash --payload-text --unsigned --as" ;;
-    chunk) words="$words --data --out --signed --size --checksum --trailer --as" ;;
+    sign | presign) words="$words --data --payload-hash --payload-text --unsigned --as --encode-path" ;;
+    chunk) words="$words --data --out --signed --size --checksum --trailer --as --encode-path" ;;
   esac
   case ${COMP_WORDS[1]} in
     presign) words="$words --expires --long" ;;
@@ -44,6 +53,7 @@ _awsign() {
     events-decode) words='--raw --hex --as' ;;
     events-encode) words='--raw --hex' ;;
   esac
+  ((COMP_CWORD == 2)) && words="$words --help"
   if ((COMP_CWORD == 1)); then
     words='sign presign verify settings chunk events --help --version'
   fi

@@ -3,6 +3,7 @@
 _awsign() {
   local -a options sources
   sources=(
+    '(- *)--help[print the help]'
     '--region[the region]:name:'
     '--profile[the profile]:name:'
     '--config[a config file]:file:_files'
@@ -53,7 +54,10 @@ _awsign() {
     )
   fi
   if [[ $words[2] == presign ]]; then
-    options+=('--expires[how long it is good]:seconds:' '--long[over seven days]')
+    options+=('--expires[how long it is good]:time:(10m 1h 12h 7d)' '--long[over seven days]')
+  fi
+  if [[ $words[2] == (sign|presign|chunk) ]]; then
+    options+=('--encode-path[the path is raw]')
   fi
   if [[ $words[2] == settings ]]; then
     shift words

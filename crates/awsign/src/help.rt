@@ -2,7 +2,7 @@ const HELP: &str = "\
 awsign signs HTTP requests by AWS Signature Version 4, and checks signed ones.
 
 awsign sign METHOD URL [OPTION]..      prints the signed request
-awsign presign METHOD URL --expires SECONDS [OPTION]..   prints a presigned URL
+awsign presign METHOD URL --expires TIME [OPTION]..   prints a presigned URL
 awsign verify METHOD URL [OPTION]..    says who presigned the URL
 awsign verify [OPTION]..               says who signed the request in the input
 awsign settings [OPTION]..             says which key and region are used, and
@@ -27,7 +27,11 @@ sign and presign:
   --unsigned           a body that isn't signed (one of these four)
   --as FORM            curl (a config for curl -K -), headers, json, http (the
                        head as it goes over the wire) or url
-  --long               presign: an expiry of over 604800 seconds
+  --expires TIME       presign: seconds, or a number with a unit: 90s, 10m, 12h
+                       or 7d
+  --long               presign: an expiry of over 7 days, which AWS refuses
+  --encode-path        the path, up to a ?, is raw: it is percent-encoded before
+                       it is signed, % too (chunk takes this too)
 
 chunk:
   --data FILE          the data, up to 4 GiB; - is standard input
@@ -49,7 +53,8 @@ then the profile. An empty variable counts as unset, and with --profile those
 of the key don't count.
 
   awsign sign PUT https://bucket.s3.amazonaws.com/key --data FILE | curl -K -
-  awsign presign GET https://bucket.s3.amazonaws.com/key --expires 600
+  awsign presign GET https://bucket.s3.amazonaws.com/key --expires 10m
+  awsign sign GET 'https://bucket.s3.amazonaws.com/odd key+ü' --encode-path
   awsign verify --s3 < REQUEST
   awsign settings --profile work
   awsign chunk PUT https://bucket.s3.amazonaws.com/key --data FILE --out BODY \
@@ -58,12 +63,22 @@ of the key don't count.
 
 Exit status: 0, 1 nothing is signed, the request or the stream isn't good, or a
 key or region is missing, 2 bad word, 3 a file, the input, the output or memory
-failed
+failed, 141 whoever read the output left before its end
 ";
 
 const VERSION: &str = "awsign 0.1.0\n";
 
-/// The text that a single word asks for.
+/// The text that a single word asks for, or `--help` behind a command.
 pub fn text_asked(words: &[String]) -> Option<&'static str> {
-    program_start::text_asked(HELP, VERSION, words)
+    match words {
+        [command, word] if is_command(command.as_str()) && word.as_str() == "--help" => Some(HELP),
+        _ => program_start::text_asked(HELP, VERSION, words),
+    }
+}
+
+fn is_command(word: &str) -> bool {
+    matches!(
+        word,
+        "sign" | "presign" | "verify" | "settings" | "chunk" | "events"
+    )
 }

@@ -7,70 +7,129 @@ mod help;
 use crate::help::text_asked;
 use awsign_chunk::{ChunkStatus, ChunkedUpload, make_upload, say_chunk, write_upload};
 use awsign_events::{EventsStatus, decode_events, encode_events, read_hex, say_events};
-use awsign_run::{Status, run_signing, say, tell_service, url_host, write_text};
+use awsign_run::{ProgressSource, Status, run_signing, say, tell_service, url_host, write_text};
 use awsign_settings::run_settings;
-use awsign_verify::{run_verify, say_verify};
+use awsign_verify::{VerifyStatus, run_verify, say_verify};
 use awsign_words::{Asked, AskedCommand, EventsAction, EventsAsked, VerifyAsked, read_command};
 use program_start::{StartFault, words_and_env};
 use smithy_core::{ByteSource, CalmSource, Env, HostDisk, StdSink, StdSource, SystemClock};
 use std::fs::File;
+use std::io::{IsTerminal, Stdout};
 use std::process::ExitCode;
 
+/// The number that the process ends with where whoever read the output left before its end: what a shell says of a program that
+/// SIGPIPE ended.
+const LOST_READER: u8 = 141;
+
 fn main(rt: HostRuntime) -> ExitCode {
+    let mut out = StdSink::new(rt.stdout());
     let code = match words_and_env(&rt) {
-        Ok((words, env)) => answer(&rt, words.as_slice(), &env),
+        Ok((words, env)) => {
+            let ended = answer(&rt, words.as_slice(), &env, &mut out);
+            if out.has_lost_reader() {
+                LOST_READER
+            } else {
+                said(&rt, words.as_slice(), &ended)
+            }
+        }
         Err(StartFault::BadWord) => {
             let mut err = StdSink::new(rt.stderr());
             write_text(b"awsign: a word isn't UTF-8\n".as_slice(), &mut err);
             Status::BadWord(1).code()
         }
-        Err(StartFault::NoMemory) => said(&rt, &[], &Status::NoMemory),
+        Err(StartFault::NoMemory) => said(&rt, &[], &Ended::Run(Status::NoMemory)),
     };
     ExitCode::from(code)
 }
 
-// Does what the words ask for, and says how that ended.
-fn answer(rt: &HostRuntime, words: &[String], env: &Env) -> u8 {
+/// How a command ended.
+#[derive(Drop)]
+enum Ended {
+    Run(Status),
+    Verify(VerifyStatus),
+    Chunk(ChunkStatus),
+    Events(EventsStatus),
+}
+
+// Does what the words ask for.
+fn answer(rt: &HostRuntime, words: &[String], env: &Env, out: &mut StdSink<Stdout>) -> Ended {
     if let Some(text) = text_asked(words) {
-        let status = write_text(text.as_bytes(), &mut StdSink::new(rt.stdout()));
-        return said(rt, words, &status);
+        return Ended::Run(write_text(text.as_bytes(), out));
     }
     match read_command(rt.alloc(), words) {
-        Ok(AskedCommand::Signing(asked)) => said(rt, words, &sign(rt, &asked, env)),
-        Ok(AskedCommand::Verifying(asked)) => verify(rt, &asked, env),
-        Ok(AskedCommand::Telling(options)) => said(rt, words, &settings(rt, &options, env)),
-        Ok(AskedCommand::Chunking(asked)) => {
-            let status = chunk(rt, &asked, env);
-            say_chunk(rt.alloc(), words, &status, &mut StdSink::new(rt.stderr()));
-            status.code()
-        }
-        Ok(AskedCommand::Streaming(asked)) => {
-            let status = stream(rt, &asked);
-            say_events(rt.alloc(), &status, &mut StdSink::new(rt.stderr()));
-            status.code()
-        }
-        Err(fault) => said(rt, words, &Status::from(fault)),
+        Ok(AskedCommand::Signing(asked)) => Ended::Run(sign(rt, asked, env, out)),
+        Ok(AskedCommand::Verifying(asked)) => Ended::Verify(verify(rt, &asked, env, out)),
+        Ok(AskedCommand::Telling(options)) => Ended::Run(settings(rt, &options, env, out)),
+        Ok(AskedCommand::Chunking(asked)) => Ended::Chunk(chunk(rt, asked, env, out)),
+        Ok(AskedCommand::Streaming(asked)) => Ended::Events(stream(rt, &asked, out)),
+        Err(fault) => Ended::Run(Status::from(fault)),
     }
 }
 
-// Says how a run ended, and answers its number.
-fn said(rt: &HostRuntime, words: &[String], status: &Status) -> u8 {
-    say(rt.alloc(), words, status, &mut StdSink::new(rt.stderr()));
-    status.code()
+// Says how a command ended, and answers its number.
+fn said(rt: &HostRuntime, words: &[String], ended: &Ended) -> u8 {
+    let mut err = StdSink::new(rt.stderr());
+    match ended {
+        Ended::Run(status) => {
+            say(rt.alloc(), words, status, &mut err);
+            status.code()
+        }
+        Ended::Verify(status) => {
+            say_verify(rt.alloc(), status, &mut err);
+            status.code()
+        }
+        Ended::Chunk(status) => {
+            say_chunk(rt.alloc(), words, status, &mut err);
+            status.code()
+        }
+        Ended::Events(status) => {
+            say_events(rt.alloc(), status, &mut err);
+            status.code()
+        }
+    }
 }
 
 // Opens the data that an option names, and signs.
-fn sign(rt: &HostRuntime, asked: &Asked<'_>, env: &Env) -> Status {
-    let mut err = StdSink::new(rt.stderr());
-    tell_service(rt.alloc(), &asked.options, url_host(asked.url), &mut err);
+fn sign(rt: &HostRuntime, asked: Asked<'_>, env: &Env, out: &mut StdSink<Stdout>) -> Status {
+    let url = match asked.url_sent(rt.alloc()) {
+        Ok(url) => url,
+        Err(_) => return Status::NoMemory,
+    };
+    let asked = asked.with_url(url.as_str());
+    tell_host(rt, &asked);
     match asked.options.get("--data") {
-        None => sign_over(rt, asked, env, &mut CalmSource::new(Vec::new(rt.alloc()))),
-        Some("-") => sign_over(rt, asked, env, &mut StdSource::new(rt.reader())),
+        None => {
+            let mut nothing = CalmSource::new(Vec::new(rt.alloc()));
+            sign_over(rt, &asked, env, &mut nothing, out)
+        }
+        Some("-") => sign_shown(rt, &asked, env, StdSource::new(rt.reader()), out),
         Some(path) => match File::open(rt, path) {
-            Ok(file) => sign_over(rt, asked, env, &mut StdSource::new(file)),
+            Ok(file) => sign_shown(rt, &asked, env, StdSource::new(file), out),
             Err(_) => Status::DataFault,
         },
     }
+}
+
+// Says which service the host names, where no option does.
+fn tell_host(rt: &HostRuntime, asked: &Asked<'_>) {
+    let mut err = StdSink::new(rt.stderr());
+    tell_service(rt.alloc(), &asked.options, url_host(asked.url), &mut err);
+}
+
+// Signs over the data of a source, and shows on a terminal how much of it is read.
+fn sign_shown<S: ByteSource + Drop>(
+    rt: &HostRuntime,
+    asked: &Asked<'_>,
+    env: &Env,
+    mut data: S,
+    out: &mut StdSink<Stdout>,
+) -> Status {
+    if !rt.stderr().is_terminal() {
+        return sign_over(rt, asked, env, &mut data, out);
+    }
+    let err = StdSink::new(rt.stderr());
+    let mut data = ProgressSource::new(rt.alloc(), data, err);
+    sign_over(rt, asked, env, &mut data, out)
 }
 
 // Signs over the data of a source.
@@ -79,39 +138,50 @@ fn sign_over<S: ByteSource>(
     asked: &Asked<'_>,
     env: &Env,
     data: &mut S,
+    out: &mut StdSink<Stdout>,
 ) -> Status {
     let mut disk = HostDisk::new(rt.alloc(), rt);
     let mut clock = SystemClock::new(rt);
-    let mut out = StdSink::new(rt.stdout());
-    run_signing(
-        rt.alloc(),
-        asked,
-        env,
-        data,
-        &mut disk,
-        &mut clock,
-        &mut out,
-    )
+    run_signing(rt.alloc(), asked, env, data, &mut disk, &mut clock, out)
 }
 
 // Prints the settings under these options.
-fn settings(rt: &HostRuntime, options: &Env, env: &Env) -> Status {
+fn settings(rt: &HostRuntime, options: &Env, env: &Env, out: &mut StdSink<Stdout>) -> Status {
     let mut disk = HostDisk::new(rt.alloc(), rt);
-    let mut out = StdSink::new(rt.stdout());
-    run_settings(rt.alloc(), options, env, &mut disk, &mut out)
+    run_settings(rt.alloc(), options, env, &mut disk, out)
 }
 
 // Opens the data that an option names, and writes it in chunks.
-fn chunk(rt: &HostRuntime, asked: &Asked<'_>, env: &Env) -> ChunkStatus {
-    let mut err = StdSink::new(rt.stderr());
-    tell_service(rt.alloc(), &asked.options, url_host(asked.url), &mut err);
+fn chunk(rt: &HostRuntime, asked: Asked<'_>, env: &Env, out: &mut StdSink<Stdout>) -> ChunkStatus {
+    let url = match asked.url_sent(rt.alloc()) {
+        Ok(url) => url,
+        Err(_) => return ChunkStatus::Ended(Status::NoMemory),
+    };
+    let asked = asked.with_url(url.as_str());
+    tell_host(rt, &asked);
     match asked.options.get("--data") {
-        None | Some("-") => chunk_over(rt, asked, env, &mut StdSource::new(rt.reader())),
+        None | Some("-") => chunk_shown(rt, &asked, env, StdSource::new(rt.reader()), out),
         Some(path) => match File::open(rt, path) {
-            Ok(file) => chunk_over(rt, asked, env, &mut StdSource::new(file)),
+            Ok(file) => chunk_shown(rt, &asked, env, StdSource::new(file), out),
             Err(_) => ChunkStatus::Ended(Status::DataFault),
         },
     }
+}
+
+// Writes the data of a source in chunks, and shows on a terminal how much of it is read.
+fn chunk_shown<S: ByteSource + Drop>(
+    rt: &HostRuntime,
+    asked: &Asked<'_>,
+    env: &Env,
+    mut data: S,
+    out: &mut StdSink<Stdout>,
+) -> ChunkStatus {
+    if !rt.stderr().is_terminal() {
+        return chunk_over(rt, asked, env, &mut data, out);
+    }
+    let err = StdSink::new(rt.stderr());
+    let mut data = ProgressSource::new(rt.alloc(), data, err);
+    chunk_over(rt, asked, env, &mut data, out)
 }
 
 // Writes the data of a source in chunks.
@@ -120,61 +190,68 @@ fn chunk_over<S: ByteSource>(
     asked: &Asked<'_>,
     env: &Env,
     data: &mut S,
+    out: &mut StdSink<Stdout>,
 ) -> ChunkStatus {
     let mut disk = HostDisk::new(rt.alloc(), rt);
     let mut clock = SystemClock::new(rt);
     match make_upload(rt.alloc(), asked, env, data, &mut disk, &mut clock) {
-        Ok(upload) => write_out(rt, &upload, asked.options.get("--out").unwrap_or("")),
+        Ok(upload) => write_out(rt, &upload, asked.options.get("--out").unwrap_or(""), out),
         Err(status) => status,
     }
 }
 
 // Writes an upload: its body to the file at a path, and its head to the output. A standard input or output that is closed leaves its
 // number to the next file that is opened: two others take those, or the head would follow the body.
-fn write_out(rt: &HostRuntime, upload: &ChunkedUpload, path: &str) -> ChunkStatus {
+fn write_out(
+    rt: &HostRuntime,
+    upload: &ChunkedUpload,
+    path: &str,
+    out: &mut StdSink<Stdout>,
+) -> ChunkStatus {
     let _taken = (File::open(rt, "/dev/null"), File::open(rt, "/dev/null"));
     match File::create(rt, path) {
         Ok(file) => {
             let mut body = StdSink::new(file);
-            write_upload(upload, &mut body, &mut StdSink::new(rt.stdout()))
+            write_upload(upload, &mut body, out)
         }
         Err(_) => ChunkStatus::FileFault,
     }
 }
 
-// Verifies a request, says how that ended, and answers its number.
-fn verify(rt: &HostRuntime, asked: &VerifyAsked<'_>, env: &Env) -> u8 {
+// Verifies a request.
+fn verify(
+    rt: &HostRuntime,
+    asked: &VerifyAsked<'_>,
+    env: &Env,
+    out: &mut StdSink<Stdout>,
+) -> VerifyStatus {
     let mut input = StdSource::new(rt.reader());
     let mut disk = HostDisk::new(rt.alloc(), rt);
     let mut clock = SystemClock::new(rt);
-    let mut out = StdSink::new(rt.stdout());
-    let status = run_verify(
+    run_verify(
         rt.alloc(),
         asked,
         env,
         &mut input,
         &mut disk,
         &mut clock,
-        &mut out,
-    );
-    say_verify(rt.alloc(), &status, &mut StdSink::new(rt.stderr()));
-    status.code()
+        out,
+    )
 }
 
 // Prints the events of the input, or writes their frames.
-fn stream(rt: &HostRuntime, asked: &EventsAsked) -> EventsStatus {
+fn stream(rt: &HostRuntime, asked: &EventsAsked, out: &mut StdSink<Stdout>) -> EventsStatus {
     let mut input = StdSource::new(rt.reader());
-    let mut out = StdSink::new(rt.stdout());
     let is_hex = asked.options.get("--hex").is_some();
     match asked.action {
-        EventsAction::Encode => encode_events(rt.alloc(), is_hex, &mut input, &mut out),
+        EventsAction::Encode => encode_events(rt.alloc(), is_hex, &mut input, out),
         EventsAction::Decode if !is_hex => {
-            decode_events(rt.alloc(), asked.form(), &mut input, &mut out)
+            decode_events(rt.alloc(), asked.form(), &mut input, out)
         }
         EventsAction::Decode => match read_hex(rt.alloc(), &mut input) {
             Ok(frames) => {
                 let mut frames = CalmSource::new(frames);
-                decode_events(rt.alloc(), asked.form(), &mut frames, &mut out)
+                decode_events(rt.alloc(), asked.form(), &mut frames, out)
             }
             Err(status) => status,
         },

@@ -1,5 +1,5 @@
 -- What is said of how a run ended.
-use Rattle.std.specs.Prelude.{◌≡◌, ◌⊎◌, ℕ, ◌-◌, List, [], ◌++◌, codes, Option, Some, None, slice_get, string_bytes}
+use Rattle.std.specs.Prelude.{◌≡◌, ◌⊎◌, ℕ, ◌-◌, Bool, true, false, List, [], ◌∷◌, ◌++◌, codes, bytes_eq, Option, Some, None, slice_get, string_bytes}
 use Rattle.std.specs.Fmt.{decimal}
 use Rattle.smithy_core.specs.Outside.{Gains, GainsProperPrefix}
 use Rattle.smithy_core.specs.Text.{line}
@@ -29,9 +29,9 @@ faulty_text error = string_bytes error.path ++ (codes ", line " ++ (decimal erro
 abbrev pub settings_reason : SettingsFault → List ℕ
 settings_reason (set.Profile error) = faulty_text error
 settings_reason (set.MissingKey profile) =
-    codes "no key: set AWS_ACCESS_KEY_ID and AWS_SECRET_ACCESS_KEY, or give the profile '" ++ (string_bytes profile ++ codes "' aws_access_key_id and aws_secret_access_key")
+    codes "no key: set AWS_ACCESS_KEY_ID and AWS_SECRET_ACCESS_KEY, or give the profile '" ++ (string_bytes profile ++ codes "' aws_access_key_id and aws_secret_access_key; awsign settings says where they are looked for")
 settings_reason set.MissingSecret = codes "AWS_ACCESS_KEY_ID is set and AWS_SECRET_ACCESS_KEY isn't: set both, or neither"
-settings_reason (set.MissingRegion profile) = codes "no region: say --region, set AWS_REGION, or give the profile '" ++ (string_bytes profile ++ codes "' a region")
+settings_reason (set.MissingRegion profile) = codes "no region: say --region, set AWS_REGION, or give the profile '" ++ (string_bytes profile ++ codes "' a region; awsign settings says where it is looked for")
 settings_reason set.NoMemory = codes "no memory"
 
 -- why nothing is signed, and what to do
@@ -42,12 +42,23 @@ fault_reason LongExpiry = codes "the URL would be good for over 604800 seconds, 
 fault_reason (Signing error) = codes "the request can't be signed: " ++ error_text error
 fault_reason FaultNoMemory = codes "no memory"
 
+-- the word behind the first that is this one, among words before which it stood or didn't
+abbrev pub behind_word : List ℕ → Bool → List (List ℕ) → Option (List ℕ)
+behind_word name stood [] = None
+behind_word name true (word ∷ words) = Some word
+behind_word name false (word ∷ words) = behind_word name (bytes_eq word name) words
+
+-- data that couldn't be read, and where it is
+abbrev pub unread_data_text : Option (List ℕ) → List ℕ
+unread_data_text (Some path) = codes "could not read the file that --data names: " ++ path
+unread_data_text None = codes "could not read the file that --data names"
+
 -- the line of how a run ended
 abbrev pub status_line : List (List ℕ) → Status → List ℕ
 status_line words Done = []
 status_line words (BadWord place) = tool_line (word_text place (slice_get words (place - 1)))
 status_line words (CouldNotReadFile path) = tool_line (codes "could not read the profile file " ++ string_bytes path)
-status_line words DataFault = tool_line (codes "could not read the file that --data names")
+status_line words DataFault = tool_line (unread_data_text (behind_word (codes "--data") false words))
 status_line words (Refused fault) = tool_line (fault_reason fault)
 status_line words OutputFault = tool_line (codes "the output failed")
 status_line words NoMemory = tool_line (codes "no memory")

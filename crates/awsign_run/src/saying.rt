@@ -1,8 +1,8 @@
 //! What is said of how a run ended.
-ghost use Rattle.std.specs.Prelude.{◌≡◌, ◌≤◌, ◌-◌, ◌++◌, Some, IfOk, codes, map, option_copied, option_map, slice_get};
+ghost use Rattle.std.specs.Prelude.{◌≡◌, ◌≤◌, ◌-◌, ◌++◌, false, Some, IfOk, codes, map, option_copied, option_map, slice_get};
 ghost use Rattle.std.specs.String.{string_bytes};
 ghost use Rattle.sigv4.specs.Error.{error_text};
-ghost use Rattle.awsign_run.specs.Saying.{GainsSome, Says, fault_reason, faulty_text, settings_reason, status_line, tool_line, word_text};
+ghost use Rattle.awsign_run.specs.Saying.{GainsSome, Says, behind_word, fault_reason, faulty_text, settings_reason, status_line, tool_line, unread_data_text, word_text};
 
 use crate::fault::Fault;
 use crate::status::Status;
@@ -40,7 +40,7 @@ fn line_of(alloc: Global, words: &[String], status: &Status) -> Mem<String>
         Status::Done => Ok(String::new(alloc)),
         Status::BadWord(place) => word_line(alloc, *place, word_at(words, *place)),
         Status::CouldNotReadFile(path) => unread_line(alloc, path.as_str()),
-        Status::DataFault => tool_line(alloc, "could not read the file that --data names"),
+        Status::DataFault => unread_data_line(alloc, word_behind(words, "--data")),
         Status::Refused(fault) => fault_line(alloc, fault),
         Status::OutputFault => tool_line(alloc, "the output failed"),
         Status::NoMemory => tool_line(alloc, "no memory"),
@@ -59,6 +59,32 @@ fn unread_line(alloc: Global, path: &str) -> Mem<String>
 {
     let text = format!(in alloc; "could not read the profile file {path}")?;
     tool_line(alloc, text.as_str())
+}
+
+fn unread_data_line(alloc: Global, path: Option<&str>) -> Mem<String>
+    ensures { IfOk result (λ line. string_bytes line ≡ tool_line (unread_data_text (option_copied path.entry))) }
+{
+    match path {
+        Some(path) => {
+            let text = format!(in alloc; "could not read the file that --data names: {path}")?;
+            tool_line(alloc, text.as_str())
+        }
+        None => tool_line(alloc, "could not read the file that --data names"),
+    }
+}
+
+// The word behind the first that is this one.
+fn word_behind<'a>(words: &'a [String], name: &str) -> Option<&'a str>
+    ensures { option_copied result ≡ behind_word name.now false (map string_bytes words.now) }
+{
+    let mut stood = false;
+    for word in words {
+        if stood {
+            return Some(word.as_str());
+        }
+        stood = word.as_str() == name;
+    }
+    None
 }
 
 // The word at a place, where there is one.
@@ -125,14 +151,14 @@ fn settings_line(alloc: Global, fault: &SettingsFault) -> Mem<String>
     let text = match fault {
         SettingsFault::Profile(error) => return faulty_line(alloc, error),
         SettingsFault::MissingKey(profile) => format!(in alloc;
-            "no key: set AWS_ACCESS_KEY_ID and AWS_SECRET_ACCESS_KEY, or give the profile '{profile}' aws_access_key_id and aws_secret_access_key"
+            "no key: set AWS_ACCESS_KEY_ID and AWS_SECRET_ACCESS_KEY, or give the profile '{profile}' aws_access_key_id and aws_secret_access_key; awsign settings says where they are looked for"
         )?,
         SettingsFault::MissingSecret => String::from_str(
             alloc,
             "AWS_ACCESS_KEY_ID is set and AWS_SECRET_ACCESS_KEY isn't: set both, or neither",
         )?,
         SettingsFault::MissingRegion(profile) => format!(in alloc;
-            "no region: say --region, set AWS_REGION, or give the profile '{profile}' a region"
+            "no region: say --region, set AWS_REGION, or give the profile '{profile}' a region; awsign settings says where it is looked for"
         )?,
         SettingsFault::NoMemory => String::from_str(alloc, "no memory")?,
     };
