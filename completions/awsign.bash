@@ -13,7 +13,7 @@ _awsign() {
       return
       ;;
     events)
-      mapfile -t COMPREPLY < <(compgen -W 'decode encode' -- "$word")
+      mapfile -t COMPREPLY < <(compgen -W 'decode encode verify' -- "$word")
       return
       ;;
     --checksum)
@@ -21,10 +21,12 @@ _awsign() {
       return
       ;;
     sign | presign | verify | chunk)
-      mapfile -t COMPREPLY < <(compgen -W 'GET PUT POST HEAD DELETE PATCH' -- "$word")
-      return
+      if ((COMP_CWORD == 2)); then
+        mapfile -t COMPREPLY < <(compgen -W 'GET PUT POST HEAD DELETE PATCH' -- "$word")
+        return
+      fi
       ;;
-    -H | --payload-hash | --payload-text | --expires | --service | --region | --profile | --at | --size | --trailer)
+    -H | --payload-hash | --payload-text | --expires | --service | --region | --profile | --at | --size | --trailer | --seed)
       COMPREPLY=()
       return
       ;;
@@ -43,6 +45,7 @@ _awsign() {
   case ${COMP_WORDS[1]}-${COMP_WORDS[2]} in
     events-decode) words='--raw --hex --as' ;;
     events-encode) words='--raw --hex' ;;
+    events-verify) words='--service --seed --raw --hex --as --region --profile --config --credentials' ;;
   esac
   if ((COMP_CWORD == 1)); then
     words='sign presign verify settings chunk events --help --version'

@@ -6,7 +6,9 @@ mod help;
 
 use crate::help::text_asked;
 use awsign_chunk::{ChunkStatus, ChunkedUpload, make_upload, say_chunk, write_upload};
-use awsign_events::{EventsStatus, decode_events, encode_events, read_hex, say_events};
+use awsign_events::{
+    EventsStatus, decode_events, encode_events, read_hex, say_events, verify_events,
+};
 use awsign_run::{Status, run_signing, say, tell_service, url_host, write_text};
 use awsign_settings::run_settings;
 use awsign_verify::{run_verify, say_verify};
@@ -45,7 +47,7 @@ fn answer(rt: &HostRuntime, words: &[String], env: &Env) -> u8 {
             status.code()
         }
         Ok(AskedCommand::Streaming(asked)) => {
-            let status = stream(rt, &asked);
+            let status = stream(rt, &asked, env);
             say_events(rt.alloc(), &status, &mut StdSink::new(rt.stderr()));
             status.code()
         }
@@ -161,22 +163,40 @@ fn verify(rt: &HostRuntime, asked: &VerifyAsked<'_>, env: &Env) -> u8 {
     status.code()
 }
 
-// Prints the events of the input, or writes their frames.
-fn stream(rt: &HostRuntime, asked: &EventsAsked) -> EventsStatus {
+// Writes the frames of the input's lines, or prints the events of its frames.
+fn stream(rt: &HostRuntime, asked: &EventsAsked, env: &Env) -> EventsStatus {
     let mut input = StdSource::new(rt.reader());
-    let mut out = StdSink::new(rt.stdout());
     let is_hex = asked.options.get("--hex").is_some();
     match asked.action {
-        EventsAction::Encode => encode_events(rt.alloc(), is_hex, &mut input, &mut out),
-        EventsAction::Decode if !is_hex => {
-            decode_events(rt.alloc(), asked.form(), &mut input, &mut out)
+        EventsAction::Encode => {
+            let mut out = StdSink::new(rt.stdout());
+            encode_events(rt.alloc(), is_hex, &mut input, &mut out)
         }
-        EventsAction::Decode => match read_hex(rt.alloc(), &mut input) {
-            Ok(frames) => {
-                let mut frames = CalmSource::new(frames);
-                decode_events(rt.alloc(), asked.form(), &mut frames, &mut out)
+        EventsAction::Decode | EventsAction::Verify if is_hex => {
+            match read_hex(rt.alloc(), &mut input) {
+                Ok(frames) => print_events(rt, asked, env, &mut CalmSource::new(frames)),
+                Err(status) => status,
             }
-            Err(status) => status,
-        },
+        }
+        EventsAction::Decode | EventsAction::Verify => print_events(rt, asked, env, &mut input),
+    }
+}
+
+// Prints the events of the frames of a source.
+fn print_events<S: ByteSource>(
+    rt: &HostRuntime,
+    asked: &EventsAsked,
+    env: &Env,
+    frames: &mut S,
+) -> EventsStatus {
+    let mut out = StdSink::new(rt.stdout());
+    match asked.action {
+        EventsAction::Verify => {
+            let mut disk = HostDisk::new(rt.alloc(), rt);
+            verify_events(rt.alloc(), asked, env, frames, &mut disk, &mut out)
+        }
+        EventsAction::Decode | EventsAction::Encode => {
+            decode_events(rt.alloc(), asked.form(), frames, &mut out)
+        }
     }
 }
