@@ -2,8 +2,9 @@
 """Tasks from the shell with the built program `awsign`: it signs, curl sends, and a listener on loopback asks botocore what the
 signature has to be and keeps the objects; of a body in chunks the listener computes every signature again; it verifies what it signed,
 and what botocore presigned; it tells the settings that `aws configure list` does, where that is there; it prints event stream
-frames that botocore reads; and it ends quietly where its reader leaves, and shows its progress on a terminal. For each task that goes
-wrong there is a line; the status is then 1. Without botocore or curl it checks nothing.
+frames that botocore reads, and those of chains whose signatures are computed here; and it ends quietly where its reader leaves, and
+shows its progress on a terminal. For each task that goes wrong there is a line; the status is then 1. Without botocore or curl it
+checks nothing.
 AWSIGN_BIG is how many bytes the big file has."""
 import base64
 import hashlib
@@ -13,6 +14,7 @@ import json
 import os
 import pty
 import re
+import select
 import shutil
 import socket
 import struct
@@ -20,6 +22,7 @@ import subprocess
 import sys
 import tempfile
 import threading
+import time
 import urllib.parse
 import zlib
 
@@ -61,13 +64,19 @@ def expected(handler, token):
     return auth.signature(auth.string_to_sign(request, canonical), request), signature
 
 
+def signing_key(scope):
+    """The key that signs in a scope."""
+    key = b"AWS4" + SECRET.encode()
+    for part in scope.split("/"):
+        key = hmac.digest(key, part.encode(), "sha256")
+    return key
+
+
 def unchunked(headers, body, before):
     """The data of a body in chunks behind a request of this signature, where its signatures, lengths, trailers and checksums are right."""
     signed = headers["x-amz-content-sha256"].startswith("STREAMING-AWS4-")
     date, scope = headers["x-amz-date"], headers["authorization"].split("Credential=")[1].split(",")[0].split("/", 1)[1]
-    key = b"AWS4" + SECRET.encode()
-    for part in scope.split("/"):
-        key = hmac.digest(key, part.encode(), "sha256")
+    key = signing_key(scope)
 
     def own(*lines):
         return hmac.digest(key, "\n".join([lines[0], date, scope, before, *lines[1:]]).encode(), "sha256").hex()
@@ -449,6 +458,112 @@ def framed(headers, payload):
     return frame
 
 
+def chained(payloads, seed, second=1440938160):
+    """The frames of a chain over a seed, a second apart: one for each payload, and the closing one. Each is signed as AWS documents it for
+    event streams: over its date, the signature before it, and the digests of its date's header and of its payload."""
+    chain = []
+    for payload in [*payloads, b""]:
+        moment, stamp = struct.pack(">q", second * 1000), time.strftime("%Y%m%dT%H%M%SZ", time.gmtime(second))
+        scope = f"{stamp[:8]}/{REGION}/transcribe/aws4_request"
+        digests = [hashlib.sha256(part).hexdigest() for part in (b"\x05:date\x08" + moment, payload)]
+        code = hmac.digest(signing_key(scope), "\n".join(["AWS4-HMAC-SHA256-PAYLOAD", stamp, scope, seed, *digests]).encode(), "sha256")
+        chain.append(framed([(b":chunk-signature", 6, struct.pack(">H", 32) + code), (b":date", 8, moment)], payload))
+        seed, second = code.hex(), second + 1
+    return chain
+
+
+def summed(frame):
+    """The frame with the checksum that goes with it."""
+    return frame[:-4] + struct.pack(">I", zlib.crc32(frame[:-4]))
+
+
+def flipped(frame, at):
+    """The frame with another byte at a place, and the checksum that goes with it."""
+    return summed(frame[:at] + bytes([frame[at] ^ 1]) + frame[at + 1 :])
+
+
+def prints(task, command, code, wrote, said="", **more):
+    """Runs one command of a shell, which has to end with this number, to write exactly this, and to say a text that has that in it."""
+    env = {"PATH": os.environ["PATH"], "HOME": os.getcwd(), "AWS_ACCESS_KEY_ID": KEY, "AWS_SECRET_ACCESS_KEY": SECRET, "AWS_REGION": REGION, **more}
+    run = subprocess.run(["bash", "-o", "pipefail", "-c", command], capture_output=True, env=env, timeout=600)
+    if run.returncode != code or run.stdout.decode(errors="replace") != wrote or said not in run.stderr.decode(errors="replace") or SECRET.encode() in run.stdout + run.stderr:
+        failed.append(f"{task}: ended with {run.returncode}, wrote {run.stdout[:300]!r} and said {run.stderr[:300]!r}")
+
+
+# Where the signature and the date of a signed frame stand.
+SIGNATURE, DATE = slice(32, 64), slice(71, 79)
+
+
+def verified_events(whole, bare, broken, lines):
+    """What `awsign events verify` prints of chains of these two events and of one that lines can't spell, good and bad."""
+    seed, none, bad = "0f" * 32, "event\npayload\n", "awsign: the chain isn't good: frame "
+    verify = f"awsign events verify --service transcribe --seed {seed}"
+    chain = chained([whole, bare], seed)
+    first, second, last = chain
+    carried = [(b":chunk-signature", 6, struct.pack(">H", 32) + second[SIGNATURE]), (b":date", 8, second[DATE])]
+    later = summed(second[:71] + struct.pack(">q", 1440938170000) + second[79:])
+    kept = {"chain": b"".join(chain), "long": b"".join(chained([whole] * 500, seed)), "closed": chained([], seed)[0], "lined": "".join(frame.hex() + "\n" for frame in chain).encode(),
+            "plain": whole + bare, "spelling": b"".join(chained([bare, broken], seed))}
+    ends = {"unclosed": (first + second, "3 is missing: the chain has no closing frame"), "cut": (b"".join(chain)[:-1], "3 isn't a whole frame"),
+            "closing": (first + second + flipped(last, 32), "3 carries another signature than its own"), "followed": (b"".join(chain) + first, "4 follows the closing frame")}
+    faults = {"signature": (first + flipped(second, 32) + last, "carries another signature"), "payload": (first + framed(carried, whole) + last, "carries another signature"),
+              "later": (first + later + last, "carries another signature"), "dropped": (first + last, "carries another signature"), "twice": (first + first + second + last, "carries another signature"),
+              "date": (first + flipped(second, 78) + last, "has no whole second"), "byte": (first + flipped(second, len(second) - 5) + last, "has a payload that is no frame of a message"),
+              "inner": (b"".join(chained([whole, b"x"], seed)), "has a payload that is no frame of a message"), "headers": (first + framed(carried[1:], bare) + last, "doesn't carry a signature"),
+              "checksum": (first + second[:-1] + bytes([second[-1] ^ 1]) + last, "isn't a whole frame")}
+    for name, data in {**kept, **{name: data for name, (data, _) in {**ends, **faults}.items()}}.items():
+        with open(name, "wb") as it:
+            it.write(data)
+    prints("a chain", f"{verify} < chain", 0, lines + none)
+    prints("a chain of many pieces", f"{verify} < long", 0, lines * 500)
+    prints("a chain of no events", f"{verify} < closed", 0, "")
+    prints("a chain in hexadecimal", f"{verify} --hex --as lines < lined", 0, lines + none)
+    prints("a chain in JSON", f"{verify} --raw --as json < chain | cmp - <(awsign events decode --as json < plain) && echo same", 0, "same\n")
+    prints("a chain by a profile", f"env -u AWS_ACCESS_KEY_ID -u AWS_REGION {verify} --region {REGION} --credentials keys --profile of-keys < chain", 0, lines + none)
+    for name, (_, why) in ends.items():
+        prints(f"a chain, {name}", f"{verify} < {name}", 1, lines + none, bad + why)
+    for name, (_, why) in faults.items():
+        prints(f"a chain, {name}", f"{verify} < {name}", 1, lines, f"{bad}2 {why}")
+    prints("no chain", f"{verify} < nothing", 1, "", bad + "1 is missing")
+    prints("frames that aren't signed", f"{verify} < plain", 1, "", bad + "1 doesn't carry a signature and then a date alone")
+    other = bad + "1 carries another signature than its own"
+    prints("a chain of another seed", f"{verify[:-1]}e < chain", 1, "", other)
+    prints("a chain of another key", f"{verify} < chain", 1, "", other, AWS_SECRET_ACCESS_KEY="other")
+    prints("a chain of another region", f"{verify} --region eu-west-1 < chain", 1, "", other)
+    prints("a chain of another service", f"awsign events verify --service s3 --seed {seed} < chain", 1, "", other)
+    prints("a chain with a line end in a text", f"{verify} < spelling", 1, none, "awsign: frame 2: lines can't spell one of its headers")
+    prints("a chain without a key", f"env -u AWS_ACCESS_KEY_ID {verify} < chain", 1, "", "awsign: no key")
+    prints("a chain without a region", f"env -u AWS_REGION {verify} < chain", 1, "", "awsign: no region")
+    prints("a chain by a file that isn't there", f"{verify} --config nowhere < chain", 3, "", "could not read the profile file nowhere")
+    prints("a chain to a full device", f"{verify} < chain > /dev/full", 3, "", "awsign: the output failed")
+    prints("a chain of a folder", f"{verify} < .", 3, "", "awsign: could not read standard input")
+    for words in ("", "--service transcribe", f"--seed {seed}", f"--service transcribe --seed {seed[1:]}", f"--service transcribe --seed {seed.upper()}"):
+        prints(f"events verify {words}", f"awsign events verify {words} < chain", 2, "", "awsign: ")
+    for words in (f"--seed {seed}", "--raw --hex", "--s3", "--profile", "chain"):
+        prints(f"events verify, and {words}", f"{verify} {words} < chain", 2, "", "awsign: ")
+    each_event_in_time(verify.split(" "), chain, [lines, none])
+
+
+def each_event_in_time(words, chain, texts):
+    """Each event of a chain is printed once its frame is there, and no byte of it before, while the input is open."""
+    env = {"PATH": os.environ["PATH"], "AWS_ACCESS_KEY_ID": KEY, "AWS_SECRET_ACCESS_KEY": SECRET, "AWS_REGION": REGION}
+    with subprocess.Popen(words, stdin=subprocess.PIPE, stdout=subprocess.PIPE, env=env, bufsize=0) as run:
+        for frame, text in zip(chain, texts):
+            run.stdin.write(frame[:-1])
+            if select.select([run.stdout], [], [], 0.2)[0]:
+                failed.append(f"an event was printed before its frame was there: {run.stdout.read(1 << 16)!r}")
+            run.stdin.write(frame[-1:])
+            wrote = b""
+            while len(wrote) < len(text.encode()) and select.select([run.stdout], [], [], 20)[0]:
+                wrote += run.stdout.read(len(text.encode()) - len(wrote)) or b"."
+            if wrote != text.encode():
+                failed.append(f"an event's frame was there, and {wrote!r} was printed and not {text!r}")
+        run.stdin.write(chain[-1])
+        run.stdin.close()
+        if run.stdout.read() or run.wait(20):
+            failed.append(f"a chain in pieces ended with {run.returncode}")
+
+
 def events():
     """What `awsign events` prints of frames that botocore reads, and what it writes."""
     from botocore.eventstream import EventStreamBuffer
@@ -463,7 +578,8 @@ def events():
         "h e bytes 00ff\nh g time -1 999000000\nh h uuid 000102030405060708090a0b0c0d0e0f\nh none text\npayload 68656c6c6f\n"
     bare, broken = framed([], b""), framed([(b"x", 7, text(b"a\nb\x01"))], b"")
     kept = {"frames": whole + bare + whole, "wrong": whole + bare[:-1] + b"x" + whole, "short": whole + bare + whole[:-1], "broken": whole + broken,
-            "digits": (whole.hex() + "\n" + bare.hex().upper() + "\n").encode(), "job": (lines + "event\npayload\n").encode(), "nothing": b""}
+            "digits": (whole.hex() + "\n" + bare.hex().upper() + "\n").encode(), "job": (lines + "event\npayload\n").encode(), "nothing": b"",
+            "keys": f"[of-keys]\naws_access_key_id={KEY}\naws_secret_access_key={SECRET}\n".encode()}
     for name, data in kept.items():
         with open(name, "wb") as it:
             it.write(data)
@@ -495,8 +611,9 @@ def events():
     says("odd digits of a frame", "(head -1 digits; echo 0) | awsign events decode --hex", 1, "", "awsign: line 2 of the input")
     says("events to a full device", "awsign events decode < frames > /dev/full", 3, "", "awsign: the output failed")
     says("events of a folder", "awsign events decode < .", 3, "", "awsign: could not read standard input")
-    for words in ("events", "events print", "events decode --raw --hex", "events encode --as json", "events decode --as curl", "events decode --as", "events encode --seed x"):
+    for words in ("events", "events print", "events decode --raw --hex", "events encode --as json", "events decode --as curl", "events decode --as", "events encode --seed x", "events decode --service x"):
         says(words, f"awsign {words} < frames", 2, "", "awsign: ")
+    verified_events(whole, bare, broken, lines)
     reader = subprocess.run(["awsign", "events", "encode"], input=kept["job"], capture_output=True, timeout=60).stdout
     buffer = EventStreamBuffer()
     buffer.add_data(reader)

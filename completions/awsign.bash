@@ -18,7 +18,7 @@ _awsign() {
       return
       ;;
     events)
-      mapfile -t COMPREPLY < <(compgen -W 'decode encode' -- "$word")
+      mapfile -t COMPREPLY < <(compgen -W 'decode encode verify' -- "$word")
       return
       ;;
     --checksum)
@@ -26,14 +26,16 @@ _awsign() {
       return
       ;;
     sign | presign | verify | chunk)
-      mapfile -t COMPREPLY < <(compgen -W 'GET PUT POST HEAD DELETE PATCH' -- "$word")
-      return
+      if ((COMP_CWORD == 2)); then
+        mapfile -t COMPREPLY < <(compgen -W 'GET PUT POST HEAD DELETE PATCH' -- "$word")
+        return
+      fi
       ;;
     --expires)
       mapfile -t COMPREPLY < <(compgen -W '10m 1h 12h 7d' -- "$word")
       return
       ;;
-    -H | --payload-hash | --payload-text | --service | --region | --profile | --at | --size | --trailer)
+    -H | --payload-hash | --payload-text | --service | --region | --profile | --at | --size | --trailer | --seed)
       COMPREPLY=()
       return
       ;;
@@ -52,6 +54,7 @@ _awsign() {
   case ${COMP_WORDS[1]}-${COMP_WORDS[2]} in
     events-decode) words='--raw --hex --as' ;;
     events-encode) words='--raw --hex' ;;
+    events-verify) words='--service --seed --raw --hex --as --region --profile --config --credentials' ;;
   esac
   ((COMP_CWORD == 2)) && words="$words --help"
   if ((COMP_CWORD == 1)); then

@@ -18,16 +18,17 @@ _awsign() {
   )
   if ((CURRENT == 2)); then
     _values command 'sign[prints a signed request]' 'presign[prints a presigned URL]' 'verify[says who signed a request]' \
-      'settings[says which key and region are used]' 'chunk[writes a body in chunks]' 'events[prints events, or writes their frames]' --help --version
+      'settings[says which key and region are used]' 'chunk[writes a body in chunks]' 'events[prints or verifies events, or writes their frames]' --help --version
     return
   fi
   if [[ $words[2] == events ]]; then
     if ((CURRENT == 3)); then
-      _values action 'decode[prints events]' 'encode[writes frames]'
+      _values action 'decode[prints events]' 'encode[writes frames]' 'verify[prints events whose signatures recompute]'
       return
     fi
     local -a forms=('(--hex)--raw[frames are bytes]' '(--raw)--hex[frames are lines of hexadecimal]')
     [[ $words[3] == encode ]] || forms+=('--as[the form]:form:(lines json)')
+    [[ $words[3] == verify ]] && forms+=($sources '--service[the signing name]:name:' '--seed[the signature before the frames]:digits:')
     shift 2 words
     ((CURRENT -= 2))
     _arguments $forms

@@ -11,6 +11,8 @@ awsign chunk METHOD URL --data FILE --out BODY [OPTION]..   writes the body in
                                        chunks, and prints the request
 awsign events decode [OPTION]..        prints the events of event stream frames
 awsign events encode [OPTION]..        writes the frames of printed events
+awsign events verify --service NAME --seed HEX [OPTION]..   prints the events
+                                       of signed frames, once they recompute
 
   -H 'name: value'     a header, any number
   --profile NAME, --region NAME
@@ -42,10 +44,13 @@ chunk:
   --trailer 'name: value'              a trailer, any number
   --as FORM
 
-events (decode reads frames from standard input, encode lines):
+events (decode and verify read frames from standard input, encode lines):
   --hex                frames are lines of hexadecimal, not bytes (--raw)
-  --as FORM            decode: lines (event, h NAME TYPE VALUE, payload HEX), or
-                       json (an object a line)
+  --as FORM            decode, verify: lines (event, h NAME TYPE VALUE,
+                       payload HEX), or json (an object a line)
+  --seed HEX           verify: the signature of the request before the frames
+                       (--service, --region, --profile, --config and
+                       --credentials say whose frames they are)
 
 Key and region come from the options, then the variables AWS_ACCESS_KEY_ID,
 AWS_SECRET_ACCESS_KEY, AWS_SESSION_TOKEN, AWS_REGION and AWS_DEFAULT_REGION,
@@ -60,6 +65,7 @@ of the key don't count.
   awsign chunk PUT https://bucket.s3.amazonaws.com/key --data FILE --out BODY \
     --signed --checksum crc32 | curl -K -
   awsign events decode < FRAMES | grep '^h :event-type'
+  awsign events verify --service transcribe --seed HEX < FRAMES
 
 Exit status: 0, 1 nothing is signed, the request or the stream isn't good, or a
 key or region is missing, 2 bad word, 3 a file, the input, the output or memory

@@ -6,7 +6,9 @@ mod help;
 
 use crate::help::text_asked;
 use awsign_chunk::{ChunkStatus, ChunkedUpload, make_upload, say_chunk, write_upload};
-use awsign_events::{EventsStatus, decode_events, encode_events, read_hex, say_events};
+use awsign_events::{
+    EventsStatus, decode_events, encode_events, read_hex, say_events, verify_events,
+};
 use awsign_run::{ProgressSource, Status, run_signing, say, tell_service, url_host, write_text};
 use awsign_settings::run_settings;
 use awsign_verify::{VerifyStatus, run_verify, say_verify};
@@ -61,7 +63,7 @@ fn answer(rt: &HostRuntime, words: &[String], env: &Env, out: &mut StdSink<Stdou
         Ok(AskedCommand::Verifying(asked)) => Ended::Verify(verify(rt, &asked, env, out)),
         Ok(AskedCommand::Telling(options)) => Ended::Run(settings(rt, &options, env, out)),
         Ok(AskedCommand::Chunking(asked)) => Ended::Chunk(chunk(rt, asked, env, out)),
-        Ok(AskedCommand::Streaming(asked)) => Ended::Events(stream(rt, &asked, out)),
+        Ok(AskedCommand::Streaming(asked)) => Ended::Events(stream(rt, &asked, env, out)),
         Err(fault) => Ended::Run(Status::from(fault)),
     }
 }
@@ -239,21 +241,44 @@ fn verify(
     )
 }
 
-// Prints the events of the input, or writes their frames.
-fn stream(rt: &HostRuntime, asked: &EventsAsked, out: &mut StdSink<Stdout>) -> EventsStatus {
+// Writes the frames of the input's lines, or prints the events of its frames.
+fn stream(
+    rt: &HostRuntime,
+    asked: &EventsAsked,
+    env: &Env,
+    out: &mut StdSink<Stdout>,
+) -> EventsStatus {
     let mut input = StdSource::new(rt.reader());
     let is_hex = asked.options.get("--hex").is_some();
     match asked.action {
         EventsAction::Encode => encode_events(rt.alloc(), is_hex, &mut input, out),
-        EventsAction::Decode if !is_hex => {
-            decode_events(rt.alloc(), asked.form(), &mut input, out)
-        }
-        EventsAction::Decode => match read_hex(rt.alloc(), &mut input) {
-            Ok(frames) => {
-                let mut frames = CalmSource::new(frames);
-                decode_events(rt.alloc(), asked.form(), &mut frames, out)
+        EventsAction::Decode | EventsAction::Verify if is_hex => {
+            match read_hex(rt.alloc(), &mut input) {
+                Ok(frames) => print_events(rt, asked, env, &mut CalmSource::new(frames), out),
+                Err(status) => status,
             }
-            Err(status) => status,
-        },
+        }
+        EventsAction::Decode | EventsAction::Verify => {
+            print_events(rt, asked, env, &mut input, out)
+        }
+    }
+}
+
+// Prints the events of the frames of a source.
+fn print_events<S: ByteSource>(
+    rt: &HostRuntime,
+    asked: &EventsAsked,
+    env: &Env,
+    frames: &mut S,
+    out: &mut StdSink<Stdout>,
+) -> EventsStatus {
+    match asked.action {
+        EventsAction::Verify => {
+            let mut disk = HostDisk::new(rt.alloc(), rt);
+            verify_events(rt.alloc(), asked, env, frames, &mut disk, out)
+        }
+        EventsAction::Decode | EventsAction::Encode => {
+            decode_events(rt.alloc(), asked.form(), frames, out)
+        }
     }
 }

@@ -1,6 +1,7 @@
 //! A run of `awsign chunk`, behind its words.
 ghost use Rattle.std.specs.Prelude.{◌≡◌, ◌≤◌, length, map, string_bytes};
 ghost use Rattle.smithy_core.specs.Given.{Gives};
+ghost use Rattle.smithy_core.specs.Outside.{CountsFault};
 ghost use Rattle.env_config.specs.Loading.{Loaded, StopsAtFile};
 ghost use Rattle.env_config.specs.Source.{file_of};
 ghost use Rattle.awsign_run.specs.Chosen.{asked_profile};
@@ -98,6 +99,9 @@ pub fn write_upload<B: ByteSink, K: ByteSink>(
 ) -> ChunkStatus
     ensures wrote { WritesUpload upload.now result (B.held body.old) (B.held body.new) (K.held out.old) (K.held out.new) }
     ensures counts { (B.faults body.old ≤ B.faults body.new) × (K.faults out.old ≤ K.faults out.new) }
+    // It answers that the file or the output failed exactly where that counted a fault.
+    ensures failed { CountsFault (result ≡ ChunkStatus.FileFault) (B.faults body.old) (B.faults body.new)
+        × CountsFault (result ≡ ChunkStatus.Ended Status.OutputFault) (K.faults out.old) (K.faults out.new) }
 {
     match write_all(body, upload.body.as_slice()) {
         Ok(()) => ChunkStatus::Ended(write_text(upload.head.as_slice(), out)),

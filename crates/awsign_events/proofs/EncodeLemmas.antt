@@ -21,42 +21,37 @@ use Rattle.awsign_events.specs.Encode.{EncodesAll, EncodesInput, EncodesMessages
 use Rattle.awsign_events.specs.EventsStatus.{line_status, read_events_status}
 use Rattle.awsign_events.specs.HexInput.{GivesUnhexed, LacksInput, Unhexes, most_input, unhexed}
 use Rattle.awsign_events.specs.declared.status.EventsStatus.{EventsStatus}
-use Rattle.awsign_events.specs.declared.status.EventsStatus.TheVariants.{Done, WrongFrame, CutShort, Unspelled, BadLine, Unframed, InputFault, TooLarge, OutputFault, NoMemory}
+use Rattle.awsign_events.specs.declared.status.EventsStatus.TheVariants.{Done, Unframed, OutputFault, NoMemory}
+
+module _ (messages : List Parts) (i : ℕ) (message : Parts) (within : i < length messages) (is : message ≡ get_or messages i message) where
+  -- one message more
+  pub one_taken : take (i + 1) messages ≡ take i messages ++ message ∷ []
+  one_taken = take_more messages i message within ∙ ap (λ (m : Parts). take i messages ++ m ∷ []) (sym is)
+
+  -- the messages before it, and those behind it
+  pub cut_at : messages ≡ take i messages ++ message ∷ drop (i + 1) messages
+  cut_at = sym (take-append-drop i messages) ∙ ap (λ (rest : List Parts). take i messages ++ rest) (drop-cons messages i message within ∙ rw (← is, add-one) refl)
 
 module _ (is_hex : Bool) (messages : List Parts) (i : ℕ) (message : Parts) (within : i < length messages) (is : message ≡ get_or messages i message) where
-  one_more_taken : take (i + 1) messages ≡ take i messages ++ message ∷ []
-  one_more_taken = take_more messages i message within ∙ ap (λ (m : Parts). take i messages ++ m ∷ []) (sym is)
-
   -- the texts of one frame more
   pub frames_more : (text bytes more : List ℕ) → text ≡ flat_map (written_frame is_hex) (take i messages) → bytes ≡ frame message → more ≡ text ++ framed_text is_hex bytes
       → more ≡ flat_map (written_frame is_hex) (take (i + 1) messages)
   frames_more text bytes more so_far framed one =
       one ∙ ap (λ (b : List ℕ). text ++ framed_text is_hex b) framed ∙ ap (λ (t : List ℕ). t ++ written_frame is_hex message) so_far
       ∙ ap (λ (t : List ℕ). flat_map (written_frame is_hex) (take i messages) ++ t) (sym (append-nil (written_frame is_hex message)))
-      ∙ sym (flat_map-append (written_frame is_hex) (take i messages) (message ∷ [])) ∙ ap (flat_map (written_frame is_hex)) (sym one_more_taken)
+      ∙ sym (flat_map-append (written_frame is_hex) (take i messages) (message ∷ [])) ∙ ap (flat_map (written_frame is_hex)) (sym (one_taken messages i message within is))
 
   -- one message more has a frame
   pub framed_more : list_all is_framed (take i messages) ≡ true → is_framed message ≡ true → list_all is_framed (take (i + 1) messages) ≡ true
-  framed_more all one = ap (list_all is_framed) one_more_taken ∙ list_all-append is_framed (take i messages) (message ∷ []) ∙ rw (all, one) refl
-
-  first_unframed : messages ≡ take i messages ++ message ∷ drop (i + 1) messages
-  first_unframed =
-      sym (take-append-drop i messages) ∙ ap (λ (rest : List Parts). take i messages ++ rest) (drop-cons messages i message within ∙ rw (← is, add-one) refl)
+  framed_more all one = ap (list_all is_framed) (one_taken messages i message within is) ∙ list_all-append is_framed (take i messages) (message ∷ []) ∙ rw (all, one) refl
 
   -- how encoding stops at a message
   pub stops_at : (place : ℕ) (status : EventsStatus) → place ≡ i + 1 → list_all is_framed (take i messages) ≡ true → MakesFrame place message (Err status)
       → EncodesMessages is_hex messages (Err status)
   stops_at place (Unframed at error) placed framed stops =
-      (take i messages, message, drop (i + 1) messages, first_unframed, framed, stops.0 ∙ placed ∙ ap (λ (n : ℕ). n + 1) (sym (length-take-le i messages (omega (arith, within)))), stops.1)
+      (take i messages, message, drop (i + 1) messages, cut_at messages i message within is, framed, stops.0 ∙ placed ∙ ap (λ (n : ℕ). n + 1) (sym (length-take-le i messages (omega (arith, within)))), stops.1)
   stops_at place NoMemory placed framed stops = tt
-  stops_at place Done placed framed stops = absurd stops
-  stops_at place (WrongFrame at error) placed framed stops = absurd stops
-  stops_at place (CutShort at) placed framed stops = absurd stops
-  stops_at place (Unspelled at) placed framed stops = absurd stops
-  stops_at place (BadLine at) placed framed stops = absurd stops
-  stops_at place InputFault placed framed stops = absurd stops
-  stops_at place TooLarge placed framed stops = absurd stops
-  stops_at place OutputFault placed framed stops = absurd stops
+  stops_at place other placed framed stops = absurd stops
 
 -- memory may always run out
 spelled_without_memory : (is_hex : Bool) (spelled : Result (List Parts) ℕ) → EncodesSpelled is_hex spelled (Err NoMemory)
@@ -104,14 +99,7 @@ nothing_written is_hex left held OutputFault all = absurd (by_all all)
     by_all : EncodesAll is_hex left (Err OutputFault) → ⊥
     by_all (inl read) = by_spelled (spelled_messages read.0) read.2
     by_all (inr lacks) = lacks
-nothing_written is_hex left held (WrongFrame place error) all = inl (all, refl)
-nothing_written is_hex left held (CutShort place) all = inl (all, refl)
-nothing_written is_hex left held (Unspelled place) all = inl (all, refl)
-nothing_written is_hex left held (BadLine place) all = inl (all, refl)
-nothing_written is_hex left held (Unframed place error) all = inl (all, refl)
-nothing_written is_hex left held InputFault all = inl (all, refl)
-nothing_written is_hex left held TooLarge all = inl (all, refl)
-nothing_written is_hex left held NoMemory all = inl (all, refl)
+nothing_written is_hex left held other all = inl (all, refl)
 
 -- what is encoded is written
 pub encoded_written : (is_hex : Bool) (left before now : Option (List ℕ)) (text : Vec ℕ) (status : EventsStatus) → EncodesAll is_hex left (Ok text)
@@ -119,10 +107,4 @@ pub encoded_written : (is_hex : Bool) (left before now : Option (List ℕ)) (tex
 encoded_written is_hex left before now text Done all wrote = (text, all, wrote)
 encoded_written is_hex left before now text OutputFault all wrote = (text, all, prefix_from_proper before now text.items wrote)
 encoded_written is_hex left before now text NoMemory all wrote = inr (refl, (text, all, prefix_from_proper before now text.items wrote))
-encoded_written is_hex left before now text (WrongFrame place error) all wrote = absurd wrote
-encoded_written is_hex left before now text (CutShort place) all wrote = absurd wrote
-encoded_written is_hex left before now text (Unspelled place) all wrote = absurd wrote
-encoded_written is_hex left before now text (BadLine place) all wrote = absurd wrote
-encoded_written is_hex left before now text (Unframed place error) all wrote = absurd wrote
-encoded_written is_hex left before now text InputFault all wrote = absurd wrote
-encoded_written is_hex left before now text TooLarge all wrote = absurd wrote
+encoded_written is_hex left before now text other all wrote = absurd wrote

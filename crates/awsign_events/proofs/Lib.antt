@@ -1,3 +1,4 @@
 pub mod EncodeLemmas
 pub mod JsonLemmas
 pub mod ShowLemmas
+pub mod VerifyLemmas

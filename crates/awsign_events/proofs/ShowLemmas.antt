@@ -21,7 +21,7 @@ use Rattle.awsign_events.specs.EventText.{is_spelled, message_text, message_text
 use Rattle.awsign_events.specs.Decode.{EndsDecoding, Shows, ShowsPart, ShowsUpTo, StopsDecoding, WaitsUnfinished, WritesMessage, wrong_frame, wrong_frame_of}
 use Rattle.awsign_events.specs.declared.decode.Frames.{Frames}
 use Rattle.awsign_events.specs.declared.status.EventsStatus.{EventsStatus}
-use Rattle.awsign_events.specs.declared.status.EventsStatus.TheVariants.{Done, WrongFrame, CutShort, Unspelled, BadLine, Unframed, InputFault, TooLarge, OutputFault, NoMemory}
+use Rattle.awsign_events.specs.declared.status.EventsStatus.TheVariants.{WrongFrame, Unspelled, OutputFault, NoMemory}
 
 -- nothing is shown of no bytes
 pub shows_none : (form : EventForm) (held : Option (List ℕ)) → Shows form [] [] 1 held held
@@ -44,21 +44,21 @@ module _ (form : EventForm) (messages : List Parts) (message : Parts) where
   texts_more = flat_map-append (message_text form) messages (message ∷ []) ∙ ap (λ (text : List ℕ). message_texts form messages ++ text) (append-nil (message_text form message))
 
   -- the form can spell one message more
-  spelled_more : list_all (is_spelled form) messages ≡ true → is_spelled form message ≡ true → list_all (is_spelled form) (messages ++ message ∷ []) ≡ true
+  pub spelled_more : list_all (is_spelled form) messages ≡ true → is_spelled form message ≡ true → list_all (is_spelled form) (messages ++ message ∷ []) ≡ true
   spelled_more all one = list_all-append (is_spelled form) messages (message ∷ []) ∙ rw (all, one) refl
 
   -- what the output gains by one message more
-  gains_more : (a b c : Option (List ℕ)) → Gains a b (message_texts form messages) → Gains b c (message_text form message)
+  pub gains_more : (a b c : Option (List ℕ)) → Gains a b (message_texts form messages) → Gains b c (message_text form message)
       → Gains a c (message_texts form (messages ++ message ∷ []))
   gains_more a b c first second = rw texts_more (gains_last a b c (message_text form message) _ (gains_front a b (message_texts form messages) (message_text form message) first) second)
 
   -- what it gains by a front of it
-  gains_part : (a b c : Option (List ℕ)) → Gains a b (message_texts form messages) → GainsPrefix b c (message_text form message)
+  pub gains_part : (a b c : Option (List ℕ)) → Gains a b (message_texts form messages) → GainsPrefix b c (message_text form message)
       → GainsPrefix a c (message_texts form (messages ++ message ∷ []))
   gains_part a b c first second = rw texts_more (prefix_join a b c (message_text form message) _ (gains_front a b (message_texts form messages) (message_text form message) first) second)
 
 -- the place behind one frame more
-next_place : (count : ℕ) → one_more (one_more count) ≡ one_more (count + 1)
+pub next_place : (count : ℕ) → one_more (one_more count) ≡ one_more (count + 1)
 next_place count = omega arith
 
 module _ (form : EventForm) (taken rest : List ℕ) (place : ℕ) (a b : Option (List ℕ)) (shown : Shows form taken rest place a b) where
@@ -136,12 +136,7 @@ stops_ends form bytes left (WrongFrame place error) before now stops = stops
 stops_ends form bytes left (Unspelled place) before now stops = stops
 stops_ends form bytes left OutputFault before now stops = stops
 stops_ends form bytes left NoMemory before now stops = stops
-stops_ends form bytes left Done before now stops = absurd stops
-stops_ends form bytes left (CutShort place) before now stops = absurd stops
-stops_ends form bytes left (BadLine place) before now stops = absurd stops
-stops_ends form bytes left (Unframed place error) before now stops = absurd stops
-stops_ends form bytes left InputFault before now stops = absurd stops
-stops_ends form bytes left TooLarge before now stops = absurd stops
+stops_ends form bytes left other before now stops = absurd stops
 
 -- how a message that isn't written stops decoding
 pub unwritten_stops : (form : EventForm) (taken : List ℕ) (frames : Frames) (first before now : Option (List ℕ)) (message : Parts) (others : List ℕ) (status : EventsStatus)
@@ -155,13 +150,7 @@ unwritten_stops form taken frames first before now message others OutputFault sh
 unwritten_stops form taken frames first before now message others NoMemory shown found (inl same) = rw same (shows_part form taken frames.waiting.bytes frames.place first before shown)
 unwritten_stops form taken frames first before now message others NoMemory shown found (inr writes) =
     shows_one_part form taken frames.waiting.bytes frames.place first before shown message others found writes.0 now writes.1
-unwritten_stops form taken frames first before now message others Done shown found writes = absurd writes
-unwritten_stops form taken frames first before now message others (WrongFrame place error) shown found writes = absurd writes
-unwritten_stops form taken frames first before now message others (CutShort place) shown found writes = absurd writes
-unwritten_stops form taken frames first before now message others (BadLine place) shown found writes = absurd writes
-unwritten_stops form taken frames first before now message others (Unframed place error) shown found writes = absurd writes
-unwritten_stops form taken frames first before now message others InputFault shown found writes = absurd writes
-unwritten_stops form taken frames first before now message others TooLarge shown found writes = absurd writes
+unwritten_stops form taken frames first before now message others status shown found writes = absurd writes
 
 -- how a frame that isn't read stops decoding
 pub wrong_stops : (form : EventForm) (taken : List ℕ) (frames : Frames) (first now : Option (List ℕ)) (error : Error) → ShowsUpTo form taken frames first now

@@ -4,3 +4,4 @@ pub mod EventText
 pub mod EventsSaying
 pub mod EventsStatus
 pub mod HexInput
+pub mod VerifyEvents

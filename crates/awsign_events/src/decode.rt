@@ -1,6 +1,6 @@
 //! Frames, printed as they come.
-ghost use Rattle.std.specs.Prelude.{◌≡◌, ◌<◌, ◌≤◌, ◌++◌, [], ℕ, List, Option, Ok, OnOk, true, false, length};
-ghost use Rattle.smithy_core.specs.Outside.{IsAtEnd};
+ghost use Rattle.std.specs.Prelude.{◌≡◌, ◌<◌, ◌≤◌, ◌++◌, [], ℕ, List, Option, Ok, OnOk, IsErrOf, true, false, length};
+ghost use Rattle.smithy_core.specs.Outside.{CountsFault, IsAtEnd};
 ghost use Rattle.eventstream.specs.Frame.{most_frame};
 ghost use Rattle.awsign_words.specs.declared.events.EventForm.{EventForm as Form};
 ghost use Rattle.awsign_events.specs.Decode.{DecodesInput, EndsDecodingAs, ReadsFrames, ShowsWhole, ShowsOne, ShowsUpTo, WaitsUnfinished, WritesMessage, wrong_frame};
@@ -14,7 +14,7 @@ use smithy_core::{ByteSink, ByteSource, Message, write_all};
 use std::alloc::Global;
 
 /// The most bytes of one read.
-const MOST_PIECE: usize = 8_192;
+pub(crate) const MOST_PIECE: usize = 8_192;
 
 // The bytes that wait for the rest of their frame, and its place.
 #[derive(Drop)]
@@ -39,6 +39,9 @@ pub fn decode_events<S: ByteSource, K: ByteSink>(
 
     // No count fell.
     ensures outside { (S.faults input.old ≤ S.faults input.new) × (K.faults out.old ≤ K.faults out.new) }
+
+    // It answers that the output failed exactly where that counted a fault.
+    ensures failed { CountsFault (result ≡ EventsStatus.OutputFault) (K.faults out.old) (K.faults out.new) }
 {
     let mut frames = Frames::new(alloc);
     match frames.read(alloc, form, input, out) {
@@ -70,7 +73,8 @@ impl Frames {
         requires none { self.old.waiting.bytes ≡ [] }
         requires first { self.old.place ≡ 1 }
         ensures reads { ReadsFrames form (S.left input.old) (S.left input.new) (K.held out.old) (K.held out.new) result }
-        ensures counts { (S.faults input.old ≤ S.faults input.new) × (K.faults out.old ≤ K.faults out.new) }
+        ensures count { S.faults input.old ≤ S.faults input.new }
+        ensures failed { CountsFault (IsErrOf result EventsStatus.OutputFault) (K.faults out.old) (K.faults out.new) }
     {
         let mut piece = [0u8; MOST_PIECE];
         'pieces: for _ in 0..u64::MAX {
@@ -96,7 +100,7 @@ impl Frames {
         ensures shows { (taken : List ℕ) (before : Option (List ℕ)) → ShowsUpTo form taken self.old before (K.held out.old)
             → ShowsWhole form (taken ++ piece.now) self.new before (K.held out.new) result }
         ensures few { OnOk result (length self.new.waiting.bytes < most_frame) }
-        ensures count { K.faults out.old ≤ K.faults out.new }
+        ensures failed { CountsFault (IsErrOf result EventsStatus.OutputFault) (K.faults out.old) (K.faults out.new) }
     {
         self.waiting.push_slice(piece)?;
         'frames: while self.show_front(alloc, form, out)? {}
@@ -114,7 +118,7 @@ impl Frames {
             → ShowsOne form taken self.new before (K.held out.new) result }
         ensures shorter { result ≡ Ok true → length self.new.waiting.bytes < length self.old.waiting.bytes }
         ensures few { result ≡ Ok false → length self.new.waiting.bytes < most_frame }
-        ensures count { K.faults out.old ≤ K.faults out.new }
+        ensures failed { CountsFault (IsErrOf result EventsStatus.OutputFault) (K.faults out.old) (K.faults out.new) }
     {
         match peek_message(alloc, &self.waiting) {
             Ok(Some((message, len))) => {
@@ -142,7 +146,7 @@ impl Frames {
 }
 
 // Writes a message in a form, where the form can spell it.
-fn write_message<K: ByteSink>(
+pub(crate) fn write_message<K: ByteSink>(
     alloc: Global,
     form: EventForm,
     place: u64,
@@ -150,7 +154,7 @@ fn write_message<K: ByteSink>(
     out: &mut K,
 ) -> Result<(), EventsStatus>
     ensures wrote { WritesMessage form place message.now (K.held out.old) (K.held out.new) result }
-    ensures count { K.faults out.old ≤ K.faults out.new }
+    ensures failed { CountsFault (IsErrOf result EventsStatus.OutputFault) (K.faults out.old) (K.faults out.new) }
 {
     if !is_spelled(form, message) {
         return Err(EventsStatus::Unspelled(place));

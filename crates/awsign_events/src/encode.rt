@@ -1,5 +1,6 @@
 //! Frames of events that lines spell.
 ghost use Rattle.std.specs.Prelude.{◌≡◌, ◌≤◌, ◌++◌, IfOk, OnOk};
+ghost use Rattle.smithy_core.specs.Outside.{CountsFault};
 ghost use Rattle.job_text.specs.Job.{job};
 ghost use Rattle.awsign_events.specs.Encode.{EncodesAll, EncodesInput, EncodesMessages, EncodesSpelled, MakesFrame, SpellsMessages, WritesEncoded, begins_with_event, events_behind, framed_text, no_frame, request_lines, spelled_messages, without_request};
 
@@ -25,6 +26,9 @@ pub fn encode_events<S: ByteSource, K: ByteSink>(
 
     // No count fell.
     ensures outside { (S.faults input.old ≤ S.faults input.new) × (K.faults out.old ≤ K.faults out.new) }
+
+    // It answers that the output failed exactly where that counted a fault.
+    ensures failed { CountsFault (result ≡ EventsStatus.OutputFault) (K.faults out.old) (K.faults out.new) }
 {
     match encoded_input(alloc, is_hex, input) {
         Ok(text) => write_encoded(text.as_slice(), out),
@@ -35,7 +39,7 @@ pub fn encode_events<S: ByteSource, K: ByteSink>(
 // Writes a text, and answers how that went.
 fn write_encoded<K: ByteSink>(text: &[u8], out: &mut K) -> EventsStatus
     ensures wrote { WritesEncoded text.now result (K.held out.old) (K.held out.new) }
-    ensures count { K.faults out.old ≤ K.faults out.new }
+    ensures failed { CountsFault (result ≡ EventsStatus.OutputFault) (K.faults out.old) (K.faults out.new) }
 {
     match write_all(out, text) {
         Ok(()) => EventsStatus::Done,

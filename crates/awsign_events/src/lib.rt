@@ -2,7 +2,8 @@
 //!
 //! The program is promised of [`decode_events`] that the output gained the texts of the messages whose frames the source's bytes begin
 //! with, in order, and what comes behind them: the end, or the first frame that is wrong (`specs/Decode.antt`); and of [`encode_events`]
-//! that it gained the frames of the messages that lines spell, or nothing (`specs/Encode.antt`). A text is lines that a job has too, or an
+//! that it gained the frames of the messages that lines spell, or nothing (`specs/Encode.antt`); and of [`verify_events`] that it gained the
+//! texts of the first events of a chain, each signed over all before it from the seed on (`specs/VerifyEvents.antt`). A text is lines that a job has too, or an
 //! object of JSON (`specs/EventText.antt`).
 #![tactic(auto)]
 
@@ -14,6 +15,7 @@ mod lines;
 mod saying;
 mod status;
 mod text;
+mod verify;
 
 pub use crate::decode::decode_events;
 pub use crate::encode::encode_events;
@@ -21,3 +23,4 @@ pub use crate::hex_input::{HexDraft, read_hex};
 pub use crate::saying::say_events;
 pub use crate::status::EventsStatus;
 pub use crate::text::message_text;
+pub use crate::verify::verify_events;

@@ -1,12 +1,13 @@
 //! What is said of how a run ended.
-ghost use Rattle.std.specs.Prelude.{◌≡◌, ◌≤◌, IfOk};
+ghost use Rattle.std.specs.Prelude.{◌≡◌, ◌≤◌, ◌++◌, IfOk, codes};
 ghost use Rattle.std.specs.String.{string_bytes};
 ghost use Rattle.awsign_run.specs.Saying.{tool_line};
 ghost use Rattle.awsign_events.specs.EventsSaying.{SaysEvents, SaysReason, events_reason};
-ghost use Rattle.awsign_events.specs.declared.status.EventsStatus.TheVariants.{BadLine, CutShort, Unframed, Unspelled, WrongFrame};
+ghost use Rattle.awsign_events.specs.declared.status.EventsStatus.TheVariants.{BadLine, CutShort, Unframed, Unspelled, Unverified, WrongFrame};
 
 use crate::status::EventsStatus;
-use awsign_run::{tool_line, write_some};
+use awsign_run::{fault_line, tool_line, write_some};
+use chain_watch::ChainFault;
 use eventstream::Error;
 use smithy_core::{ByteSink, Mem};
 use std::alloc::Global;
@@ -40,6 +41,9 @@ fn reason_line(alloc: Global, status: &EventsStatus) -> Mem<String>
         EventsStatus::WrongFrame(place, error) => frame_line(alloc, *place, error),
         EventsStatus::CutShort(place) => cut_line(alloc, *place),
         EventsStatus::Unspelled(place) => unspelled_line(alloc, *place),
+        EventsStatus::Unverified(fault) => unverified_line(alloc, fault),
+        EventsStatus::Refused(fault) => fault_line(alloc, fault),
+        EventsStatus::CouldNotReadFile(path) => unread_line(alloc, path.as_str()),
         EventsStatus::BadLine(place) => bad_line(alloc, *place),
         EventsStatus::Unframed(place, error) => event_line(alloc, *place, error),
         EventsStatus::InputFault => tool_line(alloc, "could not read standard input"),
@@ -69,6 +73,20 @@ fn unspelled_line(alloc: Global, place: u64) -> Mem<String>
     let text = format!(in alloc;
         "frame {place}: lines can't spell one of its headers; --as json can"
     )?;
+    tool_line(alloc, text.as_str())
+}
+
+fn unverified_line(alloc: Global, fault: &ChainFault) -> Mem<String>
+    ensures { IfOk result (λ line. string_bytes line ≡ tool_line (events_reason (Unverified fault.now))) }
+{
+    let text = format!(in alloc; "the chain isn't good: {fault}")?;
+    tool_line(alloc, text.as_str())
+}
+
+fn unread_line(alloc: Global, path: &str) -> Mem<String>
+    ensures { IfOk result (λ line. string_bytes line ≡ tool_line (codes "could not read the profile file " ++ path.now)) }
+{
+    let text = format!(in alloc; "could not read the profile file {path}")?;
     tool_line(alloc, text.as_str())
 }
 

@@ -1,4 +1,8 @@
 //! How a run ends.
+use aws_settings::SettingsFault;
+use awsign_run::Fault;
+use chain_watch::ChainFault;
+use env_config::EnvConfigFileLoadError;
 use eventstream::Error;
 use job_text::JobFault;
 use smithy_core::{ReadFault, SinkError};
@@ -15,6 +19,12 @@ pub enum EventsStatus {
     CutShort(u64),
     /// Lines can't spell a header of the frame at this place.
     Unspelled(u64),
+    /// A frame isn't the next one of the chain, or the chain isn't whole.
+    Unverified(ChainFault),
+    /// There is no key, no region or no service.
+    Refused(Fault),
+    /// The profile file at this path, which an option names, is absent, or the disk failed.
+    CouldNotReadFile(String),
     /// The line of the input at this place is bad.
     BadLine(usize),
     /// The event at this place has no frame, for this reason.
@@ -33,7 +43,8 @@ impl EventsStatus {
     ghost use Rattle.std.specs.Prelude.{◌≡◌};
     ghost use Rattle.awsign_events.specs.EventsStatus.{events_code};
 
-    /// The number that the process ends with: 0, 1 where the input is refused, 3 where the input, the output or memory failed.
+    /// The number that the process ends with: 0, 1 where the input is refused or there is nothing to verify it with, 3 where a file, the
+    /// input, the output or memory failed.
     pub fn code(&self) -> u8
         ensures { result ≡ events_code self.now }
     {
@@ -42,9 +53,12 @@ impl EventsStatus {
             EventsStatus::WrongFrame(_, _)
             | EventsStatus::CutShort(_)
             | EventsStatus::Unspelled(_)
+            | EventsStatus::Unverified(_)
+            | EventsStatus::Refused(_)
             | EventsStatus::BadLine(_)
             | EventsStatus::Unframed(_, _) => 1,
-            EventsStatus::InputFault
+            EventsStatus::CouldNotReadFile(_)
+            | EventsStatus::InputFault
             | EventsStatus::TooLarge
             | EventsStatus::OutputFault
             | EventsStatus::NoMemory => 3,
@@ -102,6 +116,53 @@ impl From<JobFault> for EventsStatus {
         match fault {
             JobFault::BadLine(place) => EventsStatus::BadLine(place),
             JobFault::NoMemory => EventsStatus::NoMemory,
+        }
+    }
+}
+
+impl From<EnvConfigFileLoadError> for EventsStatus {
+    ghost use Rattle.std.specs.Prelude.{◌≡◌};
+    ghost use Rattle.awsign_events.specs.EventsStatus.{load_events_status};
+
+    ghost from_gives = { λ fault status. status ≡ load_events_status fault };
+
+    fn from(fault: EnvConfigFileLoadError) -> EventsStatus {
+        match fault {
+            EnvConfigFileLoadError::ParseError(error) => {
+                EventsStatus::Refused(Fault::Settings(SettingsFault::Profile(error)))
+            }
+            EnvConfigFileLoadError::CouldNotReadFile(fault) => {
+                EventsStatus::CouldNotReadFile(fault.path)
+            }
+            EnvConfigFileLoadError::NoMemory => EventsStatus::NoMemory,
+        }
+    }
+}
+
+impl From<Fault> for EventsStatus {
+    ghost use Rattle.std.specs.Prelude.{◌≡◌};
+    ghost use Rattle.awsign_events.specs.EventsStatus.{signer_events_status};
+
+    ghost from_gives = { λ fault status. status ≡ signer_events_status fault };
+
+    fn from(fault: Fault) -> EventsStatus {
+        match fault {
+            Fault::NoMemory => EventsStatus::NoMemory,
+            fault => EventsStatus::Refused(fault),
+        }
+    }
+}
+
+impl From<ChainFault> for EventsStatus {
+    ghost use Rattle.std.specs.Prelude.{◌≡◌};
+    ghost use Rattle.awsign_events.specs.EventsStatus.{chain_status};
+
+    ghost from_gives = { λ fault status. status ≡ chain_status fault };
+
+    fn from(fault: ChainFault) -> EventsStatus {
+        match fault {
+            ChainFault::NoMemory => EventsStatus::NoMemory,
+            fault => EventsStatus::Unverified(fault),
         }
     }
 }

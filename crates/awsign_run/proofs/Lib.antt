@@ -1,4 +1,5 @@
 pub mod ChosenLemmas
+pub mod CountLemmas
 pub mod DigestLemmas
 pub mod FileLemmas
 pub mod InPlaceLemmas

@@ -1,7 +1,7 @@
 //! A run of the tool, behind its words.
 ghost use Rattle.std.specs.Prelude.{◌≡◌, ◌≤◌, ◌++◌, [], IfOk, OnErr, codes, map, true, option_copied, option_map, string_bytes};
 ghost use Rattle.smithy_core.specs.Given.{Gives};
-ghost use Rattle.smithy_core.specs.Outside.{Gains, GainsProperPrefix};
+ghost use Rattle.smithy_core.specs.Outside.{CountsFault, Gains, GainsProperPrefix};
 ghost use Rattle.smithy_core.specs.TextPairs.{last_value};
 ghost use Rattle.env_config.specs.Files.{chosen_places, file_places};
 ghost use Rattle.env_config.specs.Source.{file_of};
@@ -45,6 +45,9 @@ pub fn run_signing<S: ByteSource, D: Disk, C: Clock, K: ByteSink>(
     // No file changed, and no count fell.
     ensures outside { (D.files disk.new ≡ D.files disk.old) × (D.faults disk.old ≤ D.faults disk.new) × (S.faults body.old ≤ S.faults body.new)
         × (K.faults out.old ≤ K.faults out.new) }
+
+    // It answers that the output failed exactly where that counted a fault.
+    ensures failed { CountsFault (result ≡ Status.OutputFault) (K.faults out.old) (K.faults out.new) }
 {
     match signed_bytes(alloc, asked, env, body, disk, clock) {
         Ok(text) => write_text(text.as_slice(), out),
@@ -56,6 +59,7 @@ pub fn run_signing<S: ByteSource, D: Disk, C: Clock, K: ByteSink>(
 pub fn write_text<K: ByteSink>(text: &[u8], out: &mut K) -> Status
     ensures wrote { HasWritten text.now result (K.held out.old) (K.held out.new) }
     ensures count { K.faults out.old ≤ K.faults out.new }
+    ensures failed { CountsFault (result ≡ Status.OutputFault) (K.faults out.old) (K.faults out.new) }
 {
     match write_all(out, text) {
         Ok(()) => Status::Done,

@@ -1,5 +1,6 @@
 //! A run of `awsign settings`, behind its words.
 ghost use Rattle.std.specs.Prelude.{◌≡◌, ◌≤◌, Some, Option, map, option_map, string_bytes};
+ghost use Rattle.smithy_core.specs.Outside.{CountsFault};
 ghost use Rattle.env_config.specs.Loading.{Loaded, StopsAtFile};
 ghost use Rattle.env_config.specs.Source.{file_of};
 ghost use Rattle.aws_settings.specs.Choice.{Lack, lack_in};
@@ -39,6 +40,9 @@ pub fn run_settings<D: Disk, K: ByteSink>(
 
     // No file changed, and no count fell.
     ensures outside { (D.files disk.new ≡ D.files disk.old) × (D.faults disk.old ≤ D.faults disk.new) × (K.faults out.old ≤ K.faults out.new) }
+
+    // It answers that the output failed exactly where that counted a fault.
+    ensures failed { CountsFault (result ≡ Status.OutputFault) (K.faults out.old) (K.faults out.new) }
 {
     match load_source(alloc, env, disk, options) {
         Ok(source) => tell_source(alloc, options, env, &source, out),
@@ -56,7 +60,7 @@ fn tell_source<K: ByteSink>(
 ) -> Status
     requires { string_bytes source.now.profile ≡ asked_profile options.now env.now }
     ensures tells { TellsFiles options.now env.now (map file_of source.now.files.items) result (K.held out.old) (K.held out.new) }
-    ensures count { K.faults out.old ≤ K.faults out.new }
+    ensures failed { CountsFault (result ≡ Status.OutputFault) (K.faults out.old) (K.faults out.new) }
 {
     match own_profiles(alloc, source) {
         Ok(owns) => tell_owns(alloc, options, env, owns.as_slice(), out),
@@ -73,7 +77,7 @@ fn tell_owns<K: ByteSink>(
     out: &mut K,
 ) -> Status
     ensures tells { TellsOwns options.now env.now (map own_of owns.now) result (K.held out.old) (K.held out.new) }
-    ensures count { K.faults out.old ≤ K.faults out.new }
+    ensures failed { CountsFault (result ≡ Status.OutputFault) (K.faults out.old) (K.faults out.new) }
 {
     match settings_of(alloc, options, env, owns) {
         Ok(settings) => tell_settings(alloc, &settings, owns, out),
@@ -90,7 +94,7 @@ fn tell_settings<K: ByteSink>(
 ) -> Status
     ensures tells { let settings = used_settings_of settings.now in
         TellsText (settings_text (paths_text (map own_of owns.now)) settings) (settings_lack settings) result (K.held out.old) (K.held out.new) }
-    ensures count { K.faults out.old ≤ K.faults out.new }
+    ensures failed { CountsFault (result ≡ Status.OutputFault) (K.faults out.old) (K.faults out.new) }
 {
     let Ok(lack) = lack(alloc, settings) else {
         return Status::NoMemory;
@@ -104,7 +108,7 @@ fn tell_settings<K: ByteSink>(
 // Writes the text, and answers how that went, or what lacks.
 fn tell<K: ByteSink>(text: &[u8], lack: Option<SettingsFault>, out: &mut K) -> Status
     ensures tells { (lacks : Option Lack) → option_map lack_in lack ≡ option_map Some lacks → TellsText text.now lacks result (K.held out.old) (K.held out.new) }
-    ensures count { K.faults out.old ≤ K.faults out.new }
+    ensures failed { CountsFault (result ≡ Status.OutputFault) (K.faults out.old) (K.faults out.new) }
 {
     match write_all(out, text) {
         Ok(()) => match lack {

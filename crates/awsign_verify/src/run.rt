@@ -1,6 +1,7 @@
 //! A run of `awsign verify`, behind its words.
 ghost use Rattle.std.specs.Prelude.{◌≡◌, ◌≤◌, IfOk, map, string_bytes};
 ghost use Rattle.smithy_core.specs.Given.{Gives};
+ghost use Rattle.smithy_core.specs.Outside.{CountsFault};
 ghost use Rattle.env_config.specs.Loading.{Loaded, StopsAtFile};
 ghost use Rattle.awsign_run.specs.Run.{TakesAskedMoment, asked_moment, asked_places};
 ghost use Rattle.awsign_words.specs.Words.{verify_wanted};
@@ -53,6 +54,9 @@ pub fn run_verify<S: ByteSource, D: Disk, C: Clock, K: ByteSink>(
     // No file changed, and no count fell.
     ensures outside { (D.files disk.new ≡ D.files disk.old) × (D.faults disk.old ≤ D.faults disk.new) × (S.faults input.old ≤ S.faults input.new)
         × (K.faults out.old ≤ K.faults out.new) }
+
+    // It answers that the output failed exactly where that counted a fault.
+    ensures failed { CountsFault (result ≡ VerifyStatus.OutputFault) (K.faults out.old) (K.faults out.new) }
 {
     match judge_input(alloc, asked, env, input, disk, clock) {
         Ok(text) => write_verified(text.as_slice(), out),
@@ -63,7 +67,7 @@ pub fn run_verify<S: ByteSource, D: Disk, C: Clock, K: ByteSink>(
 // Writes a text, and answers how that went.
 fn write_verified<K: ByteSink>(text: &[u8], out: &mut K) -> VerifyStatus
     ensures wrote { WritesText text.now result (K.held out.old) (K.held out.new) }
-    ensures count { K.faults out.old ≤ K.faults out.new }
+    ensures failed { CountsFault (result ≡ VerifyStatus.OutputFault) (K.faults out.old) (K.faults out.new) }
 {
     match write_all(out, text) {
         Ok(()) => VerifyStatus::Done,

@@ -1,13 +1,15 @@
 -- The words behind `awsign events`: what is done, and then options, each at most once.
-use Rattle.std.specs.Prelude.{◌≡◌, ℕ, Bool, false, not, ◌&&◌, ◌||◌, if◌then◌else◌, List, [], ◌∷◌, ◌++◌, codes, bytes_eq, Option, Some, None, is_some, option_and_then, option_copied, unwrap_or, Result, Ok, Err}
+use Rattle.std.specs.Prelude.{◌≡◌, ℕ, Bool, true, false, not, ◌&&◌, ◌||◌, if◌then◌else◌, List, [], ◌∷◌, ◌++◌, codes, bytes_eq, Option, Some, None, is_some, option_and_then, option_copied, unwrap_or, Result, Ok, Err}
 use Rattle.smithy_core.specs.TextPairs.{last_value}
 use Rattle.job_text.specs.Pieces.{after_pieces, taken_from}
 use Rattle.job_text.specs.declared.words.WordsFault.{WordsFault}
 use Rattle.job_text.specs.declared.words.WordsFault.TheVariants.{BadWord, NoMemory}
+use Rattle.sigv4.specs.Signature.{is_signature}
+use Rattle.awsign_words.specs.Sources.{is_source_option}
 use Rattle.awsign_words.specs.declared.events.EventForm.{EventForm}
 use Rattle.awsign_words.specs.declared.events.EventForm.TheVariants.{Lines, JsonLines}
 use Rattle.awsign_words.specs.declared.events.EventsAction.{EventsAction}
-use Rattle.awsign_words.specs.declared.events.EventsAction.TheVariants.{Decode, Encode}
+use Rattle.awsign_words.specs.declared.events.EventsAction.TheVariants.{Decode, Encode, Verify}
 use Rattle.awsign_words.specs.declared.events.EventsAsked.{EventsAsked}
 use Rattle.awsign_words.specs.declared.events.GivenEvents.{GivenEvents}
 
@@ -44,6 +46,13 @@ is_event_spent options word = has_stood options word || (is_event_flag word && (
 abbrev pub takes_event_value : EventsAction → List ℕ → Bool
 takes_event_value Decode word = bytes_eq word (codes "--as")
 takes_event_value Encode word = false
+takes_event_value Verify word = bytes_eq word (codes "--as") || bytes_eq word (codes "--seed") || bytes_eq word (codes "--service") || is_source_option word
+
+-- an option that is needed didn't stand: events are verified over a seed, for a service
+abbrev pub lacks_event_option : EventsAction → List (List ℕ × List ℕ) → Bool
+lacks_event_option Decode options = false
+lacks_event_option Encode options = false
+lacks_event_option Verify options = not (has_stood options (codes "--seed") && has_stood options (codes "--service"))
 
 -- the form of events that a word names
 abbrev pub event_form_named : List ℕ → Option EventForm
@@ -53,15 +62,22 @@ event_form_named word = if bytes_eq word (codes "lines") then Some Lines else if
 abbrev pub asked_event_form : List (List ℕ × List ℕ) → EventForm
 asked_event_form options = unwrap_or (option_and_then event_form_named (last_value options (codes "--as"))) Lines
 
--- whether the value fits its option
+-- whether the value fits its option: a seed is a signature, 64 digits in lower case
 abbrev pub is_event_fit : List ℕ → List ℕ → Bool
-is_event_fit option value = not (bytes_eq option (codes "--as")) || is_some (event_form_named value)
+is_event_fit option value =
+    if bytes_eq option (codes "--as") then is_some (event_form_named value)
+    else if bytes_eq option (codes "--seed") then is_signature value
+    else true
 
 -- ## Words
 
 -- what a word names is done
 abbrev pub action_named : List ℕ → Option EventsAction
-action_named word = if bytes_eq word (codes "decode") then Some Decode else if bytes_eq word (codes "encode") then Some Encode else None
+action_named word =
+    if bytes_eq word (codes "decode") then Some Decode
+    else if bytes_eq word (codes "encode") then Some Encode
+    else if bytes_eq word (codes "verify") then Some Verify
+    else None
 
 -- the word that says what is done
 abbrev pub take_action : EventsGiven → Option EventsAction → Option EventsGiven
@@ -91,9 +107,9 @@ take_event_word given (Some action) (Some option) word = take_event_value (recor
 abbrev pub event_word : EventsGiven → List ℕ → Option EventsGiven
 event_word given word = take_event_word given given.action given.awaited word
 
--- the words are over: it is said what is done, and no option waits
+-- the words are over: it is said what is done, no option waits and none lacks
 abbrev pub event_words_of : ℕ → EventsGiven → Option EventsAction → Option (List ℕ) → Result EventsWanted ℕ
-event_words_of place given (Some action) None = Ok (record { action = action; options = given.options })
+event_words_of place given (Some action) None = if lacks_event_option action given.options then Err place else Ok (record { action = action; options = given.options })
 event_words_of place given (Some action) (Some option) = Err place
 event_words_of place given None awaited = Err place
 

@@ -1,4 +1,5 @@
 pub mod EventWords
 pub mod Expiry
 pub mod RawPath
+pub mod Sources
 pub mod Words

@@ -15,6 +15,7 @@ use Rattle.awsign_text.specs.declared.forms.Form.TheVariants.{Curl, Headers, Jso
 use Rattle.awsign_words.specs.EventWords.{EventsWanted, events_wanted, events_words}
 use Rattle.awsign_words.specs.Expiry.{expiry_named}
 use Rattle.awsign_words.specs.RawPath.{encoded_url}
+use Rattle.awsign_words.specs.Sources.{is_source_option}
 use Rattle.awsign_words.specs.declared.command.Command.{Command}
 use Rattle.awsign_words.specs.declared.command.Command.TheVariants.{Sign, Presign, Verify, Settings, Chunk}
 use Rattle.awsign_words.specs.declared.words.Asked.{Asked}
@@ -103,11 +104,6 @@ is_request Presign = true
 is_request Verify = true
 is_request Settings = false
 is_request Chunk = true
-
--- an option that says who signs, and for which region
-abbrev pub is_source_option : List ℕ → Bool
-is_source_option word =
-    bytes_eq word (codes "--profile") || bytes_eq word (codes "--region") || bytes_eq word (codes "--config") || bytes_eq word (codes "--credentials")
 
 -- an option that says what is signed, for which service, or when
 abbrev pub is_request_option : List ℕ → Bool

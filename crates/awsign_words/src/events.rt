@@ -2,9 +2,11 @@
 ghost use Rattle.std.specs.Prelude.{◌≡◌, None, map};
 ghost use Rattle.std.specs.String.{string_bytes};
 ghost use Rattle.job_text.specs.Words.{TakesWord};
-ghost use Rattle.awsign_words.specs.EventWords.{ReadsEventsAsked, action_named, all_event_words, asked_event_form, event_form_named, events_words, given_events, has_stood, is_event_fit, is_event_flag, is_event_spent, no_event_words, take_action, take_event_option, take_event_value, takes_event_value};
+ghost use Rattle.awsign_words.specs.EventWords.{ReadsEventsAsked, action_named, all_event_words, asked_event_form, event_form_named, events_words, given_events, has_stood, is_event_fit, is_event_flag, is_event_spent, lacks_event_option, no_event_words, take_action, take_event_option, take_event_value, takes_event_value};
 
+use crate::sources::is_source_option;
 use job_text::{TakeWord, WordsFault, take_words};
+use sigv4::parts::is_signature;
 use smithy_core::Env;
 use std::alloc::Global;
 
@@ -15,6 +17,8 @@ pub enum EventsAction {
     Decode,
     /// To write the frames of events.
     Encode,
+    /// To print the events of frames whose signatures recompute.
+    Verify,
 }
 
 /// A form in which events are printed.
@@ -115,13 +119,16 @@ impl<'a> GivenEvents<'a> {
     pub fn finish(self, place: usize) -> Result<EventsAsked, WordsFault>
         ensures { ReadsEventsAsked (all_event_words place (given_events self.entry)) result }
     {
-        match (self.action, self.awaited) {
-            (Some(action), None) => Ok(EventsAsked {
-                action,
-                options: self.options,
-            }),
-            _ => Err(WordsFault::BadWord(place)),
+        let (Some(action), None) = (self.action, self.awaited) else {
+            return Err(WordsFault::BadWord(place));
+        };
+        if lacks_option(action, &self.options) {
+            return Err(WordsFault::BadWord(place));
         }
+        Ok(EventsAsked {
+            action,
+            options: self.options,
+        })
     }
 }
 
@@ -171,6 +178,19 @@ fn takes_value(action: EventsAction, word: &str) -> bool
     match action {
         EventsAction::Decode => word == "--as",
         EventsAction::Encode => false,
+        EventsAction::Verify => {
+            word == "--as" || word == "--seed" || word == "--service" || is_source_option(word)
+        }
+    }
+}
+
+// Whether an option that is needed didn't stand.
+fn lacks_option(action: EventsAction, options: &Env) -> bool
+    ensures { result ≡ lacks_event_option action options.now }
+{
+    match action {
+        EventsAction::Decode | EventsAction::Encode => false,
+        EventsAction::Verify => !(has(options, "--seed") && has(options, "--service")),
     }
 }
 
@@ -178,7 +198,11 @@ fn takes_value(action: EventsAction, word: &str) -> bool
 fn is_fit(option: &str, value: &str) -> bool
     ensures { result ≡ is_event_fit option.now value.now }
 {
-    option != "--as" || event_form_named(value).is_some()
+    match option {
+        "--as" => event_form_named(value).is_some(),
+        "--seed" => is_signature(value),
+        _ => true,
+    }
 }
 
 /// The form of events that a word names.
@@ -198,6 +222,7 @@ fn action_named(word: &str) -> Option<EventsAction>
     match word {
         "decode" => Some(EventsAction::Decode),
         "encode" => Some(EventsAction::Encode),
+        "verify" => Some(EventsAction::Verify),
         _ => None,
     }
 }

@@ -8,6 +8,7 @@ mod command;
 mod events;
 mod expiry;
 mod raw_path;
+mod sources;
 mod words;
 
 pub use crate::command::Command;

@@ -4,7 +4,7 @@ ghost use Rattle.std.specs.List.{list_all};
 ghost use Rattle.std.specs.String.{string_bytes};
 ghost use Rattle.http_header.specs.Token.{is_token_byte};
 ghost use Rattle.job_text.specs.Words.{TakesWord};
-ghost use Rattle.awsign_words.specs.Words.{ReadsAsked, ReadsCommand, ReadsOptions, ReadsVerify, all_settings_words, all_verify_words, all_words, asked_url, checksum_named, command_words, form_named, given_words, has, has_payload, is_chunk_option, is_fit, is_flag, is_method, is_no_operand, is_payload, is_payload_option, is_printing_option, is_request_option, is_source_option, is_spent, lacks_option, minus, no_words, sign_wanted, take_header, take_operand, take_other, take_trailer, take_value, takes_value, telling_words, to_chunk, to_sign, to_stream, to_tell, to_verify, verify_words, words_behind};
+ghost use Rattle.awsign_words.specs.Words.{ReadsAsked, ReadsCommand, ReadsOptions, ReadsVerify, all_settings_words, all_verify_words, all_words, asked_url, checksum_named, command_words, form_named, given_words, has, has_payload, is_chunk_option, is_fit, is_flag, is_method, is_no_operand, is_payload, is_payload_option, is_printing_option, is_request_option, is_spent, lacks_option, minus, no_words, sign_wanted, take_header, take_operand, take_other, take_trailer, take_value, takes_value, telling_words, to_chunk, to_sign, to_stream, to_tell, to_verify, verify_words, words_behind};
 ghost use Rattle.job_text.specs.Lines.{header_of_line};
 ghost use Rattle.awsign_words.specs.EventWords.{events_words};
 
@@ -12,6 +12,7 @@ use crate::command::Command;
 use crate::events::{EventsAsked, read_events};
 use crate::expiry::expiry_named;
 use crate::raw_path::encoded_url;
+use crate::sources::is_source_option;
 use awsign_text::Form;
 use http_header::is_token_char;
 use job_text::{ChunkSize, TakeWord, WordsFault, cut_pair, parse_i64, take_words};
@@ -304,12 +305,6 @@ fn is_payload_option(word: &str) -> bool
     ensures { result ≡ is_payload_option word.now }
 {
     word == "--data" || word == "--payload-hash" || word == "--payload-text"
-}
-
-fn is_source_option(word: &str) -> bool
-    ensures { result ≡ is_source_option word.now }
-{
-    word == "--profile" || word == "--region" || word == "--config" || word == "--credentials"
 }
 
 fn is_request_option(word: &str) -> bool
