@@ -129,11 +129,16 @@ takes_value command word =
     is_source_option word || (is_request command && is_request_option word) || (prints command && is_printing_option word) || (is_presign command && bytes_eq word (codes "--expires"))
     || (is_chunk command && is_chunk_option word)
 
+-- an option without a value that says how a request is signed
+abbrev pub is_signing_flag : Command → List ℕ → Bool
+is_signing_flag command word =
+    (prints command && bytes_eq word (codes "--unsigned")) || (signs_request command && bytes_eq word (codes "--encode-path"))
+
 -- an option without a value
 abbrev pub is_flag : Command → List ℕ → Bool
 is_flag command word =
-    (is_request command && bytes_eq word (codes "--s3")) || (prints command && bytes_eq word (codes "--unsigned")) || (is_presign command && bytes_eq word (codes "--long"))
-    || (is_chunk command && bytes_eq word (codes "--signed")) || (signs_request command && bytes_eq word (codes "--encode-path"))
+    is_signing_flag command word || (is_request command && bytes_eq word (codes "--s3")) || (is_presign command && bytes_eq word (codes "--long"))
+    || (is_chunk command && bytes_eq word (codes "--signed"))
 
 -- an option of this name stood
 abbrev pub has : OptionValues → List ℕ → Bool

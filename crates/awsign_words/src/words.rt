@@ -4,7 +4,7 @@ ghost use Rattle.std.specs.List.{list_all};
 ghost use Rattle.std.specs.String.{string_bytes};
 ghost use Rattle.http_header.specs.Token.{is_token_byte};
 ghost use Rattle.job_text.specs.Words.{TakesWord};
-ghost use Rattle.awsign_words.specs.Words.{ReadsAsked, ReadsCommand, ReadsOptions, ReadsVerify, all_settings_words, all_verify_words, all_words, asked_url, checksum_named, command_words, form_named, given_words, has, has_payload, is_chunk_option, is_fit, is_flag, is_method, is_no_operand, is_payload, is_payload_option, is_printing_option, is_request_option, is_spent, lacks_option, minus, no_words, sign_wanted, take_header, take_operand, take_other, take_trailer, take_value, takes_value, telling_words, to_chunk, to_sign, to_stream, to_tell, to_verify, verify_words, words_behind};
+ghost use Rattle.awsign_words.specs.Words.{ReadsAsked, ReadsCommand, ReadsOptions, ReadsVerify, all_settings_words, all_verify_words, all_words, asked_url, checksum_named, command_words, form_named, given_words, has, has_payload, is_chunk_option, is_fit, is_flag, is_method, is_no_operand, is_payload, is_payload_option, is_printing_option, is_request_option, is_signing_flag, is_spent, lacks_option, minus, no_words, sign_wanted, take_header, take_operand, take_other, take_trailer, take_value, takes_value, telling_words, to_chunk, to_sign, to_stream, to_tell, to_verify, verify_words, words_behind};
 ghost use Rattle.job_text.specs.Lines.{header_of_line};
 ghost use Rattle.awsign_words.specs.EventWords.{events_words};
 
@@ -340,14 +340,21 @@ fn takes_value(command: Command, word: &str) -> bool
         || (command.is_chunk() && is_chunk_option(word))
 }
 
+// Whether an option without a value says how a request is signed.
+fn is_signing_flag(command: Command, word: &str) -> bool
+    ensures { result ≡ is_signing_flag command word.now }
+{
+    (command.prints() && word == "--unsigned")
+        || (command.signs_request() && word == "--encode-path")
+}
+
 fn is_flag(command: Command, word: &str) -> bool
     ensures { result ≡ is_flag command word.now }
 {
-    (command.is_request() && word == "--s3")
-        || (command.prints() && word == "--unsigned")
+    is_signing_flag(command, word)
+        || (command.is_request() && word == "--s3")
         || (command.is_presign() && word == "--long")
         || (command.is_chunk() && word == "--signed")
-        || (command.signs_request() && word == "--encode-path")
 }
 
 fn is_no_operand(command: Command, word: &str) -> bool
