@@ -1,5 +1,6 @@
 -- Lemmas on events in signed messages.
-use Rattle.std.proofs.Common.{◌≡◌, ◌<◌, ℕ, List, [], ◌∷◌, length, Option, Some, None, arith, refl, subst, sym}
+use Rattle.std.proofs.Common.{◌≡◌, ◌<◌, ◌≤◌, ℕ, List, [], ◌∷◌, length, drop, Option, Some, None, ap, arith, refl, subst, sym, ◌∙◌}
+use Rattle.std.proofs.lemmas.List.{length-drop}
 use Rattle.std.specs.Prelude.{Result, Ok, Err}
 use Rattle.smithy_core.specs.Message.{Parts}
 use Rattle.smithy_core.specs.Moment.{Instant}
@@ -41,3 +42,8 @@ module _ {T E : Type 0} (answers : Parts → Result (UnmarshalledMessage T E) Re
   pub filled : (message : Parts) (date : Instant) (answer : Result (UnmarshalledMessage (SignedEvent T) E) Refusal) → signed_date message.headers ≡ Some date
       → 0 < length message.payload → UnwrapsHeld answers date message.payload answer → Unwraps answers message answer
   filled message date answer some bytes held = at_date message date answer some (some_payload message.payload date answer bytes held)
+
+-- bytes are left behind a part of others, where it isn't all of them
+pub left_over : (len part : ℕ) (bytes : List ℕ) → len ≡ part → len ≤ length bytes → (len ≡ length bytes → ⊥) → drop part bytes ≡ [] → ⊥
+left_over len part bytes same within other none =
+    other (let left = sym (length-drop part bytes) ∙ ap (λ (rest : List ℕ). length rest) none in omega arith)
