@@ -1,12 +1,13 @@
-//! Uses of each crate, every one a function to copy: first steps by one crate, requests that are signed, presigned and checked, a
-//! stream of events that is signed, received and watched, settings of profile files, a body in chunks, a service that takes uploads,
-//! and an operation with its attempts.
+//! Uses of each crate, every one a function to copy: first steps by one crate, the same by those below it, requests that are signed,
+//! presigned and checked, a stream of events that is signed, received and watched, settings of profile files, a body in chunks, a
+//! service that takes uploads, and an operation with its attempts.
 //! `docs/CALLING.md` shows them. The program runs each once and prints what came of it.
 #![tactic(auto)]
 
 mod attempts;
 mod chunked_upload;
 mod first_steps;
+mod lower_crates;
 mod opened_stream;
 mod operation;
 mod presigned_door;
@@ -62,6 +63,7 @@ fn main(rt: HostRuntime) -> io::Result<ExitCode> {
 fn uses(alloc: Global) -> anyhow::Result<String> {
     let mut text = String::new(alloc);
     push_first(alloc, &mut text, object_moment())?;
+    lower_crates::push_all(alloc, &mut text, Moment::new(1_440_938_160, 0))?;
     push_requests(alloc, &mut text, &example_identity(alloc)?)?;
     push_events(alloc, &mut text)?;
     push_lines(alloc, &mut text, chunked_upload::body(alloc)?.as_slice())?;
