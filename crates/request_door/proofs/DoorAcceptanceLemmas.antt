@@ -95,10 +95,10 @@ some_same : (a b : List ℕ) → ◌≡◌ {A = Option (List ℕ)} (Some a) (Som
 some_same a b e = cc
 
 strict_in_headers : (c : Case) (sent : HttpRequest) → header.SignsHeaders c → IsSentOf c sent → ReadsStrictly sent.headers
-strict_in_headers c sent is of = λ text credential names signature here read.
+strict_in_headers c sent is of = λ text credential listed digits here read.
     let same : authorization c ≡ text = some_same (authorization c) text
     (sym (header.authorization_is c is) ∙ (ap (λ (headers : List Pair). first_value headers (codes "authorization")) (sym of.headers) ∙ here)) in
-    read_strictly text _ _ _ credential names signature
+    read_strictly text _ _ _ credential listed digits
     (subst (λ (t : List ℕ). IsAuthorization t (sealed_credential c.signer.region c.signer.name (header.own_seal c is)) (joined_names (names c)) (signature_of c)) same
     (header.authorization_read c is)) read
 
