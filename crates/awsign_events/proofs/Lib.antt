@@ -1,3 +1,4 @@
+mod FailedLemmas
 pub mod EncodeLemmas
 pub mod JsonLemmas
 pub mod ShowLemmas

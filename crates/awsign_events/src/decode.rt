@@ -134,8 +134,9 @@ impl Frames {
 
     // How the input ends, where no whole frame waits.
     fn end(&self) -> Result<(), EventsStatus>
-        ensures { (form : Form) (taken : List ℕ) (left before now : Option (List ℕ)) → IsAtEnd left → ShowsUpTo form taken self.now before now
+        ensures ends { (form : Form) (taken : List ℕ) (left before now : Option (List ℕ)) → IsAtEnd left → ShowsUpTo form taken self.now before now
             → WaitsUnfinished self.now → EndsDecodingAs form taken left before now result }
+        ensures sound { IsErrOf result EventsStatus.OutputFault → ⊥ }
     {
         if self.waiting.remaining() == 0 {
             Ok(())
