@@ -1,5 +1,5 @@
 -- A chain that is verified piece by piece: its events are printed, and its walk is where the watch is.
-use Rattle.std.proofs.Common.{◌≡◌, ℕ, ◌+◌, ◌<◌, ◌⊎◌, inl, inr, true, List, [], ◌∷◌, ◌++◌, length, take, drop, get_or, Option, Some, None, refl, sym, ap, subst, ◌∙◌, append-nil, append_assoc, length-append}
+use Rattle.std.proofs.Common.{◌≡◌, ℕ, ◌+◌, ◌<◌, ◌⊎◌, inl, inr, true, List, [], ◌∷◌, ◌++◌, length, take, drop, get_or, Option, refl, sym, ap, subst, ◌∙◌, append-nil, append_assoc, length-append}
 use Rattle.std.specs.Prelude.{IsOk, Result, Ok, Err}
 use Rattle.smithy_core.specs.Calls.{one_more}
 use Rattle.smithy_core.specs.Message.{Parts}
@@ -25,7 +25,7 @@ use Rattle.awsign_run.specs.declared.fault.Fault.TheVariants as run
 use Rattle.awsign_events.specs.Decode.{WritesMessage}
 use Rattle.awsign_events.specs.EventText.{is_spelled, message_text}
 use Rattle.awsign_events.specs.EventsStatus.{chain_status, load_events_status, signer_events_status}
-use Rattle.awsign_events.specs.VerifyEvents.{EndsVerifying, IsNewVerifier, IsVerified, LacksFiles, PrintsAll, PrintsEvents, PrintsFront, PrintsUpTo, StopsPrinting, StopsVerifying, VerifiesBy, VerifiesChain, VerifiesTaken}
+use Rattle.awsign_events.specs.VerifyEvents.{EndsVerifying, IsNewVerifier, IsVerified, LacksFiles, PrintsEvents, PrintsFront, PrintsUpTo, StopsPrinting, StopsVerifying, VerifiesBy, VerifiesChain}
 use Rattle.awsign_events.specs.declared.status.EventsStatus.{EventsStatus}
 use Rattle.awsign_events.specs.declared.status.EventsStatus.TheVariants.{Done, Unverified, Unspelled, InputFault, OutputFault, NoMemory}
 use Rattle.awsign_events.specs.declared.verify.Verifier.{Verifier}

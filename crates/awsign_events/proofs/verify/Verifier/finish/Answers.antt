@@ -1,4 +1,3 @@
-use Rattle.std.proofs.Common.{[], ◌≡◌}
 use Rattle.awsign_events.proofs.VerifyLemmas.{ends_done, ends_fault}
 use Rattle.awsign_events.proofs.verify.Verifier.finish.Goals as goal
 

@@ -1,6 +1,5 @@
-use Rattle.std.proofs.Common.{[], ◌++◌, ◌≡◌, refl}
+use Rattle.std.proofs.Common.{refl}
 use Rattle.std.proofs.lemmas.Result.{err_from_is_err_and}
-use Rattle.awsign_run.proofs.CountLemmas.{counts_nothing, counts_on}
 use Rattle.awsign_events.proofs.VerifyLemmas.{fed_counts, fed_fault, fed_sound, fed_stops, verified_roomless}
 use Rattle.awsign_events.proofs.verify.Verifier.take.Goals as goal
 
