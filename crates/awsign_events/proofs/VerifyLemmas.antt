@@ -1,5 +1,5 @@
 -- A chain that is verified piece by piece: its events are printed, and its walk is where the watch is.
-use Rattle.std.proofs.Common.{◌≡◌, ℕ, ◌+◌, ◌<◌, ◌⊎◌, inl, inr, true, List, [], ◌∷◌, ◌++◌, length, take, drop, get_or, Option, Some, None, refl, sym, ap, subst, ◌∙◌, append-nil, append_assoc, length-append}
+use Rattle.std.proofs.Common.{◌≡◌, ℕ, ◌+◌, ◌<◌, ◌⊎◌, inl, inr, true, List, [], ◌∷◌, ◌++◌, length, take, drop, get_or, Option, refl, sym, ap, subst, ◌∙◌, append-nil, append_assoc, length-append}
 use Rattle.std.specs.Prelude.{IsOk, Result, Ok, Err}
 use Rattle.smithy_core.specs.Calls.{one_more}
 use Rattle.smithy_core.specs.Message.{Parts}
@@ -25,7 +25,7 @@ use Rattle.awsign_run.specs.declared.fault.Fault.TheVariants as run
 use Rattle.awsign_events.specs.Decode.{WritesMessage}
 use Rattle.awsign_events.specs.EventText.{is_spelled, message_text}
 use Rattle.awsign_events.specs.EventsStatus.{chain_status, load_events_status, signer_events_status}
-use Rattle.awsign_events.specs.VerifyEvents.{EndsVerifying, IsNewVerifier, IsVerified, LacksFiles, PrintsAll, PrintsEvents, PrintsFront, PrintsUpTo, StopsPrinting, StopsVerifying, VerifiesBy, VerifiesChain, VerifiesTaken}
+use Rattle.awsign_events.specs.VerifyEvents.{EndsVerifying, IsNewVerifier, IsVerified, LacksFiles, PrintsEvents, PrintsFront, PrintsUpTo, StopsPrinting, StopsVerifying, VerifiesBy, VerifiesChain}
 use Rattle.awsign_events.specs.declared.status.EventsStatus.{EventsStatus}
 use Rattle.awsign_events.specs.declared.status.EventsStatus.TheVariants.{Done, Unverified, Unspelled, InputFault, OutputFault, NoMemory}
 use Rattle.awsign_events.specs.declared.verify.Verifier.{Verifier}
@@ -214,21 +214,28 @@ module _ (form : EventForm) (signer : Signer) (seed taken : List ℕ) (old : Ver
           by_taken (inl fed) = by_answer fed fed.answer
           by_taken (inr none) = absurd (let wrong = none.0 in cc)
 
+      -- the watch met a fault, and memory sufficed
+      fed_unverified : (told : ChainFault) (result : Result Watched ChainFault) → result ≡ Err told → (result ≡ Err chain.NoMemory → ⊥) → Feeds old.watch piece [] new gained result
+          → PrintsEvents form (so_far.events ++ gained) before now → StopsVerifying form (walk signer (seed_point seed) (taken ++ piece)) (Unverified told) before now
+      fed_unverified told result is roomy feeds prints = by_taken (fed_by_point old.watch.at piece new gained result so_far.sound feeds)
+        where
+          by_answer : FeedsPiece old.watch piece [] new gained result → AnswersState new result → StopsVerifying form (walk signer (seed_point seed) (taken ++ piece)) (Unverified told) before now
+          by_answer fed (inl all) = rw (all_walk result fed all.0) (sym all.1 ∙ is, prints)
+          by_answer fed (inr want) = absurd (roomy want)
+
+          by_taken : FeedsPiece old.watch piece [] new gained result ⊎ ((result ≡ Err chain.NoMemory) × DoesNothing old.watch [] new gained)
+              → StopsVerifying form (walk signer (seed_point seed) (taken ++ piece)) (Unverified told) before now
+          by_taken (inl fed) = by_answer fed fed.answer
+          by_taken (inr none) = absurd (roomy none.0)
+
       -- the watch met a fault
       pub fed_fault : (told : ChainFault) → Feeds old.watch piece [] new gained (Err told) → PrintsEvents form (so_far.events ++ gained) before now
           → StopsVerifying form (walk signer (seed_point seed) (taken ++ piece)) (chain_status told) before now
       fed_fault chain.NoMemory feeds prints =
           let front = fed_front (Err chain.NoMemory) feeds in rw front.1 (prints_front form (so_far.events ++ gained) front.0.events before now prints)
-      fed_fault told feeds prints = by_taken (fed_by_point old.watch.at piece new gained (Err told) so_far.sound feeds)
-        where
-          by_answer : FeedsPiece old.watch piece [] new gained (Err told) → AnswersState new (Err told) → StopsVerifying form (walk signer (seed_point seed) (taken ++ piece)) (Unverified told) before now
-          by_answer fed (inl all) = rw (all_walk (Err told) fed all.0) (sym all.1, prints)
-          by_answer fed (inr want) = absurd (let wrong = want in cc)
-
-          by_taken : FeedsPiece old.watch piece [] new gained (Err told) ⊎ ((Err told ≡ Err chain.NoMemory) × DoesNothing old.watch [] new gained)
-              → StopsVerifying form (walk signer (seed_point seed) (taken ++ piece)) (Unverified told) before now
-          by_taken (inl fed) = by_answer fed fed.answer
-          by_taken (inr none) = absurd (let wrong = none.0 in cc)
+      fed_fault (chain.NotChain frame part) feeds prints = fed_unverified (chain.NotChain frame part) (Err (chain.NotChain frame part)) refl (λ is. let wrong = is in cc) feeds prints
+      fed_fault (chain.Mismatch frame carried recomputed) feeds prints =
+          fed_unverified (chain.Mismatch frame carried recomputed) (Err (chain.Mismatch frame carried recomputed)) refl (λ is. let wrong = is in cc) feeds prints
 
   -- ## How the input ends
 

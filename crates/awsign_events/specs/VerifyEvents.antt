@@ -1,5 +1,5 @@
 -- How a chain of frames is verified: the events of its walk over the seed, of which each was signed over all before it, and what the output gained.
-use Rattle.std.specs.Prelude.{◌≡◌, ◌⊎◌, ℕ, IsOk, Bool, true, false, List, [], ◌∷◌, ◌++◌, length, codes, Option, unwrap_or, Result, Ok, Err, string_bytes}
+use Rattle.std.specs.Prelude.{◌≡◌, ◌⊎◌, ℕ, IsOk, true, false, List, [], ◌∷◌, ◌++◌, length, codes, Option, unwrap_or, Result, Ok, Err, string_bytes}
 use Rattle.std.specs.List.{list_all}
 use Rattle.smithy_core.specs.Calls.{one_more}
 use Rattle.smithy_core.specs.Message.{Parts}

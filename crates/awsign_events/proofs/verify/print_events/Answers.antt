@@ -1,4 +1,4 @@
-use Rattle.std.proofs.Common.{◌++◌, ◌+◌, ℕ, List, append-nil, drop, refl, subst, sym, take, ◌∙◌}
+use Rattle.std.proofs.Common.{◌++◌, ◌+◌, List, append-nil, drop, refl, subst, sym, take, ◌∙◌}
 use Rattle.std.proofs.lemmas.Result.{err_from_is_err_and}
 use Rattle.smithy_core.specs.Message.{Parts}
 use Rattle.awsign_events.specs.VerifyEvents.{PrintsUpTo}

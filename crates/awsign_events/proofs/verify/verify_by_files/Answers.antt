@@ -1,4 +1,4 @@
-use Rattle.std.proofs.Common.{◌≡◌, map}
+use Rattle.std.proofs.Common.{map}
 use Rattle.env_config.specs.Source.{file_of}
 use Rattle.awsign_events.specs.VerifyEvents.{chain_signer}
 use Rattle.awsign_events.proofs.VerifyLemmas.{signer_lacks}

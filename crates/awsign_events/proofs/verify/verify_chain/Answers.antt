@@ -1,4 +1,3 @@
-use Rattle.std.proofs.Common.{◌≡◌, sym, ◌∙◌}
 use Rattle.awsign_words.specs.EventWords.{asked_event_form}
 use Rattle.awsign_run.specs.Chosen.{signs_for_of}
 use Rattle.awsign_events.specs.VerifyEvents.{asked_seed, frames_signer}

@@ -1,4 +1,3 @@
-use Rattle.std.proofs.Common.{[], ◌≡◌}
 use Rattle.awsign_events.proofs.VerifyLemmas.{ends_done, ends_fault}
 use Rattle.awsign_events.proofs.verify.Verifier.finish.Goals as goal
 
@@ -7,7 +6,7 @@ returns-in-Ok-clause-ends c =
     let ends = rw c.new.ensures.items at c.in-Ok.ensures in
     λ form signer seed taken left before now done verified. ends_done form signer seed taken c.args.self before now verified left _ done ends
 
-pub returns-in-Err-clause-ends : goal.returns-in-Err-clause-ends
-returns-in-Err-clause-ends c =
+pub returns-clause-ends : goal.returns-clause-ends
+returns-clause-ends c =
     let ends = rw c.new.ensures.items at c.in-Err.ensures in
     λ form signer seed taken left before now done verified. rw c.from.ensures (ends_fault form signer seed taken c.args.self before now verified left _ c.in-Err.fault done ends)

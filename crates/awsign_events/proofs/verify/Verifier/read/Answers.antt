@@ -1,7 +1,6 @@
 use Rattle.std.proofs.Common.{[], ◌++◌, take, Ok, ap, refl, ◌∙◌, arith}
 use Rattle.std.proofs.lemmas.Result.{err_from_is_err_and}
 use Rattle.smithy_core.proofs.CutLemmas.{cut_at_start, cut_more}
-use Rattle.eventstream.specs.Key.{Signer}
 use Rattle.chain_watch.specs.Walk.{seed_point, walk}
 use Rattle.awsign_events.proofs.ShowLemmas.{no_more}
 use Rattle.awsign_events.proofs.VerifyLemmas.{ends_unread, stops_run, verified_none}
