@@ -1,7 +1,7 @@
 use Rattle.std.proofs.Common.{Ok}
 use Rattle.presigned_program.specs.PresignStatus.{presign_ending}
 use Rattle.presigned_program.proofs.PresignLemmas.{said_presigned}
-use Rattle.presigned.proofs.answer.Goals as goal
+use Rattle.presigned.proofs.PresignedProgram.answer.Goals as goal
 
 pub returns-in-Some-clause-printed : goal.returns-in-Some-clause-printed
 returns-in-Some-clause-printed g c =

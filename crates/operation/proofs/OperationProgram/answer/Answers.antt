@@ -2,7 +2,7 @@ use Rattle.std.proofs.Common.{Ok}
 use Rattle.signed_stream.specs.Status.{output_fault}
 use Rattle.operation_program.specs.Status.{operation_ending}
 use Rattle.operation_program.proofs.GoesLemmas.{said_counts, said_goes}
-use Rattle.operation.proofs.answer.Goals as goal
+use Rattle.operation.proofs.OperationProgram.answer.Goals as goal
 
 pub returns-in-Some-clause-printed : goal.returns-in-Some-clause-printed
 returns-in-Some-clause-printed g c =
