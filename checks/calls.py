@@ -47,7 +47,7 @@ def first_sentence(lines, number):
 
 def call_text(lines, number):
     """A function's parameters and answer on one line."""
-    text = signature(lines, number)
+    text = re.sub(r"\n\s*//.*", "", signature(lines, number))
     text = re.split(r"\n\s*(?:ensures|requires|ghost|where)\b|\s*\{\s*\}?\s*$|;\s*$", text)[0]
     text = UNSAID.sub("", " ".join(text.split()))
     text = re.sub(r"^fn |const fn ", "", re.sub(r",? \)", ")", re.sub(r"\( ", "(", text)))
