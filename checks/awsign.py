@@ -2,9 +2,9 @@
 """Tasks from the shell with the built program `awsign`: it signs, curl sends, and a listener on loopback asks botocore what the
 signature has to be and keeps the objects; of a body in chunks the listener computes every signature again; it verifies what it signed,
 and what botocore presigned; it tells the settings that `aws configure list` does, where that is there; it prints event stream
-frames that botocore reads, and those of chains whose signatures are computed here; and it ends quietly where its reader leaves, and
-shows its progress on a terminal. For each task that goes wrong there is a line; the status is then 1. Without botocore or curl it
-checks nothing.
+frames that botocore reads, and those of chains whose signatures are computed here; it ends quietly where its reader leaves, and
+shows its progress on a terminal; and its pages of help name the words that it takes, as the completion for bash does. For each task
+that goes wrong there is a line; the status is then 1. Without botocore or curl it checks nothing.
 AWSIGN_BIG is how many bytes the big file has."""
 import base64
 import hashlib
@@ -26,8 +26,8 @@ import time
 import urllib.parse
 import zlib
 
-PROGRAM = os.environ.get("AWSIGN") or os.path.join(
-    os.path.dirname(os.path.abspath(__file__)), "..", "crates", "awsign", "out", "awsign")
+ROOT = os.path.join(os.path.dirname(os.path.abspath(__file__)), "..")
+PROGRAM = os.environ.get("AWSIGN") or os.path.join(ROOT, "crates", "awsign", "out", "awsign")
 KEY, SECRET, TOKEN, REGION = "AKIDEXAMPLE", "wJalrXUtnFEMI/K7MDENG+bPxRfiCYEXAMPLEKEY", "TOKEN+/=", "us-east-1"
 BIG = int(os.environ.get("AWSIGN_BIG", 100_000_000))
 failed = []
@@ -248,8 +248,6 @@ def manners(at):
     says("a raw path alone", "awsign sign GET '/a b%?c' -H 'host: h.example' --service x --encode-path --at 0 --as json", 0, '"url":"/a%20b%25?c"')
     says("a raw query", "awsign sign GET 'https://h.example/a?b c' --service x --encode-path", 1, "", "invalid target")
     says("an upload to a raw key", f"awsign chunk PUT '{at}/b/odd key' --s3 --data small --out body --encode-path | {curl}", 0, "200")
-    for words in ("", "sign ", "presign ", "verify ", "settings ", "chunk ", "events "):
-        says(f"{words}--help", f"awsign {words}--help", 0, "awsign presign GET https://bucket.s3.amazonaws.com/key --expires 10m\n")
     for words in (f"verify GET {at}/ --encode-path", "settings --encode-path", f"sign GET {at}/ --s3 --encode-path --encode-path", f"sign GET {at}/ --s3 --expires 10m"):
         says(words, f"awsign {words}", 2, "", "isn't understood here: --e")
     for words in ("--help", "settings", f"sign GET {at}/b/k --s3", f"presign GET {at}/b/k --s3 --expires 10m", "events encode < job",
@@ -621,6 +619,78 @@ def events():
         failed.append(f"botocore reads other messages of {reader!r}")
 
 
+def known_words():
+    """The commands, the actions of events, and the options that the sources of the words have."""
+    text = {}
+    for name in ("words", "events", "sources"):
+        with open(os.path.join(ROOT, "crates", "awsign_words", "src", name + ".rt")) as it:
+            text[name] = it.read()
+    commands = re.findall(r'^ +"(\w+)" => read_\w+\(', text["words"], re.M)
+    actions = re.findall(r'^ +"(\w+)" => Some\(EventsAction::', text["events"], re.M)
+    return commands, actions, sorted(set(re.findall(r'"(--[a-z0-9-]+|-H)"', "".join(text.values()))))
+
+
+def is_taken(command, option):
+    """Whether a command takes an option."""
+    run = subprocess.run(["awsign", *command.split(), option], stdin=subprocess.DEVNULL, capture_output=True, text=True, timeout=60)
+    return f"isn't understood here: {option};" not in run.stderr
+
+
+def page_of(words):
+    """What `--help` behind these words prints, where it ends well and no line is too long."""
+    run = subprocess.run(["awsign", *words.split(), "--help"], capture_output=True, text=True, timeout=60)
+    if run.returncode or run.stderr or any(len(line) > 80 for line in run.stdout.splitlines()):
+        failed.append(f"awsign {words} --help: ended with {run.returncode}, said {run.stderr!r} and printed {run.stdout!r}")
+    return run.stdout
+
+
+def completed(words):
+    """What bash completes behind the words of a line, by the repository's completion."""
+    script = 'source "$0"; COMP_WORDS=("$@"); COMP_CWORD=$(($# - 1)); _awsign; printf "%s\\n" "${COMPREPLY[@]}"'
+    completion = os.path.join(ROOT, "completions", "awsign.bash")
+    run = subprocess.run(["bash", "-c", script, completion, "awsign", *words.split(), "-"], capture_output=True, text=True, timeout=60)
+    return set(run.stdout.split())
+
+
+def pages():
+    """The pages that `--help` prints: each names the options that its command takes and no other, as the completion does, and its example
+    does what it says."""
+    commands, actions, options = known_words()
+    actions = [f"events {action}" for action in actions]
+    taken = {command: {option for option in options if is_taken(command, option)} for command in [*commands, *actions] if command != "events"}
+    for command in taken:
+        if completed(command) != taken[command] | {"--help"}:
+            failed.append(f"the completion of awsign {command} has {sorted(completed(command))}")
+    taken["events"] = set().union(*(taken[action] for action in actions))
+    if re.findall(r"^  awsign (\w+) ", page_of(""), re.M) != commands:
+        failed.append(f"awsign --help hasn't a line for each of {commands}")
+    for command in taken:
+        page = page_of(command)
+        named, examples = re.findall(r"^  (-\S+)", page, re.M), re.findall(r"^  (awsign (?:.*\\\n)*.*)$", page, re.M)
+        if sorted(named) != sorted(taken[command]) or not page.startswith(f"awsign {command} ") or "\nExit status: 0, 1 " not in page or not examples:
+            failed.append(f"awsign {command} --help: takes {sorted(taken[command])} and prints {page!r}")
+        for example in examples:
+            tried(example)
+    for words in ("print --help", "events print --help", "sign --help GET", "sign GET --help", "events decode --raw --help", "--help --help"):
+        says(words, f"awsign {words}", 2, "", "awsign: ")
+
+
+def tried(example):
+    """Runs an example of a page over files and variables of the names in it, and no curl; it has to end well."""
+    event, seed = framed([(b":event-type", 7, b"\0\1a")], b""), "0f" * 32
+    kept = {"FILE": b"hello", "EVENTS": b"event\nh :event-type text a\n", "FRAMES": b"".join(chained([event], seed)) if "$SEED" in example else event,
+            "profiles": f"[work]\naws_access_key_id={KEY}\naws_secret_access_key={SECRET}\n".encode()}
+    for name, data in kept.items():
+        with open(name, "wb") as it:
+            it.write(data)
+    head = "awsign sign GET https://bucket.s3.amazonaws.com/key --as http > REQUEST && "
+    env = {"PATH": os.environ["PATH"], "HOME": os.getcwd(), "AWS_ACCESS_KEY_ID": KEY, "AWS_SECRET_ACCESS_KEY": SECRET, "AWS_REGION": REGION,
+           "AWS_SHARED_CREDENTIALS_FILE": "profiles", "SEED": seed}
+    run = subprocess.run(["bash", "-o", "pipefail", "-c", head + example.replace("curl -K -", "grep ^url")], capture_output=True, env=env, timeout=60)
+    if run.returncode:
+        failed.append(f"the example {example}: ended with {run.returncode}, wrote {run.stdout[:300]!r} and said {run.stderr[:300]!r}")
+
+
 def tasks(at, at_body):
     """The tasks with a listener."""
     curl = "curl -sS -K - -w '%{http_code}'"
@@ -647,6 +717,7 @@ def tasks(at, at_body):
     settings()
     chunked(at, at_body)
     events()
+    pages()
     Listener.token = TOKEN
     shell("a session token", f"awsign sign GET {at}/b/a%20b --s3 | curl -sS -K -", "hello", AWS_SESSION_TOKEN=TOKEN)
     shell("a token in a URL", f"curl -sS \"$(awsign presign GET {at}/b/a%20b --s3 --expires 600)\"", "hello", AWS_SESSION_TOKEN=TOKEN)

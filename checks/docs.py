@@ -1,7 +1,7 @@
 #!/usr/bin/env python3
 """Says where a page and the sources differ: a line for each place, and then the status 1.
 
-docs/CALLING.md: each function that it shows is so in crates/tool_uses/src.
+docs/CALLING.md: each function that it shows, by the names that it imports, is so in crates/tool_uses/src.
 crates/*/specs: each definition that clauses of public functions, or docs/CLAIMS.md, cite has a comment of its own, directly above
 it, which no other definition has.
 README.md: each file, and each name beside it, of the table of claims is in the crate's src.
@@ -33,17 +33,29 @@ OWN_PAGES = ["README.md", "CONTRIBUTING.md", "docs/ARCHITECTURE.md", "docs/CALLI
 OF_THE_KIT = {"LendsIfOk", "RestsIfErr"}
 
 
+# A line that imports: a crate, and its names in brackets or the one without.
+IMPORT = re.compile(r"^use ([\w:]+)::(?:{([^}]*)}|(\w+));\n", re.M)
+
+
+def imports(text):
+    """The names that a text imports, each with its crate."""
+    return {(crate, name) for crate, names, alone in IMPORT.findall(text) for name in re.findall(r"\w+", names) or [alone]}
+
+
 def shown_functions(page):
-    """The functions in the blocks of code of a page, one text each."""
+    """The functions in the blocks of code of a page, one text each, with the names that its block imports."""
     for block in re.findall(r"```rust\n(.*?)```", page, re.S):
-        yield from re.split(r"(?<=\n}\n)\n", block)
+        for function in re.split(r"(?<=\n}\n)\n", IMPORT.sub("", block).lstrip("\n")):
+            yield function, imports(block)
 
 
 def calling_faults():
     sources = [path.read_text() for path in (ROOT / "crates/tool_uses/src").glob("*.rt")]
-    for function in shown_functions((ROOT / "docs/CALLING.md").read_text()):
-        if not any(function in source for source in sources):
-            yield f"docs/CALLING.md: crates/tool_uses has no such function: {function.splitlines()[0]}"
+    for function, names in shown_functions((ROOT / "docs/CALLING.md").read_text()):
+        if not any(function in source and names <= imports(source) for source in sources):
+            yield f"docs/CALLING.md: crates/tool_uses has no such function by these names: {function.splitlines()[0]}"
+        if not names or not all(re.search(rf"\b{name}\b", function) for _, name in names):
+            yield f"docs/CALLING.md: doesn't import what it shows: {function.splitlines()[0]}"
 
 
 def condition_faults():

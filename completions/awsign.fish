@@ -6,7 +6,7 @@ complete -c awsign -n __fish_use_subcommand -a verify -d 'say who signed a reque
 complete -c awsign -n __fish_use_subcommand -a settings -d 'say which key and region are used'
 complete -c awsign -n __fish_use_subcommand -a chunk -d 'write a body in chunks'
 complete -c awsign -n __fish_use_subcommand -a events -d 'print or verify events, or write their frames'
-complete -c awsign -l help -d 'print the help'
+complete -c awsign -l help -d 'print the commands, or the words of a command'
 complete -c awsign -n __fish_use_subcommand -l version -d 'print the version'
 set -l signs '__fish_seen_subcommand_from sign presign'
 set -l prints '__fish_seen_subcommand_from sign presign chunk'

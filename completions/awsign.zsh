@@ -1,15 +1,16 @@
 #compdef awsign
 # Completion of the words of awsign for zsh: put it as _awsign where fpath looks.
 _awsign() {
-  local -a options sources
+  local -a options sources help
+  help=('(- *)--help[print the words of the command]')
   sources=(
-    '(- *)--help[print the help]'
     '--region[the region]:name:'
     '--profile[the profile]:name:'
     '--config[a config file]:file:_files'
     '--credentials[a credentials file]:file:_files'
   )
   options=(
+    $help
     $sources
     '*-H[a header]:header:'
     '--service[the signing name]:name:'
@@ -23,10 +24,10 @@ _awsign() {
   fi
   if [[ $words[2] == events ]]; then
     if ((CURRENT == 3)); then
-      _values action 'decode[prints events]' 'encode[writes frames]' 'verify[prints events whose signatures recompute]'
+      _values action 'decode[prints events]' 'encode[writes frames]' 'verify[prints events whose signatures recompute]' --help
       return
     fi
-    local -a forms=('(--hex)--raw[frames are bytes]' '(--raw)--hex[frames are lines of hexadecimal]')
+    local -a forms=($help '(--hex)--raw[frames are bytes]' '(--raw)--hex[frames are lines of hexadecimal]')
     [[ $words[3] == encode ]] || forms+=('--as[the form]:form:(lines json)')
     [[ $words[3] == verify ]] && forms+=($sources '--service[the signing name]:name:' '--seed[the signature before the frames]:digits:')
     shift 2 words
@@ -63,7 +64,7 @@ _awsign() {
   if [[ $words[2] == settings ]]; then
     shift words
     ((CURRENT--))
-    _arguments $sources
+    _arguments $help $sources
     return
   fi
   shift words

@@ -20,7 +20,7 @@ help = flat_map line
     ∷ codes "firuvaik check --name NAME [PROFILE]"
     ∷ codes "  Computes the signature of each frame that stream wrote again, behind a line"
     ∷ codes "  record, and shows the events, or the first frame that doesn't hold. The"
-    ∷ codes "  request before the frames isn't checked."
+    ∷ codes "  request before the frames isn't checked: awsign verify checks requests."
     ∷ codes "    (grep ^c job; echo record; cat written) | firuvaik check --name transcribe"
     ∷ codes ""
     ∷ codes "firuvaik watch --name NAME --seed HEX [PROFILE]"

@@ -18,7 +18,7 @@ firuvaik stream --name NAME [--at N] [--skew MILLISECONDS] [--raw] [--sha256]
 firuvaik check --name NAME [PROFILE]
   Computes the signature of each frame that stream wrote again, behind a line
   record, and shows the events, or the first frame that doesn't hold. The
-  request before the frames isn't checked.
+  request before the frames isn't checked: awsign verify checks requests.
     (grep ^c job; echo record; cat written) | firuvaik check --name transcribe
 
 firuvaik watch --name NAME --seed HEX [PROFILE]

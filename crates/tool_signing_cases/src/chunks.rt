@@ -1,4 +1,5 @@
 //! Chunks that are signed, and bodies in chunks.
+mod announcing;
 mod bodies;
 mod decoding;
 mod frames;
@@ -17,6 +18,7 @@ pub fn answer(alloc: Global, call: &str, words: &[&str]) -> Mem<String> {
             signing::signature(alloc, call, signature, words)
         }
         ("signer", [name, steps @ ..]) => signing::steps(alloc, name, steps),
+        ("announce", parts) => announcing::answer(alloc, parts),
         ("length" | "data_length", parts) => lengths::answer(alloc, call, parts),
         ("text" | "digest", parts) => bodies::answer(alloc, call, parts),
         ("pieces", parts) => bodies::pieces(alloc, parts),

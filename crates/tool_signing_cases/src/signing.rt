@@ -41,7 +41,7 @@ fn signing_answer(alloc: Global, call: &str, words: &[&str]) -> Mem<String> {
             signatures::answer(alloc, call, words)
         }
         ("canonical", [part, words @ ..]) => signatures::answer(alloc, part, words),
-        ("check", words) => checks::answer(alloc, words),
+        ("check" | "sealed", words) => checks::answer(alloc, call, words),
         ("copy", [kind, words @ ..]) => copies::answer(alloc, kind, words),
         ("fault", [kind, name]) => faults::answer(alloc, kind, name),
         ("s3", words) => requests::is_for_s3(alloc, words),

@@ -62,17 +62,18 @@ fn good_until(alloc: Global, identity: &Identity, at: Moment) -> anyhow::Result<
     let options = SigningOptions::presigned_for_s3(900);
     let settings = options.settings(alloc)?;
     sign(alloc, &mut request, identity, "s3", options, at)?;
-    let (body, secret) = (SignableBody::UnsignedPayload, identity.secret());
-    let key_id = "AKIDEXAMPLE";
+    let Some(credentials) = identity.credentials() else {
+        bail!("the identity has no key")
+    };
     Ok(check_presigned(
         alloc,
         &request,
         &settings,
         "us-east-1",
         "s3",
-        &body,
-        key_id,
-        secret,
+        &SignableBody::UnsignedPayload,
+        credentials.access_key_id(),
+        credentials.secret_access_key(),
         at,
     )?)
 }

@@ -13,6 +13,7 @@ mod operation;
 mod presigned_door;
 mod profile_settings;
 mod received_events;
+mod refusals;
 mod served;
 mod service_door;
 mod shown;
@@ -64,6 +65,7 @@ fn uses(alloc: Global) -> anyhow::Result<String> {
     let mut text = String::new(alloc);
     push_first(alloc, &mut text, object_moment())?;
     lower_crates::push_all(alloc, &mut text, Moment::new(1_440_938_160, 0))?;
+    refusals::push_all(alloc, &mut text, example_moment())?;
     push_requests(alloc, &mut text, &example_identity(alloc)?)?;
     push_events(alloc, &mut text)?;
     push_lines(alloc, &mut text, chunked_upload::body(alloc)?.as_slice())?;

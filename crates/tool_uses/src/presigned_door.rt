@@ -24,8 +24,10 @@ pub fn admit(
     if !are_signed(seal.names(), &request.headers) {
         bail!("a header isn't signed, or names aren't in order");
     }
-    let until = good_until(alloc, request, key_id, secret, now)?;
-    within_longest(&seal, until)
+    if !is_short(&seal) {
+        bail!("no expiry of at most 7 days");
+    }
+    good_until(alloc, request, key_id, secret, now)
 }
 
 // Until when the request is good, with the digest of the body that came.
@@ -53,13 +55,14 @@ fn good_until(
 }
 
 /// The longest that AWS lets a presigned request be good, in seconds: 7 days. Signing takes any expiry.
-const LONGEST: i128 = 604_800;
+const LONGEST: u64 = 604_800;
 
-fn within_longest(seal: &Seal, until: i128) -> anyhow::Result<i128> {
-    if until > i128::from(seal.at().secs()) + LONGEST {
-        bail!("good for over 7 days");
+// Whether the target has an expiry that isn't too long.
+fn is_short(seal: &Seal) -> bool {
+    match seal.expires() {
+        Some(seconds) => seconds <= LONGEST,
+        None => false,
     }
-    Ok(until)
 }
 
 /// Whether the names are in order, and the host and each of AWS's headers are among them: the signature covers no other header.

@@ -31,7 +31,7 @@ fn all_frames(alloc: Global, adapter: &mut Events, at: Moment) -> anyhow::Result
     for _ in 0..u32::MAX {
         match adapter.poll_next(&mut clock, &mut moments)? {
             Next::Frame(frame) => frames.extend_from_slice(frame.as_slice())?,
-            // Nothing has come yet: the stream isn't over, and the next call goes on.
+            // Nothing has come yet: the next call goes on.
             Next::NotYet => {}
             Next::End => return Ok(frames),
         }

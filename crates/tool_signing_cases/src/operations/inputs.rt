@@ -94,9 +94,12 @@ fn unless(alloc: Global, parts: &[&str], key: &str, text: &str) -> Mem<Option<St
     Ok(Some(String::from_str(alloc, text)?))
 }
 
-/// The options: `encode-once`, `sha256`, `keep-path`, `omit-token`, `option-payload TEXT`, `query`, `optional` and
-/// `expires N` change the usual ones.
+/// The options: those of `for-s3` and `presigned N`, or else `encode-once`, `sha256`, `keep-path`, `omit-token`, `option-payload TEXT`,
+/// `query`, `optional` and `expires N` change the usual ones.
 pub fn options_of(alloc: Global, parts: &[&str]) -> Mem<SigningOptions> {
+    if let Some(options) = ready_options(parts) {
+        return Ok(options);
+    }
     Ok(SigningOptions {
         double_uri_encode: !has_part(parts, "encode-once"),
         content_sha256_header: has_part(parts, "sha256"),
@@ -107,6 +110,16 @@ pub fn options_of(alloc: Global, parts: &[&str]) -> Mem<SigningOptions> {
         signing_optional: has_part(parts, "optional"),
         expires_in: part_or_none(parts, "expires").parse().ok(),
     })
+}
+
+// The options of `for-s3`, of `presigned N`, or of both.
+fn ready_options(parts: &[&str]) -> Option<SigningOptions> {
+    match part_or_none(parts, "presigned").parse() {
+        Ok(seconds) if has_part(parts, "for-s3") => Some(SigningOptions::presigned_for_s3(seconds)),
+        Ok(seconds) => Some(SigningOptions::presigned(seconds)),
+        Err(_) if has_part(parts, "for-s3") => Some(SigningOptions::for_s3()),
+        Err(_) => None,
+    }
 }
 
 fn skew_of(parts: &[&str]) -> Option<i64> {
@@ -138,6 +151,9 @@ pub fn override_of(alloc: Global, text: &str) -> Mem<PayloadSigningOverride> {
         }
         "STREAMING-AWS4-HMAC-SHA256-PAYLOAD-TRAILER" => {
             PayloadSigningOverride::StreamingSignedPayloadTrailer
+        }
+        "STREAMING-AWS4-HMAC-SHA256-PAYLOAD" => {
+            PayloadSigningOverride::streaming_signed_payload(alloc)?
         }
         digest => PayloadSigningOverride::Precomputed(String::from_str(alloc, digest)?),
     })
