@@ -11,7 +11,7 @@ use Rattle.smithy_core.proofs.GainLemmas.{gains_nothing, prefix_at_start}
 use Rattle.smithy_core.proofs.GivenLemmas.{given_more}
 use Rattle.eventstream.specs.Frame.{frame, unframed}
 use Rattle.eventstream.specs.Key.{Signer}
-use Rattle.eventstream.specs.Link.{link_message, link_signature}
+use Rattle.eventstream.specs.Link.{link_signature}
 use Rattle.eventstream.specs.Told.{SignsLink, Told, signs_over}
 use Rattle.eventstream.specs.declared.error.ErrorKind.{ErrorKind}
 use Rattle.eventstream.specs.declared.error.ErrorKind.TheVariants as reasons

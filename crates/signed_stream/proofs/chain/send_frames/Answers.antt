@@ -14,6 +14,9 @@ returns-in_err-at-clause-sends g c =
     (wants_at _ _ _ _ _ _ _ _ _ _ _ _ _ _ c.frames.invariant.at (omega (arith, c.frames-test.true, c.len-end.ensures, c.args.events.ok.0))
     _ c.take_moment.new.clock exit.0 (ap stream_ending exit.2) c.in_err-at.ensures.err)
 
+pub seal-requires : goal.seal-requires
+seal-requires g c = seals_on _ _ _ _ _ _ _ _ _ _ _ _ _ _ c.frames.invariant.at (omega (arith, c.frames-test.true, c.len-end.ensures, c.args.events.ok.0))
+
 pub returns-in_err-seal-clause-sends : goal.returns-in_err-seal-clause-sends
 returns-in_err-seal-clause-sends g c =
     let exit = err_from_is_err_and c.from_residual-in_err-seal.result c.from_residual-in_err-seal.ensures.1 in
