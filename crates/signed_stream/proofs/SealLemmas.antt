@@ -21,7 +21,7 @@ use Rattle.event_io.specs.Adapter.{TakesMoment, TakesNone}
 use Rattle.event_io.specs.Chain.{next_bytes, next_unsigned}
 use Rattle.signed_stream.specs.Chain.{first_refusal, frame_text, link_text}
 use Rattle.signed_stream.specs.Halt.{Halts, unless_refused}
-use Rattle.signed_stream.specs.Sending.{IsSealer, IsSignFault, IsWriteFault, PutsFrame, Seals, SendsChain, TakesNext, next_refused, sign_ending, write_ending}
+use Rattle.signed_stream.specs.Sending.{IsSealer, IsSignFault, IsWriteFault, PutsFrame, Seals, SendsChain, next_refused, sign_ending, write_ending}
 use Rattle.signed_stream.specs.Status.{Ending, RunFault, no_memory, refused, stream_ending}
 use Rattle.signed_stream.specs.declared.form.Form.{Form}
 use Rattle.signed_stream.specs.declared.status.StreamFault.{StreamFault}
@@ -29,7 +29,11 @@ use Rattle.signed_stream.proofs.ChainLemmas.{IsOver, SoFar, begins_so, front_unr
 
 -- ## One message
 
--- the first event is taken, and the others are left
+-- the first of the events is taken, and these are left; of none there is none
+abbrev TakesNext : List Parts → Option Parts → List Parts → Type 0
+TakesNext events None left = (events ≡ []) × (left ≡ [])
+TakesNext events (Some event) left = events ≡ event ∷ left
+
 pub next_taken : (events : List Parts) (event : Option Parts) (left : List Parts) → events ≡ option_to_list event ++ left → left ≡ drop 1 events → TakesNext events event left
 next_taken events (Some event) left is others = is
 next_taken [] None left is others = (refl, sym is)

@@ -68,11 +68,6 @@ Seals who place signature events t bytes told (Ok _) =
     × (told ≡ signs_over (link_signature who signature (next_bytes events) t) who)
 Seals who place signature events t bytes told (Err fault) = (stream_ending fault ≡ no_memory) ⊎ IsRefusedBy who place signature events t (stream_ending fault)
 
--- the first of the events is taken, and these are left; of none there is none
-abbrev pub TakesNext : List Parts → Option Parts → List Parts → Type 0
-TakesNext events None left = (events ≡ []) × (left ≡ [])
-TakesNext events (Some event) left = events ≡ event ∷ left
-
 -- ## The chain
 
 -- who signs, by what is told of a signer, and over which signature
