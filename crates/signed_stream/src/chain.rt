@@ -9,7 +9,7 @@ ghost use Rattle.aws_auth.specs.MessageSigner.{running_signature, signer_in, tol
 ghost use Rattle.signed_stream.specs.Chain.{frame_text};
 ghost use Rattle.signed_stream.specs.Halt.{Sends};
 ghost use Rattle.signed_stream.specs.Status.{stream_ending};
-ghost use Rattle.signed_stream.specs.Sending.{IsSealer, IsSignFault, IsWriteFault, PutsFrame, Seals, SendsChain, sign_ending, told_signature, told_signer, write_ending};
+ghost use Rattle.signed_stream.specs.Sending.{IsSealer, IsSignFault, IsWriteFault, PutsFrame, Seals, SendsChain, sign_ending, write_ending};
 
 use crate::form::Form;
 use crate::status::StreamFault;
@@ -20,7 +20,8 @@ use smithy_core::{ByteSink, Clock, Mem, Message, Moment, SinkError, write_all};
 use std::alloc::{AllocError, Global};
 use std::collections::VecDeque;
 
-/// Streams the events in a form: a signed frame for each and an empty one last, each at a moment of its own.
+/// Streams the events in a form: a signed frame for each and an empty one last, each at a moment of its own. An event goes when it is
+/// signed, and a frame takes the room of the one before it.
 ///
 /// # Errors
 ///
@@ -30,7 +31,7 @@ use std::collections::VecDeque;
 /// the frames that were begun.
 pub fn stream_events<C: Clock, K: ByteSink>(
     alloc: Global,
-    signer: SigV4MessageSigner<()>,
+    mut signer: SigV4MessageSigner<()>,
     events: Vec<Message>,
     clock: &mut C,
     form: Form,
@@ -42,32 +43,13 @@ pub fn stream_events<C: Clock, K: ByteSink>(
         × SendsChain form (signer_in signer) events.items (running_signature signer) (K.held sink.old) (K.held sink.new) taken result }
     ensures counts { CountsFault (IsErrOf result StreamFault.SinkFault) (K.faults sink.old) (K.faults sink.new) }
 {
-    let mut signer = signer;
-    send_frames(alloc, &mut signer, events, clock, form, sink, moments)
-}
-
-// Writes a frame for each event and the closing one. An event goes when it is signed, and a frame takes the room of the one before it.
-fn send_frames<G: SignMessage, C: Clock, K: ByteSink>(
-    alloc: Global,
-    signer: &mut G,
-    events: Vec<Message>,
-    clock: &mut C,
-    form: Form,
-    sink: &mut K,
-    moments: &mut Vec<Moment>,
-) -> Result<(), StreamFault>
-    requires { IsSealer (G.told signer.old) }
-    ensures sends { (taken : List Instant) × (moments.new.items ≡ moments.old.items ++ taken) × GivesEach C.Clock clock.old taken clock.new
-        × SendsChain form (told_signer (G.told signer.old)) events.items (told_signature (G.told signer.old)) (K.held sink.old) (K.held sink.new) taken result }
-    ensures counts { CountsFault (IsErrOf result StreamFault.SinkFault) (K.faults sink.old) (K.faults sink.new) }
-{
     let end = events.len() + 2;
     let mut left = VecDeque::from(events);
     let mut frame = Vec::new(alloc);
     let mut line = Vec::new(alloc);
     'frames: for place in 1..end {
         let at = take_moment(clock, moments)?;
-        seal(alloc, signer, left.pop_front(), place, at, &mut frame)?;
+        seal(alloc, &mut signer, left.pop_front(), place, at, &mut frame)?;
         write_frame(frame.as_slice(), form, &mut line, sink)?;
     }
     Ok(())

@@ -1,8 +1,9 @@
 use Rattle.std.proofs.Common.{refl, ap, ◌∙◌, arith}
 use Rattle.std.proofs.lemmas.Result.{err_from_is_err_and}
+use Rattle.aws_auth.specs.MessageSigner.{told_of}
 use Rattle.signed_stream.specs.Status.{stream_ending}
 use Rattle.signed_stream.proofs.SealLemmas.{begins_at, cut_at, goes_at, next_taken, seals_on, sent_all, unsealed_at, wants_at}
-use Rattle.signed_stream.proofs.chain.send_frames.Goals as goal
+use Rattle.signed_stream.proofs.chain.stream_events.Goals as goal
 
 pub frames-init : goal.frames-init
 frames-init g c = record { count = refl; at = rw c.from-left.ensures.0 (begins_at _ _ _ _ _ _ _ _ _ c.requires) }
@@ -23,7 +24,7 @@ returns-in_err-seal-clause-sends g c =
     rw (exit.1, exit.2)
     (unsealed_at _ _ _ _ _ _ _ _ _ _ _ _ _ _ c.frames.invariant.at (omega (arith, c.frames-test.true, c.len-end.ensures, c.args.events.ok.0))
     c.in_ok-at.at _ c.take_moment.new.clock c.in_ok-at.ensures.ok c.pop_front.result c.pop_front.new.self.items (next_taken _ c.pop_front.result _ c.pop_front.ensures.items c.pop_front.ensures.rest)
-    c.seal.new.frame.items (g.G.SignMessage.told c.seal.new.signer) c.in_err-seal.field-0.0 c.in_err-seal.ensures)
+    c.seal.new.frame.items (told_of c.seal.new.signer) c.in_err-seal.field-0.0 c.in_err-seal.ensures)
 
 pub returns-in_err-write_frame-clause-sends : goal.returns-in_err-write_frame-clause-sends
 returns-in_err-write_frame-clause-sends g c =
